@@ -81,4 +81,4 @@ bench: ir
 	python3 bench/speed.py ./ir crates/ir_bench/out/ir_bench
 	python3 bench/hunting.py ./ir
 	python3 bench/traces.py ./ir
-	python3 bench/exploring.py ./ir
+	python3 bench/exploring.py ./ir --large

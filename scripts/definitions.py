@@ -10,9 +10,10 @@ call and each edit that docs/internals/contracts.md names has to be one of some 
 docs/internals/architecture.md.
 
 A contract leads to the definitions that it names, and these to those that they name: names are followed by the `use` lines of their file. A type
-of the code leads to what its ghost fields and its `impl Model` name, and so do the types of a contract's parameters and results. What leads to
-std or to another crate of the kit isn't followed. A name that two files of the headline define is refused, and so is one in a table's row that
-its file doesn't define.
+of the code leads to what its ghost fields and the view of its `impl Model` name, and so do the types of a contract's parameters and results. Its
+invariant isn't followed: each value that there is has it, so a contract promises no less for it (theorem.md). What leads to std or to another
+crate of the kit isn't followed either. A name that two files of the headline define is refused, and so is one in a table's row that its file
+doesn't define. The headline may rest on MOST_LINES lines at most, and on MOST_DEFINITION_LINES of definitions beside the manual.
 """
 import re
 import sys
@@ -51,13 +52,15 @@ contract says `Session`: there is a transcript for the lines up to the first tha
       ("ir_stream", "Answers", "LinesAnswered")]),
     ("What opens", """The bytes of image and trace are judged. A trace opens a ready machine exactly if some complete run of the guest has it. A step of a run can be taken
 after those before it; of what a complete run is the trace, `IsWhole` says.""",
-     [("ir_debug", "Machine", "Opens"), ("ir_debug", "Machine", "OpensFit"), ("ir_fit", "Fit", "IsRunOf"), ("ir_runs", "Verdicts", "IsWhole"),
+     [("ir_debug", "Machine", "Opens"), ("ir_debug", "Machine", "OpensImage"), ("ir_debug", "Machine", "OpensTrace"), ("ir_debug", "Machine", "OpensFit"), ("ir_fit", "Fit", "IsRunOf"), ("ir_runs", "Run", "IsWhole"),
       ("ir_fit", "Fit", "IsRefused"), ("ir_fit", "Fit", "IsRefusal")]),
     ("What a line is answered", """`Desk` is the small machine: the guest with its trace, a position of each thread, points and kept cuts. What it answers is said for each run with the
 trace. `CarriesOut` has a row for each command; what is shown is read off the run at the cut (`shown`).""",
-     [("ir_debug", "Machine", "Replies"), ("ir_debug", "Machine", "RepliesBy"), ("ir_debug", "Machine", "AnswersBy")]),
+     [("ir_debug", "Machine", "Replies"), ("ir_debug", "Machine", "RepliesBy"), ("ir_debug", "Machine", "Answers"), ("ir_debug", "Machine", "AnswersBy"),
+      ("ir_debug", "Machine", "Gives"), ("ir_debug", "Machine", "Refuses")]),
     ("Where a move leads", """A move takes the least consistent cut with the thread at the position, or backwards the greatest. `cont` and `rcont` stop at the first hit, or the last.""",
-     [("ir_debug", "Machine", "StopsAt"), ("ir_debug", "Machine", "Leads"), ("ir_debug", "Machine", "Continues")]),
+     [("ir_debug", "Machine", "StopsAt"), ("ir_debug", "Machine", "Leads"), ("ir_debug", "Machine", "Continues"),
+      ("ir_runs", "Run", "IsLeast"), ("ir_runs", "Run", "Consistent"), ("ir_runs", "Run", "IsNeededBy")]),
 ]
 
 FIRST_HEAD = """# The headline
@@ -66,6 +69,13 @@ The relations by which the [main theorem](theorem.md) is read, word for word as 
 `A × B` is and, `A ⊎ B` or, `A → ⊥` not; `(x : T) × P` is that there is an x, `(x : T) → P` that it holds of each.
 [Notation](theorem.md#how-to-read-it) has the rest. A record says each of its fields.
 """
+
+# The files that restate the RISC-V manual, of which theorem.md says which chapters.
+MANUAL = {("ir_isa", "Fields"), ("ir_isa", "Code"), ("ir_mach", "Core"), ("ir_mach", "Execution"), ("ir_disasm", "Printed")}
+
+# The most lines of the headline's files, and of its definitions beside those that restate the manual.
+MOST_LINES = 3100
+MOST_DEFINITION_LINES = 1500
 
 # What a law says all of: who believes the law needn't read the definition. The file of the law and its name.
 PINNED = {("ir_isa", "Decoded", "instruction_of"): ("ir_isa/src/laws.rt", "found_by_code")}
@@ -92,6 +102,7 @@ has none of them states what holds inside its crate.
 USE = re.compile(r"^\s*(?:ghost )?(?:pub )?use Rattle\.(ir_\w+)\.specs\.([\w.]+?)(?:\.\{([^}]*)\}| as (\w+))?;?\s*$", re.MULTILINE)
 BEGINS = re.compile(r"^(?:abbrev pub|unfoldable pub|pub record|pub data|pub(?! use| mod)) ([^\s:]+)(.*)")
 NAME = re.compile(r"[^\s(){}\[\].,;λ]+(?:\.[^\s(){}\[\].,;λ]+)*")
+INVARIANT = re.compile(r"ghost invariant = \{.*?\};", re.DOTALL)
 EXPORT = re.compile(r"^pub use [\w:]+::(?:\{([^}]*)\}|(\w+));", re.MULTILINE)
 ITEM = re.compile(r"^(?:pub (?:const )?(?:fn|trait|struct|enum) (\w+)|impl(?:<[^{]*?>)? (?:[^{]*? for )?(\w+)).*?^\{?\}", re.MULTILINE | re.DOTALL)
 CODE_USE = re.compile(r"^use (ir_\w+|crate)::(?:[\w:]*?)(?:\{([^}]*)\}|(\w+));", re.MULTILINE)
@@ -180,13 +191,14 @@ def named_in(text, where, here=None):
 
 
 def named_by_type(crate, name):
-    """What the ghost fields and the `impl Model` of a type of the code name, `declared.file.Type`."""
+    """What the ghost fields and the view of a type of the code name, `declared.file.Type`."""
     *path, kind = [part for part in name.split(".")[1:] if part != "TheVariants"]
     file = f"{crate}/src/{'/'.join(path)}.rt"
     if not (TOP / "crates" / file).is_file():
         return set()
     text, where = code(file)
     models = re.findall(rf"^impl(?:<[^>]*>)? Model for {kind}\b[^{{]*\{{(.*?)^\}}", text, re.MULTILINE | re.DOTALL)
+    models = [INVARIANT.sub("", model) for model in models]
     fields = re.findall(rf"^pub struct {kind}\b[^{{;]*\{{(.*?)^\}}", text, re.MULTILINE | re.DOTALL)
     ghosts = [ghost for body in fields for ghost in re.findall(r"ghost \w+: \{(.*)\}", body)]
     return {found for part in [*models, *ghosts] for found in named_in(part, where)}
@@ -259,18 +271,38 @@ def parts():
         yield title, heading, added, more
 
 
+def count(files, definitions):
+    """How many files these are, their lines, how many definitions, and the lines of these."""
+    needed = sum(len(module(crate, name).definitions[item].lines) for crate, name, item in definitions)
+    return [len(files), sum(len(module(*file).lines) for file in files), len(definitions), needed]
+
+
+def rows():
+    """The rows of the table of what the headline rests on: a name, files, lines, definitions and the lines of these."""
+    found, all_files, all_definitions = [], set(), set()
+    for title, _, files, definitions in parts():
+        found.append((title, count(files, definitions)))
+        all_files |= files
+        all_definitions |= definitions
+    of_manual = {definition for definition in all_definitions if definition[:2] in MANUAL}
+    total, manual = count(all_files, all_definitions), count(MANUAL, of_manual)
+    return [*found, ("in all", total), ("of these the restated RISC-V manual", manual), ("beside the manual", [*map(int.__sub__, total, manual)])]
+
+
 def counts():
     """The table of what the headline rests on."""
-    rows, totals = [], [0] * 4
-    for title, _, files, definitions in parts():
-        lines = sum(len(module(*file).lines) for file in files)
-        needed = sum(len(module(crate, name).definitions[item].lines) for crate, name, item in definitions)
-        row = [len(files), lines, len(definitions), needed]
-        totals = [total + more for total, more in zip(totals, row)]
-        rows.append((title, row))
     yield "| Part | Files | Lines | Definitions | Their lines |\n|---|---|---|---|---|"
-    for title, row in [*rows, ("in all", totals)]:
-        yield f"| {title} | " + " | ".join(f"{count:,}" for count in row) + " |"
+    for title, row in rows():
+        yield f"| {title} | " + " | ".join(f"{number:,}" for number in row) + " |"
+
+
+def aim_faults():
+    """Whether the headline rests on more lines than it may."""
+    (_, total), _, (_, beside) = rows()[-3:]
+    if total[1] > MOST_LINES:
+        yield f"the headline rests on files of {total[1]} lines: at most {MOST_LINES}"
+    if beside[3] > MOST_DEFINITION_LINES:
+        yield f"the headline rests on {beside[3]} lines of definitions beside the manual: at most {MOST_DEFINITION_LINES}"
 
 
 def named_by_public(crate):
@@ -407,6 +439,7 @@ def faults():
     yield from table_faults()
     yield from double_faults()
     yield from name_faults()
+    yield from aim_faults()
 
 
 def main():

@@ -1,20 +1,26 @@
 #!/usr/bin/env python3
 """Tries the edits of crates/X/must-fail and crates/X/edits many at once: the prover has to refuse each at the function that it changes.
 
-python3 scripts/edits.py [CRATE ...]
+python3 scripts/edits.py [--jobs N] [CRATE ...]
 
-Wants the crates proved (scripts/prove.py). Works on a copy in the folder .edits: edits of different functions of a crate are
-checked together, and each counts as refused where its own function is, for another reason than a call of one that is not proved. What
-isn't refused so is tried alone, where any function of its crate may be. A line an edit; fails where one is proved, or doesn't apply.
+Wants the crates proved (scripts/prove.py). Works in N copies of the crates, in folders .edits-0, .edits-1, ..: else as many as there are processors with
+5 GiB of memory each. Edits of different functions of a crate are tried by one check of their modules alone, and each counts as refused where its own
+function is, for another reason than a call of one that is not proved. What isn't refused so is tried alone by a check of the whole crate, where any
+function of it may be. A line an edit, as each is tried; the last line counts them. Fails where one is proved, or doesn't apply.
 """
+import argparse
 import re
 import shutil
 import subprocess
 import sys
+from concurrent.futures import ThreadPoolExecutor
 from pathlib import Path
+from queue import SimpleQueue
+
+from prove import default_jobs
 
 TOP = Path(__file__).resolve().parent.parent
-COPY = TOP / ".edits"
+PARTS = ("src", "specs", "proofs")
 FUNCTION = re.compile(r"^ *(?:pub(?:\([a-z]+\))? )?(?:const )?fn (\w+)", re.MULTILINE)
 FAILED = re.compile(r"^fn (\S+): (?:no proof|not proved)(.*)$", re.MULTILINE)
 CALLS = re.compile(r"^:? ?(?:it calls `[^`]*`(?:, `[^`]*`| and `[^`]*`)*, which (?:is|are) not proved)?$")
@@ -89,25 +95,26 @@ def batches(crate, edits):
     return lists
 
 
-def laid(crate):
+def laid(crate, room):
     """Lays the crate's own files into the copy, and answers where."""
-    room = COPY / "crates" / crate.name
-    for part in ("src", "specs", "proofs"):
-        shutil.rmtree(room / part, ignore_errors=True)
+    folder = room / "crates" / crate.name
+    for part in PARTS:
+        shutil.rmtree(folder / part, ignore_errors=True)
         if (crate / part).is_dir():
-            shutil.copytree(crate / part, room / part)
-    return room
+            shutil.copytree(crate / part, folder / part)
+    return folder
 
 
-def refused(crate, edits):
-    """Checks a copy of the crate with these edits; the functions that are refused for themselves, and whether any of the crate's own is.
-    Then the copy has the crate's own files again, since crates above it are checked over it."""
-    room = laid(crate)
+def refused(crate, edits, room, modules=()):
+    """Checks the copy of the crate with these edits, of these modules alone if there are any; the functions that are refused for themselves, and whether any
+    of the crate's own is. Then the copy has the crate's own files again, since crates above it are checked over it."""
+    folder = laid(crate, room)
     for path, text in changed(crate, edits).items():
-        (room / path).write_text(text, encoding="utf-8")
-    ran = subprocess.run([sys.executable, TOP / "scripts" / "rt.py", "check", "--jobs", "1"], cwd=room, text=True, errors="replace",
+        (folder / path).write_text(text, encoding="utf-8")
+    only = [word for module in modules for word in ("--only", module)]
+    ran = subprocess.run([sys.executable, TOP / "scripts" / "rt.py", "check", "--jobs", "1", *only], cwd=folder, text=True, errors="replace",
                          stdout=subprocess.PIPE, stderr=subprocess.STDOUT, check=False)
-    laid(crate)
+    laid(crate, room)
     failed = FAILED.findall(ran.stdout)
     is_refused = ran.returncode == 1 and any(name.startswith(f"{crate.name}::") for name, _ in failed)
     return {name for name, why in failed if not CALLS.match(why)}, is_refused
@@ -119,41 +126,77 @@ def is_named(place, names):
     return any(name.startswith(module) and name.endswith(f"::{function}") for name in names)
 
 
-def tried(crate):
-    """Each edit of the crate with whether it is refused."""
-    edits = sorted([*crate.glob("must-fail/*.edit"), *crate.glob("edits/*.edit")])
-    for batch in batches(crate, edits):
-        names, is_refused = refused(crate, [edit for edit, _ in batch])
-        for edit, place in batch:
-            if is_refused and (len(batch) == 1 or is_named(place, names)):
-                yield edit, True
-            else:
-                yield edit, len(batch) > 1 and refused(crate, [edit])[1]
+def tried(crate, batch, room):
+    """Each edit of the batch with whether it is refused."""
+    # A constant may be any function's: then the whole crate is checked.
+    modules = sorted({module.removeprefix(f"{crate.name}::").removesuffix("::") for _, (module, function) in batch if function})
+    is_whole = len(batch) == 1 and not batch[0][1][1]
+    names, _ = refused(crate, [edit for edit, _ in batch], room, () if is_whole else modules)
+    return [(edit, is_named(place, names) or refused(crate, [edit], room)[1]) for edit, place in batch]
 
 
-def copied():
-    """Copies what a check reads: the proved crates share their files with the repository's, but for what is written anew."""
-    shutil.rmtree(COPY, ignore_errors=True)
-    COPY.mkdir()
+def copied(room):
+    """Copies what a check reads: the crates' files, and their libraries as links, since a check replaces such a library and changes no file of it."""
+    shutil.rmtree(room, ignore_errors=True)
+    (room / "crates").mkdir(parents=True)
     for name in ("crates.txt", "HANDLES"):
-        shutil.copy(TOP / name, COPY / name)
-    subprocess.run(["cp", "-a", TOP / "crates", COPY / "crates"], check=True)
-    subprocess.run(["git", "init", "-q", COPY], check=True)
+        shutil.copy(TOP / name, room / name)
+    for crate in sorted((TOP / "crates").iterdir()):
+        folder = laid(crate, room)
+        folder.mkdir(exist_ok=True)
+        if (crate / "out" / "rlib").is_dir():
+            (folder / "out").mkdir()
+            subprocess.run(["cp", "-al", crate / "out" / "rlib", folder / "out" / "rlib"], check=True)
+    subprocess.run(["git", "init", "-q", room], check=True)
+
+
+def all_tried(names, rooms):
+    """Each edit of these crates with whether it is refused, in the order in which they are tried."""
+    free, results = SimpleQueue(), SimpleQueue()
+    for room in rooms:
+        free.put(room)
+
+    def one(crate, batch):
+        room = free.get()
+        try:
+            results.put(tried(crate, batch, room))
+        except Exception as error:
+            results.put(error)
+        finally:
+            free.put(room)
+
+    crates = [TOP / "crates" / name for name in names]
+    tasks = [(crate, batch) for crate in crates for batch in batches(crate, sorted([*crate.glob("must-fail/*.edit"), *crate.glob("edits/*.edit")]))]
+    with ThreadPoolExecutor(len(rooms)) as pool:
+        for crate, batch in tasks:
+            pool.submit(one, crate, batch)
+        for _ in tasks:
+            found = results.get()
+            if isinstance(found, Exception):
+                raise found
+            yield from found
 
 
 def main():
+    parser = argparse.ArgumentParser(description=__doc__, formatter_class=argparse.RawDescriptionHelpFormatter)
+    parser.add_argument("--jobs", type=int, default=default_jobs(), help="how many checks at once")
+    parser.add_argument("crates", nargs="*", metavar="CRATE", help="only the edits of these crates")
+    asked = parser.parse_args()
     folders = [*TOP.glob("crates/*/must-fail"), *TOP.glob("crates/*/edits")]
-    names = sys.argv[1:] or sorted({folder.parent.name for folder in folders})
-    copied()
-    proved = 0
+    names = asked.crates or sorted({folder.parent.name for folder in folders})
+    rooms = [TOP / f".edits-{number}" for number in range(max(1, asked.jobs))]
+    counts = {True: 0, False: 0}
     try:
-        for name in names:
-            for edit, is_refused in tried(TOP / "crates" / name):
-                proved += not is_refused
-                print(f"{edit.relative_to(TOP)}: {'refused' if is_refused else 'NOT REFUSED'}", flush=True)
+        for room in rooms:
+            copied(room)
+        for edit, is_refused in all_tried(names, rooms):
+            counts[is_refused] += 1
+            print(f"{edit.relative_to(TOP)}: {'refused' if is_refused else 'NOT REFUSED'}", flush=True)
     finally:
-        shutil.rmtree(COPY, ignore_errors=True)
-    return 1 if proved else 0
+        for room in rooms:
+            shutil.rmtree(room, ignore_errors=True)
+    print(f"{counts[True]} refused, {counts[False]} not refused")
+    return 1 if counts[False] else 0
 
 
 if __name__ == "__main__":

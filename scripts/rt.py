@@ -3,9 +3,9 @@
 
 python3 scripts/rt.py WORD..
 
-`rt` sums the sources of a crate and of all below it, to see whether a library is still made of them. Its function goes down each way from crate to
-crate, of which there are 150,000 from ir_cli. Here a call of that function sums each crate once, and returns the same. All else is the kit's own. If
-the kit has no such function, nothing differs.
+`rt` lists the crates below a crate, and sums their sources to see whether a library is still made of them. Its two functions go down each way from
+crate to crate, of which there are 150,000 from ir_cli. Here a call of such a function asks each crate once, and returns the same. All else is the
+kit's own. If the kit has no such function, nothing differs.
 """
 import runpy
 import shutil
@@ -15,23 +15,27 @@ from importlib.machinery import SourceFileLoader
 from pathlib import Path
 
 
-def once_each(stamp):
-    """The same sum of a crate, for which each crate below is summed once."""
+# What `rt` asks a crate that asks the same of each crate on which it depends.
+ASKED = ("below", "stamp")
+
+
+def once_each(answer):
+    """The same answer of a crate, for which each crate below is asked once."""
     call = threading.local()
 
-    def summed(crate):
-        sums = getattr(call, "sums", None)
-        if sums is None:
-            call.sums = {}
+    def answered(crate):
+        answers = getattr(call, "answers", None)
+        if answers is None:
+            call.answers = {}
             try:
-                return stamp(crate)
+                return answer(crate)
             finally:
-                call.sums = None
-        if crate not in sums:
-            sums[crate] = stamp(crate)
-        return sums[crate]
+                call.answers = None
+        if crate not in answers:
+            answers[crate] = answer(crate)
+        return answers[crate]
 
-    return summed
+    return answered
 
 
 def main():
@@ -43,8 +47,9 @@ def main():
     def exec_module(loader, module):
         run(loader, module)
         crate = getattr(module, "Crate", None) if module.__name__ == "rtlib" else None
-        if hasattr(crate, "stamp"):
-            crate.stamp = once_each(crate.stamp)
+        for name in ASKED:
+            if hasattr(crate, name):
+                setattr(crate, name, once_each(getattr(crate, name)))
 
     SourceFileLoader.exec_module = exec_module
     sys.argv[0] = program

@@ -24,7 +24,7 @@ use Rattle.ir_asm.proofs.Pieces.{all_pass_in_append, clean, IsPiece, append_of_n
 use Rattle.ir_asm.proofs.Numbers.{register_of_printed_name, register_name_is_piece, number_of_signed_decimal, signed_decimal_is_piece, signed_decimal_has_no_parenthesis, register_name_has_no_parenthesis, no_opening_if_no_parenthesis, no_closing_if_no_parenthesis}
 use Rattle.ir_asm.proofs.FieldLaws.{immediate_of_own_value}
 use Rattle.ir_asm.proofs.Statements.{line_that_says_word_assembles}
-use Rattle.ir_asm.proofs.Formats.{piece_is_last_operand, immediate_within_range, immediate_magnitude_is_small}
+use Rattle.ir_asm.proofs.Formats.{piece_is_last_operand, immediate_range_test_is_true, immediate_magnitude_fits_33_bits}
 use Rattle.ir_asm.proofs.Pairs.{two_operands_say_word}
 
 address_is_clean : (z : ℤ) (b : ℕ) → list_all clean (signed_decimal z) ≡ true → list_all clean (register_name b) ≡ true
@@ -55,11 +55,11 @@ address_of_printed_address z b h =
 
 at_address_of_printed_address : (b : Register) (i : Immediate) → at_address (Some (signed_decimal i.value, register_name b.number)) ≡ Ok (Offset i.value b)
 at_address_of_printed_address b i =
-    let small = immediate_magnitude_is_small i.value i.low i.high in
-    rw (number_of_signed_decimal i.value (omega (arith, small))) (rw (immediate_within_range i.value i.low i.high) (rw (register_of_printed_name b) refl))
+    let small = immediate_magnitude_fits_33_bits i.value i.low i.high in
+    rw (number_of_signed_decimal i.value (omega (arith, small))) (rw (immediate_range_test_is_true i.value i.low i.high) (rw (register_of_printed_name b) refl))
 
 immediate_magnitude_fits_64_bits : (i : Immediate) → nat_abs i.value < 2 ^ 64
-immediate_magnitude_fits_64_bits i = let small = immediate_magnitude_is_small i.value i.low i.high in omega (arith, small)
+immediate_magnitude_fits_64_bits i = let small = immediate_magnitude_fits_33_bits i.value i.low i.high in omega (arith, small)
 
 operands_of_printed_load : (op : LoadOp) (a b : Register) (i : Immediate)
     → operands_of (Loads op) (register_name a.number ∷ address i.value b.number ∷ []) ≡ Ok (Index a ∷ Offset i.value b ∷ [])

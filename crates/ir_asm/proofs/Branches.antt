@@ -29,7 +29,7 @@ use Rattle.ir_asm.proofs.Pieces.{all_pass_in_append, clean, IsPiece, split_witho
 use Rattle.ir_asm.proofs.Numbers.{register_of_printed_name, register_name_is_piece, natural_of_decimal, decimal_is_piece, natural_of_hex_word, hex_is_clean, number_of_decimal}
 use Rattle.ir_asm.proofs.FieldLaws.{branch_offset_of_own_value, amount_of_own_bits}
 use Rattle.ir_asm.proofs.Statements.{Says, line_that_says_word_assembles}
-use Rattle.ir_asm.proofs.Formats.{IsLastOperand, piece_is_last_operand, three_operands_say_word, trim_end_under_prefix, before_under_prefix, before_lacks_byte, all_pass_weaker_test, clean_byte_is_source_byte, form_of_branch_name, branch_name_is_piece}
+use Rattle.ir_asm.proofs.Formats.{IsLastOperand, piece_is_last_operand, three_operands_say_word, trim_end_keeps_prefix, before_keeps_prefix, before_lacks_byte_if_text_does, all_pass_weaker_test, clean_byte_is_source_byte, form_of_branch_name, branch_name_is_piece}
 
 trim_end_drops_one_blank : (a : List ℕ) → list_all clean a ≡ true → trim_end (a ++ 32 ∷ []) ≡ a
 trim_end_drops_one_blank [] h = refl
@@ -46,7 +46,7 @@ far_target_is_last_operand pc z h =
     let p = distance_is_piece z h in
     let t : ℕ = (pc + low_bits 32 z) % 2 ^ 32 in
     record {
-      trimmed = ap trim_end (before_under_prefix 35 (distance z) (codes " # " ++ hex 8 t) (clean_text_lacks_unclean_byte 35 (distance z) refl p.all))
+      trimmed = ap trim_end (before_keeps_prefix 35 (distance z) (codes " # " ++ hex 8 t) (clean_text_lacks_unclean_byte 35 (distance z) refl p.all))
           ∙ trim_end_drops_one_blank (distance z) p.all;
       piece_is = p;
       feed = all_pass_in_append (λ b. not (b == 10)) (distance z) (codes " # " ++ hex 8 t) (clean_text_lacks_unclean_byte 10 (distance z) refl p.all)
@@ -61,17 +61,17 @@ pub distance_text_of_printed_distance : (z : ℤ) → nat_abs z < 10 ^ 10 → di
 distance_text_of_printed_distance (pos n) h = rw (natural_of_decimal n h) refl
 distance_text_of_printed_distance (negsuc n) h = rw (natural_of_decimal (suc n) h) refl
 
-branch_offset_within_range : (z : ℤ) → negsuc 4095 ≤ℤ z → z ≤ℤ pos 4094 → (int_le (negsuc 4095) z && int_le z (pos 4094)) ≡ true
-branch_offset_within_range (pos n) h k = grind (arith, common_steps)
-branch_offset_within_range (negsuc n) h k = grind (arith, common_steps)
+branch_offset_range_test_is_true : (z : ℤ) → negsuc 4095 ≤ℤ z → z ≤ℤ pos 4094 → (int_le (negsuc 4095) z && int_le z (pos 4094)) ≡ true
+branch_offset_range_test_is_true (pos n) h k = grind (arith, common_steps)
+branch_offset_range_test_is_true (negsuc n) h k = grind (arith, common_steps)
 
-branch_offset_magnitude_is_small : (z : ℤ) → negsuc 4095 ≤ℤ z → z ≤ℤ pos 4094 → nat_abs z < 2 ^ 33
-branch_offset_magnitude_is_small (pos n) h k = grind (arith, common_steps)
-branch_offset_magnitude_is_small (negsuc n) h k = grind (arith, common_steps)
+branch_offset_magnitude_fits_33_bits : (z : ℤ) → negsuc 4095 ≤ℤ z → z ≤ℤ pos 4094 → nat_abs z < 2 ^ 33
+branch_offset_magnitude_fits_33_bits (pos n) h k = grind (arith, common_steps)
+branch_offset_magnitude_fits_33_bits (negsuc n) h k = grind (arith, common_steps)
 
-pub is_even_if_even : (z : ℤ) → IsEven z → is_even z ≡ true
-is_even_if_even (pos n) h = grind (arith, common_steps)
-is_even_if_even (negsuc n) h = grind (arith, common_steps)
+pub is_even_is_true_if_even : (z : ℤ) → IsEven z → is_even z ≡ true
+is_even_is_true_if_even (pos n) h = grind (arith, common_steps)
+is_even_is_true_if_even (negsuc n) h = grind (arith, common_steps)
 
 operands_of_printed_branch : (op : BranchOp) (a b : Register) (z : ℤ) → distance_in (negsuc 4095) (pos 4094) (distance z) ≡ Ok z
     → operands_of (Branches op) (register_name a.number ∷ register_name b.number ∷ distance z ∷ []) ≡ Ok
@@ -79,19 +79,19 @@ operands_of_printed_branch : (op : BranchOp) (a b : Register) (z : ℤ) → dist
 operands_of_printed_branch op a b (pos n) e = rw ((register_name_is_piece a).some, (register_name_is_piece b).some) (rw (register_of_printed_name a, register_of_printed_name b, e) refl)
 operands_of_printed_branch op a b (negsuc n) e = rw ((register_name_is_piece a).some, (register_name_is_piece b).some) (rw (register_of_printed_name a, register_of_printed_name b, e) refl)
 
-distance_in_of_branch_offset : (i : BranchOffset) → distance_in (negsuc 4095) (pos 4094) (distance i.value) ≡ Ok i.value
-distance_in_of_branch_offset i =
-    let small = branch_offset_magnitude_is_small i.value i.low i.high in
-    rw (distance_text_of_printed_distance i.value (omega (arith, small))) (rw (is_even_if_even i.value i.even, branch_offset_within_range i.value i.low i.high) refl)
+distance_in_of_printed_branch_offset : (i : BranchOffset) → distance_in (negsuc 4095) (pos 4094) (distance i.value) ≡ Ok i.value
+distance_in_of_printed_branch_offset i =
+    let small = branch_offset_magnitude_fits_33_bits i.value i.low i.high in
+    rw (distance_text_of_printed_distance i.value (omega (arith, small))) (rw (is_even_is_true_if_even i.value i.even, branch_offset_range_test_is_true i.value i.low i.high) refl)
 
 pub printed_branch_assembles : (pc : ℕ) (op : BranchOp) (rs1 rs2 : Register) (i : BranchOffset)
     → IsWordGuest (assembled (instruction_text pc (Branch op rs1 rs2 i))) (word_of (Branch op rs1 rs2 i))
 printed_branch_assembles pc op rs1 rs2 i =
-    let small = branch_offset_magnitude_is_small i.value i.low i.high in
+    let small = branch_offset_magnitude_fits_33_bits i.value i.low i.high in
     line_that_says_word_assembles _ _ _ (three_operands_say_word (branch_name op) (register_name rs1.number) (register_name rs2.number) (far pc i.value)
     (distance i.value) (word_of (Branch op rs1 rs2 i)) (Branches op) (Index rs1 ∷ Index rs2 ∷ Integer i.value ∷ [])
     (branch_name_is_piece op) (register_name_is_piece rs1) (register_name_is_piece rs2) (far_target_is_last_operand pc i.value (omega (arith, small)))
-    (form_of_branch_name op) refl (operands_of_printed_branch op rs1 rs2 i.value (distance_in_of_branch_offset i))
+    (form_of_branch_name op) refl (operands_of_printed_branch op rs1 rs2 i.value (distance_in_of_printed_branch_offset i))
     (ap (λ (x : BranchOffset). instruction (Branch op rs1 rs2 x)) (branch_offset_of_own_value i)))
 
 -- ---- .word
@@ -122,9 +122,9 @@ word_line_says_word n h =
       xs = Integer (pos n) ∷ [];
       feed = clean_text_lacks_unclean_byte 10 c refl k;
       source = all_pass_weaker_test is_source_byte clean_byte_is_source_byte c k;
-      colon = before_lacks_byte 58 35 (one (codes ".word") (codes "0x" ++ c)) (clean_text_lacks_unclean_byte 58 c refl k);
+      colon = before_lacks_byte_if_text_does 58 35 (one (codes ".word") (codes "0x" ++ c)) (clean_text_lacks_unclean_byte 58 c refl k);
       trimmed = ap trim (before_without_separator 35 (one (codes ".word") (codes "0x" ++ c)) (clean_text_lacks_unclean_byte 35 c refl k))
-          ∙ trim_end_under_prefix (codes ".word ") (codes "0x" ++ c) (codes "0x" ++ c) (trim_end_of_clean_text (codes "0x" ++ c) p.all) refl;
+          ∙ trim_end_keeps_prefix (codes ".word ") (codes "0x" ++ c) (codes "0x" ++ c) (trim_end_of_clean_text (codes "0x" ++ c) p.all) refl;
       some = refl;
       named = refl;
       stands = refl;

@@ -7,41 +7,41 @@ use Rattle.ir_asm.specs.Operands.{address, address_parts, in_parentheses}
 use Rattle.ir_asm.specs.Text.{until, from, split, trim_end, is_blank}
 
 -- a list is cut at the first element that passes
-pub take_and_drop_at_first_match : (p : ℕ → Bool) (xs : List ℕ) (n : ℕ) → n ≤ length xs → ((k : ℕ) → k < n → p (get_or xs k 0) ≡ false)
+pub take_and_drop_at_first_match_are_until_and_from : (p : ℕ → Bool) (xs : List ℕ) (n : ℕ) → n ≤ length xs → ((k : ℕ) → k < n → p (get_or xs k 0) ≡ false)
     → (n < length xs → p (get_or xs n 0) ≡ true) → (take n xs ≡ until p xs) × (drop n xs ≡ from p xs)
-take_and_drop_at_first_match p [] zero h none found = (refl, refl)
-take_and_drop_at_first_match p [] (suc n) h none found = absurd (omega (arith, h))
-take_and_drop_at_first_match p (x ∷ xs) zero h none found = rw (found (omega arith)) (refl, refl)
-take_and_drop_at_first_match p (x ∷ xs) (suc n) h none found =
-    let rest = take_and_drop_at_first_match p xs n (omega (arith, h)) (λ k l. none (suc k) (omega (arith, l))) (λ l. found (omega (arith, l))) in
+take_and_drop_at_first_match_are_until_and_from p [] zero h none found = (refl, refl)
+take_and_drop_at_first_match_are_until_and_from p [] (suc n) h none found = absurd (omega (arith, h))
+take_and_drop_at_first_match_are_until_and_from p (x ∷ xs) zero h none found = rw (found (omega arith)) (refl, refl)
+take_and_drop_at_first_match_are_until_and_from p (x ∷ xs) (suc n) h none found =
+    let rest = take_and_drop_at_first_match_are_until_and_from p xs n (omega (arith, h)) (λ k l. none (suc k) (omega (arith, l))) (λ l. found (omega (arith, l))) in
     rw (none zero (omega arith)) (ap (λ (l : List ℕ). x ∷ l) rest.0, rest.1)
 
 pub take_is_until_first_match : (p : ℕ → Bool) (xs : List ℕ) (n : ℕ) → n ≤ length xs → ((k : ℕ) → k < n → p (get_or xs k 0) ≡ false)
     → (n < length xs → p (get_or xs n 0) ≡ true) → take n xs ≡ until p xs
-take_is_until_first_match p xs n h none found = (take_and_drop_at_first_match p xs n h none found).0
+take_is_until_first_match p xs n h none found = (take_and_drop_at_first_match_are_until_and_from p xs n h none found).0
 
 pub drop_is_from_first_match : (p : ℕ → Bool) (xs : List ℕ) (n : ℕ) → n ≤ length xs → ((k : ℕ) → k < n → p (get_or xs k 0) ≡ false)
     → (n < length xs → p (get_or xs n 0) ≡ true) → drop n xs ≡ from p xs
-drop_is_from_first_match p xs n h none found = (take_and_drop_at_first_match p xs n h none found).1
+drop_is_from_first_match p xs n h none found = (take_and_drop_at_first_match_are_until_and_from p xs n h none found).1
 
 -- the first part, by what comes before the first byte c and from it on
 abbrev pub split_rest : ℕ → List ℕ → List ℕ → List (List ℕ)
 split_rest c part [] = part ∷ []
 split_rest c part (b ∷ rest) = part ∷ split c rest
 
-onto_first_of_split_rest : (c x : ℕ) (part rest : List ℕ) → onto_first x (split_rest c part rest) ≡ split_rest c (x ∷ part) rest
-onto_first_of_split_rest c x part [] = refl
-onto_first_of_split_rest c x part (b ∷ rest) = refl
+onto_first_of_split_rest_extends_part : (c x : ℕ) (part rest : List ℕ) → onto_first x (split_rest c part rest) ≡ split_rest c (x ∷ part) rest
+onto_first_of_split_rest_extends_part c x part [] = refl
+onto_first_of_split_rest_extends_part c x part (b ∷ rest) = refl
 
-split_step_by_test : (c x : ℕ) (xs : List ℕ) (t : Bool) → split c xs ≡ split_rest c (until (λ b. b == c) xs) (from (λ b. b == c) xs)
+split_is_split_rest_step : (c x : ℕ) (xs : List ℕ) (t : Bool) → split c xs ≡ split_rest c (until (λ b. b == c) xs) (from (λ b. b == c) xs)
     → cond t ([] ∷ split c xs) (onto_first x (split c xs)) ≡ split_rest c (cond t [] (x ∷ until (λ b. b == c) xs))
     (cond t (x ∷ xs) (from (λ b. b == c) xs))
-split_step_by_test c x xs true e = refl
-split_step_by_test c x xs false e = ap (onto_first x) e ∙ onto_first_of_split_rest c x (until (λ b. b == c) xs) (from (λ b. b == c) xs)
+split_is_split_rest_step c x xs true e = refl
+split_is_split_rest_step c x xs false e = ap (onto_first x) e ∙ onto_first_of_split_rest_extends_part c x (until (λ b. b == c) xs) (from (λ b. b == c) xs)
 
 pub split_is_split_rest : (c : ℕ) (xs : List ℕ) → split c xs ≡ split_rest c (until (λ b. b == c) xs) (from (λ b. b == c) xs)
 split_is_split_rest c [] = refl
-split_is_split_rest c (x ∷ xs) = split_step_by_test c x xs (x == c) (split_is_split_rest c xs)
+split_is_split_rest c (x ∷ xs) = split_is_split_rest_step c x xs (x == c) (split_is_split_rest c xs)
 
 take_of_whole_length : (xs : List ℕ) → take (length xs) xs ≡ xs
 take_of_whole_length [] = refl

@@ -49,13 +49,13 @@ sign_extended_13_of_low_bits z low high = grind (arith, ints)
 sign_extended_21_of_low_bits : (z : ℤ) → negsuc 1048575 ≤ℤ z → z ≤ℤ pos 1048574 → sign_extended 21 (low_bits 21 z) ≡ z
 sign_extended_21_of_low_bits z low high = grind (arith, ints)
 
-even_bits_13_of_even_number : (z : ℤ) → IsEven z → even_bits 13 z ≡ low_bits 13 z
-even_bits_13_of_even_number (pos n) e = omega (arith, e)
-even_bits_13_of_even_number (negsuc n) e = omega (arith, e)
+even_bits_13_of_even_number_are_low_bits : (z : ℤ) → IsEven z → even_bits 13 z ≡ low_bits 13 z
+even_bits_13_of_even_number_are_low_bits (pos n) e = omega (arith, e)
+even_bits_13_of_even_number_are_low_bits (negsuc n) e = omega (arith, e)
 
-even_bits_21_of_even_number : (z : ℤ) → IsEven z → even_bits 21 z ≡ low_bits 21 z
-even_bits_21_of_even_number (pos n) e = omega (arith, e)
-even_bits_21_of_even_number (negsuc n) e = omega (arith, e)
+even_bits_21_of_even_number_are_low_bits : (z : ℤ) → IsEven z → even_bits 21 z ≡ low_bits 21 z
+even_bits_21_of_even_number_are_low_bits (pos n) e = omega (arith, e)
+even_bits_21_of_even_number_are_low_bits (negsuc n) e = omega (arith, e)
 
 pub register_of_own_number : (r : Register) → register_of r.number ≡ r
 register_of_own_number r = sym (register_of_equal_number r r.number (omega (arith, r.in_range)))
@@ -65,11 +65,11 @@ immediate_of_own_value i = sym (immediate_of_equal_value i i.value (sym (sign_ex
 
 pub branch_offset_of_own_value : (i : BranchOffset) → branch_offset_of i.value ≡ i
 branch_offset_of_own_value i = sym (branch_offset_of_equal_value i i.value
-    (sym (ap (sign_extended 13) (even_bits_13_of_even_number i.value i.even) ∙ sign_extended_13_of_low_bits i.value i.low i.high)))
+    (sym (ap (sign_extended 13) (even_bits_13_of_even_number_are_low_bits i.value i.even) ∙ sign_extended_13_of_low_bits i.value i.low i.high)))
 
 pub jump_offset_of_own_value : (i : JumpOffset) → jump_offset_of i.value ≡ i
 jump_offset_of_own_value i = sym (jump_offset_of_equal_value i i.value
-    (sym (ap (sign_extended 21) (even_bits_21_of_even_number i.value i.even) ∙ sign_extended_21_of_low_bits i.value i.low i.high)))
+    (sym (ap (sign_extended 21) (even_bits_21_of_even_number_are_low_bits i.value i.even) ∙ sign_extended_21_of_low_bits i.value i.low i.high)))
 
 pub upper_of_own_value : (i : UpperImmediate) → upper_of (pos (i.value / 2 ^ 12)) ≡ i
 upper_of_own_value i = sym (upper_of_equal_value i (pos (i.value / 2 ^ 12)) (omega (arith, i.in_range, i.whole)))
@@ -82,6 +82,6 @@ low_bits_12_are_reduced (pos n) = omega arith
 low_bits_12_are_reduced (negsuc n) = omega arith
 
 -- the lowest bits alone make the same immediate
-pub immediate_of_low_bits : (i : Immediate) → immediate_of (pos (low_bits 12 i.value)) ≡ i
-immediate_of_low_bits i = sym (immediate_of_equal_value i (pos (low_bits 12 i.value))
+pub immediate_of_own_low_bits : (i : Immediate) → immediate_of (pos (low_bits 12 i.value)) ≡ i
+immediate_of_own_low_bits i = sym (immediate_of_equal_value i (pos (low_bits 12 i.value))
     (sym (ap (sign_extended 12) (sym (low_bits_12_are_reduced i.value)) ∙ sign_extended_12_of_low_bits i.value i.low i.high)))

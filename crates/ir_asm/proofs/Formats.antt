@@ -5,6 +5,7 @@ use Rattle.std.specs.List.{list_all}
 use Rattle.std.specs.Fmt.{signed_decimal}
 use Rattle.std.proofs.lemmas.Bool.{and_parts}
 use Rattle.std.proofs.lemmas.Grind.{common_steps}
+use Rattle.ir_lemmas.proofs.CallerLemmas.{conjunction_with_false}
 use Rattle.ir_isa.specs.Fields.{register_name}
 use Rattle.ir_isa.specs.Words.{word_of}
 use Rattle.ir_isa.specs.declared.inst.Inst.TheVariants.{OpImm, Op}
@@ -38,21 +39,17 @@ use Rattle.ir_asm.proofs.Statements.{Says, line_that_says_word_assembles}
 
 -- ---- tails
 
-conjunction_with_false : (b : Bool) → (b && false) ≡ false
-conjunction_with_false true = refl
-conjunction_with_false false = refl
+pub trim_end_keeps_prefix : (x y z : List ℕ) → trim_end y ≡ z → is_nil z ≡ false → trim_end (x ++ y) ≡ x ++ z
+trim_end_keeps_prefix [] y z e n = e
+trim_end_keeps_prefix (b ∷ x) y z e n = rw (trim_end_keeps_prefix x y z e n, append_of_nonempty_is_nonempty x z n, conjunction_with_false (is_blank b)) refl
 
-pub trim_end_under_prefix : (x y z : List ℕ) → trim_end y ≡ z → is_nil z ≡ false → trim_end (x ++ y) ≡ x ++ z
-trim_end_under_prefix [] y z e n = e
-trim_end_under_prefix (b ∷ x) y z e n = rw (trim_end_under_prefix x y z e n, append_of_nonempty_is_nonempty x z n, conjunction_with_false (is_blank b)) refl
+pub before_keeps_prefix : (c : ℕ) (x y : List ℕ) → lacks c x ≡ true → before c (x ++ y) ≡ x ++ before c y
+before_keeps_prefix c [] y h = refl
+before_keeps_prefix c (b ∷ x) y h = rw ((lacks_in_head_and_tail c b x h).0) (ap (λ (l : List ℕ). b ∷ l) (before_keeps_prefix c x y (lacks_in_head_and_tail c b x h).1))
 
-pub before_under_prefix : (c : ℕ) (x y : List ℕ) → lacks c x ≡ true → before c (x ++ y) ≡ x ++ before c y
-before_under_prefix c [] y h = refl
-before_under_prefix c (b ∷ x) y h = rw ((lacks_in_head_and_tail c b x h).0) (ap (λ (l : List ℕ). b ∷ l) (before_under_prefix c x y (lacks_in_head_and_tail c b x h).1))
-
-pub before_lacks_byte : (c d : ℕ) (x : List ℕ) → lacks c x ≡ true → lacks c (before d x) ≡ true
-before_lacks_byte c d [] h = refl
-before_lacks_byte c d (b ∷ x) h = by_test c d b x (lacks_in_head_and_tail c b x h).0 (before_lacks_byte c d x (lacks_in_head_and_tail c b x h).1)
+pub before_lacks_byte_if_text_does : (c d : ℕ) (x : List ℕ) → lacks c x ≡ true → lacks c (before d x) ≡ true
+before_lacks_byte_if_text_does c d [] h = refl
+before_lacks_byte_if_text_does c d (b ∷ x) h = by_test c d b x (lacks_in_head_and_tail c b x h).0 (before_lacks_byte_if_text_does c d x (lacks_in_head_and_tail c b x h).1)
   where
     by_test : (c d b : ℕ) (x : List ℕ) → (b == c) ≡ false → lacks c (before d x) ≡ true → lacks c (cond (b == d) [] (b ∷ before d x)) ≡ true
     by_test c d b x e h = go (b == d)
@@ -98,19 +95,19 @@ all_pass_in_three_operands p s t name a b c h i j k =
 before_comment_of_three_operands : (name a b raw : List ℕ) → IsPiece name → IsPiece a → IsPiece b
     → before 35 (three name a b raw) ≡ three name a b (before 35 raw)
 before_comment_of_three_operands name a b raw p q r =
-    before_under_prefix 35 name (32 ∷ (a ++ 44 ∷ 32 ∷ (b ++ 44 ∷ 32 ∷ raw))) (clean_text_lacks_unclean_byte 35 name refl p.all)
-    ∙ ap (λ (l : List ℕ). name ++ 32 ∷ l) (before_under_prefix 35 a (44 ∷ 32 ∷ (b ++ 44 ∷ 32 ∷ raw)) (clean_text_lacks_unclean_byte 35 a refl q.all)
-    ∙ ap (λ (l : List ℕ). a ++ 44 ∷ 32 ∷ l) (before_under_prefix 35 b (44 ∷ 32 ∷ raw) (clean_text_lacks_unclean_byte 35 b refl r.all)))
+    before_keeps_prefix 35 name (32 ∷ (a ++ 44 ∷ 32 ∷ (b ++ 44 ∷ 32 ∷ raw))) (clean_text_lacks_unclean_byte 35 name refl p.all)
+    ∙ ap (λ (l : List ℕ). name ++ 32 ∷ l) (before_keeps_prefix 35 a (44 ∷ 32 ∷ (b ++ 44 ∷ 32 ∷ raw)) (clean_text_lacks_unclean_byte 35 a refl q.all)
+    ∙ ap (λ (l : List ℕ). a ++ 44 ∷ 32 ∷ l) (before_keeps_prefix 35 b (44 ∷ 32 ∷ raw) (clean_text_lacks_unclean_byte 35 b refl r.all)))
 
 trim_of_three_operands : (name a b raw c : List ℕ) → IsPiece name → trim_end raw ≡ c → IsPiece c → trim (three name a b raw) ≡ three name a b c
 trim_of_three_operands name a b raw c p e q =
     ap trim_end (skip_blanks_keeps_clean_start name (32 ∷ (a ++ 44 ∷ 32 ∷ (b ++ 44 ∷ 32 ∷ raw))) p.some p.all)
-    ∙ trim_end_under_prefix name (32 ∷ (a ++ 44 ∷ 32 ∷ (b ++ 44 ∷ 32 ∷ raw))) (32 ∷ (a ++ 44 ∷ 32 ∷ (b ++ 44 ∷ 32 ∷ c)))
-    (trim_end_under_prefix (32 ∷ []) (a ++ 44 ∷ 32 ∷ (b ++ 44 ∷ 32 ∷ raw)) (a ++ 44 ∷ 32 ∷ (b ++ 44 ∷ 32 ∷ c))
-    (trim_end_under_prefix a (44 ∷ 32 ∷ (b ++ 44 ∷ 32 ∷ raw)) (44 ∷ 32 ∷ (b ++ 44 ∷ 32 ∷ c))
-    (trim_end_under_prefix (44 ∷ 32 ∷ []) (b ++ 44 ∷ 32 ∷ raw) (b ++ 44 ∷ 32 ∷ c)
-    (trim_end_under_prefix b (44 ∷ 32 ∷ raw) (44 ∷ 32 ∷ c)
-    (trim_end_under_prefix (44 ∷ 32 ∷ []) raw c e q.some) refl)
+    ∙ trim_end_keeps_prefix name (32 ∷ (a ++ 44 ∷ 32 ∷ (b ++ 44 ∷ 32 ∷ raw))) (32 ∷ (a ++ 44 ∷ 32 ∷ (b ++ 44 ∷ 32 ∷ c)))
+    (trim_end_keeps_prefix (32 ∷ []) (a ++ 44 ∷ 32 ∷ (b ++ 44 ∷ 32 ∷ raw)) (a ++ 44 ∷ 32 ∷ (b ++ 44 ∷ 32 ∷ c))
+    (trim_end_keeps_prefix a (44 ∷ 32 ∷ (b ++ 44 ∷ 32 ∷ raw)) (44 ∷ 32 ∷ (b ++ 44 ∷ 32 ∷ c))
+    (trim_end_keeps_prefix (44 ∷ 32 ∷ []) (b ++ 44 ∷ 32 ∷ raw) (b ++ 44 ∷ 32 ∷ c)
+    (trim_end_keeps_prefix b (44 ∷ 32 ∷ raw) (44 ∷ 32 ∷ c)
+    (trim_end_keeps_prefix (44 ∷ 32 ∷ []) raw c e q.some) refl)
     (append_of_nonempty_is_nonempty b (44 ∷ 32 ∷ c) refl)) refl)
     (append_of_nonempty_is_nonempty a (44 ∷ 32 ∷ (b ++ 44 ∷ 32 ∷ c)) refl)) refl
 
@@ -118,10 +115,10 @@ operand_texts_of_three_operands : (name a b c : List ℕ) → IsPiece name → I
 operand_texts_of_three_operands name a b c n p q r =
     ap (λ (l : List ℕ). texts_of (trim l)) (from_blank_is_operands name (a ++ 44 ∷ 32 ∷ (b ++ 44 ∷ 32 ∷ c)) n.all)
     ∙ ap texts_of (ap trim_end (skip_blanks_keeps_clean_start a (44 ∷ 32 ∷ (b ++ 44 ∷ 32 ∷ c)) p.some p.all)
-    ∙ trim_end_under_prefix a (44 ∷ 32 ∷ (b ++ 44 ∷ 32 ∷ c)) (44 ∷ 32 ∷ (b ++ 44 ∷ 32 ∷ c))
-    (trim_end_under_prefix (44 ∷ 32 ∷ []) (b ++ 44 ∷ 32 ∷ c) (b ++ 44 ∷ 32 ∷ c)
-    (trim_end_under_prefix b (44 ∷ 32 ∷ c) (44 ∷ 32 ∷ c)
-    (trim_end_under_prefix (44 ∷ 32 ∷ []) c c (trim_end_of_clean_text c r.all) r.some) refl)
+    ∙ trim_end_keeps_prefix a (44 ∷ 32 ∷ (b ++ 44 ∷ 32 ∷ c)) (44 ∷ 32 ∷ (b ++ 44 ∷ 32 ∷ c))
+    (trim_end_keeps_prefix (44 ∷ 32 ∷ []) (b ++ 44 ∷ 32 ∷ c) (b ++ 44 ∷ 32 ∷ c)
+    (trim_end_keeps_prefix b (44 ∷ 32 ∷ c) (44 ∷ 32 ∷ c)
+    (trim_end_keeps_prefix (44 ∷ 32 ∷ []) c c (trim_end_of_clean_text c r.all) r.some) refl)
     (append_of_nonempty_is_nonempty b (44 ∷ 32 ∷ c) refl)) refl)
     ∙ rw (
       append_of_nonempty_is_nonempty a (44 ∷ 32 ∷ (b ++ 44 ∷ 32 ∷ c)) refl,
@@ -144,7 +141,7 @@ three_operands_say_word name a b raw c word form xs n p q r e s o m = record {
       (clean_text_lacks_unclean_byte 10 b refl q.all) r.feed;
   source = all_pass_in_three_operands is_source_byte refl refl name a b raw (all_pass_weaker_test is_source_byte clean_byte_is_source_byte name n.all)
       (all_pass_weaker_test is_source_byte clean_byte_is_source_byte a p.all) (all_pass_weaker_test is_source_byte clean_byte_is_source_byte b q.all) r.source;
-  colon = before_lacks_byte 58 35 (three name a b raw)
+  colon = before_lacks_byte_if_text_does 58 35 (three name a b raw)
       (all_pass_in_three_operands (λ b. not (b == 58)) refl refl name a b raw (clean_text_lacks_unclean_byte 58 name refl n.all) (clean_text_lacks_unclean_byte 58 a refl p.all)
       (clean_text_lacks_unclean_byte 58 b refl q.all) r.colon);
   trimmed = ap trim (before_comment_of_three_operands name a b raw n p q) ∙ trim_of_three_operands name a b (before 35 raw) c n r.trimmed r.piece_is;
@@ -245,27 +242,27 @@ printed_register_operation_assembles pc op rd rs1 rs2 = line_that_says_word_asse
 
 -- ---- a signed immediate
 
-pub immediate_within_range : (z : ℤ) → negsuc 2047 ≤ℤ z → z ≤ℤ pos 2047 → (int_le (negsuc 2047) z && int_le z (pos 2047)) ≡ true
-immediate_within_range (pos n) h k = grind (arith, common_steps)
-immediate_within_range (negsuc n) h k = grind (arith, common_steps)
+pub immediate_range_test_is_true : (z : ℤ) → negsuc 2047 ≤ℤ z → z ≤ℤ pos 2047 → (int_le (negsuc 2047) z && int_le z (pos 2047)) ≡ true
+immediate_range_test_is_true (pos n) h k = grind (arith, common_steps)
+immediate_range_test_is_true (negsuc n) h k = grind (arith, common_steps)
 
-pub immediate_magnitude_is_small : (z : ℤ) → negsuc 2047 ≤ℤ z → z ≤ℤ pos 2047 → nat_abs z < 2 ^ 33
-immediate_magnitude_is_small (pos n) h k = grind (arith, common_steps)
-immediate_magnitude_is_small (negsuc n) h k = grind (arith, common_steps)
+pub immediate_magnitude_fits_33_bits : (z : ℤ) → negsuc 2047 ≤ℤ z → z ≤ℤ pos 2047 → nat_abs z < 2 ^ 33
+immediate_magnitude_fits_33_bits (pos n) h k = grind (arith, common_steps)
+immediate_magnitude_fits_33_bits (negsuc n) h k = grind (arith, common_steps)
 
 operands_of_printed_immediate : (op : ImmediateOp) (a b : Register) (i : Immediate)
     → operands_of (Immediates op) (register_name a.number ∷ register_name b.number ∷ signed_decimal i.value ∷ []) ≡ Ok
     (Index a ∷ Index b ∷ Integer i.value ∷ [])
 operands_of_printed_immediate op a b i =
-    let small = immediate_magnitude_is_small i.value i.low i.high in
+    let small = immediate_magnitude_fits_33_bits i.value i.low i.high in
     rw ((register_name_is_piece a).some, (register_name_is_piece b).some, (signed_decimal_is_piece i.value (omega (arith, small))).some)
     (rw (register_of_printed_name a, register_of_printed_name b, number_of_signed_decimal i.value (omega (arith, small)))
-    (rw (immediate_within_range i.value i.low i.high) refl))
+    (rw (immediate_range_test_is_true i.value i.low i.high) refl))
 
 pub printed_immediate_operation_assembles : (pc : ℕ) (op : ImmediateOp) (rd rs1 : Register) (i : Immediate)
     → IsWordGuest (assembled (instruction_text pc (OpImm op rd rs1 i))) (word_of (OpImm op rd rs1 i))
 printed_immediate_operation_assembles pc op rd rs1 i =
-    let small = immediate_magnitude_is_small i.value i.low i.high in
+    let small = immediate_magnitude_fits_33_bits i.value i.low i.high in
     line_that_says_word_assembles _ _ _ (three_operands_say_word (immediate_name op) (register_name rd.number) (register_name rs1.number) (signed_decimal i.value)
     (signed_decimal i.value) (word_of (OpImm op rd rs1 i)) (Immediates op) (Index rd ∷ Index rs1 ∷ Integer i.value ∷ [])
     (immediate_name_is_piece op) (register_name_is_piece rd) (register_name_is_piece rs1)

@@ -5,9 +5,11 @@ use Rattle.std.specs.List.{AllByRecursion}
 use Rattle.std.proofs.lemmas.Bool.{ltb-true}
 use Rattle.std.proofs.lemmas.Option.{same_Some}
 use Rattle.std.proofs.lemmas.List.{length-replicate, length-append, length-take-le, length-drop}
+use Rattle.ir_lemmas.proofs.CallerLemmas.{all_by_recursion_after_push, ok_is_injective}
 use Rattle.ir_image.specs.declared.form.ImageForm.{ImageForm}
 use Rattle.ir_image.specs.declared.form.ImageForm.TheVariants.{Small, Large}
-use Rattle.ir_image.specs.Guest.{limits_of, Guest, code_start, object_words, padded_to, IsPlace}
+use Rattle.ir_image.specs.Guest.{limits_of, Guest, code_start, object_words, padded_to}
+use Rattle.ir_image.specs.Bounds.{IsPlace}
 use Rattle.ir_asm.specs.declared.item.Item.{Item}
 use Rattle.ir_asm.specs.declared.item.Item.TheVariants.{Code, BranchTo, JumpTo, LoadAddress, Filled, Enlarged, Within, Entry, Count, First, Nothing}
 use Rattle.ir_asm.specs.declared.item.Place.{Place}
@@ -25,7 +27,7 @@ use Rattle.ir_asm.specs.Answered.{Answers, refused}
 use Rattle.ir_asm.specs.Source.{Seen, Fault, same_section, at_line}
 use Rattle.ir_asm.specs.Passes.{put, distance_to, value_of, text_address, with_code, with_object, second_pass}
 use Rattle.ir_asm.specs.Bounds.{HasFewWords}
-use Rattle.ir_asm.proofs.Steps.{ok_is_injective, parts_of_ok_bind, test_and_value_of_ok_unless, some_if_or_cause_is_ok}
+use Rattle.ir_asm.proofs.Steps.{parts_of_ok_bind, test_and_value_of_ok_unless, some_if_or_cause_is_ok}
 
 -- how many bytes of code an item is
 abbrev pub code_size : Item → ℕ
@@ -54,15 +56,11 @@ IsTextPlace Data address = Unit {0}
 abbrev pub LabelsFit : List (List ℕ × Place) → Type 0
 LabelsFit labels = AllByRecursion (λ l. IsTextPlace l.1.section l.1.address) labels
 
-pub all_by_recursion_after_push : {X : Type 0} (P : X → Type 0) (xs : List X) (x : X) → AllByRecursion P xs → P x → AllByRecursion P (xs ++ x ∷ [])
-all_by_recursion_after_push P [] x h p = (p, tt)
-all_by_recursion_after_push P (y ∷ ys) x h p = (h.0, all_by_recursion_after_push P ys x h.1 p)
-
 -- what holds beside all names holds beside one
-pub holds_beside_found_name : {A : Type 0} (P : A → Type 0) (rows : List (List ℕ × A)) (name : List ℕ) (x : A) → AllByRecursion (λ r. P r.1) rows
+pub named_value_has_property_of_all : {A : Type 0} (P : A → Type 0) (rows : List (List ℕ × A)) (name : List ℕ) (x : A) → AllByRecursion (λ r. P r.1) rows
     → named rows name ≡ Some x → P x
-holds_beside_found_name P [] name x h e = absurd (cc e)
-holds_beside_found_name P (r ∷ rows) name x h e = by_test (bytes_eq name r.0) (λ f. holds_beside_found_name P rows name x h.1 f) e
+named_value_has_property_of_all P [] name x h e = absurd (cc e)
+named_value_has_property_of_all P (r ∷ rows) name x h e = by_test (bytes_eq name r.0) (λ f. named_value_has_property_of_all P rows name x h.1 f) e
   where
     by_test : (b : Bool) → (named rows name ≡ Some x → P x) → cond b (Some r.1) (named rows name) ≡ Some x → P x
     by_test true rest f = subst P (same_Some r.1 x f) h.0
@@ -73,7 +71,7 @@ pub text_address_is_text_place : (s : Seen) (label : List ℕ) (a : ℕ) → Lab
 text_address_is_text_place s label a fits e =
     let b = parts_of_ok_bind (value_of s label) _ a e in
     let t = test_and_value_of_ok_unless (same_section b.0.section Text) WrongSection b.0.address a b.2 in
-    let p = holds_beside_found_name (λ (place : Place). IsTextPlace place.section place.address) s.labels label b.0 fits (some_if_or_cause_is_ok LabelMissing _ b.0 b.1) in
+    let p = named_value_has_property_of_all (λ (place : Place). IsTextPlace place.section place.address) s.labels label b.0 fits (some_if_or_cause_is_ok LabelMissing _ b.0 b.1) in
     subst (λ n. (n % 4 ≡ 0) × (code_start ≤ n)) t.1 (by_section b.0.section b.0.address t.0 p)
   where
     by_section : (section : Section) (n : ℕ) → same_section section Text ≡ true → IsTextPlace section n → (n % 4 ≡ 0) × (code_start ≤ n)
@@ -86,11 +84,11 @@ take_of_zeros zero n l = refl
 take_of_zeros (suc k) zero l = absurd (omega (arith, l))
 take_of_zeros (suc k) (suc n) l = ap (λ (xs : List ℕ). 0 ∷ xs) (take_of_zeros k n (omega (arith, l)))
 
-take_of_words_and_zeros : (words : List ℕ) (k n : ℕ) → k ≤ n → take (length words + k) (words ++ replicate {A = ℕ} n 0) ≡ words ++ replicate {A = ℕ} k 0
-take_of_words_and_zeros [] k n l = let e : 0 + k ≡ k = omega arith in rw e (take_of_zeros k n l)
-take_of_words_and_zeros (w ∷ ws) k n l =
+take_past_words_leaves_fewer_zeros : (words : List ℕ) (k n : ℕ) → k ≤ n → take (length words + k) (words ++ replicate {A = ℕ} n 0) ≡ words ++ replicate {A = ℕ} k 0
+take_past_words_leaves_fewer_zeros [] k n l = let e : 0 + k ≡ k = omega arith in rw e (take_of_zeros k n l)
+take_past_words_leaves_fewer_zeros (w ∷ ws) k n l =
     let e : length (w ∷ ws) + k ≡ suc (length ws + k) = omega arith in
-    rw e (ap (λ (xs : List ℕ). w ∷ xs) (take_of_words_and_zeros ws k n l))
+    rw e (ap (λ (xs : List ℕ). w ∷ xs) (take_past_words_leaves_fewer_zeros ws k n l))
 
 -- fewer words of an object
 pub take_of_padded_words : (count most : ℕ) (words : List ℕ) → length words ≤ count → count ≤ most
@@ -98,17 +96,17 @@ pub take_of_padded_words : (count most : ℕ) (words : List ℕ) → length word
 take_of_padded_words count most words l m =
     let e : length words + (count - length words) ≡ count = omega (arith, l) in
     ap (λ (k : ℕ). take k (padded_to most words)) (sym e)
-    ∙ take_of_words_and_zeros words (count - length words) (most - length words) (omega (arith, m))
+    ∙ take_past_words_leaves_fewer_zeros words (count - length words) (most - length words) (omega (arith, m))
 
 -- an object has its place
-object_room_by_form : (form : ImageForm) (object objects : ℕ) → object < objects
+object_has_room_by_limits : (form : ImageForm) (object objects : ℕ) → object < objects
     → (limits_of form).words * object + (limits_of form).words ≤ (limits_of form).words * objects
-object_room_by_form Small object objects l = omega (arith, l)
-object_room_by_form Large object objects l = omega (arith, l)
+object_has_room_by_limits Small object objects l = omega (arith, l)
+object_has_room_by_limits Large object objects l = omega (arith, l)
 
 pub object_has_room : (g : Guest) (object objects : ℕ) → object < objects → length g.words ≡ object_words g * objects
     → object_words g * object + object_words g ≤ length g.words
-object_has_room g object objects l there = let r = object_room_by_form g.form object objects l in omega (arith, r, there)
+object_has_room g object objects l there = let r = object_has_room_by_limits g.form object objects l in omega (arith, r, there)
 
 -- words take the place of as many
 length_after_words_replaced : (all words : List ℕ) (start count : ℕ) → length words ≤ count → start + count ≤ length all
@@ -218,10 +216,10 @@ put_keeps_word_count s a item g h few there e =
     a.words ∙ there ∙ ap (λ (f : ImageForm). (limits_of f).words * s.objects) (sym a.form)
 
 -- what holds of all holds of one
-pub all_hold_at_place : {X : Type 0} (P : X → Type 0) (xs : List X) (i : ℕ) (d : X) → i < length xs → AllByRecursion P xs → P (get_or xs i d)
-all_hold_at_place P [] i d l h = absurd (omega (arith, l))
-all_hold_at_place P (y ∷ ys) zero d l h = h.0
-all_hold_at_place P (y ∷ ys) (suc i) d l h = all_hold_at_place P ys i d (omega (arith, l)) h.1
+pub get_or_has_property_of_all : {X : Type 0} (P : X → Type 0) (xs : List X) (i : ℕ) (d : X) → i < length xs → AllByRecursion P xs → P (get_or xs i d)
+get_or_has_property_of_all P [] i d l h = absurd (omega (arith, l))
+get_or_has_property_of_all P (y ∷ ys) zero d l h = h.0
+get_or_has_property_of_all P (y ∷ ys) (suc i) d l h = get_or_has_property_of_all P ys i d (omega (arith, l)) h.1
 
 drop_begins_with_get_or : {X : Type 0} (xs : List X) (i : ℕ) (d : X) → i < length xs → drop i xs ≡ get_or xs i d ∷ drop (i + 1) xs
 drop_begins_with_get_or [] i d l = absurd (omega (arith, l))

@@ -3,6 +3,7 @@ use Rattle.std.proofs.Common.{◌≡◌, ◌+◌, ◌*◌, ◌++◌, ℕ, Bool, 
 use Rattle.std.specs.Prelude.{nat_lt, nat_le, bytes_eq, if◌then◌else◌}
 use Rattle.std.specs.List.{list_any, list_all}
 use Rattle.std.proofs.lemmas.Slice.Eq.{bytes_eq-Decides}
+use Rattle.ir_lemmas.proofs.CallerLemmas.{ok_is_injective}
 use Rattle.ir_image.specs.declared.form.ImageForm.{ImageForm}
 use Rattle.ir_image.specs.declared.form.ImageForm.TheVariants.{Small}
 use Rattle.ir_image.specs.Guest.{limits_of, memory_size, most_code_words}
@@ -25,7 +26,7 @@ use Rattle.ir_asm.specs.Names.{named}
 use Rattle.ir_asm.specs.Text.{is_name, is_nil}
 use Rattle.ir_asm.specs.Source.{Seen, nothing_seen, start_of, size_in, same_section, size_of, here, is_source_byte, at_line, name_of, operand_texts, may_stand, item_with, item_in, begun, grown, laid, entered, with_labels, with_statement, with_line, line_of, first_pass}
 use Rattle.ir_asm.specs.Standing.{item_or_nothing, placed_by, section_after, section_at_end, bytes_placed, place_after}
-use Rattle.ir_asm.proofs.Steps.{ok_if_at_line_is_ok, ok_is_injective, parts_of_ok_bind, parts_of_ok_unless, test_and_value_of_ok_unless}
+use Rattle.ir_asm.proofs.Steps.{ok_if_at_line_is_ok, parts_of_ok_bind, parts_of_ok_unless, test_and_value_of_ok_unless}
 
 -- ---- an item
 
@@ -196,8 +197,8 @@ none_if_not_some : {A : Type 0} (o : Option A) → not (is_some o) ≡ true → 
 none_if_not_some None e = refl
 none_if_not_some (Some x) e = absurd (cc e)
 
-here_after_new_labels : (s : Seen) (rows : List (List ℕ × Place)) → here (record s { labels = rows }) ≡ here s
-here_after_new_labels s rows = λ i. record {
+here_ignores_labels : (s : Seen) (rows : List (List ℕ × Place)) → here (record s { labels = rows }) ≡ here s
+here_ignores_labels s rows = λ i. record {
   section = s.section;
   address =
       start_of s.section + size_in_of_equal_counts s.section s (record s { labels = rows }) refl refl i;
@@ -225,7 +226,7 @@ labels_leave_if_passed (x ∷ xs) s t e =
       found = λ name f. by_test name (bytes_eq name x) refl f
           (λ g. r.kept name (here s) (named_finds_appended_row s.labels name x (here s)
           (ap (named s.labels) ((bytes_eq-Decides name x).0 g) ∙ none_if_not_some (named s.labels x) u.0) g))
-          (λ g. r.found name g ∙ ap (λ (q : Place). Some q) (here_after_new_labels s (s.labels ++ (x, here s) ∷ [])));
+          (λ g. r.found name g ∙ ap (λ (q : Place). Some q) (here_ignores_labels s (s.labels ++ (x, here s) ∷ [])));
     }
   where
     by_test : (name : List ℕ) (b : Bool) → bytes_eq name x ≡ b → (b || list_any (bytes_eq name) xs) ≡ true
@@ -302,9 +303,9 @@ here_is_place_after_lines lines t p =
     ∙ (λ i. record { section = w; address = start_of w + size i })
 
 -- a label comes after what was placed before it
-pub label_value : (xs ys : List (List ℕ)) (line name : List ℕ) (s : Seen) → first_pass 1 (xs ++ line ∷ ys) nothing_seen ≡ Ok s
+pub label_value_is_place_after_earlier_lines : (xs ys : List (List ℕ)) (line name : List ℕ) (s : Seen) → first_pass 1 (xs ++ line ∷ ys) nothing_seen ≡ Ok s
     → list_any (bytes_eq name) (line_of line).labels ≡ true → named s.labels name ≡ Some (place_after Text xs)
-label_value xs ys line name s e h =
+label_value_is_place_after_earlier_lines xs ys line name s e h =
     let c = first_pass_of_append_splits 1 xs (line ∷ ys) nothing_seen s e in
     let f = parts_of_ok_bind (at_line (1 + length xs) (with_line (1 + length xs) (line_of line) c.0)) _ s c.2 in
     let l = line_leaves_if_passed (1 + length xs) line c.0 f.0 (ok_if_at_line_is_ok _ _ f.0 f.1) in

@@ -9,7 +9,6 @@ mod PlacingLaws
 mod OrderLaws
 mod Texts
 mod Tables
-mod Numerals
 mod Cuts
 mod Pieces
 mod Numbers

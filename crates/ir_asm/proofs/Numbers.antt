@@ -8,13 +8,15 @@ use Rattle.std.specs.Str.Parse.{IsNumeral, AllDigits, digits_value}
 use Rattle.std.proofs.lemmas.Fmt.{decimal_is_IsNumeral, length-decimal-le}
 use Rattle.std.proofs.lemmas.Bool.{and_parts, lt-ltb, le-leb, eqb-true, eqb-false}
 use Rattle.std.proofs.lemmas.Grind.{common_steps}
-use Rattle.ir_asm.specs.Text.{is_nil, numeral, natural, number, starts_hex, first_byte}
+use Rattle.ir_lemmas.proofs.CallerLemmas.{false_if_not_is_true}
+use Rattle.ir_numerals.specs.Numerals.{numeral, starts_hexadecimal}
+use Rattle.ir_asm.specs.Text.{is_nil, natural, number, first_byte}
 use Rattle.ir_isa.specs.Fields.{register_name}
 use Rattle.ir_isa.specs.declared.inst.Register.{Register}
 use Rattle.ir_asm.specs.Fields.{register_of}
 use Rattle.ir_asm.specs.Names.{named, register_rows, register}
 use Rattle.ir_disasm.specs.Printed.{hex}
-use Rattle.ir_asm.proofs.Pieces.{clean, IsPiece, false_if_not_is_true}
+use Rattle.ir_asm.proofs.Pieces.{clean, IsPiece}
 use Rattle.ir_asm.proofs.FieldLaws.{register_of_own_number}
 
 -- a test that each number of a list passes, which counts on from a number
@@ -70,7 +72,7 @@ pub digits_are_clean : (ds : List ℕ) → AllDigits 10 ds → list_all clean ds
 digits_are_clean [] h = refl
 digits_are_clean (d ∷ ds) h = rw (digit_is_clean d h.0) (digits_are_clean ds h.1)
 
-decimal_digits_start_no_hex : (ds : List ℕ) → AllDigits 10 ds → starts_hex ds ≡ false
+decimal_digits_start_no_hex : (ds : List ℕ) → AllDigits 10 ds → starts_hexadecimal ds ≡ false
 decimal_digits_start_no_hex [] h = refl
 decimal_digits_start_no_hex (a ∷ []) h = refl
 decimal_digits_start_no_hex (a ∷ b ∷ ds) h = rw (digit_is_not_x b h.1.0) (grind (arith, common_steps))

@@ -2,6 +2,7 @@
 use Rattle.std.proofs.Common.{◌≡◌, ◌+◌, ◌*◌, ◌≤◌, ◌<◌, ℕ, List, [], ◌∷◌, ◌++◌, Ok, not, is_some, refl, ap, subst, arith}
 use Rattle.std.specs.Prelude.{nat_le, nat_lt}
 use Rattle.std.specs.List.{AllByRecursion, list_all}
+use Rattle.ir_lemmas.proofs.CallerLemmas.{all_by_recursion_after_push, ok_is_injective}
 use Rattle.ir_image.specs.Guest.{limits_of, memory_size, most_code_words}
 use Rattle.ir_asm.specs.Forms.{stated}
 use Rattle.ir_asm.specs.declared.cause.Cause.TheVariants.{LabelTwice, BadByte, BadLabel, BadSize, BadCount}
@@ -14,8 +15,7 @@ use Rattle.ir_asm.specs.Names.{named}
 use Rattle.ir_asm.specs.Text.{is_name}
 use Rattle.ir_asm.specs.Source.{Seen, nothing_seen, size_of, here, is_source_byte, at_line, grown, laid, placed_at, entered, begun, with_labels, with_statement, with_line, line_of, first_pass, item_in}
 use Rattle.ir_asm.specs.Placing.{AreInOrder}
-use Rattle.ir_asm.proofs.Steps.{ok_if_at_line_is_ok, ok_is_injective, parts_of_ok_bind, parts_of_ok_unless, test_and_value_of_ok_unless}
-use Rattle.ir_asm.proofs.Kept.{all_by_recursion_after_push}
+use Rattle.ir_asm.proofs.Steps.{ok_if_at_line_is_ok, parts_of_ok_bind, parts_of_ok_unless, test_and_value_of_ok_unless}
 
 -- in order, and all before a line
 abbrev pub AreInOrderBefore : ℕ → List Placed → Type 0
@@ -26,19 +26,19 @@ in_order_after_push : (low line : ℕ) (xs : List Placed) (x : Placed) → low �
 in_order_after_push low line [] x l e b o = (omega (arith, l, e), tt)
 in_order_after_push low line (y ∷ ys) x l e b o = (o.0, in_order_after_push (y.line + 1) line ys x (omega (arith, b.0)) e b.1 o.1)
 
-before_line_is_before_next : (line : ℕ) (xs : List Placed) → AllByRecursion (λ y. y.line < line) xs → AllByRecursion (λ y. y.line < line + 1) xs
-before_line_is_before_next line [] b = tt
-before_line_is_before_next line (y ∷ ys) b = (omega (arith, b.0), before_line_is_before_next line ys b.1)
+all_before_next_line_if_before_line : (line : ℕ) (xs : List Placed) → AllByRecursion (λ y. y.line < line) xs → AllByRecursion (λ y. y.line < line + 1) xs
+all_before_next_line_if_before_line line [] b = tt
+all_before_next_line_if_before_line line (y ∷ ys) b = (omega (arith, b.0), all_before_next_line_if_before_line line ys b.1)
 
 -- a line that places nothing
 in_order_before_next_line : (line : ℕ) (xs : List Placed) → AreInOrderBefore line xs → AreInOrderBefore (line + 1) xs
-in_order_before_next_line line xs o = (o.0, before_line_is_before_next line xs o.1)
+in_order_before_next_line line xs o = (o.0, all_before_next_line_if_before_line line xs o.1)
 
 -- a line that places a statement
 in_order_after_placed_item : (line a : ℕ) (item : Item) (s : Seen) → 1 ≤ line → AreInOrderBefore line s.placed → AreInOrderBefore (line + 1) (placed_at line a item s).placed
 in_order_after_placed_item line a item s l o =
     let x : Placed = record { line = line; address = a; item = item } in
-    (in_order_after_push 1 line s.placed x l refl o.1 o.0, all_by_recursion_after_push (λ y. y.line < line + 1) s.placed x (before_line_is_before_next line s.placed o.1) (omega arith))
+    (in_order_after_push 1 line s.placed x l refl o.1 o.0, all_by_recursion_after_push (λ y. y.line < line + 1) s.placed x (all_before_next_line_if_before_line line s.placed o.1) (omega arith))
 
 in_order_after_entered_item : (line a : ℕ) (item : Item) (s t : Seen) → 1 ≤ line → AreInOrderBefore line s.placed → entered line a item s ≡ Ok t
     → AreInOrderBefore (line + 1) t.placed

@@ -26,8 +26,8 @@ use Rattle.ir_asm.proofs.Pieces.{all_pass_in_append, IsPiece, skip_blanks_keeps_
 use Rattle.ir_asm.proofs.Numbers.{register_of_printed_name, register_name_is_piece}
 use Rattle.ir_asm.proofs.FieldLaws.{jump_offset_of_own_value}
 use Rattle.ir_asm.proofs.Statements.{Says, line_that_says_word_assembles}
-use Rattle.ir_asm.proofs.Formats.{IsLastOperand, trim_end_under_prefix, before_under_prefix, before_lacks_byte, all_pass_weaker_test, clean_byte_is_source_byte}
-use Rattle.ir_asm.proofs.Branches.{far_target_is_last_operand, distance_text_of_printed_distance, is_even_if_even}
+use Rattle.ir_asm.proofs.Formats.{IsLastOperand, trim_end_keeps_prefix, before_keeps_prefix, before_lacks_byte_if_text_does, all_pass_weaker_test, clean_byte_is_source_byte}
+use Rattle.ir_asm.proofs.Branches.{far_target_is_last_operand, distance_text_of_printed_distance, is_even_is_true_if_even}
 
 all_pass_in_two_operands : (p : ℕ → Bool) → p 32 ≡ true → p 44 ≡ true → (name a c : List ℕ) → list_all p name ≡ true → list_all p a ≡ true
     → list_all p c ≡ true → list_all p (two name a c) ≡ true
@@ -38,24 +38,24 @@ all_pass_in_two_operands p s t name a c h i k =
 
 before_comment_of_two_operands : (name a raw : List ℕ) → IsPiece name → IsPiece a → before 35 (two name a raw) ≡ two name a (before 35 raw)
 before_comment_of_two_operands name a raw p q =
-    before_under_prefix 35 name (32 ∷ (a ++ 44 ∷ 32 ∷ raw)) (clean_text_lacks_unclean_byte 35 name refl p.all)
-    ∙ ap (λ (l : List ℕ). name ++ 32 ∷ l) (before_under_prefix 35 a (44 ∷ 32 ∷ raw) (clean_text_lacks_unclean_byte 35 a refl q.all))
+    before_keeps_prefix 35 name (32 ∷ (a ++ 44 ∷ 32 ∷ raw)) (clean_text_lacks_unclean_byte 35 name refl p.all)
+    ∙ ap (λ (l : List ℕ). name ++ 32 ∷ l) (before_keeps_prefix 35 a (44 ∷ 32 ∷ raw) (clean_text_lacks_unclean_byte 35 a refl q.all))
 
 trim_of_two_operands : (name a raw c : List ℕ) → IsPiece name → trim_end raw ≡ c → IsPiece c → trim (two name a raw) ≡ two name a c
 trim_of_two_operands name a raw c p e q =
     ap trim_end (skip_blanks_keeps_clean_start name (32 ∷ (a ++ 44 ∷ 32 ∷ raw)) p.some p.all)
-    ∙ trim_end_under_prefix name (32 ∷ (a ++ 44 ∷ 32 ∷ raw)) (32 ∷ (a ++ 44 ∷ 32 ∷ c))
-    (trim_end_under_prefix (32 ∷ []) (a ++ 44 ∷ 32 ∷ raw) (a ++ 44 ∷ 32 ∷ c)
-    (trim_end_under_prefix a (44 ∷ 32 ∷ raw) (44 ∷ 32 ∷ c)
-    (trim_end_under_prefix (44 ∷ 32 ∷ []) raw c e q.some) refl)
+    ∙ trim_end_keeps_prefix name (32 ∷ (a ++ 44 ∷ 32 ∷ raw)) (32 ∷ (a ++ 44 ∷ 32 ∷ c))
+    (trim_end_keeps_prefix (32 ∷ []) (a ++ 44 ∷ 32 ∷ raw) (a ++ 44 ∷ 32 ∷ c)
+    (trim_end_keeps_prefix a (44 ∷ 32 ∷ raw) (44 ∷ 32 ∷ c)
+    (trim_end_keeps_prefix (44 ∷ 32 ∷ []) raw c e q.some) refl)
     (append_of_nonempty_is_nonempty a (44 ∷ 32 ∷ c) refl)) refl
 
 operand_texts_of_two_operands : (name a c : List ℕ) → IsPiece name → IsPiece a → IsPiece c → operand_texts (two name a c) ≡ a ∷ c ∷ []
 operand_texts_of_two_operands name a c n p r =
     ap (λ (l : List ℕ). texts_of (trim l)) (from_blank_is_operands name (a ++ 44 ∷ 32 ∷ c) n.all)
     ∙ ap texts_of (ap trim_end (skip_blanks_keeps_clean_start a (44 ∷ 32 ∷ c) p.some p.all)
-    ∙ trim_end_under_prefix a (44 ∷ 32 ∷ c) (44 ∷ 32 ∷ c)
-    (trim_end_under_prefix (44 ∷ 32 ∷ []) c c (trim_end_of_clean_text c r.all) r.some) refl)
+    ∙ trim_end_keeps_prefix a (44 ∷ 32 ∷ c) (44 ∷ 32 ∷ c)
+    (trim_end_keeps_prefix (44 ∷ 32 ∷ []) c c (trim_end_of_clean_text c r.all) r.some) refl)
     ∙ rw (
       append_of_nonempty_is_nonempty a (44 ∷ 32 ∷ c) refl,
       split_at_first_separator 44 a (32 ∷ c) (clean_text_lacks_unclean_byte 44 a refl p.all),
@@ -74,7 +74,7 @@ two_operands_say_word name a raw c word form xs n p r e s o m = record {
   feed = all_pass_in_two_operands (λ b. not (b == 10)) refl refl name a raw (clean_text_lacks_unclean_byte 10 name refl n.all) (clean_text_lacks_unclean_byte 10 a refl p.all) r.feed;
   source = all_pass_in_two_operands is_source_byte refl refl name a raw (all_pass_weaker_test is_source_byte clean_byte_is_source_byte name n.all)
       (all_pass_weaker_test is_source_byte clean_byte_is_source_byte a p.all) r.source;
-  colon = before_lacks_byte 58 35 (two name a raw) (all_pass_in_two_operands (λ b. not (b == 58)) refl refl name a raw (clean_text_lacks_unclean_byte 58 name refl n.all)
+  colon = before_lacks_byte_if_text_does 58 35 (two name a raw) (all_pass_in_two_operands (λ b. not (b == 58)) refl refl name a raw (clean_text_lacks_unclean_byte 58 name refl n.all)
       (clean_text_lacks_unclean_byte 58 a refl p.all) r.colon);
   trimmed = ap trim (before_comment_of_two_operands name a raw n p) ∙ trim_of_two_operands name a (before 35 raw) c n r.trimmed r.piece_is;
   some = append_of_nonempty_is_nonempty name (32 ∷ (a ++ 44 ∷ 32 ∷ c)) refl;
@@ -84,28 +84,28 @@ two_operands_say_word name a raw c word form xs n p r e s o m = record {
   means = m;
 }
 
-jump_offset_within_range : (z : ℤ) → negsuc 1048575 ≤ℤ z → z ≤ℤ pos 1048574 → (int_le (negsuc 1048575) z && int_le z (pos 1048574)) ≡ true
-jump_offset_within_range (pos n) h k = grind (arith, common_steps)
-jump_offset_within_range (negsuc n) h k = grind (arith, common_steps)
+jump_offset_range_test_is_true : (z : ℤ) → negsuc 1048575 ≤ℤ z → z ≤ℤ pos 1048574 → (int_le (negsuc 1048575) z && int_le z (pos 1048574)) ≡ true
+jump_offset_range_test_is_true (pos n) h k = grind (arith, common_steps)
+jump_offset_range_test_is_true (negsuc n) h k = grind (arith, common_steps)
 
-jump_offset_magnitude_is_small : (z : ℤ) → negsuc 1048575 ≤ℤ z → z ≤ℤ pos 1048574 → nat_abs z < 2 ^ 33
-jump_offset_magnitude_is_small (pos n) h k = grind (arith, common_steps)
-jump_offset_magnitude_is_small (negsuc n) h k = grind (arith, common_steps)
+jump_offset_magnitude_fits_33_bits : (z : ℤ) → negsuc 1048575 ≤ℤ z → z ≤ℤ pos 1048574 → nat_abs z < 2 ^ 33
+jump_offset_magnitude_fits_33_bits (pos n) h k = grind (arith, common_steps)
+jump_offset_magnitude_fits_33_bits (negsuc n) h k = grind (arith, common_steps)
 
 operands_of_printed_jump : (a : Register) (z : ℤ) → distance_in (negsuc 1048575) (pos 1048574) (distance z) ≡ Ok z
     → operands_of Jumps (register_name a.number ∷ distance z ∷ []) ≡ Ok (Index a ∷ Integer z ∷ [])
 operands_of_printed_jump a (pos n) e = rw ((register_name_is_piece a).some) (rw (register_of_printed_name a, e) refl)
 operands_of_printed_jump a (negsuc n) e = rw ((register_name_is_piece a).some) (rw (register_of_printed_name a, e) refl)
 
-distance_in_of_jump_offset : (i : JumpOffset) → distance_in (negsuc 1048575) (pos 1048574) (distance i.value) ≡ Ok i.value
-distance_in_of_jump_offset i =
-    let small = jump_offset_magnitude_is_small i.value i.low i.high in
-    rw (distance_text_of_printed_distance i.value (omega (arith, small))) (rw (is_even_if_even i.value i.even, jump_offset_within_range i.value i.low i.high) refl)
+distance_in_of_printed_jump_offset : (i : JumpOffset) → distance_in (negsuc 1048575) (pos 1048574) (distance i.value) ≡ Ok i.value
+distance_in_of_printed_jump_offset i =
+    let small = jump_offset_magnitude_fits_33_bits i.value i.low i.high in
+    rw (distance_text_of_printed_distance i.value (omega (arith, small))) (rw (is_even_is_true_if_even i.value i.even, jump_offset_range_test_is_true i.value i.low i.high) refl)
 
 pub printed_jump_assembles : (pc : ℕ) (rd : Register) (i : JumpOffset) → IsWordGuest (assembled (instruction_text pc (Jal rd i))) (word_of (Jal rd i))
 printed_jump_assembles pc rd i =
-    let small = jump_offset_magnitude_is_small i.value i.low i.high in
+    let small = jump_offset_magnitude_fits_33_bits i.value i.low i.high in
     line_that_says_word_assembles _ _ _ (two_operands_say_word (codes "jal") (register_name rd.number) (far pc i.value) (distance i.value) (word_of (Jal rd i)) Jumps
     (Index rd ∷ Integer i.value ∷ [])
     (record { some = refl; all = refl }) (register_name_is_piece rd) (far_target_is_last_operand pc i.value (omega (arith, small)))
-    refl refl (operands_of_printed_jump rd i.value (distance_in_of_jump_offset i)) (ap (λ (x : JumpOffset). instruction (Jal rd x)) (jump_offset_of_own_value i)))
+    refl refl (operands_of_printed_jump rd i.value (distance_in_of_printed_jump_offset i)) (ap (λ (x : JumpOffset). instruction (Jal rd x)) (jump_offset_of_own_value i)))

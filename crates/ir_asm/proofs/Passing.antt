@@ -54,10 +54,10 @@ without_return_keeps_other_end (x ∷ y ∷ ys) k =
     let n : length (x ∷ y ∷ ys) - 1 ≡ suc (length (y ∷ ys) - 1) = omega arith in
     ap (λ (l : List ℕ). x ∷ l) (without_return_keeps_other_end (y ∷ ys) (λ h. rw n at (k (omega arith))))
 
-without_returns_of_nonempty_tail : (x y : List ℕ) (l : List (List ℕ)) → l ≡ y ∷ drop 1 l → without_returns (x ∷ l) ≡ without_return x ∷ without_returns l
-without_returns_of_nonempty_tail x y [] e = absurd (cc e)
-without_returns_of_nonempty_tail x y (z ∷ l) e = refl
+without_returns_of_cons_if_tail_is_nonempty : (x y : List ℕ) (l : List (List ℕ)) → l ≡ y ∷ drop 1 l → without_returns (x ∷ l) ≡ without_return x ∷ without_returns l
+without_returns_of_cons_if_tail_is_nonempty x y [] e = absurd (cc e)
+without_returns_of_cons_if_tail_is_nonempty x y (z ∷ l) e = refl
 
 -- a line, and those that follow its line feed
-pub without_returns_of_first_line : (x t : List ℕ) → without_returns (x ∷ split 10 t) ≡ without_return x ∷ lines_of t
-without_returns_of_first_line x t = without_returns_of_nonempty_tail x _ (split 10 t) (split_begins_with_until 10 t)
+pub without_returns_is_first_line_and_lines_of_rest : (x t : List ℕ) → without_returns (x ∷ split 10 t) ≡ without_return x ∷ lines_of t
+without_returns_is_first_line_and_lines_of_rest x t = without_returns_of_cons_if_tail_is_nonempty x _ (split 10 t) (split_begins_with_until 10 t)

@@ -6,6 +6,7 @@ use Rattle.std.proofs.lemmas.Bool.{and_parts}
 use Rattle.std.proofs.lemmas.Grind.{common_steps}
 use Rattle.ir_asm.specs.Source.{texts_of}
 use Rattle.std.proofs.Common.{append_assoc, rules}
+use Rattle.ir_lemmas.proofs.CallerLemmas.{conjunction_with_false, false_if_not_is_true}
 use Rattle.ir_asm.specs.Text.{split, before, trim, trim_end, skip_blanks, is_blank, is_nil, until, from}
 
 -- a byte of an operand or a name
@@ -34,10 +35,6 @@ clean_text_lacks_unclean_byte c (x ∷ a) k h =
 
 number_equals_itself : (c : ℕ) → (c == c) ≡ true
 number_equals_itself c = grind (arith, common_steps)
-
-pub false_if_not_is_true : (b : Bool) → not b ≡ true → b ≡ false
-false_if_not_is_true true h = sym h
-false_if_not_is_true false h = refl
 
 -- the first byte isn't c, and nor are the others
 pub lacks_in_head_and_tail : (c x : ℕ) (a : List ℕ) → lacks c (x ∷ a) ≡ true → ((x == c) ≡ false) × (lacks c a ≡ true)
@@ -88,10 +85,6 @@ trim_of_clean_text a h = rw (skip_blanks_of_clean_text a h) (trim_end_of_clean_t
 pub append_of_nonempty_is_nonempty : (x y : List ℕ) → is_nil y ≡ false → is_nil (x ++ y) ≡ false
 append_of_nonempty_is_nonempty [] y h = h
 append_of_nonempty_is_nonempty (b ∷ x) y h = refl
-
-conjunction_with_false : (b : Bool) → (b && false) ≡ false
-conjunction_with_false true = refl
-conjunction_with_false false = refl
 
 -- what ends in a clean piece has no blanks at its end
 pub trim_end_keeps_clean_end : (x y : List ℕ) → is_nil y ≡ false → list_all clean y ≡ true → trim_end (x ++ y) ≡ x ++ y

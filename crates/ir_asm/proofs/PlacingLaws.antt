@@ -17,18 +17,18 @@ use Rattle.ir_asm.specs.Placing.{fault_in, item_fault, IsPut, IsFirstFault}
 
 -- ---- an item, whatever guest it is put into
 
-fault_in_mapped_step : {A B : Type 0} (r : Result A Cause) (f : A → B) → fault_in (r >>= λ x. Ok (f x)) ≡ fault_in r
-fault_in_mapped_step (Ok x) f = refl
-fault_in_mapped_step (Err c) f = refl
+fault_in_ignores_mapping : {A B : Type 0} (r : Result A Cause) (f : A → B) → fault_in (r >>= λ x. Ok (f x)) ≡ fault_in r
+fault_in_ignores_mapping (Ok x) f = refl
+fault_in_ignores_mapping (Err c) f = refl
 
 fault_in_test_ignores_value : {A B : Type 0} (b : Bool) (c : Cause) (x : A) (y : B) → fault_in (unless b c (Ok x)) ≡ fault_in (unless b c (Ok y))
 fault_in_test_ignores_value true c x y = refl
 fault_in_test_ignores_value false c x y = refl
 
-fault_in_tested_mapped_step : {A B : Type 0} (r : Result A Cause) (p : A → Bool) (c : Cause) (f : A → B)
+fault_in_test_ignores_mapping : {A B : Type 0} (r : Result A Cause) (p : A → Bool) (c : Cause) (f : A → B)
     → fault_in (r >>= λ x. unless (p x) c (Ok (f x))) ≡ fault_in (r >>= λ x. unless (p x) c (Ok x))
-fault_in_tested_mapped_step (Ok x) p c f = fault_in_test_ignores_value (p x) c (f x) x
-fault_in_tested_mapped_step (Err d) p c f = refl
+fault_in_test_ignores_mapping (Ok x) p c f = fault_in_test_ignores_value (p x) c (f x) x
+fault_in_test_ignores_mapping (Err d) p c f = refl
 
 fault_in_count_test : {A : Type 0} (b : Bool) (x : A) → fault_in (unless b BadCount (Ok x)) ≡ (if b then None else Some BadCount)
 fault_in_count_test true x = refl
@@ -36,33 +36,33 @@ fault_in_count_test false x = refl
 
 fault_in_put_is_item_fault : (s : Seen) (a : ℕ) (item : Item) (g : Guest) → fault_in (put s a item g) ≡ item_fault s a item
 fault_in_put_is_item_fault s a (Code words) g = refl
-fault_in_put_is_item_fault s a (BranchTo op rs1 rs2 label) g = fault_in_mapped_step (distance_to s (negsuc 4095) (pos 4094) a label) _
-fault_in_put_is_item_fault s a (JumpTo rd label) g = fault_in_mapped_step (distance_to s (negsuc 1048575) (pos 1048574) a label) _
-fault_in_put_is_item_fault s a (LoadAddress rd label) g = fault_in_mapped_step (value_of s label) _
+fault_in_put_is_item_fault s a (BranchTo op rs1 rs2 label) g = fault_in_ignores_mapping (distance_to s (negsuc 4095) (pos 4094) a label) _
+fault_in_put_is_item_fault s a (JumpTo rd label) g = fault_in_ignores_mapping (distance_to s (negsuc 1048575) (pos 1048574) a label) _
+fault_in_put_is_item_fault s a (LoadAddress rd label) g = fault_in_ignores_mapping (value_of s label) _
 fault_in_put_is_item_fault s a (Filled bytes) g = refl
 fault_in_put_is_item_fault s a Enlarged g = refl
 fault_in_put_is_item_fault s a (Within section) g = refl
-fault_in_put_is_item_fault s a (Entry label) g = fault_in_tested_mapped_step (text_address s label) (λ n. nat_lt n (code_start + s.code)) WrongSection _
+fault_in_put_is_item_fault s a (Entry label) g = fault_in_test_ignores_mapping (text_address s label) (λ n. nat_lt n (code_start + s.code)) WrongSection _
 fault_in_put_is_item_fault s a (Count n) g = refl
 fault_in_put_is_item_fault s a (First object words) g = fault_in_count_test (nat_lt object s.objects) (with_object g object words)
 fault_in_put_is_item_fault s a Nothing g = refl
 
 -- ---- one after the other
 
-step_is_ok_without_fault : {A : Type 0} (r : Result A Cause) → fault_in r ≡ None → (x : A) × (r ≡ Ok x)
-step_is_ok_without_fault (Ok x) e = (x, refl)
-step_is_ok_without_fault (Err c) e = absurd (cc e)
+result_is_ok_if_no_fault_in : {A : Type 0} (r : Result A Cause) → fault_in r ≡ None → (x : A) × (r ≡ Ok x)
+result_is_ok_if_no_fault_in (Ok x) e = (x, refl)
+result_is_ok_if_no_fault_in (Err c) e = absurd (cc e)
 
-step_is_err_with_fault : {A : Type 0} (r : Result A Cause) (c : Cause) → fault_in r ≡ Some c → r ≡ Err c
-step_is_err_with_fault (Ok x) c e = absurd (cc e)
-step_is_err_with_fault (Err d) c e = ap (λ k. Err k) (same_Some d c e)
+result_is_err_if_fault_in : {A : Type 0} (r : Result A Cause) (c : Cause) → fault_in r ≡ Some c → r ≡ Err c
+result_is_err_if_fault_in (Ok x) c e = absurd (cc e)
+result_is_err_if_fault_in (Err d) c e = ap (λ k. Err k) (same_Some d c e)
 
 second_pass_fails_at_first_fault : (s : Seen) (before after : List Placed) (x : Placed) (cause : Cause) (g : Guest) → AllByRecursion (IsPut s) before
     → item_fault s x.address x.item ≡ Some cause →
     second_pass s (before ++ x ∷ after) g ≡ Err (record { line = x.line; cause = cause })
-second_pass_fails_at_first_fault s [] after x cause g n f = rw (step_is_err_with_fault (put s x.address x.item g) cause (fault_in_put_is_item_fault s x.address x.item g ∙ f)) refl
+second_pass_fails_at_first_fault s [] after x cause g n f = rw (result_is_err_if_fault_in (put s x.address x.item g) cause (fault_in_put_is_item_fault s x.address x.item g ∙ f)) refl
 second_pass_fails_at_first_fault s (y ∷ ys) after x cause g n f =
-    let o = step_is_ok_without_fault (put s y.address y.item g) (fault_in_put_is_item_fault s y.address y.item g ∙ n.0) in
+    let o = result_is_ok_if_no_fault_in (put s y.address y.item g) (fault_in_put_is_item_fault s y.address y.item g ∙ n.0) in
     rw o.1 (second_pass_fails_at_first_fault s ys after x cause o.0 n.1 f)
 
 err_is_injective : {A : Type 0} (e f : Fault) → (let r : Result A Fault = Err e in r) ≡ Err f → e ≡ f
@@ -107,25 +107,25 @@ second_pass_fault_is_first_fault s (x ∷ xs) g fault e = by_put (put s x.addres
 
 -- ---- the whole
 
-fault_before_mapped_step : {A B : Type 0} (r : Result A Fault) (f : A → B) (fault : Fault) → (r >>= λ x. Ok (f x)) ≡ Err fault → r ≡ Err fault
-fault_before_mapped_step (Ok x) f fault e = absurd (cc e)
-fault_before_mapped_step (Err d) f fault e = ap (λ k. Err k) (err_is_injective _ fault e)
+result_is_err_if_mapped_result_is_err : {A B : Type 0} (r : Result A Fault) (f : A → B) (fault : Fault) → (r >>= λ x. Ok (f x)) ≡ Err fault → r ≡ Err fault
+result_is_err_if_mapped_result_is_err (Ok x) f fault e = absurd (cc e)
+result_is_err_if_mapped_result_is_err (Err d) f fault e = ap (λ k. Err k) (err_is_injective _ fault e)
 
-positive_is_not_zero : (n : ℕ) → 0 < n → (n == 0) ≡ false
-positive_is_not_zero n h = by_test (n == 0) refl
+test_for_zero_is_false_if_positive : (n : ℕ) → 0 < n → (n == 0) ≡ false
+test_for_zero_is_false_if_positive n h = by_test (n == 0) refl
   where
     by_test : (b : Bool) → (n == 0) ≡ b → (n == 0) ≡ false
     by_test true e = let none = eqb-true n 0 e in absurd (omega (arith, none, h))
     by_test false e = e
 
 assembled_lines_is_guest_of_seen : (lines : List (List ℕ)) (s : Seen) → first_pass 1 lines nothing_seen ≡ Ok s → 0 < s.code → assembled_lines lines ≡ guest_of s
-assembled_lines_is_guest_of_seen lines s e some = rw e (rw (positive_is_not_zero s.code some) refl)
+assembled_lines_is_guest_of_seen lines s e some = rw e (rw (test_for_zero_is_false_if_positive s.code some) refl)
 
 pub assembled_lines_fault_is_first_fault : (lines : List (List ℕ)) (s : Seen) (fault : Fault) → first_pass 1 lines nothing_seen ≡ Ok s → 0 < s.code
     → (assembled_lines lines ≡ Err fault) ↔ IsFirstFault s s.placed fault
 assembled_lines_fault_is_first_fault lines s fault e some =
     let whole = assembled_lines_is_guest_of_seen lines s e some in (
-      (λ h. second_pass_fault_is_first_fault s s.placed (started s) fault (fault_before_mapped_step (second_pass s s.placed (started s)) with_entry fault (sym whole ∙ h))),
+      (λ h. second_pass_fault_is_first_fault s s.placed (started s) fault (result_is_err_if_mapped_result_is_err (second_pass s s.placed (started s)) with_entry fault (sym whole ∙ h))),
       (λ f. whole ∙ back f),
     )
   where

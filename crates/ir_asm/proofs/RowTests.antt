@@ -141,8 +141,8 @@ large_with_operand_is_fault = refl
 late_large_is_tested_before_operands : assembled (codes "nop\n.large 1") ≡ Err (record { line = 2; cause = WrongSection })
 late_large_is_tested_before_operands = refl
 
-eight_words_fit_small_object : assembled (codes ".object 0, 1, 2, 3, 4, 5, 6, 7, x") ≡ Err (record { line = 1; cause = BadNumber })
-eight_words_fit_small_object = refl
+eight_words_pass_small_limit : assembled (codes ".object 0, 1, 2, 3, 4, 5, 6, 7, x") ≡ Err (record { line = 1; cause = BadNumber })
+eight_words_pass_small_limit = refl
 
 nine_words_exceed_small_object : assembled (codes ".object 0, 1, 2, 3, 4, 5, 6, 7, 8, x") ≡ Err (record { line = 1; cause = WrongOperands })
 nine_words_exceed_small_object = refl
@@ -157,5 +157,5 @@ seventeen_objects_exceed_small_image = refl
 sixty_five_objects_exceed_large_image : assembled (codes ".large\n.objects 65\nnop") ≡ Err (record { line = 2; cause = BadNumber })
 sixty_five_objects_exceed_large_image = refl
 
-sixty_four_objects_fit_large_image : assembled (codes ".large\n.objects 64\n") ≡ Err (record { line = 4; cause = BadSize })
-sixty_four_objects_fit_large_image = refl
+sixty_four_objects_pass_large_limit : assembled (codes ".large\n.objects 64\n") ≡ Err (record { line = 4; cause = BadSize })
+sixty_four_objects_pass_large_limit = refl

@@ -5,10 +5,12 @@ use Rattle.std.specs.List.{AllByRecursion, sum_by, list_all}
 use Rattle.std.proofs.lemmas.Bool.{ltb-true, leb-true, eqb-false}
 use Rattle.std.proofs.lemmas.List.{length-append, length-replicate}
 use Rattle.std.proofs.lemmas.List.Sums.{sum_by-append}
+use Rattle.ir_lemmas.proofs.CallerLemmas.{all_by_recursion_after_push, left_of_true_and, right_of_true_and, ok_is_injective}
 use Rattle.byteorder.specs.Endian.{little_bytes}
 use Rattle.ir_image.specs.declared.form.ImageForm.{ImageForm}
 use Rattle.ir_image.specs.declared.form.ImageForm.TheVariants.{Large}
-use Rattle.ir_image.specs.Guest.{limits_of, Guest, IsWord, IsByte, code_start, memory_size, most_code_words, object_words, object_count, IsGuest, IsPlace}
+use Rattle.ir_image.specs.Guest.{limits_of, Guest, code_start, memory_size, most_code_words, object_words, object_count}
+use Rattle.ir_image.specs.Bounds.{IsWord, IsByte, IsGuest, IsPlace}
 use Rattle.ir_image.proofs.CallerLemmas.{words_of_form_at_most_limit, form_has_threads, threads_of_form_at_most_limit, objects_of_form_at_most_limit, object_count_of_whole_objects, words_of_whole_objects_divide}
 use Rattle.ir_asm.specs.declared.cause.Cause.TheVariants.{UnknownStatement, WrongSection, WrongOperands, BadNumber, BadSize, BadCount, BadByte, BadLabel, LabelTwice}
 use Rattle.ir_asm.specs.declared.form.Section.{Section}
@@ -31,13 +33,8 @@ use Rattle.ir_asm.specs.Items.{values, item_of}
 use Rattle.ir_asm.specs.Source.{Seen, nothing_seen, size_of, here, start_of, size_in, is_source_byte, at_line, grown, laid, placed_at, entered, with_labels, with_statement, with_line, line_of, first_pass, may_stand, item_in, begun, name_of, operand_texts}
 use Rattle.ir_asm.specs.Passes.{put, second_pass, started, with_entry, guest_of}
 use Rattle.ir_asm.specs.Bounds.{HasFewWords, HaveFewWords, HasLimits}
-use Rattle.ir_asm.proofs.Steps.{ok_if_at_line_is_ok, ok_is_injective, parts_of_ok_bind, parts_of_ok_unless, test_and_value_of_ok_unless}
-use Rattle.ir_asm.proofs.Kept.{code_size, data_size, entry_count, LabelsFit, IsTextPlace, all_by_recursion_after_push, put_adds_item}
-
--- what holds of each element holds of all
-pub all_hold_if_each_holds : (P : ℕ → Type 0) (xs : List ℕ) → ((i : ℕ) → P (slice_index xs i)) → AllByRecursion P xs
-all_hold_if_each_holds P [] each = tt
-all_hold_if_each_holds P (x ∷ xs) each = (each 0, all_hold_if_each_holds P xs (λ i. each (suc i)))
+use Rattle.ir_asm.proofs.Steps.{ok_if_at_line_is_ok, parts_of_ok_bind, parts_of_ok_unless, test_and_value_of_ok_unless}
+use Rattle.ir_asm.proofs.Kept.{code_size, data_size, entry_count, LabelsFit, IsTextPlace, put_adds_item}
 
 -- ---- what a statement of a section may be
 
@@ -60,20 +57,12 @@ length_of_read_all form place (t ∷ texts) xs e =
     let d = parts_of_ok_bind (read_all form (place + 1) texts) _ xs b.2 in
     ap length (sym (ok_is_injective _ xs d.2)) ∙ ap suc (length_of_read_all form (place + 1) texts d.0 d.1)
 
-length_of_values : (bits : ℕ) (xs : List Operand) → length (values bits xs) ≤ length xs
-length_of_values bits [] = omega arith
-length_of_values bits (Integer z ∷ xs) = omega (arith, length_of_values bits xs)
-length_of_values bits (Index r ∷ xs) = omega (arith, length_of_values bits xs)
-length_of_values bits (Offset z r ∷ xs) = omega (arith, length_of_values bits xs)
-length_of_values bits (Symbol label ∷ xs) = omega (arith, length_of_values bits xs)
-
-left_of_true_and : (a b : Bool) → (a && b) ≡ true → a ≡ true
-left_of_true_and true b e = refl
-left_of_true_and false b e = e
-
-right_of_true_and : (a b : Bool) → (a && b) ≡ true → b ≡ true
-right_of_true_and true b e = e
-right_of_true_and false b e = absurd (true≢false (sym e))
+values_not_longer_than_operands : (bits : ℕ) (xs : List Operand) → length (values bits xs) ≤ length xs
+values_not_longer_than_operands bits [] = omega arith
+values_not_longer_than_operands bits (Integer z ∷ xs) = omega (arith, values_not_longer_than_operands bits xs)
+values_not_longer_than_operands bits (Index r ∷ xs) = omega (arith, values_not_longer_than_operands bits xs)
+values_not_longer_than_operands bits (Offset z r ∷ xs) = omega (arith, values_not_longer_than_operands bits xs)
+values_not_longer_than_operands bits (Symbol label ∷ xs) = omega (arith, values_not_longer_than_operands bits xs)
 
 -- an object has no more first words than words
 object_words_within_limit : (image : ImageForm) (texts : List (List ℕ)) (z : ℤ) (xs : List Operand) → operands_of (Object image) texts ≡ Ok (Integer z ∷ xs)
@@ -84,11 +73,11 @@ object_words_within_limit image texts z xs e =
     let most : length texts ≤ 1 + (limits_of image).words = leb-true (length texts) (1 + (limits_of image).words)
     (right_of_true_and (nat_le 2 (length texts)) _ (left_of_true_and (takes (Object image) (length texts)) _ u.0)) in
     let count : suc (length xs) ≡ length texts = length_of_read_all (Object image) 0 texts (Integer z ∷ xs) u.1 in
-    omega (arith, most, count, length_of_values 32 xs)
+    omega (arith, most, count, values_not_longer_than_operands 32 xs)
 
 -- a number within limits
-low_bits_of_bounded_number : (high : ℕ) (text : List ℕ) (z : ℤ) → number_in (pos 0) (pos high) text ≡ Ok z → high < 2 ^ 32 → low_bits 32 z ≤ high
-low_bits_of_bounded_number high text z e small =
+low_bits_of_bounded_number_within_bound : (high : ℕ) (text : List ℕ) (z : ℤ) → number_in (pos 0) (pos high) text ≡ Ok z → high < 2 ^ 32 → low_bits 32 z ≤ high
+low_bits_of_bounded_number_within_bound high text z e small =
     let b = parts_of_ok_bind (or_cause BadNumber (number text)) _ z e in
     let t = test_and_value_of_ok_unless (int_le (pos 0) b.0 && int_le b.0 (pos high)) BadNumber b.0 z b.2 in
     subst (λ y. low_bits 32 y ≤ high) t.1 (by_sign b.0 (left_of_true_and _ _ t.0) (right_of_true_and (int_le (pos 0) b.0) _ t.0) small)
@@ -116,7 +105,7 @@ object_count_within_limit image (t ∷ texts) z e =
     let n = parts_of_ok_bind (number_in (pos 0) (pos most) t) _ _ b.1 in
     let same : n.0 ≡ z = ap (λ x. first_number (x ∷ d.0)) (ok_is_injective _ _ n.2) ∙ ap first_number (ok_is_injective _ _ d.2) in
     let small : most < 2 ^ 32 = let all = objects_of_form_at_most_limit image in omega (arith, all) in
-    subst (λ y. low_bits 32 y ≤ most) same (low_bits_of_bounded_number most t n.0 n.1 small)
+    subst (λ y. low_bits 32 y ≤ most) same (low_bits_of_bounded_number_within_bound most t n.0 n.1 small)
 
 item_of_form_may_stand : (image : ImageForm) (section : Section) (form : Form) (texts : List (List ℕ)) (xs : List Operand)
     → may_stand (stands_in form) section ≡ true → operands_of (in_image image form) texts ≡ Ok xs
@@ -283,13 +272,13 @@ sound_once_begun s h = record {
 }
 
 -- what is few in any form is few in a large one
-few_words_in_large_image : (image : ImageForm) (item : Item) → HasFewWords image item → HasFewWords Large item
-few_words_in_large_image image (First object words) h = let most = words_of_form_at_most_limit image in omega (arith, most, h)
-few_words_in_large_image image item h = tt
+few_words_in_large_image_if_in_any : (image : ImageForm) (item : Item) → HasFewWords image item → HasFewWords Large item
+few_words_in_large_image_if_in_any image (First object words) h = let most = words_of_form_at_most_limit image in omega (arith, most, h)
+few_words_in_large_image_if_in_any image item h = tt
 
-all_few_words_in_large_image : (image : ImageForm) (xs : List Placed) → HaveFewWords image xs → HaveFewWords Large xs
-all_few_words_in_large_image image [] h = tt
-all_few_words_in_large_image image (x ∷ xs) h = (few_words_in_large_image image x.item h.0, all_few_words_in_large_image image xs h.1)
+all_few_words_in_large_image_if_in_any : (image : ImageForm) (xs : List Placed) → HaveFewWords image xs → HaveFewWords Large xs
+all_few_words_in_large_image_if_in_any image [] h = tt
+all_few_words_in_large_image_if_in_any image (x ∷ xs) h = (few_words_in_large_image_if_in_any image x.item h.0, all_few_words_in_large_image_if_in_any image xs h.1)
 
 -- a large image
 sound_after_large : (s : Seen) (c d : ℕ) → IsSound s → c ≡ s.code → d ≡ s.filled
@@ -304,7 +293,7 @@ sound_after_large s c d h is_code is_data = record {
   few_threads = let most = threads_of_form_at_most_limit (stated s.form) in let few = h.few_threads in omega (arith, most, few);
   few_objects = let most = objects_of_form_at_most_limit (stated s.form) in let few = h.few_objects in omega (arith, most, few);
   labels = h.labels;
-  few = all_few_words_in_large_image (stated s.form) s.placed h.few;
+  few = all_few_words_in_large_image_if_in_any (stated s.form) s.placed h.few;
 }
 
 -- an item of text

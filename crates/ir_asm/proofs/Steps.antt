@@ -1,15 +1,9 @@
 -- Steps that met no fault.
 use Rattle.std.proofs.Common.{◌≡◌, ℕ, Bool, true, false, ap, refl, Option, Some, None, Result, Ok, Err}
+use Rattle.ir_lemmas.proofs.CallerLemmas.{ok_is_injective}
 use Rattle.ir_asm.specs.declared.cause.Cause.{Cause}
 use Rattle.ir_asm.specs.Faults.{◌>>=◌, or_cause, unless}
 use Rattle.ir_asm.specs.Source.{at_line}
-
-pub ok_is_injective : {A E : Type 0} (x y : A) → (let r : Result A E = Ok x in r) ≡ Ok y → x ≡ y
-ok_is_injective {A} {E} x y e = ap value e
-  where
-    value : Result A E → A
-    value (Ok z) = z
-    value (Err z) = x
 
 -- a step, and what follows it
 pub parts_of_ok_bind : {A B E : Type 0} (r : Result A E) (f : A → Result B E) (y : B) → (r >>= f) ≡ Ok y → (x : A) × (r ≡ Ok x) × (f x ≡ Ok y)

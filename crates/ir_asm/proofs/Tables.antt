@@ -3,14 +3,14 @@ use Rattle.std.proofs.Common.{◌≡◌, ℕ, List, [], ◌∷◌, ◌++◌, Opt
 use Rattle.std.specs.Prelude.{bytes_eq}
 use Rattle.ir_asm.specs.Names.{named, first_of}
 
-first_of_step_by_test : {A : Type 0} (t : Bool) (x : A) (r s o : Option A) → r ≡ first_of s o → cond t (Some x) r ≡ first_of (cond t (Some x) s) o
-first_of_step_by_test true x r s o e = refl
-first_of_step_by_test false x r s o e = e
+first_of_distributes_over_choice : {A : Type 0} (t : Bool) (x : A) (r s o : Option A) → r ≡ first_of s o → cond t (Some x) r ≡ first_of (cond t (Some x) s) o
+first_of_distributes_over_choice true x r s o e = refl
+first_of_distributes_over_choice false x r s o e = e
 
 pub named_append : {A : Type 0} (xs ys : List (List ℕ × A)) (name : List ℕ)
     → named (xs ++ ys) name ≡ first_of (named xs name) (named ys name)
 named_append [] ys name = refl
-named_append (x ∷ xs) ys name = first_of_step_by_test (bytes_eq name x.0) x.1 (named (xs ++ ys) name) (named xs name) (named ys name)
+named_append (x ∷ xs) ys name = first_of_distributes_over_choice (bytes_eq name x.0) x.1 (named (xs ++ ys) name) (named xs name) (named ys name)
     (named_append xs ys name)
 
 -- two tables, as a chain of tests gives them

@@ -17,7 +17,7 @@ use Rattle.ir_asm.specs.Passes.{assembled, IsWordGuest}
 use Rattle.ir_disasm.specs.Printed.{hex, instruction_text}
 use Rattle.ir_asm.proofs.Pieces.{IsPiece}
 use Rattle.ir_asm.proofs.Numbers.{register_of_printed_name, register_name_is_piece, decimal_is_piece, hex_is_clean, number_of_decimal, natural_of_five_hex_digits}
-use Rattle.ir_asm.proofs.FieldLaws.{upper_of_own_value, immediate_of_low_bits}
+use Rattle.ir_asm.proofs.FieldLaws.{upper_of_own_value, immediate_of_own_low_bits}
 use Rattle.ir_asm.proofs.Statements.{line_that_says_word_assembles}
 use Rattle.ir_asm.proofs.Formats.{piece_is_last_operand, three_operands_say_word}
 use Rattle.ir_asm.proofs.Pairs.{two_operands_say_word}
@@ -70,4 +70,4 @@ printed_fence_assembles pc rd rs1 i =
     (word_of (Fence rd rs1 i)) Fences (Index rd ∷ Index rs1 ∷ Integer (pos n) ∷ [])
     (record { some = refl; all = refl }) (register_name_is_piece rd) (register_name_is_piece rs1)
     (piece_is_last_operand (decimal n) (decimal_is_piece n (omega (arith, fits))))
-    refl refl (operands_of_printed_fence rd rs1 n fits) (ap (λ (x : Immediate). instruction (Fence rd rs1 x)) (immediate_of_low_bits i)))
+    refl refl (operands_of_printed_fence rd rs1 n fits) (ap (λ (x : Immediate). instruction (Fence rd rs1 x)) (immediate_of_own_low_bits i)))

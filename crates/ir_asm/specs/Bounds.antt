@@ -2,7 +2,8 @@
 use Rattle.std.specs.Prelude.{◌≡◌, ◌%◌, ◌≤◌, List, length}
 use Rattle.std.specs.List.{AllByRecursion}
 use Rattle.ir_image.specs.declared.form.ImageForm.{ImageForm}
-use Rattle.ir_image.specs.Guest.{limits_of, Guest, memory_size, most_code_words, object_words, object_count, IsPlace}
+use Rattle.ir_image.specs.Guest.{limits_of, Guest, memory_size, most_code_words, object_words, object_count}
+use Rattle.ir_image.specs.Bounds.{IsPlace}
 use Rattle.ir_asm.specs.declared.item.Item.{Item}
 use Rattle.ir_asm.specs.declared.item.Item.TheVariants.{First}
 use Rattle.ir_asm.specs.declared.item.Placed.{Placed}

@@ -1,8 +1,7 @@
 -- The pieces of a line, and numbers.
-use Rattle.std.specs.Prelude.{◌==◌, ◌&&◌, ◌||◌, ℕ, nat_le, nat_lt, Bool, true, false, List, [], ◌∷◌, length, drop, Option, Some, None, if◌then◌else◌, ℤ, pos, neg_ℤ, option_map}
+use Rattle.std.specs.Prelude.{◌==◌, ◌&&◌, ◌||◌, ℕ, nat_le, Bool, true, false, List, [], ◌∷◌, length, drop, Option, if◌then◌else◌, ℤ, pos, neg_ℤ, option_map}
 use Rattle.std.specs.List.{slice_split, list_all}
-use Rattle.std.specs.Char.{digit_value}
-use Rattle.std.specs.Str.Parse.{digits_value}
+use Rattle.ir_numerals.specs.Numerals.{number_in}
 
 -- a space or a tab
 abbrev pub is_blank : ℕ → Bool
@@ -70,22 +69,9 @@ is_name (b ∷ bs) = begins_name b && (list_all goes_on_name bs && nat_le (lengt
 
 -- ---- numbers
 
--- at least one and at most `most` digits to a base
-abbrev pub is_numeral : ℕ → ℕ → List ℕ → Bool
-is_numeral radix most ds = (nat_le 1 (length ds) && nat_le (length ds) most) && list_all (λ c. nat_lt (digit_value c) radix) ds
-
--- the value of a numeral
-abbrev pub numeral : ℕ → ℕ → List ℕ → Option ℕ
-numeral radix most ds = if is_numeral radix most ds then Some (digits_value radix ds) else None
-
--- the bytes begin with 0x
-abbrev pub starts_hex : List ℕ → Bool
-starts_hex (a ∷ b ∷ ds) = (a == 48) && (b == 120)
-starts_hex ds = false
-
--- a number without sign
+-- a number without sign: 1 to 10 decimal digits, or `0x` and 1 to 8 hexadecimal digits
 abbrev pub natural : List ℕ → Option ℕ
-natural ds = if starts_hex ds then numeral 16 8 (drop 2 ds) else numeral 10 10 ds
+natural ds = number_in 10 8 ds
 
 -- the first byte, or 0
 abbrev pub first_byte : List ℕ → ℕ

@@ -2,7 +2,7 @@
 
 ghost use Rattle.std.specs.Prelude.{◌≡◌, IfOk, Ok};
 ghost use Rattle.std.specs.List.{AllByRecursion};
-ghost use Rattle.ir_image.specs.Guest.{IsByte, IsWord};
+ghost use Rattle.ir_image.specs.Bounds.{IsByte, IsWord};
 ghost use Rattle.ir_asm.specs.Forms.{stated};
 ghost use Rattle.ir_asm.specs.Passes.{guest_of, assembled, labels_of};
 ghost use Rattle.ir_asm.specs.Answered.{Answers};

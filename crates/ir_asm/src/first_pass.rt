@@ -16,7 +16,7 @@ use crate::text::{before, first_part, trim};
 use std::alloc::Global;
 
 // After the labels of a line.
-#[tactic(auto, using(crate::proofs::Lines::all_but_last_after_first_part, crate::proofs::Lines::all_but_last_of_single, crate::proofs::Passing::with_labels_after_taken_label, crate::proofs::Passing::with_labels_of_refused_label))]
+#[tactic(auto, using(crate::proofs::Lines::all_but_last_keeps_part_before_split, crate::proofs::Lines::all_but_last_of_single, crate::proofs::Passing::with_labels_after_taken_label, crate::proofs::Passing::with_labels_of_refused_label))]
 fn with_labels(alloc: Global, scan: &mut Scan, text: &[u8]) -> Result<(), Refusal>
     ensures { Makes scan.new result (with_labels (map trim (all_but_last (split 58 text.now))) scan.old) }
 {
@@ -72,7 +72,7 @@ fn without_return(line: &[u8]) -> &[u8]
 }
 
 // The first line, and what follows its line feed, if it is not the last.
-#[tactic(auto, using(crate::proofs::Passing::without_returns_of_first_line))]
+#[tactic(auto, using(crate::proofs::Passing::without_returns_is_first_line_and_lines_of_rest))]
 fn first_line(text: &[u8]) -> (&[u8], Option<&[u8]>)
     ensures lines { MatchOption result.1 (lines_of text.now ≡ result.0.now ∷ []) (λ rest. lines_of text.now ≡ result.0.now ∷ lines_of rest.now) }
     ensures shorter { IfSome result.1 (λ rest. length rest.now < length text.now) }

@@ -43,7 +43,7 @@ pub fn second_fault()
 
 /// A label comes after what was placed before it: its value is the start of its section plus the sizes of what comes
 /// before it in that section.
-#[tactic(auto, using(crate::proofs::LabelValues::label_value))]
+#[tactic(auto, using(crate::proofs::LabelValues::label_value_is_place_after_earlier_lines))]
 pub fn label_value()
     ensures { (before after : List (List ℕ)) (line name : List ℕ) (s : Seen) →
         first_pass 1 (before ++ line ∷ after) nothing_seen ≡ Ok s →

@@ -21,7 +21,7 @@ pub fn may_be_source(line: &[u8]) -> bool
 }
 
 // Whether all labels are names.
-#[tactic(auto, using(crate::proofs::Lines::all_but_last_after_first_part, crate::proofs::Lines::all_but_last_of_single))]
+#[tactic(auto, using(crate::proofs::Lines::all_but_last_keeps_part_before_split, crate::proofs::Lines::all_but_last_of_single))]
 pub fn are_names(text: &[u8]) -> bool
     ensures { result ≡ list_all is_name (map trim (all_but_last (split 58 text.now))) }
 {
@@ -36,7 +36,7 @@ pub fn are_names(text: &[u8]) -> bool
 }
 
 // What follows the last label.
-#[tactic(auto, using(crate::proofs::Lines::last_of_after_first_part))]
+#[tactic(auto, using(crate::proofs::Lines::last_of_ignores_part_before_split))]
 pub fn statement(text: &[u8]) -> &[u8]
     ensures { result.now ≡ trim (last_of (split 58 text.now)) }
 {

@@ -1,50 +1,21 @@
 //! Numbers as they are written.
 
-ghost use Rattle.std.specs.Prelude.{◌≡◌, ◌≤◌, ◌<◌, ◌^◌, ◌⊎◌, ◌≤ℤ◌, length, ℕ, ℤ, Option, Some, None, option_map, IfSome, pos, negsuc, neg_ℤ, nat_lt, if◌then◌else◌, drop};
-ghost use Rattle.std.specs.Char.{digit_value};
-ghost use Rattle.ir_asm.specs.Text.{numeral, natural, number, starts_hex};
-ghost use Rattle.ir_asm.specs.Operands.{int_le, is_even, distance_text};
+ghost use Rattle.std.specs.Prelude.{◌≡◌, ◌<◌, ◌^◌, IfSome};
+ghost use Rattle.ir_asm.specs.Text.{natural, number};
+ghost use Rattle.ir_asm.specs.Operands.{distance_text};
 
-// The value of a digit to a base.
-fn digit(byte: u8, radix: u32) -> Option<u64>
-    requires { (radix ≡ 10) ⊎ (radix ≡ 16) }
-    ensures { result ≡ (if nat_lt (digit_value byte) radix then Some (digit_value byte) else None) }
-{
-    match (byte as char).to_digit(radix) {
-        Some(value) => Some(value as u64),
-        None => None,
-    }
-}
+use ir_numerals::number_in;
 
-// The value of at least one and at most `most` digits to a base.
-#[tactic(auto, using(crate::proofs::Numerals::value_bound_after_next_digit, crate::proofs::Numerals::ten_hex_digits_within_40_bits))]
-fn numeral(radix: u32, most: usize, digits: &[u8]) -> Option<u64>
-    requires base { (radix ≡ 10) ⊎ (radix ≡ 16) }
-    requires few { most ≤ 10 }
-    ensures exact { result ≡ numeral radix most digits.now }
-    ensures small { IfSome result (λ n. n < 2 ^ 40) }
-{
-    if digits.is_empty() || digits.len() > most {
-        return None;
-    }
-    let mut value: u64 = 0;
-    for byte in digits {
-        match digit(*byte, radix) {
-            Some(digit) => value = value * radix as u64 + digit,
-            None => return None,
-        }
-    }
-    Some(value)
-}
+const MOST_DECIMAL: usize = 10;
 
+const MOST_HEXADECIMAL: usize = 8;
+
+// The number without sign that a text says.
 fn natural(text: &[u8]) -> Option<u64>
     ensures exact { result ≡ natural text.now }
     ensures small { IfSome result (λ n. n < 2 ^ 40) }
 {
-    match text {
-        [b'0', b'x', digits @ ..] => numeral(16, 8, digits),
-        _ => numeral(10, 10, text),
-    }
+    number_in(MOST_DECIMAL, MOST_HEXADECIMAL, text).map(|n| n as u64)
 }
 
 /// The number that a text says, with or without a minus sign.

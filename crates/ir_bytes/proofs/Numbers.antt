@@ -7,7 +7,7 @@ use Rattle.std.proofs.Math.Nat.{mod-lt}
 use Rattle.std.proofs.Math.Seq.{take-length}
 use Rattle.byteorder.specs.Endian.{little_bytes, little_number, little_from}
 use Rattle.byteorder.specs.Numbers.{little_from-cons, little_from-take, little_from-lt, little_number-reads_back, length-bytes_low_first}
-use Rattle.ir_bytes.specs.Reading.{IsByte}
+use Rattle.ir_bytes.specs.Numbers.{IsByte}
 
 abbrev pub IsBytes : List ℕ → Type 0
 IsBytes bytes = AllByRecursion IsByte bytes

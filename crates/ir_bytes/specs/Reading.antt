@@ -1,13 +1,6 @@
 -- Reading fields from the left: each is read whole and then tested, and the first fault is named. Faults are of any type.
-use Rattle.std.specs.Prelude.{ℕ, zero, suc, Bool, List, [], ◌∷◌, length, take, drop, Option, Some, None, Result, Ok, Err, nat_lt, nat_le, ◌&&◌, if◌then◌else◌, ◌^◌, ◌<◌}
+use Rattle.std.specs.Prelude.{ℕ, zero, suc, Bool, List, [], ◌∷◌, length, take, drop, Option, Some, None, Result, Ok, Err, nat_lt, nat_le, ◌&&◌, if◌then◌else◌}
 use Rattle.byteorder.specs.Endian.{little_number}
-
--- a number of four bytes
-abbrev pub IsWord : ℕ → Type 0
-IsWord n = n < 2 ^ 32
-
-abbrev pub IsByte : ℕ → Type 0
-IsByte n = n < 2 ^ 8
 
 -- what takes something from the prefix: it gives that and the bytes after it, or a fault
 abbrev pub Reader : Type 0 → Type 0 → Type 0

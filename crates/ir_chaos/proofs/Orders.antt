@@ -2,7 +2,8 @@
 use Rattle.std.proofs.Common.{◌<◌, ℕ, Bool, List, [], ◌∷◌, refl, sym, subst, inr, append-nil}
 use Rattle.std.specs.List.{AllByRecursion}
 use Rattle.ir_runs.specs.Machine.{Machine}
-use Rattle.ir_runs.specs.Run.{State, Step, after, InTurn}
+use Rattle.ir_runs.specs.Run.{State, Step, after}
+use Rattle.ir_runs.specs.Orders.{InTurn}
 use Rattle.ir_chaos.specs.Laws.{SchedulesAreOrders, SchedulesAreOfThreads}
 use Rattle.ir_chaos.specs.Schedules.{Leads, threads_of}
 use Rattle.ir_chaos.specs.declared.chooser.Chooser.{Chooser}

@@ -71,15 +71,15 @@ module _ {T : Type 0} (m : Machine T) (s : State T) where
 
 -- ---- the end
 
-done_is_decidable : (q : machine.Ask) → (q ≡ machine.Done) ⊎ (q ≢ machine.Done)
-done_is_decidable machine.Private = inr (λ e. cc e)
-done_is_decidable (machine.Env k) = inr (λ e. cc e)
-done_is_decidable (machine.Enter o a) = inr (λ e. cc e)
-done_is_decidable (machine.Try o) = inr (λ e. cc e)
-done_is_decidable (machine.Leave o a) = inr (λ e. cc e)
-done_is_decidable (machine.Get o i) = inr (λ e. cc e)
-done_is_decidable (machine.Put o i w) = inr (λ e. cc e)
-done_is_decidable machine.Done = inl refl
+machine_ask_is_done_or_not : (q : machine.Ask) → (q ≡ machine.Done) ⊎ (q ≢ machine.Done)
+machine_ask_is_done_or_not machine.Private = inr (λ e. cc e)
+machine_ask_is_done_or_not (machine.Env k) = inr (λ e. cc e)
+machine_ask_is_done_or_not (machine.Enter o a) = inr (λ e. cc e)
+machine_ask_is_done_or_not (machine.Try o) = inr (λ e. cc e)
+machine_ask_is_done_or_not (machine.Leave o a) = inr (λ e. cc e)
+machine_ask_is_done_or_not (machine.Get o i) = inr (λ e. cc e)
+machine_ask_is_done_or_not (machine.Put o i w) = inr (λ e. cc e)
+machine_ask_is_done_or_not machine.Done = inl refl
 
 -- where none of the guest's threads has a step, all threads are done
 done_if_no_guest_thread_steps : (guest : Guest) (budget : ℕ) (profile : Profile) (run : List Step)
@@ -89,7 +89,7 @@ done_if_no_guest_thread_steps : (guest : Guest) (budget : ℕ) (profile : Profil
     → IsDone (thread_machine guest.code) (end (thread_machine guest.code) (tables (start_flat guest budget profile)) run)
 done_if_no_guest_thread_steps guest budget profile run ok none t =
     let s : State thread.ThreadState = end (thread_machine guest.code) (tables (start_flat guest budget profile)) run in
-    elim (done_is_decidable (asked (thread_machine guest.code) s t)) [
+    elim (machine_ask_is_done_or_not (asked (thread_machine guest.code) s t)) [
       | inl e ↦ e
       | inr ne ↦ absurd (stuck (nothing_is_stuck guest budget profile run ok t ne))
     ]

@@ -321,32 +321,27 @@ zero_is_environment_result Clock = refl
 zero_is_environment_result Random = refl
 zero_is_environment_result Input = refl
 
-unrest_ask_is_admitted : (tries : Bool) (m : Machine thread.ThreadState) (q : machine.Ask) (objects : ℕ → Object)
+ask_not_at_rest_is_admitted : (tries : Bool) (m : Machine thread.ThreadState) (q : machine.Ask) (objects : ℕ → Object)
     → ((kind : EnvKind) → m.fits kind 0 ≡ true) → is_rest tries q ≡ false → Admits m (act_of q 0) (objects (target (act_of q 0)))
-unrest_ask_is_admitted tries m machine.Private objects fits e = tt
-unrest_ask_is_admitted tries m (machine.Env kind) objects fits e = fits kind
-unrest_ask_is_admitted tries m (machine.Enter o a) objects fits e = absurd (cc e)
-unrest_ask_is_admitted tries m (machine.Try o) objects fits e = absurd (cc e)
-unrest_ask_is_admitted tries m (machine.Leave o a) objects fits e = tt
-unrest_ask_is_admitted tries m (machine.Get o i) objects fits e = tt
-unrest_ask_is_admitted tries m (machine.Put o i w) objects fits e = tt
-unrest_ask_is_admitted tries m machine.Done objects fits e = absurd (cc e)
+ask_not_at_rest_is_admitted tries m machine.Private objects fits e = tt
+ask_not_at_rest_is_admitted tries m (machine.Env kind) objects fits e = fits kind
+ask_not_at_rest_is_admitted tries m (machine.Enter o a) objects fits e = absurd (cc e)
+ask_not_at_rest_is_admitted tries m (machine.Try o) objects fits e = absurd (cc e)
+ask_not_at_rest_is_admitted tries m (machine.Leave o a) objects fits e = tt
+ask_not_at_rest_is_admitted tries m (machine.Get o i) objects fits e = tt
+ask_not_at_rest_is_admitted tries m (machine.Put o i w) objects fits e = tt
+ask_not_at_rest_is_admitted tries m machine.Done objects fits e = absurd (cc e)
 
 -- a thread that is not at rest has a step
 pub can_step_unless_at_rest : (tries : Bool) (f : Flat) (t : ℕ) → rests tries (machine f) (tables f) t ≡ false → Can (machine f) (tables f) (t, 0)
-can_step_unless_at_rest tries f t e = unrest_ask_is_admitted tries (machine f) (asked (machine f) (tables f) t) (tables f).objects zero_is_environment_result e
+can_step_unless_at_rest tries f t e = ask_not_at_rest_is_admitted tries (machine f) (asked (machine f) (tables f) t) (tables f).objects zero_is_environment_result e
 
 -- ---- steps that are taken
 
--- there was the step, so it was taken
-pub on_ok_holds_if_can : {X E : Type 0} (result : Result X E) (P Q : Type 0) → P → OnErr result (P → ⊥) → OnOk result Q → Q
-on_ok_holds_if_can (Ok x) P Q p err ok = ok
-on_ok_holds_if_can (Err e) P Q p err ok = absurd (err p)
-
 -- what is no try enters nothing
-pub no_try_enters_if_free : (f : Flat) (t r : ℕ) (q : Ask) → q ≡ ask_of f.code (thread_of f t) → IsNoTry q
+pub enters_if_free_if_ask_is_no_try : (f : Flat) (t r : ℕ) (q : Ask) → q ≡ ask_of f.code (thread_of f t) → IsNoTry q
     → EntersIfFree (machine f) (tables f) (t, r)
-no_try_enters_if_free f t r q is h o tried can = absurd (never q h (ap shared_ask is ∙ tried))
+enters_if_free_if_ask_is_no_try f t r q is h o tried can = absurd (never q h (ap shared_ask is ∙ tried))
   where
     never : (z : Ask) → IsNoTry z → shared_ask z ≡ Try o → ⊥
     never asks.Private h e = cc e

@@ -28,5 +28,5 @@ order_after_last_turns_lengthened (y ∷ z ∷ turns) (suc at) thread count sum 
     ∙ sym (append_assoc (replicate y.count y.thread) (order_of_turns (z ∷ turns)) (replicate count thread))
 
 -- what is read twice is the same
-pub item_read_twice_is_equal : (turns : List Turns) (at : ℕ) (x y : Turns) → at < length turns → x ≡ get_or turns at x → y ≡ get_or turns at y → x ≡ y
-item_read_twice_is_equal turns at x y l p q = p ∙ get_or_default turns at x y l ∙ sym q
+pub item_looked_up_twice_is_equal : (turns : List Turns) (at : ℕ) (x y : Turns) → at < length turns → x ≡ get_or turns at x → y ≡ get_or turns at y → x ≡ y
+item_looked_up_twice_is_equal turns at x y l p q = p ∙ get_or_default turns at x y l ∙ sym q

@@ -5,11 +5,11 @@ use Rattle.rand_pcg.specs.Pcg.{pcg32}
 use Rattle.ir_chaos.specs.Draws.{drawn}
 use Rattle.ir_chaos.specs.Ranking.{first_priority, first_priorities, after_words, first_places}
 
-remaining_count_step : (n k : ℕ) → k < n → n - k ≡ suc (n - (k + 1))
-remaining_count_step n k l = omega (arith, l)
+difference_exceeds_next_by_one : (n k : ℕ) → k < n → n - k ≡ suc (n - (k + 1))
+difference_exceeds_next_by_one n k l = omega (arith, l)
 
-remaining_count_is_zero : (n k : ℕ) → n ≤ k → n - k ≡ zero
-remaining_count_is_zero n k l = omega (arith, l)
+difference_is_zero_if_at_least : (n k : ℕ) → n ≤ k → n - k ≡ zero
+difference_is_zero_if_at_least n k l = omega (arith, l)
 
 -- a word more
 pub first_priorities_step : (n k word : ℕ) (g h : Lcg) (xs ys : List ℕ) → k < n → (word, h) ≡ pcg32 g → ys ≡ xs ++ (first_priority + word) ∷ []
@@ -17,16 +17,16 @@ pub first_priorities_step : (n k word : ℕ) (g h : Lcg) (xs ys : List ℕ) → 
 first_priorities_step n k word g h xs ys l e new = ap (λ z. z ++ first_priorities (n - (k + 1)) h) new
     ∙ append_assoc xs ((first_priority + word) ∷ []) (first_priorities (n - (k + 1)) h)
     ∙ ap (λ z. xs ++ (first_priority + z.0) ∷ first_priorities (n - (k + 1)) z.1) e
-    ∙ ap (λ m. xs ++ first_priorities m g) (sym (remaining_count_step n k l))
+    ∙ ap (λ m. xs ++ first_priorities m g) (sym (difference_exceeds_next_by_one n k l))
 
 pub after_words_step : (n k word : ℕ) (g h : Lcg) → k < n → (word, h) ≡ pcg32 g → after_words (n - (k + 1)) h ≡ after_words (n - k) g
-after_words_step n k word g h l e = ap (λ z. after_words (n - (k + 1)) z.1) e ∙ ap (λ m. after_words m g) (sym (remaining_count_step n k l))
+after_words_step n k word g h l e = ap (λ z. after_words (n - (k + 1)) z.1) e ∙ ap (λ m. after_words m g) (sym (difference_exceeds_next_by_one n k l))
 
 pub first_priorities_at_end : (n k : ℕ) (g : Lcg) (xs ys : List ℕ) → n ≤ k → xs ++ first_priorities (n - k) g ≡ ys → xs ≡ ys
-first_priorities_at_end n k g xs ys l e = sym (append-nil xs) ∙ ap (λ m. xs ++ first_priorities m g) (sym (remaining_count_is_zero n k l)) ∙ e
+first_priorities_at_end n k g xs ys l e = sym (append-nil xs) ∙ ap (λ m. xs ++ first_priorities m g) (sym (difference_is_zero_if_at_least n k l)) ∙ e
 
 pub after_words_at_end : (n k : ℕ) (g h : Lcg) → n ≤ k → after_words (n - k) g ≡ h → g ≡ h
-after_words_at_end n k g h l e = ap (λ m. after_words m g) (sym (remaining_count_is_zero n k l)) ∙ e
+after_words_at_end n k g h l e = ap (λ m. after_words m g) (sym (difference_is_zero_if_at_least n k l)) ∙ e
 
 -- a place more
 pub first_places_step : (choices n k place : ℕ) (g h : Lcg) (xs ys : List ℕ) → k < n → (place, h) ≡ drawn choices g → ys ≡ xs ++ (place + 1) ∷ []
@@ -34,10 +34,10 @@ pub first_places_step : (choices n k place : ℕ) (g h : Lcg) (xs ys : List ℕ)
 first_places_step choices n k place g h xs ys l e new = ap (λ z. z ++ first_places choices (n - (k + 1)) h) new
     ∙ append_assoc xs ((place + 1) ∷ []) (first_places choices (n - (k + 1)) h)
     ∙ ap (λ z. xs ++ (z.0 + 1) ∷ first_places choices (n - (k + 1)) z.1) e
-    ∙ ap (λ m. xs ++ first_places choices m g) (sym (remaining_count_step n k l))
+    ∙ ap (λ m. xs ++ first_places choices m g) (sym (difference_exceeds_next_by_one n k l))
 
 pub first_places_at_end : (choices n k : ℕ) (g : Lcg) (xs ys : List ℕ) → n ≤ k → xs ++ first_places choices (n - k) g ≡ ys → xs ≡ ys
-first_places_at_end choices n k g xs ys l e = sym (append-nil xs) ∙ ap (λ m. xs ++ first_places choices m g) (sym (remaining_count_is_zero n k l)) ∙ e
+first_places_at_end choices n k g xs ys l e = sym (append-nil xs) ∙ ap (λ m. xs ++ first_places choices m g) (sym (difference_is_zero_if_at_least n k l)) ∙ e
 
 -- a priority for each thread
 pub length_of_first_priorities : (n : ℕ) (g : Lcg) → length (first_priorities n g) ≡ n

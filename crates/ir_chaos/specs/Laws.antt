@@ -3,7 +3,8 @@ use Rattle.std.specs.Prelude.{ℕ, ◌<◌, Bool, List}
 use Rattle.std.specs.List.{AllByRecursion}
 use Rattle.ir_thread.specs.State as thread
 use Rattle.ir_runs.specs.Machine.{Machine}
-use Rattle.ir_runs.specs.Run.{State, Step, IsByOrder}
+use Rattle.ir_runs.specs.Run.{State, Step}
+use Rattle.ir_runs.specs.Orders.{IsByOrder}
 use Rattle.ir_chaos.specs.Schedules.{IsSchedule, threads_of}
 use Rattle.ir_chaos.specs.declared.chooser.Chooser.{Chooser}
 

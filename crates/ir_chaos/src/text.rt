@@ -5,7 +5,7 @@ ghost use Rattle.ir_chaos.specs.Spelling.{marks, word_length, word_of, rest_of};
 ghost use Rattle.std.specs.Prelude.{◌≡◌, ◌≤◌, length, option_map};
 
 // Whether the text occurs in the bytes.
-#[tactic(auto, using(crate::proofs::Texts::occurs_if_text_starts_at_place, crate::proofs::Texts::occurs_after_place_unless_starts, crate::proofs::Texts::occurs_at_end_if_text_empty))]
+#[tactic(auto, using(crate::proofs::Texts::occurs_if_text_starts_at_place, crate::proofs::Texts::occurs_after_place_unless_starts, crate::proofs::Texts::occurs_at_end_equals_text_is_empty))]
 pub fn occurs(text: &[u8], bytes: &[u8]) -> bool
     ensures { result ≡ occurs_in text.now bytes.now }
 {

@@ -3,6 +3,7 @@ use Rattle.std.proofs.Common.{◌≡◌, ◌≤◌, ◌==◌, ◌&&◌, ℕ, zer
 use Rattle.std.proofs.lemmas.Bool.{leb-true}
 use Rattle.std.proofs.lemmas.List.Elements.{All-nil, All-cons}
 use Rattle.std.specs.List.{All, slice_index_or}
+use Rattle.ir_lemmas.proofs.CallerLemmas.{left_of_true_and, right_of_true_and}
 use Rattle.ir_thread.specs.State as thread
 use Rattle.ir_flat.specs.Flat.{idle}
 use Rattle.ir_fit.specs.Fit.{FittedTrace}
@@ -48,23 +49,15 @@ kept_state_of_number_stands f [] n one all is = absurd cc
 kept_state_of_number_stands f (k ∷ kept) n one all is =
     first_or_other_kept_stands f k one (kept_as n kept) (k.number == n) all.0 (kept_state_of_number_stands f kept n one all.1) is
 
-first_conjunct_is_true : (a b : Bool) → a && b ≡ true → a ≡ true
-first_conjunct_is_true true b e = refl
-first_conjunct_is_true false b e = absurd cc
-
-second_conjunct_is_true : (a b : Bool) → a && b ≡ true → b ≡ true
-second_conjunct_is_true true b e = e
-second_conjunct_is_true false b e = absurd cc
-
 steps_at_most_cut_if_below : (threads : List thread.ThreadState) (cut : List ℕ) → is_below (map (λ t. t.steps) threads) cut ≡ true → (t : ℕ)
     → (slice_index_or threads t idle).steps ≤ cut_of cut t
 steps_at_most_cut_if_below [] cut below zero = omega arith
 steps_at_most_cut_if_below [] cut below (suc t) = omega arith
 steps_at_most_cut_if_below (x ∷ threads) [] below t = absurd cc
 steps_at_most_cut_if_below (x ∷ threads) (k ∷ cut) below zero =
-    leb-true x.steps k (first_conjunct_is_true (nat_le x.steps k) (is_below (map (λ t. t.steps) threads) cut) below)
+    leb-true x.steps k (left_of_true_and (nat_le x.steps k) (is_below (map (λ t. t.steps) threads) cut) below)
 steps_at_most_cut_if_below (x ∷ threads) (k ∷ cut) below (suc t) =
-    steps_at_most_cut_if_below threads cut (second_conjunct_is_true (nat_le x.steps k) (is_below (map (λ t. t.steps) threads) cut) below) t
+    steps_at_most_cut_if_below threads cut (right_of_true_and (nat_le x.steps k) (is_below (map (λ t. t.steps) threads) cut) below) t
 
 -- what was restored is what was found
 pub restored_state_is_kept_state : (o : Option Kept) (one : Kept) (s : Standing) → o ≡ Some one → (option_map (λ k. k.state) o ≡ Some s) → one.state ≡ s

@@ -4,13 +4,15 @@ use Rattle.std.specs.Prelude.{slice_get}
 use Rattle.std.specs.List.{AllByRecursion}
 use Rattle.std.proofs.lemmas.Option.{same_Some}
 use Rattle.std.proofs.lemmas.List.{length-map}
+use Rattle.ir_lemmas.proofs.CallerLemmas.{element_of_all_by_recursion}
 use Rattle.ir_thread.specs.State.{most_events}
 use Rattle.ir_thread.specs.declared.profile.Profile.{Profile}
 use Rattle.ir_runs.specs.Machine.{Label, In, Trace}
 use Rattle.ir_runs.specs.declared.access.Access.TheVariants.{Writing}
 use Rattle.ir_log.specs.Logging.{label_of}
 use Rattle.ir_log.specs.declared.event.Event.{Event}
-use Rattle.ir_trace.specs.Recorded.{Recorded, RecordedThread, recorded_thread, trace_of, IsRecorded, IsEvent, IsRecordedThread}
+use Rattle.ir_trace.specs.Recorded.{Recorded, RecordedThread, recorded_thread, trace_of}
+use Rattle.ir_trace.specs.Bounds.{IsRecorded, IsEvent, IsRecordedThread}
 use Rattle.ir_trace.specs.Absent.{absent}
 use Rattle.ir_trace.proofs.CallerLemmas.{recorded_threads_at_most_limit}
 use Rattle.ir_runs.specs.Verdicts.{reads}
@@ -31,11 +33,6 @@ pub record CountsFirst (r : Recorded) (n : ℕ) (c : EntryCounts) : Type 0 where
   pub objects : vec_len c.objects ≡ r.objects
   pub reads : (o v : ℕ) → reads_of c o v ≡ reads_in n (trace_of r) o v
   pub writes : (o v : ℕ) → writes_of c o v ≡ writes_in n (trace_of r) o v
-
-element_of_all_by_recursion : {X : Type 0} (P : X → Type 0) (xs : List X) (i : ℕ) (d : X) → AllByRecursion P xs → i < length xs → P (get_or xs i d)
-element_of_all_by_recursion P [] i d all l = absurd (omega arith)
-element_of_all_by_recursion P (x ∷ xs) zero d all l = all.0
-element_of_all_by_recursion P (x ∷ xs) (suc i) d all l = element_of_all_by_recursion P xs i d all.1 (omega arith)
 
 get_or_past_end_is_default : {X : Type 0} (xs : List X) (i : ℕ) (d : X) → length xs ≤ i → get_or xs i d ≡ d
 get_or_past_end_is_default [] i d l = refl

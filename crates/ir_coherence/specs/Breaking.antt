@@ -29,8 +29,7 @@ pub record IsTwice (tr : Trace) (t i : ℕ) : Type 0 where
   pub another : At (tr.logs thread) event (In object Writing version readers)
   pub apart : t ≡ thread → i ≡ event → ⊥
 
--- event i of thread t is a write entry with another number of readers than there are read entries of its version in the logs of the n
--- threads
+-- event i of thread t is a write entry with another number of readers than there are read entries of its version in the n threads' logs
 pub record IsMiscounted (n : ℕ) (tr : Trace) (t i : ℕ) : Type 0 where
   pub object : ℕ
   pub version : ℕ

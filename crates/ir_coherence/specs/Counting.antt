@@ -8,7 +8,7 @@ use Rattle.ir_runs.specs.declared.access.Access.TheVariants.{Reading, Writing}
 use Rattle.ir_log.specs.Logging.{label_of}
 use Rattle.ir_log.specs.declared.event.Event.{Event}
 use Rattle.ir_thread.specs.declared.profile.Profile.{Profile}
-use Rattle.ir_trace.specs.Recorded.{IsEvent}
+use Rattle.ir_trace.specs.Bounds.{IsEvent}
 use Rattle.ir_runs.specs.Verdicts.{reads, sum_below}
 use Rattle.ir_coherence.specs.declared.cause.Cause.{Cause}
 use Rattle.ir_coherence.specs.declared.cause.Cause.TheVariants.{Unmade, Twice, Readers}

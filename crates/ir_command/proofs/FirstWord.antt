@@ -13,17 +13,17 @@ abbrev parts_after_word : List ℕ → List (List ℕ)
 parts_after_word [] = []
 parts_after_word (b ∷ bytes) = slice_split is_blank bytes
 
-split_of_line_by_blank_test : (t : Bool) (b : ℕ) (bytes : List ℕ) → is_blank b ≡ t → slice_split is_blank bytes ≡ take (word_end bytes) bytes
+split_of_line_by_first_word_step : (t : Bool) (b : ℕ) (bytes : List ℕ) → is_blank b ≡ t → slice_split is_blank bytes ≡ take (word_end bytes) bytes
     ∷ parts_after_word (drop (word_end bytes) bytes)
     → slice_split is_blank (b ∷ bytes) ≡ take (word_end (b ∷ bytes)) (b ∷ bytes) ∷ parts_after_word (drop (word_end (b ∷ bytes)) (b ∷ bytes))
 unfolding word_end
-split_of_line_by_blank_test true b bytes e split = rw e refl
-split_of_line_by_blank_test false b bytes e split = rw (e, split) refl
+split_of_line_by_first_word_step true b bytes e split = rw e refl
+split_of_line_by_first_word_step false b bytes e split = rw (e, split) refl
 
 split_of_line_by_first_word : (line : List ℕ) → slice_split is_blank line ≡ take (word_end line) line ∷ parts_after_word (drop (word_end line) line)
 unfolding word_end
 split_of_line_by_first_word [] = refl
-split_of_line_by_first_word (b ∷ bytes) = split_of_line_by_blank_test (is_blank b) b bytes refl (split_of_line_by_first_word bytes)
+split_of_line_by_first_word (b ∷ bytes) = split_of_line_by_first_word_step (is_blank b) b bytes refl (split_of_line_by_first_word bytes)
 
 -- what is left after a word begins with a blank, or is nothing
 pub record HasWordsAfterBlank (line : List ℕ) : Type 0 where

@@ -1,2 +1,1 @@
 mod FirstWord
-mod Values

@@ -1,5 +1,5 @@
 -- What a line asks: one table of names and of the numbers after them.
-use Rattle.std.specs.Prelude.{ℕ, nat_lt, List, [], ◌∷◌, length, codes, find, slice_index, Option, Some, None, option_map, option_and_then, Result, Ok, Err, if◌then◌else◌, ◌-◌, ◌==◌, ◌||◌, not, Bool, true, false, take, filter, ◌^◌, ◌&&◌, nat_le, drop}
+use Rattle.std.specs.Prelude.{ℕ, nat_lt, List, [], ◌∷◌, length, codes, find, slice_index, Option, Some, None, if◌then◌else◌, option_map, option_and_then, Result, Ok, Err, ◌-◌, ◌==◌, ◌||◌, not, Bool, true, false, take, filter, ◌^◌, ◌&&◌, nat_le}
 use Rattle.std.specs.Str.{bytes_eq}
 use Rattle.ir_command.specs.declared.command.Command.{Command}
 use Rattle.ir_command.specs.declared.command.Command.TheVariants as command
@@ -10,9 +10,8 @@ use Rattle.ir_command.specs.declared.command.Show.TheVariants.{Registers, Memory
 use Rattle.ir_command.specs.declared.command.Keeping.TheVariants.{Keep, Load, Drop, Kept}
 use Rattle.ir_command.specs.declared.refusal.Refusal.{Refusal}
 use Rattle.ir_command.specs.declared.refusal.Refusal.TheVariants.{UnknownCommand, BadArgument, LineTooLong, NoSuchThread, NoSuchObject, NoSuchNumber, BadAddress, NoMemory, Full}
-use Rattle.std.specs.List.{slice_split, list_all}
-use Rattle.std.specs.Char.{digit_value}
-use Rattle.std.specs.Str.Parse.{digits_value}
+use Rattle.std.specs.List.{slice_split}
+use Rattle.ir_numerals.specs.Numerals.{number_in}
 
 -- the numbers that a word may write: of a thread, an object, a count or an address; of a position; of bytes that are shown
 pub data Kind : Type 0 where
@@ -32,19 +31,9 @@ most_position = 2 ^ 64 - 1
 abbrev pub most_bytes : ℕ
 most_bytes = 256
 
--- the number of one digit of the radix to the most; none of other bytes
-unfoldable pub numeral : ℕ → ℕ → List ℕ → Option ℕ
-numeral radix most digits =
-    if (nat_le 1 (length digits) && nat_le (length digits) most) && list_all (λ c. nat_lt (digit_value c) radix) digits then Some (digits_value radix digits) else None
-
--- `0x`
-abbrev pub starts_hexadecimal : List ℕ → Bool
-starts_hexadecimal (a ∷ b ∷ digits) = (a == 48) && (b == 120)
-starts_hexadecimal digits = false
-
 -- 1 to 20 decimal digits, or `0x` and 1 to 16 hexadecimal digits of either case
 unfoldable pub number_of : List ℕ → Option ℕ
-number_of word = if starts_hexadecimal word then numeral 16 16 (drop 2 word) else numeral 10 20 word
+number_of word = number_in 20 16 word
 
 -- a number that may not pass the limit
 abbrev pub number_up_to : ℕ → List ℕ → Option ℕ

@@ -1,8 +1,6 @@
--- Where the first word of a line begins and ends, and tests of numbers.
-use Rattle.std.specs.Prelude.{ℕ, suc, List, [], ◌∷◌, if◌then◌else◌, length, Option, Some, None, Bool, ◌&&◌, nat_le, nat_lt, ◌==◌, ◌||◌}
+-- Where the first word of a line begins and ends, and how many bytes one command may show.
+use Rattle.std.specs.Prelude.{ℕ, suc, List, [], ◌∷◌, if◌then◌else◌, Option, Some, None, Bool, ◌&&◌, nat_le, ◌==◌, ◌||◌}
 use Rattle.ir_command.specs.Commands.{most_bytes}
-use Rattle.std.specs.List.{list_all}
-use Rattle.std.specs.Char.{digit_value}
 
 -- a space or a tab
 abbrev pub is_blank : ℕ → Bool
@@ -21,11 +19,3 @@ word_end (b ∷ bytes) = if is_blank b then 0 else suc (word_end bytes)
 -- n, if one command may show n bytes
 abbrev pub byte_count : ℕ → Option ℕ
 byte_count n = if nat_le 1 n && nat_le n most_bytes then Some n else None
-
--- whether the byte is a digit of the radix
-abbrev pub is_digit : ℕ → ℕ → Bool
-is_digit radix c = nat_lt (digit_value c) radix
-
--- from one digit of the radix to the most
-abbrev pub is_numeral : ℕ → ℕ → List ℕ → Bool
-is_numeral radix most digits = (nat_le 1 (length digits) && nat_le (length digits) most) && list_all (is_digit radix) digits

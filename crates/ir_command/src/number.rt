@@ -1,60 +1,22 @@
 //! Numbers of commands.
 
-ghost use Rattle.std.specs.Prelude.{◌≡◌, ◌≤◌, length, ℕ, Option, MatchOption, option_and_then, true, false};
-ghost use Rattle.std.specs.List.{list_all};
-ghost use Rattle.std.specs.Str.Parse.{digits_value};
-ghost use Rattle.ir_command.specs.Commands.{most_small, most_position, numeral, number_of, number_up_to};
-ghost use Rattle.ir_command.specs.Cuts.{is_digit};
+ghost use Rattle.std.specs.Prelude.{◌≡◌, option_and_then};
+ghost use Rattle.ir_command.specs.Commands.{most_small, most_position, number_of, number_up_to};
 ghost use Rattle.ir_command.specs.Cuts as cuts;
 
 use crate::command::ByteCount;
-
-const DECIMAL: u32 = 10;
-
-const HEXADECIMAL: u32 = 16;
+use ir_numerals::number_in;
 
 const MOST_DECIMAL: usize = 20;
 
 const MOST_HEXADECIMAL: usize = 16;
 
-// The number that the bytes write, if each is a digit of the radix.
-fn value(radix: u32, digits: &[u8]) -> Option<u128>
-    requires low { 2 ≤ radix }
-    requires high { radix ≤ 16 }
-    requires short { length digits.now ≤ 20 }
-    ensures { MatchOption result (list_all (is_digit radix) digits.now ≡ false) (λ v. (list_all (is_digit radix) digits.now ≡ true) × (v ≡ digits_value radix digits.now)) }
-{
-    let mut value = 0u128;
-    for byte in digits {
-        let digit = char::from(*byte).to_digit(radix)?;
-        value = value * radix as u128 + digit as u128;
-    }
-    Some(value)
-}
-
-// The number that 1 to `most` digits write.
-#[tactic(auto, unfolding(crate::specs::Commands::numeral))]
-fn numeral(radix: u32, most: usize, digits: &[u8]) -> Option<u128>
-    requires low { 2 ≤ radix }
-    requires high { radix ≤ 16 }
-    requires short { most ≤ 20 }
-    ensures { result ≡ numeral radix most digits.now }
-{
-    if digits.is_empty() || digits.len() > most {
-        return None;
-    }
-    value(radix, digits)
-}
-
-/// The number that a word writes in 1 to 20 decimal digits, or in `0x` and 1 to 16 hexadecimal digits of either case.
+// The number that a word writes in 1 to 20 decimal digits, or in `0x` and 1 to 16 hexadecimal digits of either case.
 #[tactic(auto, unfolding(crate::specs::Commands::number_of))]
 fn number(word: &[u8]) -> Option<u128>
     ensures { result ≡ number_of word.now }
 {
-    match word {
-        [b'0', b'x', digits @ ..] => numeral(HEXADECIMAL, MOST_HEXADECIMAL, digits),
-        _ => numeral(DECIMAL, MOST_DECIMAL, word),
-    }
+    number_in(MOST_DECIMAL, MOST_HEXADECIMAL, word)
 }
 
 /// The number that a word writes, if it is one of 32 bits.

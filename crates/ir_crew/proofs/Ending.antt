@@ -3,11 +3,13 @@ use Rattle.std.proofs.Common.{◌≡◌, ◌≢◌, ℕ, zero, suc, ◌+◌, ◌
 use Rattle.std.proofs.lemmas.Bool.{cases_eq, cases_lt}
 use Rattle.std.proofs.lemmas.List.{get_or_past, length-take}
 use mathlib.Core.Option.{some, some-injective, some-ne-none}
+use Rattle.ir_lemmas.proofs.CallerLemmas.{get_or_of_found_word}
 use lib.ListN.{get_elem?}
 use Rattle.atomic_table.specs.Seated.{TableId}
 use Rattle.atomic_table.specs.Table.{Final, Seen}
 use Rattle.atomic_table.specs.declared.shared.Seat.{Seat}
-use Rattle.ir_image.specs.Guest.{limits_of, Guest, most_object_words, object_count, object_words, IsGuest}
+use Rattle.ir_image.specs.Guest.{limits_of, Guest, most_object_words, object_count, object_words}
+use Rattle.ir_image.specs.Bounds.{IsGuest}
 use Rattle.ir_image.specs.declared.form.ImageForm.{ImageForm}
 use Rattle.ir_image.specs.declared.form.ImageForm.TheVariants.{Small, Large}
 use Rattle.ir_image.proofs.CallerLemmas.{element_of_padded}
@@ -138,11 +140,6 @@ pub tracks_by_successor : (l m k : ℕ) (me : M) → me ≡ (tracks_from l m, []
 tracks_by_successor l m k me is e = is ∙ (λ i. (tracks_from l (e i), []))
 
 -- ---- the end
-
-get_or_of_found_word : (xs : List ℕ) (k y : ℕ) → get_elem? xs k ≡ some y → get_or xs k 0 ≡ y
-get_or_of_found_word [] k y e = absurd (some-ne-none y (sym e))
-get_or_of_found_word (x ∷ xs) zero y e = some-injective x y e
-get_or_of_found_word (x ∷ xs) (suc k) y e = get_or_of_found_word xs k y e
 
 object_of_words_stands_for : (n count o : ℕ) (f : ℕ → Object) (ws : List ℕ) (c : Cell) → IsTable n count f ws → o < count → IsObjectOf ws o c
     → StandsFor n c (f o)

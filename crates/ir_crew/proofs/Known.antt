@@ -5,7 +5,8 @@ use Rattle.std.proofs.lemmas.Bool.{cases_eq}
 use mathlib.Core.Option.{some}
 use lib.ListN.{get_elem?}
 use Rattle.atomic_table.specs.Table as table
-use Rattle.ir_image.specs.Guest.{Guest, IsWord, most_threads, object_count, object_words, IsGuest}
+use Rattle.ir_image.specs.Guest.{Guest, most_threads, object_count, object_words}
+use Rattle.ir_image.specs.Bounds.{IsWord, IsGuest}
 use Rattle.ir_image.proofs.CallerLemmas.{guest_threads_at_most_limit, element_of_padded}
 use Rattle.ir_thread.specs.State.{most_events, thread_machine}
 use Rattle.ir_runs.specs.Machine.{Act, Silent, Result, Entry, Refusal, Exit, Load, Store, Never, Machine, Object, target, Admits, acted, emitted}

@@ -1,10 +1,12 @@
 -- Seats that are joined and split keep the rule, and it holds at the start.
 use Rattle.std.proofs.Common.{◌≡◌, ◌≢◌, ℕ, zero, suc, ◌+◌, ◌==◌, ◌<◌, ◌≤◌, Bool, if◌then◌else◌, List, [], ◌∷◌, ◌++◌, length, set, refl, sym, ap, ◌∙◌, subst, arith, inl, inr, ⊎_elim, ◌⊎◌, eq-eqb, ne_eqb, length-set}
 use mathlib.Core.Option.{some, some-injective, some-ne-none}
+use Rattle.ir_lemmas.proofs.CallerLemmas.{get_of_append_item_cases}
 use lib.ListN.{get_elem?}
 use Rattle.atomic_table.specs.Table.{Splits, Joins, opening}
 use Rattle.atomic_table.proofs.Lists.{at_set}
-use Rattle.ir_image.specs.Guest.{Guest, object_count, IsGuest}
+use Rattle.ir_image.specs.Guest.{Guest, object_count}
+use Rattle.ir_image.specs.Bounds.{IsGuest}
 use Rattle.ir_runs.specs.Machine.{Object}
 use Rattle.ir_object.specs.Order.{Shared}
 use Rattle.ir_crew.specs.Plays.{all_but_first, first_alone}
@@ -62,13 +64,6 @@ kept_seats_join g id other v w x k at apart at' =
     }
 
 -- ---- the first thread of a seat gets a seat of its own
-
-get_of_append_item_cases : {A : Type 0} (l : List A) (a b : A) (j : ℕ) → get_elem? (l ++ a ∷ []) j ≡ some b → (get_elem? l j ≡ some b)
-    ⊎ ((j ≡ length l) × (a ≡ b))
-get_of_append_item_cases [] a b zero e = inr (refl, some-injective a b e)
-get_of_append_item_cases [] a b (suc j) e = absurd (some-ne-none b (sym e))
-get_of_append_item_cases (x ∷ xs) a b zero e = inl e
-get_of_append_item_cases (x ∷ xs) a b (suc j) e = ⊎_elim inl (λ (q : (j ≡ length xs) × (a ≡ b)). inr (ap suc q.0 ∙ omega arith, q.1)) (get_of_append_item_cases xs a b j e)
 
 later_tracks_stay_if_reseated : (n : ℕ) (f : ℕ → Object) (es : List (ℕ × Shared)) (seat : ℕ → ℕ) (t new id u m : ℕ) → t < u → Fits n f es seat id (tracks_from u m)
     → Fits n f es (λ z. if z == t then new else seat z) id (tracks_from u m)

@@ -3,6 +3,7 @@ use Rattle.std.proofs.Common.{◌≡◌, ◌≢◌, ℕ, ◌+◌, ◌*◌, ◌%�
 use Rattle.std.proofs.lemmas.Bool.{cases_eq}
 use Rattle.std.proofs.lemmas.List.{set-get_or}
 use mathlib.Core.Option.{none, some}
+use Rattle.ir_lemmas.proofs.CallerLemmas.{map_of_append_item}
 use lib.ListN.{get_elem?}
 use prog.Atomic.{either}
 use Rattle.atomic_table.specs.Table as table
@@ -32,10 +33,6 @@ track t es = record { thread = t; steps = es }
 
 abbrev pub step_of_deed : ℕ → Deed → ObjectStep
 step_of_deed o d = record { object = o; deed = d }
-
-map_of_append_item : {A B : Type 0} (f : A → B) (xs : List A) (x : A) → map f (xs ++ x ∷ []) ≡ map f xs ++ f x ∷ []
-map_of_append_item f [] x = refl
-map_of_append_item f (y ∷ xs) x = ap (λ z. f y ∷ z) (map_of_append_item f xs x)
 
 pub target_of_deed : (o : ℕ) (d : Deed) → target (shared_by o d).0 ≡ o
 target_of_deed o (Enter a v l) = refl

@@ -3,7 +3,8 @@ use Rattle.std.specs.Prelude.{◌≡◌, ℕ, zero, suc, ◌+◌, ◌<◌, ◌�
 use mathlib.Core.Option.{some}
 use lib.ListN.{get_elem?}
 use Rattle.atomic_table.specs.Table.{State}
-use Rattle.ir_image.specs.Guest.{Guest, object_count, most_object_words, first_words, IsGuest}
+use Rattle.ir_image.specs.Guest.{Guest, object_count, most_object_words, first_words}
+use Rattle.ir_image.specs.Bounds.{IsGuest}
 use Rattle.ir_thread.specs.State.{most_events, thread_machine}
 use Rattle.ir_runs.specs.Machine.{Act, Silent, Result, Entry, Refusal, Exit, Load, Store, Never, Object, Label, Quiet, In, Out}
 use Rattle.ir_runs.specs.declared.access.Access.TheVariants.{Writing}

@@ -16,6 +16,7 @@ use std::sync::Wait;
 
 impl Crew {
     /// The seat's thread enters the object for reading; the version that it finds. It waits while a writer is inside.
+    #[inline(always)]
     pub fn enter_read<R: Wait>(&self, rt: &R, seat: &mut CrewSeat, object: u8) -> u32
         requires seat { (seat.old.table_id ≡ self.now.table.shared.table_id) × IsAlone seat.old.me.0 }
         requires object { object < object_count self.now.table.shared.key }
@@ -48,6 +49,7 @@ impl Crew {
 
     /// The seat's thread enters the object for writing; the version that it finds, and the readers that have left it. It waits
     /// while anyone is inside.
+    #[inline(always)]
     pub fn enter_write<R: Wait>(&self, rt: &R, seat: &mut CrewSeat, object: u8) -> (u32, u32)
         requires seat { (seat.old.table_id ≡ self.now.table.shared.table_id) × IsAlone seat.old.me.0 }
         requires object { object < object_count self.now.table.shared.key }

@@ -30,6 +30,7 @@ pub struct Crew {
 
 impl Crew {
     /// The seat's thread leaves an object that it is inside.
+    #[inline(always)]
     pub fn leave(&self, seat: &mut CrewSeat, object: u8, access: Access)
         requires seat { (seat.old.table_id ≡ self.now.table.shared.table_id) × IsAlone seat.old.me.0 }
         requires object { object < object_count self.now.table.shared.key }
@@ -52,6 +53,7 @@ impl Crew {
     }
 
     /// The word of an object that the seat's thread is inside.
+    #[inline(always)]
     pub fn get(&self, seat: &mut CrewSeat, object: u8, index: u8) -> u32
         requires seat { (seat.old.table_id ≡ self.now.table.shared.table_id) × IsAlone seat.old.me.0 }
         requires object { (object < object_count self.now.table.shared.key) × (index < most_object_words) }
@@ -64,6 +66,7 @@ impl Crew {
     }
 
     /// Writes a word of an object that the seat's thread is inside for writing.
+    #[inline(always)]
     pub fn put(&self, seat: &mut CrewSeat, object: u8, index: u8, value: u32)
         requires seat { (seat.old.table_id ≡ self.now.table.shared.table_id) × IsAlone seat.old.me.0 }
         requires object { (object < object_count self.now.table.shared.key) × (index < most_object_words) }

@@ -12,32 +12,13 @@ use Rattle.ir_log.specs.declared.event.Event.{Event}
 use Rattle.ir_log.specs.declared.event.Event.TheVariants.{Answer as Result, Read, Write, Try}
 use Rattle.ir_thread.specs.declared.profile.Profile.{Profile}
 use Rattle.std.specs.List.{AllByRecursion, slice_index_or}
-use Rattle.ir_trace.specs.Recorded.{recorded_thread, IsRecorded, IsEvent}
+use Rattle.ir_trace.specs.Recorded.{recorded_thread}
+use Rattle.ir_trace.specs.Bounds.{IsRecorded, IsEvent}
 use Rattle.ir_fit.specs.Fit.{FittedTrace, HasRun, IsRunOf}
 use Rattle.ir_fit.specs.Growing.{places_of, leaves_of}
-use Rattle.ir_fit.proofs.CallerLemmas.{guest_start_is_start, idle_thread_has_empty_trail, emitting_thread_is_guest_thread, get_or_of_at, at_place_of_get_or, entry_step_is_of_event}
+use Rattle.ir_fit.proofs.CallerLemmas.{guest_start_is_start, idle_thread_has_empty_trail, emitting_thread_is_guest_thread, get_or_is_item_if_at_index, get_or_is_at_index_if_below_length, entry_step_is_of_event}
 use Rattle.ir_coherence.proofs.CallerLemmas.{recorded_thread_at_number_is_recorded}
 use Rattle.ir_cut.specs.Positions.{machine_of, start_of}
-
-pub no_trail_of_missing_thread : (f : FittedTrace) (run : List Step) → IsRunOf f.guest f.recorded run → (t : ℕ) → length f.guest.entries ≤ t
-    → trail (machine_of f) (start_of f) run t ≡ []
-no_trail_of_missing_thread f run is t l = idle_thread_has_empty_trail (machine_of f) (start_of f) (length f.guest.entries) (guest_start_is_idle f.guest f.recorded.budget f.recorded.profile) run is.1.runs
-    t l
-
--- runs with the trace have the same steps of each thread
-pub trail_same_in_runs_of_trace : (f : FittedTrace) (run run' : List Step) → IsRunOf f.guest f.recorded run → IsRunOf f.guest f.recorded run' → (t : ℕ)
-    → trail (machine_of f) (start_of f) run t ≡ trail (machine_of f) (start_of f) run' t
-trail_same_in_runs_of_trace f run run' is is' =
-    (same_logs_give_same_trails (machine_of f) (thread_machine_is_lawful f.guest.code) (start_of f) (state_invariant_at_start (machine_of f) (start_of f) (guest_start_is_start f.guest f.recorded.budget f.recorded.profile)) run
-    run' is.1.runs is'.1.runs
-    (λ t. elim (cases_lt t (length f.guest.entries)) [
-      | inl l ↦ is.1.logs t l ∙ sym (is'.1.logs t l)
-      | inr l ↦ ap events (no_trail_of_missing_thread f run is t l ∙ sym (no_trail_of_missing_thread f run' is' t l))
-    ])
-    (λ t. elim (cases_lt t (length f.guest.entries)) [
-      | inl l ↦ is.1.steps t l ∙ sym (is'.1.steps t l)
-      | inr l ↦ ap length (no_trail_of_missing_thread f run is t l ∙ sym (no_trail_of_missing_thread f run' is' t l))
-    ])).same_trail
 
 abbrev version_of_label : Label → ℕ
 version_of_label Quiet = 0
@@ -51,9 +32,6 @@ unfoldable pub has_run_from_any_run : (f : FittedTrace) → HasRun f → (run : 
 has_run_from_any_run f h run is = record {
   run = run;
   whole = is;
-  each = h.each;
-  entries = λ t l. h.entries t l ∙ ap places_of (trail_same_in_runs_of_trace f h.run run h.whole is t);
-  leaves = λ t l. h.leaves t l ∙ ap leaves_of (trail_same_in_runs_of_trace f h.run run h.whole is t);
 }
 
 -- a step is of a thread that there is
@@ -65,7 +43,7 @@ emitting_thread_exists f h run is t i k emitted = emitting_thread_is_guest_threa
 -- and one of those that it takes
 pub emitting_step_below_count : (f : FittedTrace) (run : List Step) (t i : ℕ) (k : Label) → Emits (machine_of f) (start_of f) run t i k
     → i < count (machine_of f) (start_of f) run t
-emitting_step_below_count f run t i k emitted = (get_or_of_at (trail (machine_of f) (start_of f) run t) i (emitted.0, k) emitted.1).0
+emitting_step_below_count f run t i k emitted = (get_or_is_item_if_at_index (trail (machine_of f) (start_of f) run t) i (emitted.0, k) emitted.1).0
 
 -- ---- what is reported by an entry is in the trace
 
@@ -91,4 +69,4 @@ entered_version_is_word f h recorded run is t i o a v l emitted =
     let e = entry_step_is_of_event f (has_run_from_any_run f h run is) t i o a v l emitted in
     let d : Event = Read 0 0 in
     listed_event_version_is_word f.recorded.profile f.recorded.objects es (recorded_thread_at_number_is_recorded f.recorded recorded t (let same = is.0.threads in omega (arith, same, there))).events_fit
-    e.0 (slice_index_or es e.0 d) o a v l (at_place_of_get_or es e.0 d e.1) (e.3 d)
+    e.0 (slice_index_or es e.0 d) o a v l (get_or_is_at_index_if_below_length es e.0 d e.1) (e.3 d)

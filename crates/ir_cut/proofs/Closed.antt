@@ -9,7 +9,8 @@ use Rattle.ir_log.specs.Logging.{label_of}
 use Rattle.ir_log.specs.declared.event.Event.{Event}
 use Rattle.ir_trace.specs.Recorded.{recorded_thread}
 use Rattle.ir_runs.specs.Run.{Emits, IsNeededBy}
-use Rattle.ir_fit.specs.Fit.{FittedTrace, HasRun, placed_at}
+use Rattle.ir_fit.specs.Fit.{FittedTrace, HasRun}
+use Rattle.ir_fit.specs.Placed.{placed_at, placed_of}
 use Rattle.ir_fit.specs.Within.{IsFitted}
 use Rattle.ir_cut.specs.Positions.{machine_of, start_of, cut_of, EachRun, IsConsistentCut}
 use Rattle.ir_cut.specs.Searching.{AreInside, NeededBy, IsClosed}
@@ -23,38 +24,38 @@ AreNeedsOfFirstInside f qs t n = (e : ℕ) (x : Event) → e < n → slice_get (
     → EachRun f (λ run. AreInside f run (NeededBy (label_of x)) (cut_of qs))
 
 -- it is closed, where all events in the cut are among them
-closed_if_events_in_cut_met : (f : FittedTrace) → IsFitted f → (qs : List ℕ) (t n : ℕ) → AreNeedsOfFirstInside f qs t n
-    → ((e i : ℕ) → slice_get (placed_at f.placed t).entries e ≡ Some i → i < cut_of qs t → e < n)
+closed_if_events_in_cut_are_among_first : (f : FittedTrace) → IsFitted f → (qs : List ℕ) (t n : ℕ) → AreNeedsOfFirstInside f qs t n
+    → ((e i : ℕ) → slice_get (placed_at (placed_of f) t).entries e ≡ Some i → i < cut_of qs t → e < n)
     → EachRun f (λ run. IsClosed f run (cut_of qs) t)
-closed_if_events_in_cut_met f fit qs t n met first run is i k emits inside w j b at need =
+closed_if_events_in_cut_are_among_first f fit qs t n met first run is i k emits inside w j b at need =
     let x = needing_label_is_entry b k need in
     let e = (run_of_trace_is_listed f fit.run run is).entry t i x.object x.access x.version x.left
     (subst (Emits (machine_of f) (start_of f) run t i) x.is emits) in
     met e.0 e.1 (first e.0 i e.2 inside) e.3 run is w j b at (subst (IsNeededBy b) (x.is ∙ sym e.4) need)
 
 -- at the end of the log
-pub closed_at_end_of_log : (f : FittedTrace) → IsFitted f → (qs ks : List ℕ) (t n : ℕ) → ks ≡ (placed_at f.placed t).entries → length ks ≤ n
+pub closed_at_end_of_log : (f : FittedTrace) → IsFitted f → (qs ks : List ℕ) (t n : ℕ) → ks ≡ (placed_at (placed_of f) t).entries → length ks ≤ n
     → AreNeedsOfFirstInside f qs t n → IsTrue true ↔ EachRun f (λ run. IsClosed f run (cut_of qs) t)
 closed_at_end_of_log f fit qs ks t n list over met = (
-  (λ _. closed_if_events_in_cut_met f fit qs t n met (λ e i at _. let l = slice_get_within (placed_at f.placed t).entries e i at in
-      let same : length ks ≡ length (placed_at f.placed t).entries = ap length list in omega (arith, l, same, over))),
+  (λ _. closed_if_events_in_cut_are_among_first f fit qs t n met (λ e i at _. let l = slice_get_within (placed_at (placed_of f) t).entries e i at in
+      let same : length ks ≡ length (placed_at (placed_of f) t).entries = ap length list in omega (arith, l, same, over))),
   (λ _. refl),
 )
 
 -- where the next event isn't in the cut
 pub closed_if_next_event_outside : (f : FittedTrace) → IsFitted f → (qs ks : List ℕ) (t n k : ℕ) → t < length f.guest.entries
-    → ks ≡ (placed_at f.placed t).entries → n < length ks → k ≡ slice_index_or ks n 0 → cut_of qs t ≤ k → AreNeedsOfFirstInside f qs t n
+    → ks ≡ (placed_at (placed_of f) t).entries → n < length ks → k ≡ slice_index_or ks n 0 → cut_of qs t ≤ k → AreNeedsOfFirstInside f qs t n
     → IsTrue true ↔ EachRun f (λ run. IsClosed f run (cut_of qs) t)
 closed_if_next_event_outside f fit qs ks t n k there list l read past met = (
-  (λ _. closed_if_events_in_cut_met f fit qs t n met (λ e i at inside. elim (cases_lt e n) [
+  (λ _. closed_if_events_in_cut_are_among_first f fit qs t n met (λ e i at inside. elim (cases_lt e n) [
     | inl less ↦ less
     | inr behind ↦
-        let here : slice_get (placed_at f.placed t).entries n ≡ Some k = ap (λ z. slice_get z n) (sym list) ∙ slice_get-get_or ks n 0 l
+        let here : slice_get (placed_at (placed_of f) t).entries n ≡ Some k = ap (λ z. slice_get z n) (sym list) ∙ slice_get-get_or ks n 0 l
         ∙ ap Some (sym read) in
         elim (cases_lt n e) [
           | inl before ↦ let up = (run_of_trace_is_listed f fit.run fit.run.run fit.run.whole).rise t n e k i there before here at in
               absurd (omega (arith, up, inside, past))
-          | inr same ↦ let one : k ≡ i = elements_at_equal_places_equal (placed_at f.placed t).entries n e k i
+          | inr same ↦ let one : k ≡ i = elements_at_equal_places_equal (placed_at (placed_of f) t).entries n e k i
               (let d : n ≡ e = omega (arith, behind, same) in d) here at in absurd (omega (arith, one, inside, past))
         ]
   ])),
@@ -63,13 +64,13 @@ closed_if_next_event_outside f fit qs ks t n k there list l read past met = (
 
 -- where what it needs isn't inside
 -- the log has an event for each position
-pub event_within_log_if_position : (f : FittedTrace) (ks : List ℕ) (es : List Event) (t n : ℕ) → ks ≡ (placed_at f.placed t).entries
-    → length es ≡ length (placed_at f.placed t).entries → n < length ks → n < length es
-event_within_log_if_position f ks es t n list size l = let same : length ks ≡ length (placed_at f.placed t).entries = ap length list in
+pub event_within_log_if_position : (f : FittedTrace) (ks : List ℕ) (es : List Event) (t n : ℕ) → ks ≡ (placed_at (placed_of f) t).entries
+    → length es ≡ length (placed_at (placed_of f) t).entries → n < length ks → n < length es
+event_within_log_if_position f ks es t n list size l = let same : length ks ≡ length (placed_at (placed_of f) t).entries = ap length list in
     omega (arith, l, same, size)
 
 pub not_closed_if_need_outside : (f : FittedTrace) → IsFitted f → (qs ks : List ℕ) (es : List Event) (t n k : ℕ) (x : Event) (b : Bool)
-    → t < length f.guest.entries → ks ≡ (placed_at f.placed t).entries → es ≡ (recorded_thread f.recorded t).events → n < length ks
+    → t < length f.guest.entries → ks ≡ (placed_at (placed_of f) t).entries → es ≡ (recorded_thread f.recorded t).events → n < length ks
     → k ≡ slice_index_or ks n 0 → k < cut_of qs t
     → slice_get es n ≡ Some x → IsTrue b ↔ EachRun f (λ run. AreInside f run (NeededBy (label_of x)) (cut_of qs)) → b ≡ false
     → IsTrue false ↔ EachRun f (λ run. IsClosed f run (cut_of qs) t)
@@ -137,10 +138,10 @@ inconsistent_if_thread_not_closed f fit qs n b there test is = (
   (λ h. absurd (cc (is, test.1 (threads_of_consistent_cut_closed f fit qs h n there)))),
 )
 
-pub closed_and_within_steps : (f : FittedTrace) (qs : List ℕ) (t n : ℕ) (b : Bool) → n ≡ (recorded_thread f.recorded t).steps → cut_of qs t ≤ n
+pub test_of_closed_tells_closed_and_within_steps : (f : FittedTrace) (qs : List ℕ) (t n : ℕ) (b : Bool) → n ≡ (recorded_thread f.recorded t).steps → cut_of qs t ≤ n
     → IsTrue b ↔ EachRun f (λ run. IsClosed f run (cut_of qs) t)
     → IsTrue b ↔ (cut_of qs t ≤ (recorded_thread f.recorded t).steps) × EachRun f (λ run. IsClosed f run (cut_of qs) t)
-closed_and_within_steps f qs t n b steps l test = (
+test_of_closed_tells_closed_and_within_steps f qs t n b steps l test = (
   (λ is. ((let a : cut_of qs t ≤ (recorded_thread f.recorded t).steps = omega (arith, l, steps) in a), test.0 is)),
   (λ h. test.1 h.1),
 )

@@ -11,14 +11,14 @@ use Rattle.ir_cut.specs.Positions.{machine_of, start_of, cut_of, EachRun, IsCons
 use Rattle.ir_cut.specs.Searching.{Rising, Falling, NoneBelow, NoneAbove, AreFirst, AreRest, IsLeastCut, IsGreatestCut}
 use Rattle.ir_cut.proofs.Listing.{run_of_trace_is_listed, thread_of_leave_exists}
 use Rattle.ir_cut.proofs.Searched.{rising_at_start, rising_end_is_least, falling_at_start, falling_end_is_greatest}
-use Rattle.ir_cut.proofs.Stepping.{cut_position_is_read_number, cut_position_after_set, other_cut_position_after_set}
+use Rattle.ir_cut.proofs.Stepping.{cut_position_is_indexed_number, cut_position_after_set, other_cut_position_after_set}
 
 -- the number that is kept of thread t, where it was copied, and those of the others
 pub position_of_thread_after_set : (ps xs : List ℕ) (t v w : ℕ) → xs ≡ ps → t < length ps → v ≡ slice_index_or xs t v → (cut_of (set xs t w) t ≡ w)
     × (cut_of ps t ≡ v)
 position_of_thread_after_set ps xs t v w is l read = (
   cut_position_after_set xs t w (subst (λ z. t < length z) (sym is) l),
-  ap (λ z. cut_of z t) (sym is) ∙ cut_position_is_read_number xs t v (subst (λ z. t < length z) (sym is) l) read,
+  ap (λ z. cut_of z t) (sym is) ∙ cut_position_is_indexed_number xs t v (subst (λ z. t < length z) (sym is) l) read,
 )
 
 pub position_of_other_thread_after_set : (ps xs : List ℕ) (t w u : ℕ) → xs ≡ ps → u ≢ t → cut_of (set xs t w) u ≡ cut_of ps u

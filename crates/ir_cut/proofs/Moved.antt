@@ -98,8 +98,8 @@ lowered_for_place_step old cur new ps n p r is l e =
 -- ---- what the code reads
 
 -- a position that was read
-pub read_position_is_cut_position : (xs : List ℕ) (t v : ℕ) → t < length xs → v ≡ slice_index_or xs t v → v ≡ cut_of xs t
-read_position_is_cut_position xs t v l e = e ∙ get_or_default_zero xs t v l
+pub indexed_position_is_cut_position : (xs : List ℕ) (t v : ℕ) → t < length xs → v ≡ slice_index_or xs t v → v ≡ cut_of xs t
+indexed_position_is_cut_position xs t v l e = e ∙ get_or_default_zero xs t v l
 
 -- the place that comes next
 abbrev pub place_at : List Place → ℕ → Place
@@ -109,23 +109,23 @@ pub place_at_is_placed : (k : ℕ) (ps : List Place) (n : ℕ) → ArePlaced k p
     × ((place_at ps n).position + 1 < 2 ^ 64)
 place_at_is_placed k ps n h l = h n (place_at ps n) l (slice_get-get_or ps n _ l)
 
-pub raised_by_read_position_step : (old cur : List ℕ) (ps : List Place) (n v top : ℕ) → ArePlaced (length old) ps → IsRaised old cur ps n → n < length ps
+pub is_raised_after_next_place : (old cur : List ℕ) (ps : List Place) (n v top : ℕ) → ArePlaced (length old) ps → IsRaised old cur ps n → n < length ps
     → v ≡ slice_index_or cur (place_at ps n).thread v
     → top ≡ max v ((place_at ps n).position + 1) → IsRaised old (set cur (place_at ps n).thread top) ps (n + 1)
-raised_by_read_position_step old cur ps n v top h r l e is =
+is_raised_after_next_place old cur ps n v top h r l e is =
     let there : (place_at ps n).thread < length cur = (let a = (place_at_is_placed (length old) ps n h l).0 in omega (arith, a, r.size)) in
     raised_for_place_step old cur (set cur (place_at ps n).thread top) ps n (place_at ps n) r (slice_get-get_or ps n _ l) there
     (ap (set cur (place_at ps n).thread) (is ∙ ap (λ z. max z ((place_at ps n).position + 1))
-    (read_position_is_cut_position cur (place_at ps n).thread v there e)))
+    (indexed_position_is_cut_position cur (place_at ps n).thread v there e)))
 
-pub lowered_by_read_position_step : (old cur : List ℕ) (ps : List Place) (n v low : ℕ) → ArePlaced (length old) ps → IsLowered old cur ps n → n < length ps
+pub is_lowered_after_next_place : (old cur : List ℕ) (ps : List Place) (n v low : ℕ) → ArePlaced (length old) ps → IsLowered old cur ps n → n < length ps
     → v ≡ slice_index_or cur (place_at ps n).thread v
     → low ≡ min v (place_at ps n).position → IsLowered old (set cur (place_at ps n).thread low) ps (n + 1)
-lowered_by_read_position_step old cur ps n v low h r l e is =
+is_lowered_after_next_place old cur ps n v low h r l e is =
     let there : (place_at ps n).thread < length cur = (let a = (place_at_is_placed (length old) ps n h l).0 in omega (arith, a, r.size)) in
     lowered_for_place_step old cur (set cur (place_at ps n).thread low) ps n (place_at ps n) r (slice_get-get_or ps n _ l) there
     (ap (set cur (place_at ps n).thread) (is ∙ ap (λ z. min z (place_at ps n).position)
-    (read_position_is_cut_position cur (place_at ps n).thread v there e)))
+    (indexed_position_is_cut_position cur (place_at ps n).thread v there e)))
 
 -- whether the next place is inside, and all that were before it
 pub places_inside_step : (xs : List ℕ) (ps : List Place) (n v : ℕ) → ArePlaced (length xs) ps → n < length ps
@@ -134,7 +134,7 @@ pub places_inside_step : (xs : List ℕ) (ps : List Place) (n v : ℕ) → ArePl
 places_inside_step xs ps n v h l e less each =
     let there = (place_at_is_placed (length xs) ps n h l).0 in
     each_place_step ps n (place_at ps n) (λ p. p.position < cut_of xs p.thread) (slice_get-get_or ps n _ l)
-    (let same = read_position_is_cut_position xs (place_at ps n).thread v there e in omega (arith, less, same)) each
+    (let same = indexed_position_is_cut_position xs (place_at ps n).thread v there e in omega (arith, less, same)) each
 
 pub places_not_inside_if_place_outside : (xs : List ℕ) (ps : List Place) (n v : ℕ) → ArePlaced (length xs) ps → n < length ps
     → v ≡ slice_index_or xs (place_at ps n).thread v → v ≤ (place_at ps n).position
@@ -142,5 +142,5 @@ pub places_not_inside_if_place_outside : (xs : List ℕ) (ps : List Place) (n v 
 places_not_inside_if_place_outside xs ps n v h l e less each =
     let there = (place_at_is_placed (length xs) ps n h l).0 in
     let a : (place_at ps n).position < cut_of xs (place_at ps n).thread = each n (place_at ps n) l (slice_get-get_or ps n _ l) in
-    let same = read_position_is_cut_position xs (place_at ps n).thread v there e in
+    let same = indexed_position_is_cut_position xs (place_at ps n).thread v there e in
     omega (arith, a, less, same)

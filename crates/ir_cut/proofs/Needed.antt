@@ -15,7 +15,7 @@ use Rattle.ir_cut.specs.Positions.{machine_of, start_of, cut_of, EachRun}
 use Rattle.ir_cut.specs.Searching.{AreInside, RaisedFor, LoweredFor, NeededBy, Needing, IsEntryAt}
 use Rattle.ir_fit.specs.Listed.{OnlyLeaves, AllLeaves, OnlyEntries, AllEntries}
 use Rattle.ir_fit.specs.declared.place.Place.{Place}
-use Rattle.ir_cut.proofs.Sought.{leaves_inside_by_places, raised_for_leaves, lowered_for_entries, raised_for_either_label, raised_for_equivalent_labels, raised_for_no_steps, lowered_for_either_label, lowered_for_equivalent_labels, lowered_for_no_steps}
+use Rattle.ir_cut.proofs.Sought.{places_inside_iff_leaves_inside, raised_for_leaves_if_places_raised, lowered_for_entries_if_places_lowered, raised_for_either_label, raised_for_equivalent_labels, raised_for_no_steps, lowered_for_either_label, lowered_for_equivalent_labels, lowered_for_no_steps}
 use Rattle.ir_cut.proofs.Again.{entered_version_is_word}
 
 -- ---- an entry needs the leave that made its version
@@ -76,41 +76,41 @@ inside_for_implied_labels : (f : FittedTrace) (P R : Label → Type 0) → ((k :
     → EachRun f (λ run. AreInside f run R c)
 inside_for_implied_labels f P R to c h run is t i k emits r = h run is t i k emits (to k r)
 
-pub reading_needs_inside_by_makers : (f : FittedTrace) → IsFitted f → (o v w : ℕ) (ps : List Place) → OnlyLeaves f o Writing w ps → AllLeaves f o Writing w ps
+pub test_tells_reading_needs_inside_by_makers : (f : FittedTrace) → IsFitted f → (o v w : ℕ) (ps : List Place) → OnlyLeaves f o Writing w ps → AllLeaves f o Writing w ps
     → (xs : List ℕ) (b : Bool) → (1 ≤ v) × (w ≡ v - 1)
     → IsTrue b ↔ EachPlace ps (length ps) (λ p. p.position < cut_of xs p.thread)
     → IsTrue b ↔ EachRun f (λ run. AreInside f run (NeededBy (In o Reading v 0)) (cut_of xs))
-reading_needs_inside_by_makers f k o v w ps only all xs b is test =
+test_tells_reading_needs_inside_by_makers f k o v w ps only all xs b is test =
     let next : v ≡ w + 1 = (let some = is.0 in let less = is.1 in omega (arith, some, less)) in
-    let leaves = leaves_inside_by_places f k o Writing w ps only all xs in (
+    let leaves = places_inside_iff_leaves_inside f k o Writing w ps only all xs in (
       (λ so. inside_for_implied_labels f (λ z. z ≡ Out o Writing w) (NeededBy (In o Reading v 0)) (reading_needs_its_maker o v w 0 next) (cut_of xs)
           (leaves.0 (test.0 so))),
       (λ h. test.1 (leaves.1 (inside_for_implied_labels f (NeededBy (In o Reading v 0)) (λ z. z ≡ Out o Writing w) (maker_is_needed_by_reading o v w 0 next) (cut_of xs)
           h))),
     )
 
-pub needs_of_read_event_inside : (f : FittedTrace) (x : Event) (o v : ℕ) (xs : List ℕ) (b : Bool) → x ≡ Read o v
+pub test_tells_needs_of_read_event_inside : (f : FittedTrace) (x : Event) (o v : ℕ) (xs : List ℕ) (b : Bool) → x ≡ Read o v
     → IsTrue b ↔ EachRun f (λ run. AreInside f run (NeededBy (In o Reading v 0)) (cut_of xs))
     → IsTrue b ↔ EachRun f (λ run. AreInside f run (NeededBy (label_of x)) (cut_of xs))
-needs_of_read_event_inside f x o v xs b is h = subst (λ z. IsTrue b ↔ EachRun f (λ run. AreInside f run (NeededBy (label_of z)) (cut_of xs))) (sym is) h
+test_tells_needs_of_read_event_inside f x o v xs b is h = subst (λ z. IsTrue b ↔ EachRun f (λ run. AreInside f run (NeededBy (label_of z)) (cut_of xs))) (sym is) h
 
-pub needs_of_write_event_inside : (f : FittedTrace) → IsFitted f → (x : Event) (o v l : ℕ) (ps : List Place) → OnlyLeaves f o Reading v ps
+pub test_tells_needs_of_write_event_inside : (f : FittedTrace) → IsFitted f → (x : Event) (o v l : ℕ) (ps : List Place) → OnlyLeaves f o Reading v ps
     → AllLeaves f o Reading v ps → (xs : List ℕ) (a b : Bool) → x ≡ Write o v l → IsTrue a
     → IsTrue a ↔ EachRun f (λ run. AreInside f run (NeededBy (In o Reading v 0)) (cut_of xs))
     → IsTrue b ↔ EachPlace ps (length ps) (λ p. p.position < cut_of xs p.thread)
     → IsTrue b ↔ EachRun f (λ run. AreInside f run (NeededBy (label_of x)) (cut_of xs))
-needs_of_write_event_inside f k x o v l ps only all xs a b is so made test =
-    let leaves = leaves_inside_by_places f k o Reading v ps only all xs in
+test_tells_needs_of_write_event_inside f k x o v l ps only all xs a b is so made test =
+    let leaves = places_inside_iff_leaves_inside f k o Reading v ps only all xs in
     subst (λ z. IsTrue b ↔ EachRun f (λ run. AreInside f run (NeededBy (label_of z)) (cut_of xs))) (sym is) (
       (λ read run is t i m emits n. elim (writing_needs_maker_or_reader o v l m n)
           [ inl maker ↦ made.0 so run is t i m emits maker | inr reader ↦ leaves.0 (test.0 read) run is t i m emits reader ]),
       (λ h. test.1 (leaves.1 (inside_for_implied_labels f (NeededBy (In o Writing v l)) (λ z. z ≡ Out o Reading v) (reader_is_needed_by_writing o v l) (cut_of xs) h))),
     )
 
-pub needs_of_write_event_not_inside : (f : FittedTrace) (x : Event) (o v l : ℕ) (xs : List ℕ) (a : Bool) → x ≡ Write o v l → a ≡ false
+pub test_tells_needs_of_write_event_not_inside : (f : FittedTrace) (x : Event) (o v l : ℕ) (xs : List ℕ) (a : Bool) → x ≡ Write o v l → a ≡ false
     → IsTrue a ↔ EachRun f (λ run. AreInside f run (NeededBy (In o Reading v 0)) (cut_of xs))
     → IsTrue a ↔ EachRun f (λ run. AreInside f run (NeededBy (label_of x)) (cut_of xs))
-needs_of_write_event_not_inside f x o v l xs a is no_maker made =
+test_tells_needs_of_write_event_not_inside f x o v l xs a is no_maker made =
     subst (λ z. IsTrue a ↔ EachRun f (λ run. AreInside f run (NeededBy (label_of z)) (cut_of xs))) (sym is) (
       (λ so. absurd (cc (so, no_maker))),
       (λ h. made.1 (inside_for_implied_labels f (NeededBy (In o Writing v l)) (NeededBy (In o Reading v 0)) (maker_is_needed_by_writing o v l) (cut_of xs) h)),
@@ -124,7 +124,7 @@ pub raised_for_reading_by_makers : (f : FittedTrace) → IsFitted f → (o v w :
 raised_for_reading_by_makers f k o v w ps only all old new is r run ok =
     let next : v ≡ w + 1 = (let some = is.0 in let less = is.1 in omega (arith, some, less)) in
     raised_for_equivalent_labels f run (λ z. z ≡ Out o Writing w) (NeededBy (In o Reading v 0)) (reading_needs_its_maker o v w 0 next) (maker_is_needed_by_reading o v w 0 next) old new
-    (raised_for_leaves f k o Writing w ps only all old new r run ok)
+    (raised_for_leaves_if_places_raised f k o Writing w ps only all old new r run ok)
 
 pub raised_for_write_event : (f : FittedTrace) → IsFitted f → (x : Event) (o v l : ℕ) (ps : List Place) → OnlyLeaves f o Reading v ps
     → AllLeaves f o Reading v ps → (old cur new : List ℕ) → x ≡ Write o v l
@@ -132,7 +132,7 @@ pub raised_for_write_event : (f : FittedTrace) → IsFitted f → (x : Event) (o
     → EachRun f (λ run. RaisedFor f run (NeededBy (label_of x)) old new)
 raised_for_write_event f k x o v l ps only all old cur new is made r run ok = subst (λ z. RaisedFor f run (NeededBy (label_of z)) old new) (sym is)
     (raised_for_either_label f run (NeededBy (In o Reading v 0)) (λ z. z ≡ Out o Reading v) (NeededBy (In o Writing v l)) (writing_needs_maker_or_reader o v l)
-    (maker_is_needed_by_writing o v l) (reader_is_needed_by_writing o v l) old cur new (made run ok) (raised_for_leaves f k o Reading v ps only all cur new r run ok))
+    (maker_is_needed_by_writing o v l) (reader_is_needed_by_writing o v l) old cur new (made run ok) (raised_for_leaves_if_places_raised f k o Reading v ps only all cur new r run ok))
 
 pub raised_for_read_event : (f : FittedTrace) (x : Event) (o v : ℕ) (old new : List ℕ) → x ≡ Read o v
     → EachRun f (λ run. RaisedFor f run (NeededBy (In o Reading v 0)) old new)
@@ -157,7 +157,7 @@ pub lowered_for_entries_at_version : (f : FittedTrace) → IsFitted f → (o v :
 lowered_for_entries_at_version f k o v ps qs only all only' all' old cur new r s run ok =
     lowered_for_either_label f run (λ z. (l : ℕ) × (z ≡ In o Reading v l)) (λ z. (l : ℕ) × (z ≡ In o Writing v l)) (IsEntryAt o v) (entry_reads_or_writes o v)
     (λ z e. (Reading, e.0, e.1)) (λ z e. (Writing, e.0, e.1)) old cur new
-    (lowered_for_entries f k o Reading v ps only all old cur r run ok) (lowered_for_entries f k o Writing v qs only' all' cur new s run ok)
+    (lowered_for_entries_if_places_lowered f k o Reading v ps only all old cur r run ok) (lowered_for_entries_if_places_lowered f k o Writing v qs only' all' cur new s run ok)
 
 -- what needs a leave after reading is an entry for writing at its version
 needing_read_leave_is_write_entry : (o w : ℕ) (k : Label) → IsNeededBy (Out o Reading w) k → (l : ℕ) × (k ≡ In o Writing w l)
@@ -177,7 +177,7 @@ pub lowered_for_read_leave : (f : FittedTrace) → IsFitted f → (x : Leave) (p
 lowered_for_read_leave f k x ps only all old new is r run ok = subst (λ a. LoweredFor f run (IsNeededBy (Out x.object a x.version)) old new) (sym is)
     (lowered_for_equivalent_labels f run (λ z. (l : ℕ) × (z ≡ In x.object Writing x.version l)) (IsNeededBy (Out x.object Reading x.version))
     (needing_read_leave_is_write_entry x.object x.version) (write_entry_needs_read_leave x.object x.version) old new
-    (lowered_for_entries f k x.object Writing x.version ps only all old new r run ok))
+    (lowered_for_entries_if_places_lowered f k x.object Writing x.version ps only all old new r run ok))
 
 -- what needs a leave after writing is an entry at the version that it made
 needing_write_leave_is_next_entry : (o w v : ℕ) → v ≡ w + 1 → (k : Label) → IsNeededBy (Out o Writing w) k → IsEntryAt o v k

@@ -12,7 +12,8 @@ use Rattle.ir_runs.specs.Run.{Step, count, Emits, IsNeededBy, Cut, IsCut, Consis
 use Rattle.ir_log.specs.Logging.{label_of}
 use Rattle.ir_log.specs.declared.event.Event.{Event}
 use Rattle.ir_trace.specs.Recorded.{recorded_thread}
-use Rattle.ir_fit.specs.Fit.{FittedTrace, HasRun, IsRunOf, placed_at}
+use Rattle.ir_fit.specs.Fit.{FittedTrace, HasRun, IsRunOf}
+use Rattle.ir_fit.specs.Placed.{placed_at, placed_of}
 use Rattle.ir_fit.specs.declared.leave.Leave.{Leave}
 use Rattle.ir_cut.specs.Positions.{machine_of, start_of, cut_of}
 use Rattle.ir_cut.specs.Searching.{AreInside, AreOutside, RaisedFor, LoweredFor, NeededBy, Needing, Rising, Falling, NoneBelow, NoneAbove, HasBelow, AreFirst, AreRest}
@@ -73,9 +74,9 @@ counted_thread_below_length next n u e size l = elim (cases_lt u n) [
 
 -- ---- upwards
 
-pub inside_larger_cut : (f : FittedTrace) (run : List Step) (P : Label → Type 0) (c d : Cut) → ((u : ℕ) → c u ≤ d u) → AreInside f run P c
+pub inside_larger_cut_if_inside : (f : FittedTrace) (run : List Step) (P : Label → Type 0) (c d : Cut) → ((u : ℕ) → c u ≤ d u) → AreInside f run P c
     → AreInside f run P d
-inside_larger_cut f run P c d up h t i k emits is = let l = h t i k emits is in let m = up t in omega (arith, l, m)
+inside_larger_cut_if_inside f run P c d up h t i k emits is = let l = h t i k emits is in let m = up t in omega (arith, l, m)
 
 -- what an event of a step in a consistent cut needs is inside
 pub needs_inside_consistent_cut : (f : FittedTrace) (run : List Step) (c : Cut) → Consistent (machine_of f) (start_of f) run c → (t i : ℕ) (k : Label)
@@ -109,11 +110,11 @@ rising_at_start f run is list ps qs next t k cut con there steps own rest size f
       ];
       met = λ u e x l at.
           let less : u < length f.guest.entries = counted_thread_below_length next (length f.guest.entries) u e size l in
-          let inside : e < length (placed_at f.placed u).entries =
+          let inside : e < length (placed_at (placed_of f) u).entries =
           (let a = slice_get_within (recorded_thread f.recorded u).events e x at in let b = list.sizes u less in omega (arith, a, b)) in
-          let i : ℕ = slice_index_or (placed_at f.placed u).entries e 0 in
-          let place : slice_get (placed_at f.placed u).entries e ≡ Some i = slice_get-get_or (placed_at f.placed u).entries e 0 inside in
-          inside_larger_cut f run (NeededBy (label_of x)) (cut_of ps) (cut_of qs) up
+          let i : ℕ = slice_index_or (placed_at (placed_of f) u).entries e 0 in
+          let place : slice_get (placed_at (placed_of f) u).entries e ≡ Some i = slice_get-get_or (placed_at (placed_of f) u).entries e 0 inside in
+          inside_larger_cut_if_inside f run (NeededBy (label_of x)) (cut_of ps) (cut_of qs) up
           (needs_inside_consistent_cut f run (cut_of ps) con u i (label_of x) (list.event u e i x less at place) (first u less e i l place));
     }
 
@@ -132,14 +133,14 @@ rising_step f run list ps qs qs' next next' t k u x r there below at raised own 
           let low = r.least c cut con over reach in
           raised.least c low (needs_inside_consistent_cut f run c con u below.0 (label_of x) emits (let a = below.2 in let b = low u in omega (arith, a, b)));
       met = λ w e y l says. elim (cases_eq w u) [
-        | inr ne ↦ inside_larger_cut f run (NeededBy (label_of y)) (cut_of qs) (cut_of qs') raised.above
+        | inr ne ↦ inside_larger_cut_if_inside f run (NeededBy (label_of y)) (cut_of qs) (cut_of qs') raised.above
             (r.met w e y (omega (arith, l, rest w ne)) says)
         | inl same ↦
             let l' : e < cut_of next u + 1 = subst (λ z. e < z) (ap (cut_of next') same ∙ own) l in
             let says' : slice_get (recorded_thread f.recorded u).events e ≡ Some y =
             subst (λ z. slice_get (recorded_thread f.recorded z).events e ≡ Some y) same says in
             elim (cases_lt e (cut_of next u)) [
-              | inl less ↦ inside_larger_cut f run (NeededBy (label_of y)) (cut_of qs) (cut_of qs') raised.above (r.met u e y less says')
+              | inl less ↦ inside_larger_cut_if_inside f run (NeededBy (label_of y)) (cut_of qs) (cut_of qs') raised.above (r.met u e y less says')
               | inr past ↦ subst (λ z. AreInside f run (NeededBy (label_of z)) (cut_of qs'))
                   (elements_at_equal_places_equal (recorded_thread f.recorded u).events (cut_of next u) e x y
                   (let d : cut_of next u ≡ e = omega (arith, l', past) in d) at says') raised.inside
@@ -149,19 +150,19 @@ rising_step f run list ps qs qs' next next' t k u x r there below at raised own 
 
 -- an event in the cut is among the first of its thread, where none is below
 event_in_cut_is_counted : (f : FittedTrace) (run : List Step) → IsListed f run → (qs next : List ℕ) (t e i : ℕ) → t < length f.guest.entries
-    → NoneBelow f qs next t → slice_get (placed_at f.placed t).entries e ≡ Some i → i < cut_of qs t → e < cut_of next t
+    → NoneBelow f qs next t → slice_get (placed_at (placed_of f) t).entries e ≡ Some i → i < cut_of qs t → e < cut_of next t
 event_in_cut_is_counted f run list qs next t e i there none place l = elim (cases_lt e (cut_of next t)) [
   | inl less ↦ less
   | inr past ↦
-      let inside : cut_of next t < length (placed_at f.placed t).entries =
-      (let a = slice_get_within (placed_at f.placed t).entries e i place in omega (arith, a, past)) in
-      let j : ℕ = slice_index_or (placed_at f.placed t).entries (cut_of next t) 0 in
-      let first : slice_get (placed_at f.placed t).entries (cut_of next t) ≡ Some j =
-      slice_get-get_or (placed_at f.placed t).entries (cut_of next t) 0 inside in
+      let inside : cut_of next t < length (placed_at (placed_of f) t).entries =
+      (let a = slice_get_within (placed_at (placed_of f) t).entries e i place in omega (arith, a, past)) in
+      let j : ℕ = slice_index_or (placed_at (placed_of f) t).entries (cut_of next t) 0 in
+      let first : slice_get (placed_at (placed_of f) t).entries (cut_of next t) ≡ Some j =
+      slice_get-get_or (placed_at (placed_of f) t).entries (cut_of next t) 0 inside in
       let far = none j first in
       elim (cases_lt (cut_of next t) e) [
         | inl before ↦ let up = list.rise t (cut_of next t) e j i there before first place in absurd (omega (arith, far, up, l))
-        | inr same ↦ let one : j ≡ i = elements_at_equal_places_equal (placed_at f.placed t).entries (cut_of next t) e j i
+        | inr same ↦ let one : j ≡ i = elements_at_equal_places_equal (placed_at (placed_of f) t).entries (cut_of next t) e j i
             (let d : cut_of next t ≡ e = omega (arith, same, past) in d) first place in absurd (omega (arith, one, far, l))
       ]
 ]
@@ -183,9 +184,9 @@ rising_end_is_least f h run is list ps qs next t k r none = record {
 
 -- ---- downwards
 
-pub outside_smaller_cut : (f : FittedTrace) (run : List Step) (P : Label → Type 0) (c d : Cut) → ((u : ℕ) → d u ≤ c u) → AreOutside f run P c
+pub outside_smaller_cut_if_outside : (f : FittedTrace) (run : List Step) (P : Label → Type 0) (c d : Cut) → ((u : ℕ) → d u ≤ c u) → AreOutside f run P c
     → AreOutside f run P d
-outside_smaller_cut f run P c d down h t i k emits is = let l = h t i k emits is in let m = down t in omega (arith, l, m)
+outside_smaller_cut_if_outside f run P c d down h t i k emits is = let l = h t i k emits is in let m = down t in omega (arith, l, m)
 
 -- what needs a leave that isn't in a consistent cut is outside
 pub needing_steps_outside_consistent_cut : (f : FittedTrace) (run : List Step) (c : Cut) → Consistent (machine_of f) (start_of f) run c → (t i : ℕ) (b : Label)
@@ -199,7 +200,7 @@ pub falling_at_start : (f : FittedTrace) (run : List Step) → IsListed f run �
     → Consistent (machine_of f) (start_of f) run (cut_of ps) → t < length f.guest.entries
     → cut_of qs t ≡ min (cut_of ps t) k → ((u : ℕ) → u ≢ t → cut_of qs u ≡ cut_of ps u)
     → ((u : ℕ) → u < length f.guest.entries → AreRest f ps u (cut_of next u))
-    → ((u e : ℕ) (l : Leave) → slice_get (placed_at f.placed u).leaves e ≡ Some l → u < length f.guest.entries)
+    → ((u e : ℕ) (l : Leave) → slice_get (placed_at (placed_of f) u).leaves e ≡ Some l → u < length f.guest.entries)
     → Falling f ps t k qs next run
 falling_at_start f run list ps qs next t k con there own rest each known =
     let down : (u : ℕ) → cut_of qs u ≤ cut_of ps u =
@@ -217,14 +218,14 @@ falling_at_start f run list ps qs next t k con there own rest each known =
       ];
       unmet = λ u e l past at.
           let less : u < length f.guest.entries = known u e l at in
-          outside_smaller_cut f run (Needing l) (cut_of ps) (cut_of qs) down
+          outside_smaller_cut_if_outside f run (Needing l) (cut_of ps) (cut_of qs) down
           (needing_steps_outside_consistent_cut f run (cut_of ps) con u l.position (Out l.object l.access l.version) (list.left u e l less at)
           ((each u less).outside e l past at));
     }
 
 pub falling_step : (f : FittedTrace) (run : List Step) → IsListed f run → (ps qs qs' next next' : List ℕ) (t k u : ℕ) (x : Leave) (last : ℕ)
     → Falling f ps t k qs next run → u < length f.guest.entries → cut_of next u ≡ last + 1
-    → slice_get (placed_at f.placed u).leaves last ≡ Some x → cut_of qs u ≤ x.position → LoweredFor f run (Needing x) qs qs'
+    → slice_get (placed_at (placed_of f) u).leaves last ≡ Some x → cut_of qs u ≤ x.position → LoweredFor f run (Needing x) qs qs'
     → cut_of next' u ≡ last → ((w : ℕ) → w ≢ u → cut_of next' w ≡ cut_of next w)
     → Falling f ps t k qs' next' run
 falling_step f run list ps qs qs' next next' t k u x last r there was at far lowered own rest = record {
@@ -235,16 +236,16 @@ falling_step f run list ps qs qs' next next' t k u x last r there was at far low
       lowered.greatest c high (needing_steps_outside_consistent_cut f run c con u x.position (Out x.object x.access x.version) (list.left u last x there at)
       (let a = high u in omega (arith, a, far)));
   unmet = λ w e l past says. elim (cases_eq w u) [
-    | inr ne ↦ outside_smaller_cut f run (Needing l) (cut_of qs) (cut_of qs') lowered.below (r.unmet w e l (omega (arith, past, rest w ne)) says)
+    | inr ne ↦ outside_smaller_cut_if_outside f run (Needing l) (cut_of qs) (cut_of qs') lowered.below (r.unmet w e l (omega (arith, past, rest w ne)) says)
     | inl same ↦
         let past' : last ≤ e = subst (λ z. z ≤ e) (ap (cut_of next') same ∙ own) past in
-        let says' : slice_get (placed_at f.placed u).leaves e ≡ Some l =
-        subst (λ z. slice_get (placed_at f.placed z).leaves e ≡ Some l) same says in
+        let says' : slice_get (placed_at (placed_of f) u).leaves e ≡ Some l =
+        subst (λ z. slice_get (placed_at (placed_of f) z).leaves e ≡ Some l) same says in
         elim (cases_lt last e) [
-          | inl event_in_cut_is_counted ↦ outside_smaller_cut f run (Needing l) (cut_of qs) (cut_of qs') lowered.below
+          | inl event_in_cut_is_counted ↦ outside_smaller_cut_if_outside f run (Needing l) (cut_of qs) (cut_of qs') lowered.below
               (r.unmet u e l (omega (arith, was, event_in_cut_is_counted)) says')
           | inr equal ↦ subst (λ z. AreOutside f run (Needing z) (cut_of qs'))
-              (elements_at_equal_places_equal (placed_at f.placed u).leaves last e x l (let d : last ≡ e = omega (arith, equal, past') in d) at says')
+              (elements_at_equal_places_equal (placed_at (placed_of f) u).leaves last e x l (let d : last ≡ e = omega (arith, equal, past') in d) at says')
               lowered.outside
         ]
   ];

@@ -6,7 +6,7 @@ use Rattle.std.proofs.lemmas.Option.{slice_get_read, slice_get_within, get_or_fr
 use Rattle.ir_runs.specs.Machine.{Label, In, Out}
 use Rattle.ir_runs.specs.declared.access.Access.{Access}
 use Rattle.ir_runs.specs.Run.{Step, count, Emits, Cut}
-use Rattle.ir_trace.specs.Recorded.{IsRecorded}
+use Rattle.ir_trace.specs.Bounds.{IsRecorded}
 use Rattle.ir_fit.specs.Fit.{FittedTrace, HasRun, IsRunOf}
 use Rattle.ir_fit.specs.Within.{IsFitted}
 use Rattle.ir_coherence.proofs.CallerLemmas.{recorded_thread_at_number_is_recorded}
@@ -28,18 +28,18 @@ contains_element_at_place ps i p e = (i, slice_get_within ps i p e, get_or_from_
 
 -- ---- the leaves and the entries of an object at a version
 
-pub places_of_leaves : (f : FittedTrace) → HasRun f → (o : ℕ) (a : Access) (v : ℕ) (ps : List Place) → OnlyLeaves f o a v ps
+pub places_are_of_leaves_if_only_and_all : (f : FittedTrace) → HasRun f → (o : ℕ) (a : Access) (v : ℕ) (ps : List Place) → OnlyLeaves f o a v ps
     → AllLeaves f o a v ps → (run : List Step) → IsRunOf f.guest f.recorded run → ArePlacesOf f run (λ k. k ≡ Out o a v) ps
 unfolding has_run_from_any_run
-places_of_leaves f h o a v ps only all run is = record {
+places_are_of_leaves_if_only_and_all f h o a v ps only all run is = record {
   only = λ p c. (Out o a v, refl, (only (has_run_from_any_run f h run is) p c).1);
   all = λ t i k emits e. (v, all (has_run_from_any_run f h run is) t i (subst (Emits (machine_of f) (start_of f) run t i) e emits));
 }
 
-pub places_of_entries : (f : FittedTrace) → HasRun f → (o : ℕ) (a : Access) (v : ℕ) (ps : List Place) → OnlyEntries f o a v ps
+pub places_are_of_entries_if_only_and_all : (f : FittedTrace) → HasRun f → (o : ℕ) (a : Access) (v : ℕ) (ps : List Place) → OnlyEntries f o a v ps
     → AllEntries f o a v ps → (run : List Step) → IsRunOf f.guest f.recorded run → ArePlacesOf f run (λ k. (l : ℕ) × (k ≡ In o a v l)) ps
 unfolding has_run_from_any_run
-places_of_entries f h o a v ps only all run is = record {
+places_are_of_entries_if_only_and_all f h o a v ps only all run is = record {
   only = λ p c. let e = (only (has_run_from_any_run f h run is) p c).1 in (In o a v e.0, (e.0, refl), e.1);
   all = λ t i k emits e. (v, all (has_run_from_any_run f h run is) t i e.0 (subst (Emits (machine_of f) (start_of f) run t i) e.1 emits));
 }
@@ -162,31 +162,31 @@ pub leave_places_are_placed : (f : FittedTrace) → IsFitted f → (o : ℕ) (a 
     → AllLeaves f o a v ps → (n : ℕ) → n ≡ length f.guest.entries → ArePlaced n ps
 leave_places_are_placed f k o a v ps only all n size =
     subst (λ z. ArePlaced z ps) (sym size) (places_of_steps_are_placed f k.run k.run.run k.run.whole k.within (λ b. b ≡ Out o a v) ps
-    (places_of_leaves f k.run o a v ps only all k.run.run k.run.whole))
+    (places_are_of_leaves_if_only_and_all f k.run o a v ps only all k.run.run k.run.whole))
 
 pub entry_places_are_placed : (f : FittedTrace) → IsFitted f → (o : ℕ) (a : Access) (v : ℕ) (ps : List Place) → OnlyEntries f o a v ps
     → AllEntries f o a v ps → (n : ℕ) → n ≡ length f.guest.entries → ArePlaced n ps
 entry_places_are_placed f k o a v ps only all n size =
     subst (λ z. ArePlaced z ps) (sym size) (places_of_steps_are_placed f k.run k.run.run k.run.whole k.within (λ b. (l : ℕ) × (b ≡ In o a v l)) ps
-    (places_of_entries f k.run o a v ps only all k.run.run k.run.whole))
+    (places_are_of_entries_if_only_and_all f k.run o a v ps only all k.run.run k.run.whole))
 
-pub leaves_inside_by_places : (f : FittedTrace) → IsFitted f → (o : ℕ) (a : Access) (v : ℕ) (ps : List Place) → OnlyLeaves f o a v ps
+pub places_inside_iff_leaves_inside : (f : FittedTrace) → IsFitted f → (o : ℕ) (a : Access) (v : ℕ) (ps : List Place) → OnlyLeaves f o a v ps
     → AllLeaves f o a v ps → (xs : List ℕ)
     → EachPlace ps (length ps) (λ p. p.position < cut_of xs p.thread) ↔ EachRun f (λ run. AreInside f run (λ b. b ≡ Out o a v) (cut_of xs))
-leaves_inside_by_places f k o a v ps only all xs = (
-  (λ each run is. steps_inside_if_places_inside f run (λ b. b ≡ Out o a v) ps (places_of_leaves f k.run o a v ps only all run is) (cut_of xs) each),
-  (λ inside. places_inside_if_steps_inside f k.run.run (λ b. b ≡ Out o a v) ps (places_of_leaves f k.run o a v ps only all k.run.run k.run.whole) (cut_of xs)
+places_inside_iff_leaves_inside f k o a v ps only all xs = (
+  (λ each run is. steps_inside_if_places_inside f run (λ b. b ≡ Out o a v) ps (places_are_of_leaves_if_only_and_all f k.run o a v ps only all run is) (cut_of xs) each),
+  (λ inside. places_inside_if_steps_inside f k.run.run (λ b. b ≡ Out o a v) ps (places_are_of_leaves_if_only_and_all f k.run o a v ps only all k.run.run k.run.whole) (cut_of xs)
       (inside k.run.run k.run.whole)),
 )
 
-pub raised_for_leaves : (f : FittedTrace) → IsFitted f → (o : ℕ) (a : Access) (v : ℕ) (ps : List Place) → OnlyLeaves f o a v ps
+pub raised_for_leaves_if_places_raised : (f : FittedTrace) → IsFitted f → (o : ℕ) (a : Access) (v : ℕ) (ps : List Place) → OnlyLeaves f o a v ps
     → AllLeaves f o a v ps → (old new : List ℕ) → IsRaised old new ps (length ps)
     → EachRun f (λ run. RaisedFor f run (λ b. b ≡ Out o a v) old new)
-raised_for_leaves f k o a v ps only all old new r run is =
-    raised_places_raise_for_steps f run (λ b. b ≡ Out o a v) ps (places_of_leaves f k.run o a v ps only all run is) old new r
+raised_for_leaves_if_places_raised f k o a v ps only all old new r run is =
+    raised_places_raise_for_steps f run (λ b. b ≡ Out o a v) ps (places_are_of_leaves_if_only_and_all f k.run o a v ps only all run is) old new r
 
-pub lowered_for_entries : (f : FittedTrace) → IsFitted f → (o : ℕ) (a : Access) (v : ℕ) (ps : List Place) → OnlyEntries f o a v ps
+pub lowered_for_entries_if_places_lowered : (f : FittedTrace) → IsFitted f → (o : ℕ) (a : Access) (v : ℕ) (ps : List Place) → OnlyEntries f o a v ps
     → AllEntries f o a v ps → (old new : List ℕ) → IsLowered old new ps (length ps)
     → EachRun f (λ run. LoweredFor f run (λ b. (l : ℕ) × (b ≡ In o a v l)) old new)
-lowered_for_entries f k o a v ps only all old new r run is =
-    lowered_places_lower_for_steps f run (λ b. (l : ℕ) × (b ≡ In o a v l)) ps (places_of_entries f k.run o a v ps only all run is) old new r
+lowered_for_entries_if_places_lowered f k o a v ps only all old new r run is =
+    lowered_places_lower_for_steps f run (λ b. (l : ℕ) × (b ≡ In o a v l)) ps (places_are_of_entries_if_only_and_all f k.run o a v ps only all run is) old new r

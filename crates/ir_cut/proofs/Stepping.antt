@@ -7,12 +7,14 @@ use Rattle.std.proofs.lemmas.Grind.{get_or_default_zero}
 use Rattle.std.proofs.lemmas.Option.{slice_get_within, slice_get-get_or, get_or_from_slice_get}
 use Rattle.ir_log.specs.Logging.{label_of}
 use Rattle.ir_log.specs.declared.event.Event.{Event}
-use Rattle.ir_trace.specs.Recorded.{Recorded, RecordedThread, recorded_thread, IsRecorded}
+use Rattle.ir_trace.specs.Recorded.{Recorded, RecordedThread, recorded_thread}
+use Rattle.ir_trace.specs.Bounds.{IsRecorded}
 use Rattle.ir_trace.specs.Absent.{absent}
 use Rattle.std.specs.List.Sorted.{IsNonDecreasingBy, IsPartitionPoint}
 use Rattle.std.proofs.lemmas.List.{get_or_default}
 use Rattle.ir_runs.specs.Verdicts.{sum_below}
-use Rattle.ir_fit.specs.Fit.{FittedTrace, HasRun, placed_at}
+use Rattle.ir_fit.specs.Fit.{FittedTrace, HasRun}
+use Rattle.ir_fit.specs.Placed.{placed_at, placed_of}
 use Rattle.ir_fit.specs.Within.{IsFitted}
 use Rattle.ir_fit.specs.declared.leave.Leave.{Leave}
 use Rattle.ir_runs.proofs.CallerLemmas.{sum_below_less_if_one_less}
@@ -24,16 +26,16 @@ use Rattle.ir_cut.proofs.Searched.{rising_step, falling_step, elements_at_equal_
 -- ---- sums
 
 -- one of the numbers is less, and the others are the same
-sum_below_if_one_less : (n : ℕ) (f g : ℕ → ℕ) (u : ℕ) → u < n → f u < g u → ((t : ℕ) → t ≢ u → f t ≡ g t) → sum_below n f < sum_below n g
-sum_below_if_one_less n f g u l less rest = sum_below_less_if_one_less n u f g l less (λ t. elim (cases_eq t u) [
+sum_below_is_less_if_one_is_less : (n : ℕ) (f g : ℕ → ℕ) (u : ℕ) → u < n → f u < g u → ((t : ℕ) → t ≢ u → f t ≡ g t) → sum_below n f < sum_below n g
+sum_below_is_less_if_one_is_less n f g u l less rest = sum_below_less_if_one_less n u f g l less (λ t. elim (cases_eq t u) [
   | inl same ↦ subst (λ z. f z ≤ g z) (sym same) (omega (arith, less))
   | inr ne ↦ let e = rest t ne in omega (arith, e)
 ])
 
 -- ---- a number of each thread that is changed for one
 
-pub cut_position_is_read_number : (xs : List ℕ) (t v : ℕ) → t < length xs → v ≡ slice_index_or xs t v → cut_of xs t ≡ v
-cut_position_is_read_number xs t v l e = sym (e ∙ get_or_default_zero xs t v l)
+pub cut_position_is_indexed_number : (xs : List ℕ) (t v : ℕ) → t < length xs → v ≡ slice_index_or xs t v → cut_of xs t ≡ v
+cut_position_is_indexed_number xs t v l e = sym (e ∙ get_or_default_zero xs t v l)
 
 pub cut_position_after_set : (xs : List ℕ) (t v : ℕ) → t < length xs → cut_of (set xs t v) t ≡ v
 cut_position_after_set xs t v l = get_or-set_same xs t v 0 l
@@ -43,20 +45,20 @@ other_cut_position_after_set xs t v u ne = get_or-set_other xs t u v 0 ne
 
 -- ---- an event is taken
 
-pub next_entry_within_entries : (f : FittedTrace) (qs next : List ℕ) (t i : ℕ) → HasBelow f qs next t → cut_of next t ≡ i
-    → i < length (placed_at f.placed t).entries
-next_entry_within_entries f qs next t i below same = subst (λ z. z < length (placed_at f.placed t).entries) same
-    (slice_get_within (placed_at f.placed t).entries (cut_of next t) below.0 below.1)
+pub next_event_position_is_within_positions : (f : FittedTrace) (qs next : List ℕ) (t i : ℕ) → HasBelow f qs next t → cut_of next t ≡ i
+    → i < length (placed_at (placed_of f) t).entries
+next_event_position_is_within_positions f qs next t i below same = subst (λ z. z < length (placed_at (placed_of f) t).entries) same
+    (slice_get_within (placed_at (placed_of f) t).entries (cut_of next t) below.0 below.1)
 
 pub rising_after_event_taken : (f : FittedTrace) → IsFitted f → (qs qs' next : List ℕ) (t i : ℕ) (es : List Event) (d : Event)
     → length next ≡ length f.guest.entries → t < length f.guest.entries → HasBelow f qs next t → i ≡ slice_index_or next t i
-    → es ≡ (recorded_thread f.recorded t).events → length es ≡ length (placed_at f.placed t).entries
+    → es ≡ (recorded_thread f.recorded t).events → length es ≡ length (placed_at (placed_of f) t).entries
     → EachRun f (λ run. RaisedFor f run (NeededBy (label_of (slice_index_or es i d))) qs qs')
     → (ps : List ℕ) (u k : ℕ) → EachRun f (Rising f ps u k qs next) → EachRun f (Rising f ps u k qs' (set next t (i + 1)))
 rising_after_event_taken f fit qs qs' next t i es d size there below read log sizes raised ps u k rising run is =
     let inside : t < length next = omega (arith, there, size) in
-    let at : cut_of next t ≡ i = cut_position_is_read_number next t i inside read in
-    let l : i < length es = (let a = next_entry_within_entries f qs next t i below at in omega (arith, a, sizes)) in
+    let at : cut_of next t ≡ i = cut_position_is_indexed_number next t i inside read in
+    let l : i < length es = (let a = next_event_position_is_within_positions f qs next t i below at in omega (arith, a, sizes)) in
     let event : slice_get (recorded_thread f.recorded t).events (cut_of next t) ≡ Some (slice_index_or es i d) =
     ap (slice_get (recorded_thread f.recorded t).events) at ∙ ap (λ z. slice_get z i) (sym log) ∙ slice_get-get_or es i d l in
     rising_step f run (run_of_trace_is_listed f fit.run run is) ps qs qs' next (set next t (i + 1)) u k t (slice_index_or es i d) (rising run is) there
@@ -67,35 +69,35 @@ pub fewer_events_left_after_event : (f : FittedTrace) (qs next : List ℕ) (t i 
     → HasBelow f qs next t → i ≡ slice_index_or next t i → events_left f (set next t (i + 1)) < events_left f next
 fewer_events_left_after_event f qs next t i size there below read =
     let inside : t < length next = omega (arith, there, size) in
-    let at : cut_of next t ≡ i = cut_position_is_read_number next t i inside read in
-    let l : i < length (placed_at f.placed t).entries = next_entry_within_entries f qs next t i below at in
-    sum_below_if_one_less (length f.guest.entries) _ _ t there (let own = cut_position_after_set next t (i + 1) inside in omega (arith, own, at, l))
-    (λ u ne. ap (λ z. length (placed_at f.placed u).entries - z) (other_cut_position_after_set next t (i + 1) u ne))
+    let at : cut_of next t ≡ i = cut_position_is_indexed_number next t i inside read in
+    let l : i < length (placed_at (placed_of f) t).entries = next_event_position_is_within_positions f qs next t i below at in
+    sum_below_is_less_if_one_is_less (length f.guest.entries) _ _ t there (let own = cut_position_after_set next t (i + 1) inside in omega (arith, own, at, l))
+    (λ u ne. ap (λ z. length (placed_at (placed_of f) u).entries - z) (other_cut_position_after_set next t (i + 1) u ne))
 
 -- ---- a leave is taken
 
 -- the last of the leaves counted by next
-last_leave_place_by_count : (f : FittedTrace) (qs next : List ℕ) (t i : ℕ) → AreLeaves f next → t < length f.guest.entries → HasAbove f qs next t
+leave_count_is_positive_if_has_above : (f : FittedTrace) (qs next : List ℕ) (t i : ℕ) → AreLeaves f next → t < length f.guest.entries → HasAbove f qs next t
     → i ≡ slice_index_or next t i → (cut_of next t ≡ i - 1 + 1) × (t < length next)
-last_leave_place_by_count f qs next t i are there above read =
+leave_count_is_positive_if_has_above f qs next t i are there above read =
     let inside : t < length next = (let e = are.each in omega (arith, there, e)) in
-    let at : cut_of next t ≡ i = cut_position_is_read_number next t i inside read in
+    let at : cut_of next t ≡ i = cut_position_is_indexed_number next t i inside read in
     let some = above.2 in
     ((let e : cut_of next t ≡ i - 1 + 1 = omega (arith, at, some) in e), inside)
 
 pub falling_after_leave_taken : (f : FittedTrace) → IsFitted f → (qs qs' next : List ℕ) (t i : ℕ) (ls : List Leave) (d : Leave) → AreLeaves f next
     → t < length f.guest.entries → HasAbove f qs next t → i ≡ slice_index_or next t i
-    → ls ≡ (placed_at f.placed t).leaves → EachRun f (λ run. LoweredFor f run (Needing (slice_index_or ls (i - 1) d)) qs qs')
+    → ls ≡ (placed_at (placed_of f) t).leaves → EachRun f (λ run. LoweredFor f run (Needing (slice_index_or ls (i - 1) d)) qs qs')
     → (ps : List ℕ) (u k : ℕ) → EachRun f (Falling f ps u k qs next) → EachRun f (Falling f ps u k qs' (set next t (i - 1)))
 falling_after_leave_taken f fit qs qs' next t i ls d are there above read list lowered ps u k falling run is =
-    let last = last_leave_place_by_count f qs next t i are there above read in
-    let within : i - 1 < length ls = (let a = are.some t there in let b : length ls ≡ length (placed_at f.placed t).leaves =
+    let last = leave_count_is_positive_if_has_above f qs next t i are there above read in
+    let within : i - 1 < length ls = (let a = are.some t there in let b : length ls ≡ length (placed_at (placed_of f) t).leaves =
     ap length list in omega (arith, last.0, a, b)) in
     let x : Leave = slice_index_or ls (i - 1) d in
-    let is_leave : slice_get (placed_at f.placed t).leaves (i - 1) ≡ Some x = ap (λ z. slice_get z (i - 1)) (sym list)
+    let is_leave : slice_get (placed_at (placed_of f) t).leaves (i - 1) ≡ Some x = ap (λ z. slice_get z (i - 1)) (sym list)
     ∙ slice_get-get_or ls (i - 1) d within in
     let index : above.0 ≡ i - 1 = (let a = above.2 in let b = last.0 in omega (arith, a, b)) in
-    let same : above.1 ≡ x = elements_at_equal_places_equal (placed_at f.placed t).leaves above.0 (i - 1) above.1 x index above.3 is_leave in
+    let same : above.1 ≡ x = elements_at_equal_places_equal (placed_at (placed_of f) t).leaves above.0 (i - 1) above.1 x index above.3 is_leave in
     falling_step f run (run_of_trace_is_listed f fit.run run is) ps qs qs' next (set next t (i - 1)) u k t x (i - 1) (falling run is) there last.0 is_leave
     (subst (λ z. cut_of qs t ≤ z.position) same above.4) (lowered run is) (cut_position_after_set next t (i - 1) last.1)
     (other_cut_position_after_set next t (i - 1))
@@ -103,20 +105,20 @@ falling_after_leave_taken f fit qs qs' next t i ls d are there above read list l
 pub fewer_leaves_left_after_leave : (f : FittedTrace) (qs next : List ℕ) (t i : ℕ) → AreLeaves f next → t < length f.guest.entries → HasAbove f qs next t
     → i ≡ slice_index_or next t i → leaves_left (set next t (i - 1)) < leaves_left next
 fewer_leaves_left_after_leave f qs next t i are there above read =
-    let last = last_leave_place_by_count f qs next t i are there above read in
+    let last = leave_count_is_positive_if_has_above f qs next t i are there above read in
     subst (λ n. sum_below n (cut_of (set next t (i - 1))) < leaves_left next) (sym (length-set next t (i - 1)))
-    (sum_below_if_one_less (length next) (cut_of (set next t (i - 1))) (cut_of next) t last.1
+    (sum_below_is_less_if_one_is_less (length next) (cut_of (set next t (i - 1))) (cut_of next) t last.1
     (let own = cut_position_after_set next t (i - 1) last.1 in let at = last.0 in omega (arith, own, at))
     (λ u ne. other_cut_position_after_set next t (i - 1) u ne))
 
 pub leaves_counted_after_leave_taken : (f : FittedTrace) (qs next : List ℕ) (t i : ℕ) → AreLeaves f next → t < length f.guest.entries → HasAbove f qs next t
     → i ≡ slice_index_or next t i → AreLeaves f (set next t (i - 1))
 leaves_counted_after_leave_taken f qs next t i are there above read =
-    let last = last_leave_place_by_count f qs next t i are there above read in
+    let last = leave_count_is_positive_if_has_above f qs next t i are there above read in
     record {
       each = length-set next t (i - 1) ∙ are.each;
       some = λ u l. elim (cases_eq u t) [
-        | inl same ↦ subst (λ z. cut_of (set next t (i - 1)) z ≤ length (placed_at f.placed z).leaves) (sym same)
+        | inl same ↦ subst (λ z. cut_of (set next t (i - 1)) z ≤ length (placed_at (placed_of f) z).leaves) (sym same)
             (let own = cut_position_after_set next t (i - 1) last.1 in let a = are.some t there in let at = last.0 in omega (arith, own, a, at))
         | inr ne ↦ let a = are.some u l in let b = other_cut_position_after_set next t (i - 1) u ne in omega (arith, a, b)
       ];
@@ -124,21 +126,21 @@ leaves_counted_after_leave_taken f qs next t i are there above read =
 
 -- all leaves counted by next are inside if the last is
 pub none_above_if_last_leave_inside : (f : FittedTrace) → IsFitted f → (qs next : List ℕ) (t last : ℕ) (x : Leave) → t < length f.guest.entries
-    → cut_of next t ≡ last + 1 → slice_get (placed_at f.placed t).leaves last ≡ Some x → x.position < cut_of qs t → NoneAbove f qs next t
+    → cut_of next t ≡ last + 1 → slice_get (placed_at (placed_of f) t).leaves last ≡ Some x → x.position < cut_of qs t → NoneAbove f qs next t
 none_above_if_last_leave_inside f fit qs next t last x there at is_leave below e l less says =
     let list : IsListed f fit.run.run = run_of_trace_is_listed f fit.run fit.run.run fit.run.whole in
     elim (cases_lt e last) [
       | inl before ↦ let up = list.fall t e last l x there before says is_leave in omega (arith, up, below)
       | inr past ↦ subst (λ z. z.position < cut_of qs t)
-          (sym (elements_at_equal_places_equal (placed_at f.placed t).leaves e last l x (let d : e ≡ last = omega (arith, past, less, at) in d) says
+          (sym (elements_at_equal_places_equal (placed_at (placed_of f) t).leaves e last l x (let d : e ≡ last = omega (arith, past, less, at) in d) says
           is_leave)) below
     ]
 
 -- ---- what the code reads of the trace
 
-pub event_count_is_entry_count : (f : FittedTrace) → IsFitted f → (t : ℕ) (es : List Event) → t < length f.guest.entries
-    → es ≡ (recorded_thread f.recorded t).events → length es ≡ length (placed_at f.placed t).entries
-event_count_is_entry_count f fit t es there log = ap length log ∙ sym ((run_of_trace_is_listed f fit.run fit.run.run fit.run.whole).sizes t there)
+pub event_count_is_position_count : (f : FittedTrace) → IsFitted f → (t : ℕ) (es : List Event) → t < length f.guest.entries
+    → es ≡ (recorded_thread f.recorded t).events → length es ≡ length (placed_at (placed_of f) t).entries
+event_count_is_position_count f fit t es there log = ap length log ∙ sym ((run_of_trace_is_listed f fit.run fit.run.run fit.run.whole).sizes t there)
 
 -- there are as many threads in the trace
 pub thread_within_recorded_threads : (f : FittedTrace) → HasRun f → (r : Recorded) (ts : List RecordedThread) (t : ℕ) → r ≡ f.recorded → ts ≡ r.threads
@@ -146,42 +148,42 @@ pub thread_within_recorded_threads : (f : FittedTrace) → HasRun f → (r : Rec
 thread_within_recorded_threads f h r ts t same is l = let a = h.whole.0.threads in let b : length ts ≡ length f.recorded.threads =
     ap length (is ∙ ap (λ z. z.threads) same) in omega (arith, l, a, b)
 
-pub read_events_are_recorded_events : (f : FittedTrace) → HasRun f → (r : Recorded) (ts : List RecordedThread) (t : ℕ) (x : RecordedThread) (es : List Event)
+pub copied_events_are_recorded_events : (f : FittedTrace) → HasRun f → (r : Recorded) (ts : List RecordedThread) (t : ℕ) (x : RecordedThread) (es : List Event)
     → r ≡ f.recorded → ts ≡ r.threads → t < length f.guest.entries → x ≡ slice_index_or ts t x → es ≡ x.events
     → es ≡ (recorded_thread f.recorded t).events
-read_events_are_recorded_events f h r ts t x es same is l read events =
+copied_events_are_recorded_events f h r ts t x es same is l read events =
     events ∙ ap (λ z. z.events) (read ∙ get_or_default ts t x absent (thread_within_recorded_threads f h r ts t same is l)
     ∙ ap (λ z. slice_index_or z t absent) (is ∙ ap (λ z. z.threads) same))
 
 -- ---- positions rise
 
-pub entry_positions_rise : (f : FittedTrace) → IsFitted f → (t : ℕ) (xs : List ℕ) → t < length f.guest.entries → xs ≡ (placed_at f.placed t).entries
+pub event_positions_are_non_decreasing : (f : FittedTrace) → IsFitted f → (t : ℕ) (xs : List ℕ) → t < length f.guest.entries → xs ≡ (placed_at (placed_of f) t).entries
     → IsNonDecreasingBy (λ (i : ℕ). i) xs
-entry_positions_rise f fit t xs there is i j d le l = subst (λ z. (j < length z) → slice_index_or z i d ≤ slice_index_or z j d) (sym is)
+event_positions_are_non_decreasing f fit t xs there is i j d le l = subst (λ z. (j < length z) → slice_index_or z i d ≤ slice_index_or z j d) (sym is)
     (λ inside. elim (cases_lt i j) [
       | inl less ↦
-          let low : i < length (placed_at f.placed t).entries = omega (arith, less, inside) in
-          let up = list.rise t i j (slice_index_or (placed_at f.placed t).entries i d) (slice_index_or (placed_at f.placed t).entries j d) there
-          less (slice_get-get_or (placed_at f.placed t).entries i d low) (slice_get-get_or (placed_at f.placed t).entries j d inside) in
+          let low : i < length (placed_at (placed_of f) t).entries = omega (arith, less, inside) in
+          let up = list.rise t i j (slice_index_or (placed_at (placed_of f) t).entries i d) (slice_index_or (placed_at (placed_of f) t).entries j d) there
+          less (slice_get-get_or (placed_at (placed_of f) t).entries i d low) (slice_get-get_or (placed_at (placed_of f) t).entries j d inside) in
           omega (arith, up)
-      | inr past ↦ subst (λ k. slice_index_or (placed_at f.placed t).entries i d ≤ slice_index_or (placed_at f.placed t).entries k d)
+      | inr past ↦ subst (λ k. slice_index_or (placed_at (placed_of f) t).entries i d ≤ slice_index_or (placed_at (placed_of f) t).entries k d)
           (let e : i ≡ j = omega (arith, le, past) in e) (le_refl _)
     ]) l
   where
     list : IsListed f fit.run.run
     list = run_of_trace_is_listed f fit.run fit.run.run fit.run.whole
 
-pub leave_positions_rise : (f : FittedTrace) → IsFitted f → (t : ℕ) (xs : List Leave) → t < length f.guest.entries
-    → xs ≡ (placed_at f.placed t).leaves → IsNonDecreasingBy (λ (l : Leave). l.position) xs
-leave_positions_rise f fit t xs there is i j d le l = subst (λ z. (j < length z) → (slice_index_or z i d).position ≤ (slice_index_or z j d).position)
+pub leave_positions_are_non_decreasing : (f : FittedTrace) → IsFitted f → (t : ℕ) (xs : List Leave) → t < length f.guest.entries
+    → xs ≡ (placed_at (placed_of f) t).leaves → IsNonDecreasingBy (λ (l : Leave). l.position) xs
+leave_positions_are_non_decreasing f fit t xs there is i j d le l = subst (λ z. (j < length z) → (slice_index_or z i d).position ≤ (slice_index_or z j d).position)
     (sym is) (λ inside. elim (cases_lt i j) [
       | inl less ↦
-          let low : i < length (placed_at f.placed t).leaves = omega (arith, less, inside) in
-          let up = list.fall t i j (slice_index_or (placed_at f.placed t).leaves i d) (slice_index_or (placed_at f.placed t).leaves j d) there
-          less (slice_get-get_or (placed_at f.placed t).leaves i d low) (slice_get-get_or (placed_at f.placed t).leaves j d inside) in
+          let low : i < length (placed_at (placed_of f) t).leaves = omega (arith, less, inside) in
+          let up = list.fall t i j (slice_index_or (placed_at (placed_of f) t).leaves i d) (slice_index_or (placed_at (placed_of f) t).leaves j d) there
+          less (slice_get-get_or (placed_at (placed_of f) t).leaves i d low) (slice_get-get_or (placed_at (placed_of f) t).leaves j d inside) in
           omega (arith, up)
-      | inr past ↦ subst (λ k. (slice_index_or (placed_at f.placed t).leaves i d).position ≤
-          (slice_index_or (placed_at f.placed t).leaves k d).position) (let e : i ≡ j = omega (arith, le, past) in e) (le_refl _)
+      | inr past ↦ subst (λ k. (slice_index_or (placed_at (placed_of f) t).leaves i d).position ≤
+          (slice_index_or (placed_at (placed_of f) t).leaves k d).position) (let e : i ≡ j = omega (arith, le, past) in e) (le_refl _)
     ]) l
   where
     list : IsListed f fit.run.run
@@ -189,9 +191,9 @@ leave_positions_rise f fit t xs there is i j d le l = subst (λ z. (j < length z
 
 -- ---- where a search ends
 
-pub entries_before_partition_below_position : (xs : List ℕ) (n position : ℕ) → IsPartitionPoint (λ (i : ℕ). ltb i position ≡ true) (λ i. ltb i position ≡ false) xs n
+pub positions_before_partition_below_position : (xs : List ℕ) (n position : ℕ) → IsPartitionPoint (λ (i : ℕ). ltb i position ≡ true) (λ i. ltb i position ≡ false) xs n
     → (e i : ℕ) → e < n → slice_get xs e ≡ Some i → i < position
-entries_before_partition_below_position xs n position parted e i l is = ltb-true i position
+positions_before_partition_below_position xs n position parted e i l is = ltb-true i position
     (subst (λ z. ltb z position ≡ true) (get_or_from_slice_get xs e i i is) (parted.0 e i (omega arith) l))
 
 pub leaves_after_partition_not_below_position : (xs : List Leave) (n position : ℕ)
@@ -201,20 +203,20 @@ leaves_after_partition_not_below_position xs n position parted e l past is = ltb
     (subst (λ z. ltb z.position position ≡ false) (get_or_from_slice_get xs e l l is) (parted.1 e l past (slice_get_within xs e l is)))
 
 -- no leave counted by next is outside if the last isn't
-pub none_above_by_read_last_leave : (f : FittedTrace) → IsFitted f → (qs next : List ℕ) (t last : ℕ) (ls : List Leave) (d : Leave) → AreLeaves f next
-    → t < length f.guest.entries → (1 ≤ slice_index_or next t 0) × (last ≡ slice_index_or next t 0 - 1) → ls ≡ (placed_at f.placed t).leaves
+pub none_above_if_indexed_last_leave_inside : (f : FittedTrace) → IsFitted f → (qs next : List ℕ) (t last : ℕ) (ls : List Leave) (d : Leave) → AreLeaves f next
+    → t < length f.guest.entries → (1 ≤ slice_index_or next t 0) × (last ≡ slice_index_or next t 0 - 1) → ls ≡ (placed_at (placed_of f) t).leaves
     → leb (slice_index_or qs t 0) (slice_index_or ls last d).position ≡ false → NoneAbove f qs next t
-none_above_by_read_last_leave f fit qs next t last ls d are there is list out =
+none_above_if_indexed_last_leave_inside f fit qs next t last ls d are there is list out =
     let at : cut_of next t ≡ last + 1 = (let some = is.0 in let less = is.1 in omega (arith, some, less)) in
-    let within : last < length ls = (let a = are.some t there in let b : length ls ≡ length (placed_at f.placed t).leaves =
+    let within : last < length ls = (let a = are.some t there in let b : length ls ≡ length (placed_at (placed_of f) t).leaves =
     ap length list in omega (arith, at, a, b)) in
     none_above_if_last_leave_inside f fit qs next t last (slice_index_or ls last d) there at
     (ap (λ z. slice_get z last) (sym list) ∙ slice_get-get_or ls last d within)
     (leb-false (slice_index_or qs t 0) (slice_index_or ls last d).position out)
 
-pub read_steps_are_recorded_steps : (f : FittedTrace) → HasRun f → (r : Recorded) (ts : List RecordedThread) (t : ℕ) (x : RecordedThread) (n : ℕ)
+pub copied_steps_are_recorded_steps : (f : FittedTrace) → HasRun f → (r : Recorded) (ts : List RecordedThread) (t : ℕ) (x : RecordedThread) (n : ℕ)
     → r ≡ f.recorded → ts ≡ r.threads → t < length f.guest.entries → x ≡ slice_index_or ts t x → n ≡ x.steps
     → n ≡ (recorded_thread f.recorded t).steps
-read_steps_are_recorded_steps f h r ts t x n same is l read steps =
+copied_steps_are_recorded_steps f h r ts t x n same is l read steps =
     steps ∙ ap (λ z. z.steps) (read ∙ get_or_default ts t x absent (thread_within_recorded_threads f h r ts t same is l)
     ∙ ap (λ z. slice_index_or z t absent) (is ∙ ap (λ z. z.threads) same))

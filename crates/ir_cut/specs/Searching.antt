@@ -7,7 +7,8 @@ use Rattle.ir_log.specs.Logging.{label_of}
 use Rattle.ir_log.specs.declared.event.Event.{Event}
 use Rattle.ir_trace.specs.Recorded.{recorded_thread}
 use Rattle.ir_runs.specs.Verdicts.{sum_below}
-use Rattle.ir_fit.specs.Fit.{FittedTrace, placed_at}
+use Rattle.ir_fit.specs.Fit.{FittedTrace}
+use Rattle.ir_fit.specs.Placed.{placed_at, placed_of}
 use Rattle.ir_fit.specs.declared.leave.Leave.{Leave}
 use Rattle.ir_cut.specs.Positions.{machine_of, start_of, cut_of, EachRun}
 
@@ -63,40 +64,40 @@ pub record Falling (f : FittedTrace) (ps : List ℕ) (t k : ℕ) (qs next : List
   pub reaches : cut_of qs t ≤ k
   pub greatest : (c : Cut) → IsCut (machine_of f) (start_of f) run c → Consistent (machine_of f) (start_of f) run c
       → ((u : ℕ) → c u ≤ cut_of ps u) → c t ≤ k → (u : ℕ) → c u ≤ cut_of qs u
-  pub unmet : (u e : ℕ) (l : Leave) → cut_of next u ≤ e → slice_get (placed_at f.placed u).leaves e ≡ Some l
+  pub unmet : (u e : ℕ) (l : Leave) → cut_of next u ≤ e → slice_get (placed_at (placed_of f) u).leaves e ≡ Some l
       → AreOutside f run (Needing l) (cut_of qs)
 
 -- the event of thread u that comes after those counted by next is no step of the cut
 abbrev pub NoneBelow : FittedTrace → List ℕ → List ℕ → ℕ → Type 0
-NoneBelow f qs next u = (i : ℕ) → slice_get (placed_at f.placed u).entries (cut_of next u) ≡ Some i → cut_of qs u ≤ i
+NoneBelow f qs next u = (i : ℕ) → slice_get (placed_at (placed_of f) u).entries (cut_of next u) ≡ Some i → cut_of qs u ≤ i
 
 -- the leaves of thread u counted by next are steps of the cut
 abbrev pub NoneAbove : FittedTrace → List ℕ → List ℕ → ℕ → Type 0
-NoneAbove f qs next u = (e : ℕ) (l : Leave) → e < cut_of next u → slice_get (placed_at f.placed u).leaves e ≡ Some l
+NoneAbove f qs next u = (e : ℕ) (l : Leave) → e < cut_of next u → slice_get (placed_at (placed_of f) u).leaves e ≡ Some l
     → l.position < cut_of qs u
 
 -- its next event is a step of the cut
 abbrev pub HasBelow : FittedTrace → List ℕ → List ℕ → ℕ → Type 0
-HasBelow f qs next u = (i : ℕ) × (slice_get (placed_at f.placed u).entries (cut_of next u) ≡ Some i) × (i < cut_of qs u)
+HasBelow f qs next u = (i : ℕ) × (slice_get (placed_at (placed_of f) u).entries (cut_of next u) ≡ Some i) × (i < cut_of qs u)
 
 -- the last of the leaves of thread u counted by next is no step of the cut
 abbrev pub HasAbove : FittedTrace → List ℕ → List ℕ → ℕ → Type 0
-HasAbove f qs next u = (e : ℕ) × (l : Leave) × (cut_of next u ≡ suc e) × (slice_get (placed_at f.placed u).leaves e ≡ Some l)
+HasAbove f qs next u = (e : ℕ) × (l : Leave) × (cut_of next u ≡ suc e) × (slice_get (placed_at (placed_of f) u).leaves e ≡ Some l)
     × (cut_of qs u ≤ l.position)
 
 -- the first n events of thread u are steps of the cut
 abbrev pub AreFirst : FittedTrace → List ℕ → ℕ → ℕ → Type 0
-AreFirst f ps u n = (e i : ℕ) → e < n → slice_get (placed_at f.placed u).entries e ≡ Some i → i < cut_of ps u
+AreFirst f ps u n = (e i : ℕ) → e < n → slice_get (placed_at (placed_of f) u).entries e ≡ Some i → i < cut_of ps u
 
 -- no leave of thread u after the first n is a step of the cut, and there are at least n
 pub record AreRest (f : FittedTrace) (ps : List ℕ) (u n : ℕ) : Type 0 where
-  pub some : n ≤ length (placed_at f.placed u).leaves
-  pub outside : (e : ℕ) (l : Leave) → n ≤ e → slice_get (placed_at f.placed u).leaves e ≡ Some l → cut_of ps u ≤ l.position
+  pub some : n ≤ length (placed_at (placed_of f) u).leaves
+  pub outside : (e : ℕ) (l : Leave) → n ≤ e → slice_get (placed_at (placed_of f) u).leaves e ≡ Some l → cut_of ps u ≤ l.position
 
 -- each thread has the leaves that next counts
 pub record AreLeaves (f : FittedTrace) (next : List ℕ) : Type 0 where
   pub each : length next ≡ length f.guest.entries
-  pub some : (t : ℕ) → t < length f.guest.entries → cut_of next t ≤ length (placed_at f.placed t).leaves
+  pub some : (t : ℕ) → t < length f.guest.entries → cut_of next t ≤ length (placed_at (placed_of f) t).leaves
 
 -- what the steps of thread t in the cut need is in it
 abbrev pub IsClosed : FittedTrace → List Step → Cut → ℕ → Type 0
@@ -104,7 +105,7 @@ IsClosed f run c t = (i : ℕ) (k : Label) → Emits (machine_of f) (start_of f)
 
 -- how many events of the threads come after those counted by next
 abbrev pub events_left : FittedTrace → List ℕ → ℕ
-events_left f next = sum_below (length f.guest.entries) (λ t. length (placed_at f.placed t).entries - cut_of next t)
+events_left f next = sum_below (length f.guest.entries) (λ t. length (placed_at (placed_of f) t).entries - cut_of next t)
 
 -- how many leaves these are together
 abbrev pub leaves_left : List ℕ → ℕ

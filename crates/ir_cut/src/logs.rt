@@ -2,7 +2,7 @@
 
 ghost use Rattle.std.specs.Prelude.{◌≡◌, ◌<◌, length};
 ghost use Rattle.ir_trace.specs.Recorded.{recorded_thread};
-ghost use Rattle.ir_fit.specs.Fit.{placed_at};
+ghost use Rattle.ir_fit.specs.Placed.{placed_at, placed_of};
 ghost use Rattle.ir_fit.specs.Within.{IsFitted};
 
 use ir_fit::Fitted;
@@ -12,7 +12,7 @@ use ir_log::Event;
 pub fn log_of(fitted: &Fitted, t: usize) -> &[Event]
     requires { t < length fitted.now.guest.entries }
     ensures value { result.now ≡ (recorded_thread fitted.now.recorded t).events }
-    ensures size { length result.now ≡ length (placed_at fitted.now.placed t).entries }
+    ensures size { length result.now ≡ length (placed_at (placed_of fitted.now) t).entries }
     ensures fitted { IsFitted fitted.now }
 {
     fitted.known();

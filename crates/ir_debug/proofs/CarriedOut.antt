@@ -7,7 +7,7 @@ use Rattle.std.specs.List.{slice_index_or}
 use Rattle.ir_thread.specs.State as thread
 use Rattle.ir_flat.specs.Flat.{idle}
 use Rattle.ir_runs.specs.Run as run
-use Rattle.ir_cut.specs.Positions.{cut_of, EachRun, machine_of, start_of}
+use Rattle.ir_cut.specs.Positions.{cut_of, EachRun, machine_of, start_of, threads_of}
 use Rattle.ir_weave.specs.Standing.{Standing, StandsAt, flat_in, IsAt}
 use Rattle.ir_command.specs.declared.command.Command.{Command}
 use Rattle.ir_command.specs.declared.command.Command.TheVariants as command
@@ -18,7 +18,6 @@ use Rattle.ir_command.specs.declared.refusal.Refusal.{Refusal}
 use Rattle.ir_command.specs.declared.refusal.Refusal.TheVariants.{NoSuchThread}
 use Rattle.ir_debug.specs.declared.answer.Answer.{Answer}
 use Rattle.ir_debug.specs.declared.answer.Answer.TheVariants as answer
-use Rattle.ir_timeline.specs.Positions.{threads_of}
 use Rattle.ir_debug.specs.Machine.{Desk, moved_to, spoken, if_some, thread_named, refusal_of, is_at_hand, shown, Answers, AnswersBy, current}
 use Rattle.ir_command.specs.declared.command.Point.{Point}
 use Rattle.ir_text.specs.Texts.{number_line, next_text, machine_text, bytes_from, memory_text, output_text, object_text, log_text}
@@ -116,10 +115,10 @@ unfolding Answers
 refused_command_answers_refusal d next c r a why is says run whole =
     subst (λ o. AnswersBy o run d c (answer_text run next a) next) (sym why) (ap (λ z. answer_text run next z) says, is)
 
-pub carried_command_answers : (d next : Desk) (c asked : Command) (a : Answer) → c ≡ asked → refusal_of d c ≡ None → AnswersInEachRun d asked a next
+pub permitted_command_answers : (d next : Desk) (c asked : Command) (a : Answer) → c ≡ asked → refusal_of d c ≡ None → AnswersInEachRun d asked a next
     → EachRun d.fitted (λ run. Answers run d c (answer_text run next a) next)
 unfolding Answers
-carried_command_answers d next c asked a same none so run whole =
+permitted_command_answers d next c asked a same none so run whole =
     subst (λ o. AnswersBy o run d c (answer_text run next a) next) (sym none)
     (subst (λ z. AnswersBy None run d z (answer_text run next a) next) (sym same) (so run whole))
 
@@ -180,8 +179,8 @@ pub last_answer_of_equal_show : (d : Debugging) (s like : Show) → s ≡ like �
 last_answer_of_equal_show d s like is last = subst (λ x. IsLast d (Shown x)) is last
 
 -- the thread that it names is one of the guest's
-pub named : (d : Debugging) (s like : Show) (t : ℕ) → s ≡ like → thread_named (command.Show like) ≡ Some t → IsLast d (Shown s) → t < threads_of d.desk.fitted
-named d s like t is shows last = named_thread_exists d.desk (command.Show like) t (last_answer_of_equal_show d s like is last).0 shows
+pub thread_named_by_last_show_exists : (d : Debugging) (s like : Show) (t : ℕ) → s ≡ like → thread_named (command.Show like) ≡ Some t → IsLast d (Shown s) → t < threads_of d.desk.fitted
+thread_named_by_last_show_exists d s like t is shows last = named_thread_exists d.desk (command.Show like) t (last_answer_of_equal_show d s like is last).0 shows
 
 pub shown_object_exists : (d : Debugging) (s : Show) (objects : List Cell) (o : ℕ) → s ≡ show.Object o → IsLast d (Shown s)
     → objects ≡ d.state.objects → o < length objects
@@ -193,10 +192,10 @@ shown_object_exists d s objects o is last same =
     omega (arith, below, count, long)
 
 -- an object that is read in its place
-pub text_of_read_object_is_shown : (d : Debugging) (s : Show) (objects : List Cell) (threads : List thread.ThreadState) (x : Cell) (o words : ℕ) → s ≡ show.Object o
+pub text_of_indexed_object_is_shown : (d : Debugging) (s : Show) (objects : List Cell) (threads : List thread.ThreadState) (x : Cell) (o words : ℕ) → s ≡ show.Object o
     → IsLast d (Shown s) → objects ≡ d.state.objects → threads ≡ d.state.threads → words ≡ object_words d.desk.fitted.guest
     → x ≡ slice_index_or objects o x → object_text (length threads) words (object_with x (held_by threads o)) ≡ shown_here d s
-text_of_read_object_is_shown d s objects threads x o words is last same alike many read =
+text_of_indexed_object_is_shown d s objects threads x o words is last same alike many read =
     ap (λ (c : Cell). object_text (length threads) words (object_with c (held_by threads o)))
     (read ∙ get_or_default objects o x empty (shown_object_exists d s objects o is last same))
     ∙ ap (λ (cs : List Cell). object_text (length threads) words (object_with (slice_index_or cs o empty) (held_by threads o))) same
@@ -213,7 +212,7 @@ text_in_hand_is_answer_text d (answer.Continued t hit) last run is = refl
 text_in_hand_is_answer_text d (answer.Set number) last run is = refl
 text_in_hand_is_answer_text d (answer.Cleared number) last run is = refl
 text_in_hand_is_answer_text d answer.Position last run is = refl
-text_in_hand_is_answer_text d (answer.Shown s) last run is = shown_here_is_shown_in_run d s last.2 (λ t named. named_thread_exists d.desk (command.Show s) t last.0 named) run is
+text_in_hand_is_answer_text d (answer.Shown s) last run is = shown_here_is_shown_in_run d s last.2 (λ t names. named_thread_exists d.desk (command.Show s) t last.0 names) run is
 text_in_hand_is_answer_text d (answer.Next line) last run is = refl
 text_in_hand_is_answer_text d (answer.Kept number) last run is = refl
 text_in_hand_is_answer_text d (answer.Dropped number) last run is = refl

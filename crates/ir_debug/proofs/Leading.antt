@@ -4,24 +4,23 @@ use Rattle.std.specs.Prelude.{if◌then◌else◌}
 use Rattle.std.proofs.lemmas.Bool.{le-leb, lt-leb, cases_lt}
 use Rattle.ir_runs.specs.Run.{IsLeast, IsGreatest, Step, trail, end}
 use Rattle.ir_fit.specs.Fit.{FittedTrace, HasRun, IsRunOf}
-use Rattle.ir_cut.specs.Positions.{machine_of, start_of, cut_of, EachRun}
+use Rattle.ir_cut.specs.Positions.{machine_of, start_of, cut_of, EachRun, last_of, threads_of}
 use Rattle.ir_cut.specs.Searching.{IsLeastCut, IsGreatestCut}
 use Rattle.ir_command.specs.declared.command.Direction.{Direction}
 use Rattle.ir_command.specs.declared.command.Direction.TheVariants.{Forwards, Backwards}
 use Rattle.ir_command.specs.declared.command.Move.{Move}
 use Rattle.ir_command.specs.declared.command.Move.TheVariants as move
-use Rattle.ir_timeline.specs.Positions.{last_of, threads_of, Finds}
+use Rattle.ir_hits.specs.Hits.{Finds, Numbered, HitBy, thread_at}
 use Rattle.ir_debug.specs.Machine.{Leads, StopsAt, Desk, stop_of}
 use Rattle.ir_debug.specs.Debugging.{ToPosition, ToLeast, ToGreatest}
 use Rattle.ir_mach.specs.Execution.{memory_word}
 use Rattle.ir_thread.specs.State as thread
 use Rattle.ir_runs.specs.declared.access.Access.TheVariants.{Writing}
 use Rattle.ir_runs.specs.Machine.{Out}
-use Rattle.ir_fit.proofs.CallerLemmas.{get_or_of_at}
+use Rattle.ir_fit.proofs.CallerLemmas.{get_or_is_item_if_at_index}
 use Rattle.ir_weave.proofs.CallerLemmas.{thread_in_past_length_is_last}
 use Rattle.ir_command.specs.declared.command.Point.{Point}
 use Rattle.ir_command.specs.declared.command.Point.TheVariants.{Break, Watch, WatchObject}
-use Rattle.ir_hits.specs.Hits.{Numbered, HitBy, thread_at}
 use Rattle.ir_hits.specs.Seeing.{steps_of}
 use Rattle.ir_command.specs.declared.hit.Hit.{Hit}
 
@@ -113,7 +112,7 @@ hit_position_at_most_steps f run t k (Watch u address) (same, (j, is, changes)) 
   | inr past ↦ absurd (changes (ap (λ (x : thread.ThreadState). memory_word x.core.memory address) (thread_same_after_last_step f run t j past)))
 ]
 hit_position_at_most_steps f run t k (WatchObject object) (j, is, (version, emitted)) =
-    let within = (get_or_of_at (trail (machine_of f) (start_of f) run t) j (emitted.0, Out object Writing version) emitted.1).0 in
+    let within = (get_or_is_item_if_at_index (trail (machine_of f) (start_of f) run t) j (emitted.0, Out object Writing version) emitted.1).0 in
     omega (arith, is, within)
 
 stop_in_run_at_most_last : (f : FittedTrace) (run : List Step) (d : Desk) (t : ℕ) (direction : Direction) (hit : Option Hit) → d.fitted ≡ f

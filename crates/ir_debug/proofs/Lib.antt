@@ -3,6 +3,7 @@ mod Replying
 mod Desks
 mod Leading
 mod LongLines
+mod ReadThrough
 mod Chosen
 mod KeptCuts
 mod CarriedOut

@@ -11,23 +11,23 @@ use Rattle.ir_command.specs.declared.refusal.Refusal.{Refusal}
 use Rattle.ir_command.specs.declared.refusal.Refusal.TheVariants.{LineTooLong}
 use Rattle.ir_debug.specs.Machine.{Desk, RepliesBy, Replies, quits_by, quits}
 
-too_long : (line : List ℕ) → most_line < length line → command_of line ≡ Err LineTooLong
+command_of_too_long_line_is_refused : (line : List ℕ) → most_line < length line → command_of line ≡ Err LineTooLong
 unfolding command_of
-too_long line h = let e : nat_lt most_line (length line) ≡ true = lt-ltb most_line (length line) h in rw e refl
+command_of_too_long_line_is_refused line h = let e : nat_lt most_line (length line) ≡ true = lt-ltb most_line (length line) h in rw e refl
 
-long_at : (k : ℕ) (line : List ℕ) → most_line < k → command_of (take k line) ≡ command_of line
-long_at k line h =
+command_of_long_prefix_is_command_of_line : (k : ℕ) (line : List ℕ) → most_line < k → command_of (take k line) ≡ command_of line
+command_of_long_prefix_is_command_of_line k line h =
     elim (cases_lt k (length line)) [
-      | inl lt ↦ too_long (take k line) (omega (arith, length-take k line)) ∙ sym (too_long line (omega arith))
+      | inl lt ↦ command_of_too_long_line_is_refused (take k line) (omega (arith, length-take k line)) ∙ sym (command_of_too_long_line_is_refused line (omega arith))
       | inr le ↦ ap (λ l. command_of l) (take_all k line le)
     ]
 
-pub long_replies : (d : Desk) (line text : List ℕ) (next : Desk) → Replies d (take most_kept_bytes line) text next → Replies d line text next
+pub replies_to_line_if_to_kept_bytes : (d : Desk) (line text : List ℕ) (next : Desk) → Replies d (take most_kept_bytes line) text next → Replies d line text next
 unfolding Replies
-long_replies d line text next is =
+replies_to_line_if_to_kept_bytes d line text next is =
     let P : Result (Option Command) Refusal → Type 0 = λ a. EachRun d.fitted (λ run. RepliesBy a run d text next) in
-    subst P (long_at most_kept_bytes line (omega arith)) is
+    subst P (command_of_long_prefix_is_command_of_line most_kept_bytes line (omega arith)) is
 
-pub long_quits : (line : List ℕ) → quits (take most_kept_bytes line) ≡ quits line
+pub quits_of_kept_bytes_is_quits_of_line : (line : List ℕ) → quits (take most_kept_bytes line) ≡ quits line
 unfolding quits
-long_quits line = ap quits_by (long_at most_kept_bytes line (omega arith))
+quits_of_kept_bytes_is_quits_of_line line = ap quits_by (command_of_long_prefix_is_command_of_line most_kept_bytes line (omega arith))

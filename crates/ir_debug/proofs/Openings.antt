@@ -34,17 +34,17 @@ rest_of_empty_input : (split_lines []).rest ≡ []
 unfolding split_lines
 rest_of_empty_input = refl
 
-lines_through_empty : (lines : List (List ℕ)) → lines ≡ [] → through quits lines ≡ lines
+through_of_empty_lines_is_lines : (lines : List (List ℕ)) → lines ≡ [] → through quits lines ≡ lines
 unfolding through
-lines_through_empty [] e = refl
-lines_through_empty (l ∷ ls) e = absurd cc
+through_of_empty_lines_is_lines [] e = refl
+through_of_empty_lines_is_lines (l ∷ ls) e = absurd cc
 
-no_answers : (o : Opening) → SessionText o [] (opening_text o) o
+session_text_of_no_lines_is_opening_text : (o : Opening) → SessionText o [] (opening_text o) o
 unfolding LinesAnswered
-no_answers (ImageRefused e) = (refl, refl)
-no_answers (TraceRefused e) = (refl, refl)
-no_answers (Unfit v) = (refl, refl)
-no_answers (Ready d) = ([], d, (refl, refl), sym (append-nil (opening_text (Ready d))), refl)
+session_text_of_no_lines_is_opening_text (ImageRefused e) = (refl, refl)
+session_text_of_no_lines_is_opening_text (TraceRefused e) = (refl, refl)
+session_text_of_no_lines_is_opening_text (Unfit v) = (refl, refl)
+session_text_of_no_lines_is_opening_text (Ready d) = ([], d, (refl, refl), sym (append-nil (opening_text (Ready d))), refl)
 
 -- the writer failed in the opening lines
 pub answered_in_part_of_opening_prefix : (image trace : List ℕ) (o : Opening) (limit : ℕ) (a w0 w1 : Option (List ℕ)) → Opens image trace o
@@ -54,11 +54,11 @@ answered_in_part_of_opening_prefix image trace o limit a w0 w1 opens prefix = re
   taken = empty_input_is_consumed a;
   within = omega arith;
   holds = record {
-    goes = lines_through_empty (lines_of []) lines_of_empty_input;
+    goes = through_of_empty_lines_is_lines (lines_of []) lines_of_empty_input;
     ended = λ some. absurd (some rest_of_empty_input);
     wrote = inl (
       lines_of_empty_input,
-      record { opening = o; opens = opens; text = opening_text o; last = o; says = no_answers o; took = prefix },
+      record { opening = o; opens = opens; text = opening_text o; last = o; says = session_text_of_no_lines_is_opening_text o; took = prefix },
     );
   };
 }
@@ -68,9 +68,9 @@ answered_in_part_of_opening_prefix image trace o limit a w0 w1 opens prefix = re
 pub reads_empty_input : (limit : ℕ) (a : Option (List ℕ)) (P : List ℕ → Type 0) → P [] → ReadsUpTo limit a a P
 reads_empty_input limit a P p = record { consumed = []; taken = empty_input_is_consumed a; within = omega arith; holds = p }
 
-pub whatever : (a : Option (List ℕ)) (P : List ℕ → Type 0) → ((input : List ℕ) → P input) → IfSome a P
-whatever None P p = tt
-whatever (Some xs) P p = p xs
+pub if_some_if_each_holds : (a : Option (List ℕ)) (P : List ℕ → Type 0) → ((input : List ℕ) → P input) → IfSome a P
+if_some_if_each_holds None P p = tt
+if_some_if_each_holds (Some xs) P p = p xs
 
 -- the opening lines are the text, whatever the lines
 pub session_of_refused_opening : (image trace : List ℕ) (o p : Opening) (limit : ℕ) (result : Result Ended SessionErr) (w0 w1 : Option (List ℕ)) → o ≡ p
@@ -120,10 +120,10 @@ pub opening_text_of_ready_debugger : (o : Opened) (d : Debugging) (w0 w1 : Optio
 opening_text_of_ready_debugger o d w0 w1 is = subst (λ (x : Opened). Appends w0 w1 (opening_text (opening_of x))) is
 
 -- all answers after the opening lines
-abbrev pub answered : (image trace : List ℕ) (d : Desk) (lines : List (List ℕ)) (w0 w1 w2 : Option (List ℕ)) → Opens image trace (Ready d)
+abbrev pub transcript_if_lines_answered : (image trace : List ℕ) (d : Desk) (lines : List (List ℕ)) (w0 w1 w2 : Option (List ℕ)) → Opens image trace (Ready d)
     → Appends w0 w1 (opening_text (Ready d)) → Wrote Replies d lines w1 w2
     → Transcript image trace lines (λ text last. Appends w0 w2 text)
-answered image trace d lines w0 w1 w2 opens begun wrote = record {
+transcript_if_lines_answered image trace d lines w0 w1 w2 opens begun wrote = record {
   opening = Ready d;
   opens = opens;
   text = opening_text (Ready d) ++ wrote.text;
@@ -133,10 +133,10 @@ answered image trace d lines w0 w1 w2 opens begun wrote = record {
 }
 
 -- a part of them
-pub answered_in_part : (image trace : List ℕ) (d : Desk) (lines : List (List ℕ)) (w0 w1 w2 : Option (List ℕ)) → Opens image trace (Ready d)
+pub writes_in_part_if_lines_answered_in_part : (image trace : List ℕ) (d : Desk) (lines : List (List ℕ)) (w0 w1 w2 : Option (List ℕ)) → Opens image trace (Ready d)
     → Appends w0 w1 (opening_text (Ready d)) → WroteInPart Replies d lines w1 w2 → WritesInPart image trace lines w0 w2
-answered_in_part image trace d lines w0 w1 w2 opens begun wrote =
-    let all = answered image trace d wrote.before w0 w1 wrote.between opens begun wrote.all in
+writes_in_part_if_lines_answered_in_part image trace d lines w0 w1 w2 opens begun wrote =
+    let all = transcript_if_lines_answered image trace d wrote.before w0 w1 wrote.between opens begun wrote.all in
     inr (
       wrote.before,
       wrote.line,
@@ -155,7 +155,7 @@ session_of_served_lines : (image trace : List ℕ) (d : Desk) (limit : ℕ) (r :
     → Opens image trace (Ready d) → Appends w0 w1 (opening_text (Ready d)) → LeadsTo Replies quits d limit r w1 w2 input
     → Session image trace limit (ended_by r) w0 w2 input
 session_of_served_lines image trace d limit r w0 w1 w2 input opens begun leads = record {
-  transcript = answered image trace d (through quits (heard limit input)) w0 w1 w2 opens begun leads.wrote;
+  transcript = transcript_if_lines_answered image trace d (through quits (heard limit input)) w0 w1 w2 opens begun leads.wrote;
   ending = ap ended_by leads.ending;
 }
 
@@ -174,10 +174,10 @@ write_fault_if_ended_by_write (Err fault.Write) e = refl
 write_fault_if_ended_by_write (Err fault.TooLong) e = absurd cc
 
 -- what a session says of its input, from what was said of the lines, for F that says it of the bytes that were read or of all
-pub session_says : (F : (List ℕ → Type 0) → Type 0) → ((P Q : List ℕ → Type 0) → ((input : List ℕ) → P input → Q input) → F P → F Q)
+pub served_session_if_ended_lines_lead : (F : (List ℕ → Type 0) → Type 0) → ((P Q : List ℕ → Type 0) → ((input : List ℕ) → P input → Q input) → F P → F Q)
     → (image trace : List ℕ) (d : Desk) (limit : ℕ) (result : Result Ended SessionErr) (r : Result Served Fault) (w0 w1 w2 : Option (List ℕ))
     → result ≡ ended_by r → Opens image trace (Ready d) → Appends w0 w1 (opening_text (Ready d))
     → IfEnded r (F (LeadsTo Replies quits d limit r w1 w2)) → IfServed result (F (Session image trace limit result w0 w2))
-session_says F more image trace d limit result r w0 w1 w2 ended opens begun leads =
+served_session_if_ended_lines_lead F more image trace d limit result r w0 w1 w2 ended opens begun leads =
     subst (λ (x : Result Ended SessionErr). IfServed x (F (Session image trace limit x w0 w2))) (sym ended)
     (if_served_by_implied_end r _ _ (more _ _ (λ input leads. session_of_served_lines image trace d limit r w0 w1 w2 input opens begun leads)) leads)

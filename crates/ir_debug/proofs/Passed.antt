@@ -3,6 +3,7 @@ use Rattle.std.proofs.Common.{◌≡◌, ◌<◌, ◌≤◌, ◌&&◌, ◌+◌, 
 use Rattle.std.specs.Prelude.{◌||◌, ◌^◌, not, nat_lt, nat_le, is_some, if◌then◌else◌}
 use Rattle.std.proofs.lemmas.Bool.{ltb-true, leb-true}
 use Rattle.std.proofs.lemmas.Bool.Decides.{nat_tests}
+use Rattle.ir_lemmas.proofs.CallerLemmas.{left_of_true_and, right_of_true_and}
 use Rattle.ir_image.specs.Guest.{Guest, code_start, memory_start, object_count}
 use Rattle.ir_mach.specs.Core.{memory_size}
 use Rattle.ir_mach.specs.Execution.{lies_in_memory}
@@ -14,7 +15,7 @@ use Rattle.ir_command.specs.declared.command.Keeping.TheVariants.{Keep, Load}
 use Rattle.ir_command.specs.declared.command.Point.{Point}
 use Rattle.ir_command.specs.declared.command.Point.TheVariants.{Break, Watch, WatchObject}
 use Rattle.ir_hits.specs.Watchable.{IsWatchable}
-use Rattle.ir_timeline.specs.Positions.{threads_of}
+use Rattle.ir_cut.specs.Positions.{threads_of}
 use Rattle.ir_debug.specs.Machine.{Desk, kept_cut, most_kept, most_points, if_some, thread_named, object_named, lies_in_code, has_number, has_address, has_place, refusal_of}
 use Rattle.ir_debug.specs.Debugging.{most_number}
 
@@ -57,14 +58,6 @@ named_thread_exists d c t none is = named_number_below_count (threads_of d.fitte
 pub named_object_exists : (d : Desk) (c : Command) (o : ℕ) → refusal_of d c ≡ None → object_named c ≡ Some o → o < object_count d.fitted.guest
 named_object_exists d c o none is = named_number_below_count (object_count d.fitted.guest) (object_named c) o (permitted_command_passes_tests d c none).object is
 
-first_conjunct_is_true : (a b : Bool) → a && b ≡ true → a ≡ true
-first_conjunct_is_true true b e = refl
-first_conjunct_is_true false b e = absurd cc
-
-second_conjunct_is_true : (a b : Bool) → a && b ≡ true → b ≡ true
-second_conjunct_is_true true b e = e
-second_conjunct_is_true false b e = absurd cc
-
 property_by_either_disjunct : (a b : Bool) (P : Type 0) → (a ≡ true → P) → (b ≡ true → P) → a || b ≡ true → P
 property_by_either_disjunct true b P p q e = p refl
 property_by_either_disjunct false b P p q e = q e
@@ -75,10 +68,10 @@ pub address_in_guest_is_low : (g : Guest) (size address : ℕ) → length g.code
 address_in_guest_is_low g size address short =
     property_by_either_disjunct (lies_in_code g size address) (lies_in_memory size address) (address ≤ 2 ^ 31)
     (λ e. let le = leb-true (address + size) (code_start + 4 * length g.code)
-    (second_conjunct_is_true (nat_le code_start address) (nat_le (address + size) (code_start + 4 * length g.code)) e) in
+    (right_of_true_and (nat_le code_start address) (nat_le (address + size) (code_start + 4 * length g.code)) e) in
     omega (arith, le, short))
     (λ e. let le = leb-true (address + size) (memory_start + memory_size)
-    (second_conjunct_is_true (nat_le memory_start address) (nat_le (address + size) (memory_start + memory_size)) e) in
+    (right_of_true_and (nat_le memory_start address) (nat_le (address + size) (memory_start + memory_size)) e) in
     omega (arith, le))
 
 -- ---- kept cuts
@@ -86,26 +79,26 @@ address_in_guest_is_low g size address short =
 pub number_of_permitted_load_is_kept : (d : Desk) (n : ℕ) → refusal_of d (command.Keeping (Load n)) ≡ None → is_some (kept_cut d.kept n) ≡ true
 number_of_permitted_load_is_kept d n none = (permitted_command_passes_tests d (command.Keeping (Load n)) none).number
 
-both_below : (i m j n : ℕ) → nat_lt i m && nat_lt j n ≡ true → (i < m) × (j < n)
-both_below i m j n e = (ltb-true i m (first_conjunct_is_true (nat_lt i m) (nat_lt j n) e), ltb-true j n (second_conjunct_is_true (nat_lt i m) (nat_lt j n) e))
+both_below_if_conjunction_is_true : (i m j n : ℕ) → nat_lt i m && nat_lt j n ≡ true → (i < m) × (j < n)
+both_below_if_conjunction_is_true i m j n e = (ltb-true i m (left_of_true_and (nat_lt i m) (nat_lt j n) e), ltb-true j n (right_of_true_and (nat_lt i m) (nat_lt j n) e))
 
 -- there is place for one more, and a number
-pub kept_room : (d : Desk) → refusal_of d (command.Keeping Keep) ≡ None → (length d.kept < most_kept + 1) × (d.last_kept < most_number)
-kept_room d none = both_below _ _ _ _ (permitted_command_passes_tests d (command.Keeping Keep) none).place
+pub kept_cuts_have_room_if_keep_permitted : (d : Desk) → refusal_of d (command.Keeping Keep) ≡ None → (length d.kept < most_kept + 1) × (d.last_kept < most_number)
+kept_cuts_have_room_if_keep_permitted d none = both_below_if_conjunction_is_true _ _ _ _ (permitted_command_passes_tests d (command.Keeping Keep) none).place
 
 -- ---- points
 
-pub point_room : (d : Desk) (p : Point) → refusal_of d (command.Set p) ≡ None → (length d.points < most_points) × (d.last_point < most_number)
-point_room d p none = both_below _ _ _ _ (permitted_command_passes_tests d (command.Set p) none).place
+pub points_have_room_if_set_permitted : (d : Desk) (p : Point) → refusal_of d (command.Set p) ≡ None → (length d.points < most_points) × (d.last_point < most_number)
+points_have_room_if_set_permitted d p none = both_below_if_conjunction_is_true _ _ _ _ (permitted_command_passes_tests d (command.Set p) none).place
 
 aligned_address_is_memory_word : (address : ℕ) → (address % 4 == 0) && lies_in_memory 4 address ≡ true → IsMemoryWord address
 aligned_address_is_memory_word address test =
-    let whole = first_conjunct_is_true (address % 4 == 0) (lies_in_memory 4 address) test in
-    let inside = second_conjunct_is_true (address % 4 == 0) (lies_in_memory 4 address) test in
+    let whole = left_of_true_and (address % 4 == 0) (lies_in_memory 4 address) test in
+    let inside = right_of_true_and (address % 4 == 0) (lies_in_memory 4 address) test in
     let low = leb-true memory_start address
-    (first_conjunct_is_true (nat_le memory_start address) (nat_le (address + 4) (memory_start + memory_size)) inside) in
+    (left_of_true_and (nat_le memory_start address) (nat_le (address + 4) (memory_start + memory_size)) inside) in
     let high = leb-true (address + 4) (memory_start + memory_size)
-    (second_conjunct_is_true (nat_le memory_start address) (nat_le (address + 4) (memory_start + memory_size)) inside) in
+    (right_of_true_and (nat_le memory_start address) (nat_le (address + 4) (memory_start + memory_size)) inside) in
     record { aligned = grind (arith, nat_tests, whole); low = low; high = omega (arith, high) }
 
 -- the word that it watches is one of private memory

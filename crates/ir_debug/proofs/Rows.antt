@@ -6,7 +6,7 @@ use Rattle.ir_image.specs.Guest.{Guest}
 use Rattle.ir_image.specs.declared.form.ImageForm.TheVariants.{Small}
 use Rattle.ir_thread.specs.declared.end.End.TheVariants.{Breakpoint}
 use Rattle.ir_thread.specs.declared.profile.Profile.TheVariants.{One}
-use Rattle.ir_command.specs.Commands.{words_of, command_of, command_named, number_of, numeral}
+use Rattle.ir_command.specs.Commands.{words_of, command_of, command_named, number_of}
 use Rattle.ir_command.specs.declared.command.Command.{Command}
 use Rattle.ir_command.specs.declared.command.Command.TheVariants.{Move, Position, Show, Set, Quit}
 use Rattle.ir_command.specs.declared.command.Point.TheVariants.{Break}
@@ -15,7 +15,7 @@ use Rattle.ir_command.specs.declared.command.Show.TheVariants.{Registers, Memory
 use Rattle.ir_command.specs.declared.refusal.Refusal.{Refusal}
 use Rattle.ir_command.specs.declared.refusal.Refusal.TheVariants.{UnknownCommand, BadArgument, NoSuchThread, NoSuchObject, BadAddress, LineTooLong}
 use Rattle.ir_fit.specs.Fit.{FittedTrace}
-use Rattle.ir_timeline.specs.Positions.{last_cut}
+use Rattle.ir_cut.specs.Positions.{last_cut}
 use Rattle.ir_debug.specs.Machine.{Desk, desk_of, refusal_of, may_lack}
 use Rattle.ir_debug.specs.Debugging.{moved_text}
 
@@ -28,7 +28,7 @@ command_asked c = Ok (Some c)
 abbrev command_refused : Refusal → AskedCommand
 command_refused r = Err r
 
-lines : (command_of (codes "jump") ≡ command_refused UnknownCommand)
+row_commands_of_lines : (command_of (codes "jump") ≡ command_refused UnknownCommand)
     × (command_of (codes "break 0 0x1001c") ≡ command_asked (Set (Break 0 0x1001c)))
     × (command_of (codes "step 0") ≡ command_refused BadArgument)
     × (command_of (codes "step 0 4294967296") ≡ command_refused BadArgument)
@@ -39,8 +39,8 @@ lines : (command_of (codes "jump") ≡ command_refused UnknownCommand)
     × (command_of (codes "  pos\t") ≡ command_asked Position)
     × (command_of (codes "quit 1") ≡ command_refused BadArgument)
     × (command_of (codes "goto 1 0xFFFFFFFFFFFFFFFF\r") ≡ command_asked (Move (Goto 1 0xFFFFFFFFFFFFFFFF)))
-unfolding command_of command_named words_of number_of numeral
-lines = (refl, refl, refl, refl, refl, refl, refl, refl, refl, refl, refl)
+unfolding command_of command_named words_of number_of
+row_commands_of_lines = (refl, refl, refl, refl, refl, refl, refl, refl, refl, refl, refl)
 
 row_longest_blank_line : (b : ℕ) → command_of (replicate 1024 32) ≡ Ok None
 unfolding command_of words_of
@@ -56,9 +56,9 @@ abbrev guest_of_two_threads : Guest
 guest_of_two_threads = record { form = Small; entries = 0x10000 ∷ 0x10000 ∷ []; code = replicate 18 0x13; bytes = []; words = replicate 8 0 }
 
 abbrev desk_of_two_threads : Desk
-desk_of_two_threads = desk_of (record { guest = guest_of_two_threads; recorded = record { objects = 1; budget = 1000; profile = One; threads = [] }; placed = [] })
+desk_of_two_threads = desk_of (record { guest = guest_of_two_threads; recorded = record { objects = 1; budget = 1000; profile = One; threads = [] } })
 
-refusals : (refusal_of desk_of_two_threads (Move (Step 2 1)) ≡ Some NoSuchThread)
+row_refusals_of_commands : (refusal_of desk_of_two_threads (Move (Step 2 1)) ≡ Some NoSuchThread)
     × (refusal_of desk_of_two_threads (Show (Object 1)) ≡ Some NoSuchObject)
     × (refusal_of desk_of_two_threads (Show (Memory 0 4294967295 256)) ≡ Some BadAddress)
     × (refusal_of desk_of_two_threads (Show (Memory 0 0x10047 1)) ≡ None)
@@ -69,11 +69,11 @@ refusals : (refusal_of desk_of_two_threads (Move (Step 2 1)) ≡ Some NoSuchThre
     × (refusal_of desk_of_two_threads (Move End) ≡ None)
     × (refusal_of desk_of_two_threads (Quit) ≡ None)
 unfolding refusal_of
-refusals = (refl, refl, refl, refl, refl, refl, refl, refl, refl, refl)
+row_refusals_of_commands = (refl, refl, refl, refl, refl, refl, refl, refl, refl, refl)
 
-lacking : (may_lack desk_of_two_threads (Show (Registers 0)) ≡ false)
+row_commands_that_may_lack : (may_lack desk_of_two_threads (Show (Registers 0)) ≡ false)
     × (may_lack desk_of_two_threads (Show (Next 0)) ≡ true)
-lacking = (refl, refl)
+row_commands_that_may_lack = (refl, refl)
 
 -- ---- answers
 
@@ -83,15 +83,14 @@ trace_of_nine_steps = record {
   guest = record guest_of_two_threads { entries = 0x10000 ∷ [] };
   recorded =
       record { objects = 1; budget = 1000; profile = One; threads = record { steps = 9; end = Breakpoint; events = [] } ∷ [] };
-  placed = [];
 }
 
-moves : (moved_text trace_of_nine_steps (Step 0 1) (9 ∷ []) ≡ codes "at 9 end\n")
+row_texts_of_moves : (moved_text trace_of_nine_steps (Step 0 1) (9 ∷ []) ≡ codes "at 9 end\n")
     × (moved_text trace_of_nine_steps (Goto 0 0) (0 ∷ []) ≡ codes "at 0 start\n")
     × (moved_text trace_of_nine_steps (Step 0 1) (8 ∷ []) ≡ codes "at 8\n")
     × (moved_text trace_of_nine_steps Start (0 ∷ 0 ∷ []) ≡ codes "at 0 0\n")
 unfolding digits
-moves = (refl, refl, refl, refl)
+row_texts_of_moves = (refl, refl, refl, refl)
 
 row_last_cut : last_cut trace_of_nine_steps ≡ 9 ∷ []
 row_last_cut = refl

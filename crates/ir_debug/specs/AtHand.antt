@@ -8,7 +8,7 @@ use Rattle.ir_flat.specs.Room.{object_with}
 use Rattle.ir_log.specs.Logging.{label_of}
 use Rattle.ir_log.specs.declared.event.Event.{Event}
 use Rattle.ir_trace.specs.Recorded.{recorded_thread}
-use Rattle.ir_cut.specs.Positions.{EachRun}
+use Rattle.ir_cut.specs.Positions.{EachRun, threads_of}
 use Rattle.ir_weave.specs.Standing.{flat_in}
 use Rattle.ir_command.specs.declared.command.Command.TheVariants as command
 use Rattle.ir_command.specs.declared.command.Show.{Show}
@@ -16,7 +16,6 @@ use Rattle.ir_command.specs.declared.command.Show.TheVariants.{Registers, Memory
 use Rattle.ir_debug.specs.declared.answer.Answer.{Answer}
 use Rattle.ir_text.specs.Texts.{machine_text, bytes_from, memory_text, output_text, object_text, log_text, next_text}
 use Rattle.ir_debug.specs.Debugging.{Debugging, IsThere, text_by}
-use Rattle.ir_timeline.specs.Positions.{threads_of}
 use Rattle.ir_debug.specs.Machine.{thread_named, shown}
 use Rattle.ir_text.specs.Held.{held_by}
 

@@ -3,10 +3,9 @@ use Rattle.std.specs.Prelude.{◌≡◌, ◌≤◌, ◌<◌, ◌+◌, ℕ, ⊤, 
 use Rattle.std.specs.List.{AllByRecursion, filter}
 use Rattle.ir_runs.specs.Run.{Step}
 use Rattle.ir_fit.specs.Fit.{FittedTrace, HasRun}
-use Rattle.ir_cut.specs.Positions.{EachRun, IsConsistentCut, cut_of, machine_of, start_of}
+use Rattle.ir_cut.specs.Positions.{EachRun, IsConsistentCut, cut_of, machine_of, start_of, threads_of, last_of}
 use Rattle.ir_hits.specs.Watchable.{AreWatchable}
 use Rattle.ir_weave.specs.Standing.{Standing, StandsAt}
-use Rattle.ir_timeline.specs.Positions.{threads_of, last_of}
 use Rattle.ir_timeline.specs.Hand.{IsCutOf}
 use Rattle.ir_command.specs.declared.command.Command.{Command}
 use Rattle.ir_command.specs.declared.command.Command.TheVariants as command

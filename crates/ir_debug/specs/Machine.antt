@@ -3,8 +3,8 @@ use Rattle.std.specs.Prelude.{◌==◌, ℕ, ◌+◌, not, Bool, true, false, Li
 use Rattle.std.specs.List.{filter}
 use Rattle.ir_fit.specs.Fit.{FittedTrace, HasRun, IsRefused}
 use Rattle.ir_command.specs.Commands.{most_small, command_of}
-use Rattle.ir_hits.specs.Hits.{Numbered, thread_at}
-use Rattle.ir_timeline.specs.Positions.{first_cut, threads_of, last_of, last_cut, Finds}
+use Rattle.ir_hits.specs.Hits.{Numbered, thread_at, Finds}
+use Rattle.ir_cut.specs.Positions.{first_cut, threads_of, last_of, last_cut, machine_of, start_of, cut_of, EachRun}
 use Rattle.ir_image.specs.Guest.{Guest, code_start, object_count, object_words, guest_at, image_fault_number}
 use Rattle.ir_mach.specs.Execution.{lies_in_memory}
 use Rattle.ir_command.specs.declared.command.Command.{Command}
@@ -16,8 +16,7 @@ use Rattle.ir_command.specs.declared.command.Show.TheVariants.{Registers, Memory
 use Rattle.ir_command.specs.declared.command.Keeping.TheVariants.{Keep, Load, Drop, Kept as AllKept}
 use Rattle.ir_command.specs.declared.refusal.Refusal.{Refusal}
 use Rattle.ir_command.specs.declared.refusal.Refusal.TheVariants.{NoSuchThread, NoSuchObject, NoSuchNumber, BadAddress, Full, NoMemory}
-use Rattle.ir_runs.specs.Run as run
-use Rattle.ir_cut.specs.Positions.{machine_of, start_of, cut_of, EachRun}
+use Rattle.ir_runs.specs.Run as runs
 use Rattle.ir_command.specs.declared.command.Direction.{Direction}
 use Rattle.ir_command.specs.declared.command.Direction.TheVariants.{Forwards, Backwards}
 use Rattle.ir_command.specs.declared.command.Move.{Move}
@@ -146,10 +145,7 @@ refusal_of d c =
     if not (if_some (object_named c) (λ o. nat_lt o (object_count d.fitted.guest))) then Some NoSuchObject else
     if not (has_number d c) then Some NoSuchNumber else
     if not (has_address d.fitted.guest c) then Some BadAddress else
-    if not (has_place d c) then Some Full else
-    None
-
--- ---- out of memory
+    if not (has_place d c) then Some Full else None
 
 -- whether it is a show of what is at hand after a move; the text of an instruction takes memory
 abbrev pub is_at_hand : Show → Bool
@@ -165,21 +161,21 @@ may_lack d (command.Keeping Keep) = true
 may_lack d (command.Keeping (Load n)) = true
 may_lack d c = false
 
+-- ---- moves
+
 -- the least consistent cut at or above this one with thread t at k or more, or the greatest consistent one at or below it with t at k or less
-abbrev pub StopsAt : List run.Step → FittedTrace → List ℕ → ℕ → Direction → ℕ → List ℕ → Type 0
-StopsAt steps f at t Forwards k to = (length to ≡ threads_of f) × run.IsLeast (machine_of f) (start_of f) steps (cut_of at) t k (cut_of to)
-StopsAt steps f at t Backwards k to = (length to ≡ threads_of f) × run.IsGreatest (machine_of f) (start_of f) steps (cut_of at) t k (cut_of to)
+abbrev pub StopsAt : List runs.Step → FittedTrace → List ℕ → ℕ → Direction → ℕ → List ℕ → Type 0
+StopsAt run f at t Forwards k to = (length to ≡ threads_of f) × runs.IsLeast (machine_of f) (start_of f) run (cut_of at) t k (cut_of to)
+StopsAt run f at t Backwards k to = (length to ≡ threads_of f) × runs.IsGreatest (machine_of f) (start_of f) run (cut_of at) t k (cut_of to)
 
 -- a move that isn't refused leads from this cut to that
-abbrev pub Leads : List run.Step → FittedTrace → List ℕ → Move → List ℕ → Type 0
-Leads steps f at (Step t count) to = StopsAt steps f at t Forwards (min (cut_of at t + count) (last_of f t)) to
-Leads steps f at (Back t count) to = StopsAt steps f at t Backwards (cut_of at t - count) to
-Leads steps f at (Goto t k) to = let last = min k (last_of f t) in
-    StopsAt steps f at t (if nat_le (cut_of at t) last then Forwards else Backwards) last to
-Leads steps f at Start to = to ≡ first_cut f
-Leads steps f at End to = to ≡ last_cut f
-
--- ---- to a hit
+abbrev pub Leads : List runs.Step → FittedTrace → List ℕ → Move → List ℕ → Type 0
+Leads run f at (Step t count) to = StopsAt run f at t Forwards (min (cut_of at t + count) (last_of f t)) to
+Leads run f at (Back t count) to = StopsAt run f at t Backwards (cut_of at t - count) to
+Leads run f at (Goto t k) to = let last = min k (last_of f t) in
+    StopsAt run f at t (if nat_le (cut_of at t) last then Forwards else Backwards) last to
+Leads run f at Start to = to ≡ first_cut f
+Leads run f at End to = to ≡ last_cut f
 
 -- where it stops: there; or at its last position, or at 0
 abbrev pub stop_of : FittedTrace → ℕ → Direction → Option Hit → ℕ
@@ -188,24 +184,26 @@ stop_of f t Forwards None = last_of f t
 stop_of f t Backwards None = 0
 
 -- thread t, continued in this direction, finds this hit, and all threads come to this cut
-abbrev pub Continues : List run.Step → Desk → ℕ → Direction → Option Hit → List ℕ → Type 0
-Continues steps d t direction hit to = Finds steps d.fitted d.points t (cut_of d.at t) direction hit
-    × StopsAt steps d.fitted d.at t direction (stop_of d.fitted t direction hit) to
+abbrev pub Continues : List runs.Step → Desk → ℕ → Direction → Option Hit → List ℕ → Type 0
+Continues run d t direction hit to = Finds run d.fitted d.points t (cut_of d.at t) direction hit
+    × StopsAt run d.fitted d.at t direction (stop_of d.fitted t direction hit) to
+
+-- ---- what is shown
 
 -- thread t at its position
-abbrev pub current : List run.Step → Desk → ℕ → ThreadState
-current steps d t = thread_at d.fitted steps t (cut_of d.at t)
+abbrev pub current : List runs.Step → Desk → ℕ → ThreadState
+current run d t = thread_at d.fitted run t (cut_of d.at t)
 
 -- the answer to a show that isn't refused
-unfoldable pub shown : List run.Step → Desk → Show → List ℕ
-shown steps d (Registers t) = machine_text (current steps d t).core
-shown steps d (Memory t address size) = memory_text address (bytes_from d.fitted.guest.code (current steps d t).core.memory size address)
-shown steps d (Object o) = object_text (threads_of d.fitted) (object_words d.fitted.guest)
-    (run.object_at (machine_of d.fitted) (start_of d.fitted) steps (cut_of d.at) o)
-shown steps d (Output t) = output_text (current steps d t).output
-shown steps d (Log t) = log_text (run.events (take (cut_of d.at t) (run.trail (machine_of d.fitted) (start_of d.fitted) steps t)))
-    (length (run.log (machine_of d.fitted) (start_of d.fitted) steps t))
-shown steps d (Next t) = next_text d.fitted.guest.code (current steps d t)
+unfoldable pub shown : List runs.Step → Desk → Show → List ℕ
+shown run d (Registers t) = machine_text (current run d t).core
+shown run d (Memory t address size) = memory_text address (bytes_from d.fitted.guest.code (current run d t).core.memory size address)
+shown run d (Object o) = object_text (threads_of d.fitted) (object_words d.fitted.guest)
+    (runs.object_at (machine_of d.fitted) (start_of d.fitted) run (cut_of d.at) o)
+shown run d (Output t) = output_text (current run d t).output
+shown run d (Log t) = log_text (runs.events (take (cut_of d.at t) (runs.trail (machine_of d.fitted) (start_of d.fitted) run t)))
+    (length (runs.log (machine_of d.fitted) (start_of d.fitted) run t))
+shown run d (Next t) = next_text d.fitted.guest.code (current run d t)
 
 -- where the thread that a move names has stopped
 abbrev pub stopped_text : FittedTrace → Option ℕ → List ℕ → List ℕ
@@ -216,12 +214,14 @@ stopped_text f None at = []
 abbrev pub kept_line : Kept → List ℕ
 kept_line k = decimal k.number ++ codes " " ++ positions_text k.cut ++ codes "\n"
 
+-- ---- answers
+
 -- this is answered, and the machine is then so
 abbrev pub Gives : List ℕ → Desk → List ℕ → Desk → Type 0
 Gives answer after text next = (text ≡ answer) × (next ≡ after)
 
 -- a command that isn't refused is answered so
-abbrev pub CarriesOut : List run.Step → Desk → Command → List ℕ → Desk → Type 0
+abbrev pub CarriesOut : List runs.Step → Desk → Command → List ℕ → Desk → Type 0
 CarriesOut run d (command.Move move) text next = (to : List ℕ) × Leads run d.fitted d.at move to
     × Gives (positions_text to ++ stopped_text d.fitted (thread_named (command.Move move)) to ++ codes "\n") (moved_to d to) text next
 CarriesOut run d (command.Continue t direction) text next = (to : List ℕ) × (hit : Option Hit) × Continues run d t direction hit to
@@ -246,16 +246,16 @@ abbrev pub Refuses : Refusal → Desk → List ℕ → Desk → Type 0
 Refuses r d text next = Gives (refusal_text r) (spoken d) text next
 
 -- the answer by whether the command is refused; where memory runs out, if it may
-abbrev pub AnswersBy : Option Refusal → List run.Step → Desk → Command → List ℕ → Desk → Type 0
+abbrev pub AnswersBy : Option Refusal → List runs.Step → Desk → Command → List ℕ → Desk → Type 0
 AnswersBy (Some r) run d c text next = Refuses r d text next
 AnswersBy None run d c text next = CarriesOut run d c text next ⊎ ((may_lack d c ≡ true) × Refuses NoMemory d text next)
 
 -- the machine may answer a command so, and is then the next
-unfoldable pub Answers : List run.Step → Desk → Command → List ℕ → Desk → Type 0
+unfoldable pub Answers : List runs.Step → Desk → Command → List ℕ → Desk → Type 0
 Answers run d c text next = AnswersBy (refusal_of d c) run d c text next
 
 -- the answer by what a line asks; one without words has none
-abbrev pub RepliesBy : Result (Option Command) Refusal → List run.Step → Desk → List ℕ → Desk → Type 0
+abbrev pub RepliesBy : Result (Option Command) Refusal → List runs.Step → Desk → List ℕ → Desk → Type 0
 RepliesBy (Ok (Some c)) run d text next = Answers run d c text next
 RepliesBy (Ok None) run d text next = Gives [] d text next
 RepliesBy (Err r) run d text next = Refuses r d text next

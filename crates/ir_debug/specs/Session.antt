@@ -46,9 +46,15 @@ IfRefused (Ok TraceRefused) P = P
 IfRefused (Ok NotFit) P = P
 IfRefused result P = ⊤
 
+-- what was read ends with the line that quits, or with the input; only where the input ends is a line unfinished
+abbrev pub ReadsThrough : Ended → Option (List ℕ) → List ℕ → Type 0
+ReadsThrough Quit left consumed = (through quits (lines_of consumed) ≡ lines_of consumed) × ((split_lines consumed).rest ≢ [] → IsAtEnd left)
+ReadsThrough InputEnd left consumed = IsAtEnd left
+ReadsThrough refused left consumed = ⊤
+
 -- ---- what it writes
 
--- the machine may answer the lines in turn so that this is the session's text, the opening lines and all answers; it has then come to the last
+-- the machine may answer the lines in turn so that this is the session's text, opening lines and answers; last has the machine as it then is
 abbrev pub SessionText : Opening → List (List ℕ) → List ℕ → Opening → Type 0
 SessionText (opening.Ready d) lines text last = (answers : List ℕ) × (desk : Desk) × LinesAnswered Replies d lines answers desk
     × (text ≡ opening_text (opening.Ready d) ++ answers) × (last ≡ opening.Ready desk)
@@ -64,8 +70,7 @@ pub record Transcript (image trace : List ℕ) (lines : List (List ℕ)) (Took :
   pub took : Took text last
 
 -- the input leads to this result, and the writer took the opening lines and the answers to the lines up to and with the first that quits
-pub record Session (image trace : List ℕ) (limit : ℕ) (result : Result Ended SessionErr) (old new : Option (List ℕ)) (input : List ℕ) : Type
-    0 where
+pub record Session (image trace : List ℕ) (limit : ℕ) (result : Result Ended SessionErr) (old new : Option (List ℕ)) (input : List ℕ) : Type 0 where
   pub transcript : Transcript image trace (through quits (heard limit input)) (λ text last. Appends old new text)
   pub ending : result ≡ ending_of transcript.opening limit input
 
@@ -74,7 +79,7 @@ pub record AnsweredWhole (image trace : List ℕ) (old new : Option (List ℕ)) 
   pub goes : some_quits quits (split_lines consumed).whole ≡ false
   pub transcript : Transcript image trace (split_lines consumed).whole (λ text last. Appends old new text)
 
--- the writer took a text and a prefix of what the machine at the last may answer to a line
+-- the writer took a text, and a prefix of what the machine of last may answer to a line
 pub record Breaks (line : List ℕ) (old new : Option (List ℕ)) (text : List ℕ) (last : Opening) : Type 0 where
   pub desk : Desk
   pub ready : last ≡ opening.Ready desk

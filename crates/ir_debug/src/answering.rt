@@ -1,17 +1,17 @@
 //! The texts of answers, as they are written.
 
-ghost use Rattle.std.specs.Prelude.{◌≡◌, ◌≤◌, ◌<◌, ◌+◌, ◌++◌, OnOk, OnErr, codes, true, None, length, flat_map};
+ghost use Rattle.std.specs.Prelude.{◌≡◌, ◌≤◌, ◌<◌, ◌+◌, ◌++◌, codes, None, length, flat_map};
 ghost use Rattle.std.specs.List.{AllByRecursion};
 ghost use Rattle.ir_image.specs.Guest.{most_threads};
 ghost use Rattle.std.specs.Io.KnownBytes.{Appends};
 ghost use Rattle.arrayvec.specs.ArrayVec.{array_vec_len};
 ghost use Rattle.ir_stream.specs.Answers.{AppendsPrefix};
+ghost use Rattle.ir_stream.specs.Writing.{WritesOrFails, WritesText};
 ghost use Rattle.ir_command.specs.declared.command.Command.TheVariants as command;
 ghost use Rattle.ir_debug.specs.AtHand.{text_here};
 ghost use Rattle.ir_debug.specs.Debugging.{IsLast, IsText, moved_text, continued_text};
 ghost use Rattle.ir_debug.specs.Machine.{kept_line, refusal_of};
-ghost use Rattle.ir_cut.specs.Positions.{cut_of};
-ghost use Rattle.ir_timeline.specs.Positions.{threads_of, last_of};
+ghost use Rattle.ir_cut.specs.Positions.{cut_of, threads_of, last_of};
 ghost use Rattle.ir_text.specs.Texts.{positions_text, stop_text};
 
 use crate::answer::Answer;
@@ -60,10 +60,7 @@ fn put_moved(text: &mut Text, debugger: &Debugger, asked: Move)
 
 fn write_moved<W: Sink>(debugger: &Debugger, asked: Move, writer: &mut W) -> Result<(), DeviceErr>
     requires { refusal_of debugger.now.desk (command.Move asked) ≡ None }
-    ensures ok { OnOk result (Appends (W.written writer.old) (W.written writer.new) (moved_text debugger.now.desk.fitted asked debugger.now.desk.at)) }
-    ensures stays { OnOk result (W.broken writer.new ≡ W.broken writer.old) }
-    ensures prefix { OnErr result (AppendsPrefix (W.written writer.old) (W.written writer.new) (moved_text debugger.now.desk.fitted asked debugger.now.desk.at)) }
-    ensures err { OnErr result (W.broken writer.new ≡ true) }
+    ensures { WritesText W.written W.broken writer.old writer.new (moved_text debugger.now.desk.fitted asked debugger.now.desk.at) result }
 {
     let mut text = Text::new();
     put_moved(&mut text, debugger, asked);
@@ -88,10 +85,7 @@ fn write_continued<W: Sink>(
     writer: &mut W,
 ) -> Result<(), DeviceErr>
     requires { thread < threads_of debugger.now.desk.fitted }
-    ensures ok { OnOk result (Appends (W.written writer.old) (W.written writer.new) (continued_text debugger.now.desk.fitted thread hit debugger.now.desk.at)) }
-    ensures stays { OnOk result (W.broken writer.new ≡ W.broken writer.old) }
-    ensures prefix { OnErr result (AppendsPrefix (W.written writer.old) (W.written writer.new) (continued_text debugger.now.desk.fitted thread hit debugger.now.desk.at)) }
-    ensures err { OnErr result (W.broken writer.new ≡ true) }
+    ensures { WritesText W.written W.broken writer.old writer.new (continued_text debugger.now.desk.fitted thread hit debugger.now.desk.at) result }
 {
     let mut text = Text::new();
     put_continued(&mut text, debugger, thread, hit);
@@ -99,10 +93,7 @@ fn write_continued<W: Sink>(
 }
 
 fn write_position<W: Sink>(debugger: &Debugger, writer: &mut W) -> Result<(), DeviceErr>
-    ensures ok { OnOk result (Appends (W.written writer.old) (W.written writer.new) (positions_text debugger.now.desk.at ++ codes "\n")) }
-    ensures stays { OnOk result (W.broken writer.new ≡ W.broken writer.old) }
-    ensures prefix { OnErr result (AppendsPrefix (W.written writer.old) (W.written writer.new) (positions_text debugger.now.desk.at ++ codes "\n")) }
-    ensures err { OnErr result (W.broken writer.new ≡ true) }
+    ensures { WritesText W.written W.broken writer.old writer.new (positions_text debugger.now.desk.at ++ codes "\n") result }
 {
     let mut text = Text::new();
     put_cut(&mut text, debugger);
@@ -125,10 +116,7 @@ fn put_kept(text: &mut Text, kept: &KeptCut)
 // Writes a line for each kept cut.
 fn write_kept<W: Sink>(kept: &[KeptCut], writer: &mut W) -> Result<(), DeviceErr>
     requires { AllByRecursion (λ k. length k.cut ≤ most_threads) kept.now }
-    ensures ok { OnOk result (Appends (W.written writer.old) (W.written writer.new) (flat_map kept_line kept.now)) }
-    ensures stays { OnOk result (W.broken writer.new ≡ W.broken writer.old) }
-    ensures prefix { OnErr result (AppendsPrefix (W.written writer.old) (W.written writer.new) (flat_map kept_line kept.now)) }
-    ensures err { OnErr result (W.broken writer.new ≡ true) }
+    ensures { WritesText W.written W.broken writer.old writer.new (flat_map kept_line kept.now) result }
 {
     for i in 0..kept.len() {
         let mut text = Text::new();
@@ -140,10 +128,7 @@ fn write_kept<W: Sink>(kept: &[KeptCut], writer: &mut W) -> Result<(), DeviceErr
 
 #[tactic(auto, using(ir_image::proofs::CallerLemmas::guest_threads_at_most_limit))]
 fn write_cuts<W: Sink>(debugger: &Debugger, writer: &mut W) -> Result<(), DeviceErr>
-    ensures ok { OnOk result (Appends (W.written writer.old) (W.written writer.new) (flat_map kept_line debugger.now.desk.kept)) }
-    ensures stays { OnOk result (W.broken writer.new ≡ W.broken writer.old) }
-    ensures prefix { OnErr result (AppendsPrefix (W.written writer.old) (W.written writer.new) (flat_map kept_line debugger.now.desk.kept)) }
-    ensures err { OnErr result (W.broken writer.new ≡ true) }
+    ensures { WritesText W.written W.broken writer.old writer.new (flat_map kept_line debugger.now.desk.kept) result }
 {
     debugger.fitted().image().entries();
     write_kept(debugger.kept(), writer)
@@ -156,10 +141,7 @@ fn write_here<W: Sink>(
     writer: &mut W,
 ) -> Result<(), DeviceErr>
     requires { IsLast debugger.now answer.now }
-    ensures ok { OnOk result (Appends (W.written writer.old) (W.written writer.new) (text_here debugger.now answer.now)) }
-    ensures stays { OnOk result (W.broken writer.new ≡ W.broken writer.old) }
-    ensures prefix { OnErr result (AppendsPrefix (W.written writer.old) (W.written writer.new) (text_here debugger.now answer.now)) }
-    ensures err { OnErr result (W.broken writer.new ≡ true) }
+    ensures { WritesText W.written W.broken writer.old writer.new (text_here debugger.now answer.now) result }
 {
     match answer {
         Answer::Moved(asked) => write_moved(debugger, *asked, writer),
@@ -184,10 +166,9 @@ pub fn write_answer<W: Sink>(
     writer: &mut W,
 ) -> Result<(), DeviceErr>
     requires { IsLast debugger.now answer.now }
-    ensures ok { OnOk result (IsText debugger.now answer.now (Appends (W.written writer.old) (W.written writer.new))) }
-    ensures stays { OnOk result (W.broken writer.new ≡ W.broken writer.old) }
-    ensures prefix { OnErr result (IsText debugger.now answer.now (AppendsPrefix (W.written writer.old) (W.written writer.new))) }
-    ensures err { OnErr result (W.broken writer.new ≡ true) }
+    ensures { WritesOrFails W.broken writer.old writer.new
+        (IsText debugger.now answer.now (Appends (W.written writer.old) (W.written writer.new)))
+        (IsText debugger.now answer.now (AppendsPrefix (W.written writer.old) (W.written writer.new))) result }
 {
     write_here(debugger, answer, writer)
 }

@@ -69,11 +69,10 @@ impl Model for Debugger {
 impl Debugger {
     ghost use Rattle.ir_fit.specs.Passed.{ArePassed};
     ghost use Rattle.std.specs.Prelude.{◌<◌, ◌+◌, None, false, IfOk, OnOk, OnErr};
-    ghost use Rattle.ir_cut.specs.Positions.{EachRun};
+    ghost use Rattle.ir_cut.specs.Positions.{EachRun, threads_of};
     ghost use Rattle.ir_command.specs.declared.command.Command.TheVariants as command;
     ghost use Rattle.ir_command.specs.declared.command.Show.TheVariants as show;
     ghost use Rattle.ir_debug.specs.declared.answer.Answer.TheVariants as answer;
-    ghost use Rattle.ir_timeline.specs.Positions.{threads_of};
     ghost use Rattle.ir_debug.specs.Machine.{desk_of, spoken, refusal_of, shown, Answers, AnswersBy};
     ghost use Rattle.ir_debug.specs.Debugging.{IsDesk, IsLast, IsThere, answer_text, with_point, without_point};
 

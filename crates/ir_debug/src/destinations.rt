@@ -1,8 +1,7 @@
 //! The cuts to which moves lead.
 
 ghost use Rattle.std.specs.Prelude.{◌≡◌, ◌<◌, ◌≤◌, true, min, nat_lt, length, IfOk};
-ghost use Rattle.ir_cut.specs.Positions.{EachRun, IsConsistentCut};
-ghost use Rattle.ir_timeline.specs.Positions.{threads_of, last_of};
+ghost use Rattle.ir_cut.specs.Positions.{EachRun, IsConsistentCut, threads_of, last_of};
 ghost use Rattle.ir_debug.specs.Machine.{if_some, thread_named, Leads, StopsAt, stop_of};
 ghost use Rattle.ir_debug.specs.Debugging.{ToPosition};
 ghost use Rattle.ir_command.specs.declared.command.Command.TheVariants as command;

@@ -1,12 +1,14 @@
 //! The lines of a session, and their answers.
 
-ghost use Rattle.std.specs.Prelude.{◌≡◌, ◌≢◌, true, false, [], IfOk, IfErr, IfSome, IfNone, OnOk, OnErr, Ok, Err, None};
+ghost use Rattle.std.specs.Prelude.{◌≡◌, ◌≢◌, true, false, [], IfOk, IfErr, IfSome, IfNone, OnErr, Ok, Err, None};
 ghost use Rattle.std.specs.Io.KnownBytes.{IsAtEnd};
 ghost use Rattle.ir_stream.specs.Answers.{split_lines, lines_of, last_line, RepliedPrefix, through, some_quits, ReadsUpTo};
+ghost use Rattle.ir_stream.specs.Writing.{WritesOrFails};
 ghost use Rattle.ir_stream.specs.Written.{Wrote, WroteInPart, Replied};
 ghost use Rattle.ir_stream.specs.Endings.{flow_after, served_after, IfEnded, LeadsTo};
 ghost use Rattle.ir_debug.specs.Machine.{Replies, quits, quits_by};
 ghost use Rattle.ir_debug.specs.Debugging.{IsAnswer};
+ghost use Rattle.ir_debug.specs.Session.{ReadsThrough, ended_by};
 
 use crate::answer::Answer;
 use crate::answering::write_answer;
@@ -50,11 +52,10 @@ pub fn respond<H: Hands, W: Sink>(
     line: &[u8],
     writer: &mut W,
 ) -> Result<Flow, DeviceErr>
-    ensures ok { OnOk result (Replied Replies debugger.old.desk line.now debugger.new.desk (W.written writer.old) (W.written writer.new)) }
+    ensures writes { WritesOrFails W.broken writer.old writer.new
+        (Replied Replies debugger.old.desk line.now debugger.new.desk (W.written writer.old) (W.written writer.new))
+        (RepliedPrefix Replies debugger.old.desk line.now (W.written writer.old) (W.written writer.new)) result }
     ensures flow { IfOk result (λ f. f ≡ flow_after (quits line.now)) }
-    ensures stays { OnOk result (W.broken writer.new ≡ W.broken writer.old) }
-    ensures prefix { OnErr result (RepliedPrefix Replies debugger.old.desk line.now (W.written writer.old) (W.written writer.new)) }
-    ensures err { OnErr result (W.broken writer.new ≡ true) }
 {
     let asked = parse_line(line);
     let Some(answer) = carry_out(hands, debugger, &asked) else {
@@ -73,13 +74,12 @@ fn finish<H: Hands, W: Sink>(
     writer: &mut W,
     debugger: &mut Debugger,
 ) -> Result<Served, Fault>
-    ensures ok { OnOk result (Wrote Replies debugger.old.desk (last_line line.now) (W.written writer.old) (W.written writer.new)) }
+    ensures writes { WritesOrFails W.broken writer.old writer.new
+        (Wrote Replies debugger.old.desk (last_line line.now) (W.written writer.old) (W.written writer.new))
+        (RepliedPrefix Replies debugger.old.desk line.now (W.written writer.old) (W.written writer.new)) result }
     ensures served { IfOk result (λ e. e ≡ served_after (some_quits quits (last_line line.now))) }
-    ensures stays { OnOk result (W.broken writer.new ≡ W.broken writer.old) }
     ensures fault { IfErr result (λ f. f ≡ Fault.Write) }
     ensures some { OnErr result (line.now ≢ []) }
-    ensures prefix { OnErr result (RepliedPrefix Replies debugger.old.desk line.now (W.written writer.old) (W.written writer.new)) }
-    ensures err { OnErr result (W.broken writer.new ≡ true) }
 {
     if line.is_empty() {
         return Ok(Served::InputEnd);
@@ -111,6 +111,8 @@ pub fn serve<H: Hands, R: Source, W: Sink>(
     // If the reader makes its bytes known, all of them together lead to it.
     ensures known { IfEnded result (IfSome (R.left reader.old)
         (LeadsTo Replies quits debugger.old.desk limit result (W.written writer.old) (W.written writer.new))) }
+    // No byte was read after the line that quits, and if the input ended the reader is at its end.
+    ensures last { IfOk (ended_by result) (λ e. ReadsUpTo limit (R.left reader.old) (R.left reader.new) (ReadsThrough e (R.left reader.new))) }
     // After a failed read, the answers to the lines that were read whole, none of which quits.
     ensures read { result ≡ Err Fault.Read → (R.broken reader.new ≡ true) × (W.broken writer.new ≡ false)
         × ReadsUpTo limit (R.left reader.old) (R.left reader.new) (λ consumed. (some_quits quits (split_lines consumed).whole ≡ false)

@@ -1,8 +1,8 @@
 //! A session, from the bytes of an image and a trace to the answers to lines.
 
-ghost use Rattle.std.specs.Prelude.{◌≡◌, ◌≤◌, true, false, Err, IfSome};
+ghost use Rattle.std.specs.Prelude.{◌≡◌, ◌≤◌, true, false, Err, IfOk, IfSome};
 ghost use Rattle.ir_stream.specs.Answers.{ReadsUpTo};
-ghost use Rattle.ir_debug.specs.Session.{most_input, IfServed, IfRefused, Session, AnsweredWhole, AnsweredInPart, ended_by};
+ghost use Rattle.ir_debug.specs.Session.{most_input, IfServed, IfRefused, ReadsThrough, Session, AnsweredWhole, AnsweredInPart, ended_by};
 
 use crate::announcing::announce;
 use crate::bytes::open;
@@ -32,8 +32,8 @@ fn ended(served: Result<Served, Fault>) -> Result<Ended, SessionErr>
 ///
 /// The bytes that are written are the opening lines, and then the answers of the small machine that holds a run of the
 /// guest with the trace and a position of each thread, and nothing else. Which order the threads that replay the run
-/// took makes no difference. Each entry and leave of theirs is reported to the gate. At most `limit` bytes are read; if
-/// they hold no line of `quit`, the lines that are whole in them are answered, and then `TooLong`. An image or a trace
+/// took makes no difference. Each entry and leave of theirs is reported to the gate. At most `limit` bytes are read; if so many
+/// hold no line of `quit`, the lines that are whole in them are answered, and then `TooLong`. An image or a trace
 /// that is refused, and a trace that no run of the guest has, is named in the opening lines; then no line is read.
 ///
 /// # Errors
@@ -57,6 +57,8 @@ pub fn session_up_to<H: Hands, R: Source, W: Sink>(
     // If the reader makes its bytes known, all of them together lead to it.
     ensures known { IfServed result (IfSome (R.left reader.old)
         (Session image.now trace.now limit result (W.written writer.old) (W.written writer.new))) }
+    // No byte was read after the line that quits, and if the input ended the reader is at its end.
+    ensures last { IfOk result (λ e. ReadsUpTo limit (R.left reader.old) (R.left reader.new) (ReadsThrough e (R.left reader.new))) }
     // Where nothing was opened, nothing was read.
     ensures unread { IfRefused result (reader.new ≡ reader.old) }
     // Where memory runs out, nothing was read or written.
@@ -104,6 +106,7 @@ pub fn session<H: Hands, R: Source, W: Sink>(
     ensures works { IfServed result ((R.broken reader.new ≡ false) × (W.broken writer.new ≡ false)) }
     ensures known { IfServed result (IfSome (R.left reader.old)
         (Session image.now trace.now most_input result (W.written writer.old) (W.written writer.new))) }
+    ensures last { IfOk result (λ e. ReadsUpTo most_input (R.left reader.old) (R.left reader.new) (ReadsThrough e (R.left reader.new))) }
     ensures unread { IfRefused result (reader.new ≡ reader.old) }
     ensures no_memory { result ≡ Err SessionErr.NoMem → (reader.new ≡ reader.old) × (writer.new ≡ writer.old) }
     ensures read { result ≡ Err SessionErr.Read → (R.broken reader.new ≡ true) × (W.broken writer.new ≡ false)

@@ -1,11 +1,10 @@
 //! What is shown of the guest at the cut.
 
-ghost use Rattle.std.specs.Prelude.{◌≡◌, ◌<◌, OnOk, OnErr, true};
-ghost use Rattle.std.specs.Io.KnownBytes.{Appends};
-ghost use Rattle.ir_stream.specs.Answers.{AppendsPrefix};
+ghost use Rattle.std.specs.Prelude.{◌≡◌, ◌<◌};
+ghost use Rattle.ir_stream.specs.Writing.{WritesText};
 ghost use Rattle.ir_debug.specs.AtHand.{thread_here, events_of, shown_here};
 ghost use Rattle.ir_debug.specs.Debugging.{IsThere, IsLast, IsDesk};
-ghost use Rattle.ir_timeline.specs.Positions.{threads_of};
+ghost use Rattle.ir_cut.specs.Positions.{threads_of};
 ghost use Rattle.ir_debug.specs.declared.answer.Answer.TheVariants.{Shown};
 
 use crate::debugger::Debugger;
@@ -42,10 +41,7 @@ pub fn write_shown<W: Sink>(
     writer: &mut W,
 ) -> Result<(), DeviceErr>
     requires { IsLast debugger.now (Shown show) }
-    ensures ok { OnOk result (Appends (W.written writer.old) (W.written writer.new) (shown_here debugger.now show)) }
-    ensures stays { OnOk result (W.broken writer.new ≡ W.broken writer.old) }
-    ensures prefix { OnErr result (AppendsPrefix (W.written writer.old) (W.written writer.new) (shown_here debugger.now show)) }
-    ensures err { OnErr result (W.broken writer.new ≡ true) }
+    ensures { WritesText W.written W.broken writer.old writer.new (shown_here debugger.now show) result }
 {
     match show {
         Show::Registers { thread } => write_machine(thread_here(debugger, thread).mach(), writer),

@@ -146,8 +146,8 @@ no_thread_follows_after_still_pass a b old now n moved h all none t can =
     h.rests none t (omega (arith, there, all, size)) can
 
 -- where none can follow, this is the greatest
-pub common_if_none_can_follow : (a b : Recorded) (c : List ℕ) → IsBuilt a b c → ((t : ℕ) → CanFollow a b (counts_of c) t → ⊥) → AreCommon a b c
-common_if_none_can_follow a b c h rests = record {
+pub counts_are_common_if_none_can_follow : (a b : Recorded) (c : List ℕ) → IsBuilt a b c → ((t : ℕ) → CanFollow a b (counts_of c) t → ⊥) → AreCommon a b c
+counts_are_common_if_none_can_follow a b c h rests = record {
   size = h.size;
   order = h.order;
   built = h.built;

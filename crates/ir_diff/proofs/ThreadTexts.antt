@@ -3,6 +3,7 @@ use Rattle.std.proofs.Common.{◌≡◌, ℕ, zero, suc, ◌+◌, ◌⊎◌, inl
 use Rattle.std.specs.Prelude.{slice_get, flat_map}
 use Rattle.std.proofs.lemmas.List.{length_push, flat_map_more}
 use Rattle.std.proofs.lemmas.Option.{same_Some, none-some}
+use Rattle.ir_lemmas.proofs.CallerLemmas.{slice_get_after_push_cases}
 use Rattle.ir_runs.specs.Machine.{In}
 use Rattle.ir_runs.specs.Run.{At}
 use Rattle.ir_runs.specs.declared.access.Access.{Access}
@@ -15,7 +16,7 @@ use Rattle.ir_past.specs.Naming.{maker_text}
 use Rattle.ir_past.specs.Tables.{maker_in}
 use Rattle.ir_past.specs.declared.place.Place.{Place}
 use Rattle.ir_past.specs.declared.makers.Makers.{Makers}
-use Rattle.ir_past.proofs.CallerLemmas.{at_of_mapped_label, entered_version_was_made}
+use Rattle.ir_past.proofs.CallerLemmas.{label_of_event_is_at_its_place, entered_version_was_made}
 use Rattle.ir_diff.specs.Progress.{counts_of, AreMakersOf}
 use Rattle.ir_diff.specs.Lines.{common_line, budget_line, IsMakerOf, IsThreadText}
 use Rattle.ir_diff.proofs.Told.{no_write_if_none_noted}
@@ -38,14 +39,14 @@ pub maker_text_of_read_entry : (r : Recorded) (e : Event) (o v : ℕ) (made : Op
     → ((t i l : ℕ) (a : Access) → At ((trace_of r).logs t) i (In o a v l) → IsMadeBy r o v made)
     → text ≡ codes " by " ++ maker_text made → (t i : ℕ) → event_at r t i ≡ Some e → IsMakerOf r e text
 maker_text_of_read_entry r e o v made text is by said t i = subst (λ (x : Event). event_at r t i ≡ Some x → IsMakerOf r x text) (sym is)
-    (λ there. (made, by t i 0 Reading (at_of_mapped_label (recorded_thread r t).events i (variant.Read o v) there), said))
+    (λ there. (made, by t i 0 Reading (label_of_event_is_at_its_place (recorded_thread r t).events i (variant.Read o v) there), said))
 
 -- what made the version that a write entry found
 pub maker_text_of_write_entry : (r : Recorded) (e : Event) (o v l : ℕ) (made : Option Place) (text : List ℕ) → e ≡ variant.Write o v l
     → ((t i k : ℕ) (a : Access) → At ((trace_of r).logs t) i (In o a v k) → IsMadeBy r o v made)
     → text ≡ codes " by " ++ maker_text made → (t i : ℕ) → event_at r t i ≡ Some e → IsMakerOf r e text
 maker_text_of_write_entry r e o v l made text is by said t i = subst (λ (x : Event). event_at r t i ≡ Some x → IsMakerOf r x text) (sym is)
-    (λ there. (made, by t i l Writing (at_of_mapped_label (recorded_thread r t).events i (variant.Write o v l) there), said))
+    (λ there. (made, by t i l Writing (label_of_event_is_at_its_place (recorded_thread r t).events i (variant.Write o v l) there), said))
 
 -- the texts of the first n threads were put after the first lines
 pub record AreTexts (a b : Recorded) (c : List ℕ) (n : ℕ) (text : List ℕ) : Type 0 where
@@ -53,16 +54,6 @@ pub record AreTexts (a b : Recorded) (c : List ℕ) (n : ℕ) (text : List ℕ) 
   pub each : length texts ≡ n
   pub threads : (t : ℕ) (own : List ℕ) → slice_get texts t ≡ Some own → IsThreadText a b (counts_of c) t own
   pub lines : text ≡ common_line c ++ (budget_line a.budget b.budget ++ flat_map (λ own. own) texts)
-
-slice_get_after_push_cases : {X : Type 0} (rows : List X) (x : X) (k : ℕ) (y : X) → slice_get (rows ++ x ∷ []) k ≡ Some y
-    → (slice_get rows k ≡ Some y) ⊎ ((k ≡ length rows) × (x ≡ y))
-slice_get_after_push_cases [] x zero y is = inr (refl, same_Some x y is)
-slice_get_after_push_cases [] x (suc k) y is = absurd (none-some y is)
-slice_get_after_push_cases (z ∷ rows) x zero y is = inl is
-slice_get_after_push_cases (z ∷ rows) x (suc k) y is = elim (slice_get_after_push_cases rows x k y is) [
-  | inl old ↦ inl old
-  | inr new ↦ inr (ap suc new.0, new.1)
-]
 
 pub thread_texts_step : (a b : Recorded) (c : List ℕ) (n : ℕ) (text own new : List ℕ) → AreTexts a b c n text
     → IsThreadText a b (counts_of c) n own → new ≡ text ++ own → AreTexts a b c (n + 1) new

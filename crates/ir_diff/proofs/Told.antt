@@ -8,7 +8,7 @@ use Rattle.ir_past.specs.Answers.{AreCoherent}
 use Rattle.ir_past.specs.Tables.{maker_in}
 use Rattle.ir_past.specs.declared.place.Place.{Place}
 use Rattle.ir_past.specs.declared.makers.Makers.{Makers}
-use Rattle.ir_past.proofs.CallerLemmas.{event_is_of_existing_thread, at_of_mapped_label}
+use Rattle.ir_past.proofs.CallerLemmas.{event_is_of_existing_thread, label_of_event_is_at_its_place}
 use Rattle.ir_diff.specs.Common.{Tells, HasMaker, HasOthersMaker}
 use Rattle.ir_diff.specs.Progress.{AreMakersOf}
 
@@ -30,8 +30,8 @@ tells_equivalent flag P Q to from told = record { set = λ e. to (told.set e); c
 pub writer_of_version_is_unique : (r : Recorded) → AreCoherent r → (t i u j o v l k : ℕ) → IsWriteAt r t i o v l → IsWriteAt r u j o v k
     → (t ≡ u) × (i ≡ j)
 writer_of_version_is_unique r coherent t i u j o v l k one two = coherent.writer t i u j o v l k
-    (at_of_mapped_label (recorded_thread r t).events i (variant.Write o v l) one)
-    (at_of_mapped_label (recorded_thread r u).events j (variant.Write o v k) two)
+    (label_of_event_is_at_its_place (recorded_thread r t).events i (variant.Write o v l) one)
+    (label_of_event_is_at_its_place (recorded_thread r u).events j (variant.Write o v k) two)
 
 -- nothing is noted of a version, so it has no write entry
 pub no_write_if_none_noted : (r : Recorded) (m : Makers) (o w u j l : ℕ) → AreMakersOf r m → maker_in m o w ≡ None → IsWriteAt r u j o w l → ⊥
@@ -79,8 +79,8 @@ tells_others_maker_if_noted r c m t o v w p flag are is noted told =
     from : HasOthersMaker r c t o v → p.thread ≢ t → p.event < c p.thread
     from h other = let there = are.makes.sound o w p noted in h p.thread p.event w there.0 is other there.1
 
-pub others_maker_if_none_noted : (r : Recorded) (c : ℕ → ℕ) (m : Makers) (t o v w : ℕ) → AreMakersOf r m → v ≡ suc w → maker_in m o w ≡ None
+pub has_others_maker_if_none_noted : (r : Recorded) (c : ℕ → ℕ) (m : Makers) (t o v w : ℕ) → AreMakersOf r m → v ≡ suc w → maker_in m o w ≡ None
     → HasOthersMaker r c t o v
-others_maker_if_none_noted r c m t o v w are is none = λ u j x l later other write.
+has_others_maker_if_none_noted r c m t o v w are is none = λ u j x l later other write.
     let version : x ≡ w = omega (arith, is, later) in
     absurd (no_write_if_none_noted r m o w u j l are none (subst (λ z. IsWriteAt r u j o z l) version write))

@@ -47,16 +47,16 @@ length_of_over place own all fits =
 
 -- ---- parts
 
-pub equal_if_is_same : (p q : Part) → is_same p q ≡ true → p ≡ q
-equal_if_is_same Code Code e = refl
-equal_if_is_same Memory Memory e = refl
-equal_if_is_same Table Table e = refl
-equal_if_is_same Code Memory e = absurd cc
-equal_if_is_same Code Table e = absurd cc
-equal_if_is_same Memory Code e = absurd cc
-equal_if_is_same Memory Table e = absurd cc
-equal_if_is_same Table Code e = absurd cc
-equal_if_is_same Table Memory e = absurd cc
+pub parts_are_equal_if_is_same_is_true : (p q : Part) → is_same p q ≡ true → p ≡ q
+parts_are_equal_if_is_same_is_true Code Code e = refl
+parts_are_equal_if_is_same_is_true Memory Memory e = refl
+parts_are_equal_if_is_same_is_true Table Table e = refl
+parts_are_equal_if_is_same_is_true Code Memory e = absurd cc
+parts_are_equal_if_is_same_is_true Code Table e = absurd cc
+parts_are_equal_if_is_same_is_true Memory Code e = absurd cc
+parts_are_equal_if_is_same_is_true Memory Table e = absurd cc
+parts_are_equal_if_is_same_is_true Table Code e = absurd cc
+parts_are_equal_if_is_same_is_true Table Memory e = absurd cc
 
 -- no address is in two parts
 part_of_address_is_unique : (p q : Part) (i j : ℕ) → i < size_of p → j < size_of q → start_of p + i ≡ start_of q + j → is_same q p ≡ true
@@ -76,7 +76,7 @@ part_of_address_is_unique Table Memory i j l m e = absurd (omega (arith, l, m, e
 pub segment_fits_in_part : (part : Part) (s : Segment) (last : ℕ) (all : List ℕ) → IsNext last s → length all ≡ size_of part → is_same s.part part ≡ true
     → s.place + length s.bytes ≤ length all
 segment_fits_in_part part s last all next whole same =
-    let size : size_of s.part ≡ size_of part = ap size_of (equal_if_is_same s.part part same) in
+    let size : size_of s.part ≡ size_of part = ap size_of (parts_are_equal_if_is_same_is_true s.part part same) in
     let within = next.within in
     let held = next.held in
     omega (arith, size, within, held, whole)
@@ -92,7 +92,7 @@ with_segment_below_is_unchanged : (part : Part) (s : Segment) (last : ℕ) (all 
     → start_of part + i < address_of s → get_or (with_segment part s all) i 0 ≡ get_or all i 0
 with_segment_below_is_unchanged part s last all i next whole lt =
     cond_both (is_same s.part part) (over s.place s.bytes all) all (λ xs. get_or xs i 0 ≡ get_or all i 0)
-    (λ same. let start : start_of s.part ≡ start_of part = ap start_of (equal_if_is_same s.part part same) in
+    (λ same. let start : start_of s.part ≡ start_of part = ap start_of (parts_are_equal_if_is_same_is_true s.part part same) in
     get_or_of_over_before s.place s.bytes all i (omega (arith, start, lt)) (segment_fits_in_part part s last all next whole same)) (λ other. refl)
 
 -- above it nothing either
@@ -100,7 +100,7 @@ with_segment_above_is_unchanged : (part : Part) (s : Segment) (last : ℕ) (all 
     → end_of s ≤ start_of part + i → get_or (with_segment part s all) i 0 ≡ get_or all i 0
 with_segment_above_is_unchanged part s last all i next whole le =
     cond_both (is_same s.part part) (over s.place s.bytes all) all (λ xs. get_or xs i 0 ≡ get_or all i 0)
-    (λ same. let start : start_of s.part ≡ start_of part = ap start_of (equal_if_is_same s.part part same) in
+    (λ same. let start : start_of s.part ≡ start_of part = ap start_of (parts_are_equal_if_is_same_is_true s.part part same) in
     let held = next.held in
     get_or_of_over_after s.place s.bytes all i (omega (arith, start, le, held)) (segment_fits_in_part part s last all next whole same)) (λ other. refl)
 
@@ -112,7 +112,7 @@ with_segment_inside_is_file_byte part s last all i next whole lt low high zero =
     let within = next.within in
     let same : is_same s.part part ≡ true = part_of_address_is_unique part s.part i (start_of part + i - start_of s.part) lt (omega (arith, low, high, within))
     (omega (arith, low)) in
-    let start : start_of s.part ≡ start_of part = ap start_of (equal_if_is_same s.part part same) in
+    let start : start_of s.part ≡ start_of part = ap start_of (parts_are_equal_if_is_same_is_true s.part part same) in
     let there : i - s.place ≡ start_of part + i - address_of s = omega (arith, start) in
     let fits = segment_fits_in_part part s last all next whole same in
     let placed : get_or (over s.place s.bytes all) i 0 ≡ get_or s.bytes (i - s.place) 0 = elim (cases_lt i (s.place + length s.bytes)) [

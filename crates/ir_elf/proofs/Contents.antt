@@ -20,14 +20,14 @@ use Rattle.ir_elf.specs.Reading.{code_memory, code_words, data_bytes, table_foun
 use Rattle.ir_elf.specs.Addresses.{byte_of, byte_at, word_at, IsInParts}
 use Rattle.ir_elf.proofs.Limits.{parts_of_ok_unless, guest_by}
 use Rattle.ir_elf.proofs.Order.{IsNext, AreOrdered, segments_from_are_ordered}
-use Rattle.ir_elf.proofs.Addresses.{get_or_of_over_before, get_or_of_over_after, equal_if_is_same, segment_fits_in_part, length_of_with_segment, with_segments_puts_byte_of_address}
+use Rattle.ir_elf.proofs.Addresses.{get_or_of_over_before, get_or_of_over_after, parts_are_equal_if_is_same_is_true, segment_fits_in_part, length_of_with_segment, with_segments_puts_byte_of_address}
 use Rattle.ir_elf.proofs.Words.{length_of_words_in}
 
 -- ---- the parts of a guest
 
-pub segments_ordered : (file : List ℕ) (ss : List Segment) → segments_at file ≡ Ok ss → AreOrdered 0 ss
+pub segments_at_are_ordered : (file : List ℕ) (ss : List Segment) → segments_at file ≡ Ok ss → AreOrdered 0 ss
 unfolding segments_at
-segments_ordered file ss e =
+segments_at_are_ordered file ss e =
     four_steps_succeed (headers_place_at file) (λ found. bytes_at Short found.place file) (λ found before. fields_at header_at found.number before.1)
     (λ found before headers. segments_from file 0 headers.0) ss e
     (λ found before headers e0 e1 e2 e3. segments_from_are_ordered file 0 headers.0 ss e3)
@@ -109,7 +109,7 @@ pub guest_byte_is_byte_at : (file : List ℕ) (segments : List Segment) (g : Gue
 guest_byte_is_byte_at file segments g i e h lt =
     let p = is_guest_of_if_file_read file segments g e h in
     subst (λ (x : Guest). slice_index x.bytes i ≡ byte_at segments (memory_start + i)) p.guest
-    (data_byte_is_byte_at segments i (segments_ordered file segments e) lt)
+    (data_byte_is_byte_at segments i (segments_at_are_ordered file segments e) lt)
 
 -- ---- code
 
@@ -158,7 +158,7 @@ pub guest_code_word_is_word_at : (file : List ℕ) (segments : List Segment) (g 
 guest_code_word_is_word_at file segments g k e h =
     let p = is_guest_of_if_file_read file segments g e h in
     subst (λ (x : Guest). k < length x.code → slice_index x.code k ≡ word_at segments (code_start + 4 * k)) p.guest
-    (code_word_is_word_at segments k (segments_ordered file segments e))
+    (code_word_is_word_at segments k (segments_at_are_ordered file segments e))
 
 -- ---- nothing is elsewhere
 
@@ -179,8 +179,8 @@ address_of_byte_is_in_parts (s ∷ ss) last a b words o most e =
       | inr f ↦ address_of_byte_is_in_parts ss (end_of s) a b words o.1 (omega (arith, most)) (sym (rw f refl) ∙ e)
     ]
 
-rounded_words_reach_bytes : (n : ℕ) → n ≤ 4 * ((n + 3) / 4)
-rounded_words_reach_bytes n = omega arith
+number_at_most_four_times_quotient_rounded_up : (n : ℕ) → n ≤ 4 * ((n + 3) / 4)
+number_at_most_four_times_quotient_rounded_up n = omega arith
 
 code_words_reach_segments : (ss : List Segment) → AreOrdered 0 ss → greatest (size_in Code) ss ≤ size_of Code
     → greatest (size_in Code) ss ≤ 4 * length (words_in (take (4 * code_words ss) (code_memory ss)))
@@ -189,13 +189,13 @@ code_words_reach_segments ss o most =
     let count = length_of_words_in own in
     let least = length-take (4 * code_words ss) (code_memory ss) in
     let whole : length (code_memory ss) ≡ 65536 = length_of_memory_of Code ss o in
-    let up = rounded_words_reach_bytes (greatest (size_in Code) ss) in
+    let up = number_at_most_four_times_quotient_rounded_up (greatest (size_in Code) ss) in
     omega (arith, count, least, whole, up, most)
 
 size_in_code_within_part : (s : Segment) (last : ℕ) → IsNext last s → size_in Code s ≤ size_of Code
 size_in_code_within_part s last next =
     cond_both (is_same s.part Code) (s.place + s.size) 0 (λ n. n ≤ size_of Code)
-    (λ same. subst (λ (p : Part). s.place + s.size ≤ size_of p) (equal_if_is_same s.part Code same) next.within) (λ other. omega arith)
+    (λ same. subst (λ (p : Part). s.place + s.size ≤ size_of p) (parts_are_equal_if_is_same_is_true s.part Code same) next.within) (λ other. omega arith)
 
 pub greatest_size_in_code_within_part : (ss : List Segment) (last : ℕ) → AreOrdered last ss → greatest (size_in Code) ss ≤ size_of Code
 greatest_size_in_code_within_part [] last o = omega arith
@@ -208,6 +208,6 @@ pub file_byte_is_in_parts : (file : List ℕ) (segments : List Segment) (g : Gue
     → byte_of segments a ≡ Some b → IsInParts (length g.code) a
 file_byte_is_in_parts file segments g a b e h there =
     let p = is_guest_of_if_file_read file segments g e h in
-    let o = segments_ordered file segments e in
+    let o = segments_at_are_ordered file segments e in
     subst (λ (x : Guest). IsInParts (length x.code) a) p.guest
     (address_of_byte_is_in_parts segments 0 a b _ o (code_words_reach_segments segments o (greatest_size_in_code_within_part segments 0 o)) there)

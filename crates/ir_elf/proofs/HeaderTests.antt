@@ -13,35 +13,35 @@ use Rattle.ir_elf.proofs.Refused.{Agrees}
 
 -- ---- what is there
 
-number_at_if_whole : (file : List ℕ) (p size q : ℕ) → q ≡ p + size → q ≤ length file
+number_at_is_number_in_if_whole : (file : List ℕ) (p size q : ℕ) → q ≡ p + size → q ≤ length file
     → number_at refusal.Short size (drop p file) ≡ Ok (number_in file p size, drop q file)
 unfolding number_at
-number_at_if_whole file p size q e there =
+number_at_is_number_in_if_whole file p size q e there =
     let left = length-drop p file in
     let long : ltb (length (drop p file)) size ≡ false = le-ltb _ _ (omega (arith, left, e, there)) in
     let back : drop size (drop p file) ≡ drop q file = drop-drop size p file ∙ ap (λ (k : ℕ). drop k file) (sym e) in
     rw (long, back) refl
 
-bytes_at_if_whole : (file : List ℕ) (p size q : ℕ) → q ≡ p + size → q ≤ length file
+bytes_at_is_take_if_whole : (file : List ℕ) (p size q : ℕ) → q ≡ p + size → q ≤ length file
     → bytes_at refusal.Short size (drop p file) ≡ Ok (take size (drop p file), drop q file)
 unfolding bytes_at
-bytes_at_if_whole file p size q e there =
+bytes_at_is_take_if_whole file p size q e there =
     let left = length-drop p file in
     let long : ltb (length (drop p file)) size ≡ false = le-ltb _ _ (omega (arith, left, e, there)) in
     let back : drop size (drop p file) ≡ drop q file = drop-drop size p file ∙ ap (λ (k : ℕ). drop k file) (sym e) in
     rw (long, back) refl
 
-header_at_if_whole : (file : List ℕ) (p : ℕ) → p + 32 ≤ length file → header_at (drop p file) ≡ Ok (header_in file p, drop (p + 32) file)
+header_at_is_header_in_if_whole : (file : List ℕ) (p : ℕ) → p + 32 ≤ length file → header_at (drop p file) ≡ Ok (header_in file p, drop (p + 32) file)
 unfolding header_at
-header_at_if_whole file p there =
-    let kind = number_at_if_whole file p 4 (p + 4) (omega arith) (omega (arith, there)) in
-    let place = number_at_if_whole file (p + 4) 4 (p + 8) (omega arith) (omega (arith, there)) in
-    let address = number_at_if_whole file (p + 8) 4 (p + 12) (omega arith) (omega (arith, there)) in
-    let physical = bytes_at_if_whole file (p + 12) 4 (p + 16) (omega arith) (omega (arith, there)) in
-    let count = number_at_if_whole file (p + 16) 4 (p + 20) (omega arith) (omega (arith, there)) in
-    let size = number_at_if_whole file (p + 20) 4 (p + 24) (omega arith) (omega (arith, there)) in
-    let flags = number_at_if_whole file (p + 24) 4 (p + 28) (omega arith) (omega (arith, there)) in
-    let alignment = bytes_at_if_whole file (p + 28) 4 (p + 32) (omega arith) there in
+header_at_is_header_in_if_whole file p there =
+    let kind = number_at_is_number_in_if_whole file p 4 (p + 4) (omega arith) (omega (arith, there)) in
+    let place = number_at_is_number_in_if_whole file (p + 4) 4 (p + 8) (omega arith) (omega (arith, there)) in
+    let address = number_at_is_number_in_if_whole file (p + 8) 4 (p + 12) (omega arith) (omega (arith, there)) in
+    let physical = bytes_at_is_take_if_whole file (p + 12) 4 (p + 16) (omega arith) (omega (arith, there)) in
+    let count = number_at_is_number_in_if_whole file (p + 16) 4 (p + 20) (omega arith) (omega (arith, there)) in
+    let size = number_at_is_number_in_if_whole file (p + 20) 4 (p + 24) (omega arith) (omega (arith, there)) in
+    let flags = number_at_is_number_in_if_whole file (p + 24) 4 (p + 28) (omega arith) (omega (arith, there)) in
+    let alignment = bytes_at_is_take_if_whole file (p + 28) 4 (p + 32) (omega arith) there in
     rw (kind, place, address, physical, count, size, flags, alignment) refl
 
 -- ---- what is missing
@@ -104,15 +104,15 @@ header_at_is_short bytes lt =
 
 -- ---- a number of headers
 
-headers_at_if_whole : (file : List ℕ) (n p : ℕ) → p + 32 * n ≤ length file
+headers_at_are_headers_in_if_whole : (file : List ℕ) (n p : ℕ) → p + 32 * n ≤ length file
     → fields_at header_at n (drop p file) ≡ Ok (headers_in file p n, drop (p + 32 * n) file)
 unfolding fields_at
-headers_at_if_whole file zero p there =
+headers_at_are_headers_in_if_whole file zero p there =
     let same : p ≡ p + 32 * 0 = omega arith in
     ap (λ (k : ℕ). Ok ([], drop k file)) same
-headers_at_if_whole file (suc n) p there =
+headers_at_are_headers_in_if_whole file (suc n) p there =
     let same : p + 32 + 32 * n ≡ p + 32 * suc n = omega arith in
-    rw (header_at_if_whole file p (omega (arith, there)), headers_at_if_whole file n (p + 32) (omega (arith, there)))
+    rw (header_at_is_header_in_if_whole file p (omega (arith, there)), headers_at_are_headers_in_if_whole file n (p + 32) (omega (arith, there)))
     (ap (λ (k : ℕ). Ok (headers_in file p (suc n), drop k file)) same)
 
 headers_at_are_short : (file : List ℕ) (n p : ℕ) → p ≤ length file → length file < p + 32 * n
@@ -123,7 +123,7 @@ headers_at_are_short file (suc n) p le lt =
     let left = length-drop p file in
     elim (cases_lt (length file) (p + 32)) [
       | inl l ↦ rw (header_at_is_short (drop p file) (omega (arith, l, left, le))) refl
-      | inr g ↦ rw (header_at_if_whole file p g, headers_at_are_short file n (p + 32) g (omega (arith, lt))) refl
+      | inr g ↦ rw (header_at_is_header_in_if_whole file p g, headers_at_are_short file n (p + 32) g (omega (arith, lt))) refl
     ]
 
 pub headers_agree_with_tests : {B Y : Type 0} (file : List ℕ) (place number : ℕ) (f : List Header → Result B Refusal) (k : B → Result Y Refusal)
@@ -137,6 +137,6 @@ headers_agree_with_tests file place number f k others h = elim (cases_lt (length
     | inl l ↦ rw
         (le-ltb (length file) place g, headers_at_are_short file number place g l, lt-leb (place + 32 * number) (length file) l) refl
     | inr le ↦ rw
-        (le-ltb (length file) place g, headers_at_if_whole file number place le, le-leb (place + 32 * number) (length file) le) h
+        (le-ltb (length file) place g, headers_at_are_headers_in_if_whole file number place le, le-leb (place + 32 * number) (length file) le) h
   ]
 ]

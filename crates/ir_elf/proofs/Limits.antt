@@ -7,7 +7,8 @@ use Rattle.ir_bytes.specs.Reading.{◌>>=◌, field_at, fields_at}
 use Rattle.ir_bytes.proofs.CallerLemmas.{two_steps_succeed, four_steps_succeed, test_passed_if_ok, ok_is_injective, test_true_if_no_fault, number_within_if_no_fault}
 use Rattle.ir_image.specs.declared.form.ImageForm.{ImageForm}
 use Rattle.ir_image.specs.declared.form.ImageForm.TheVariants.{Small, Large}
-use Rattle.ir_image.specs.Guest.{limits_of, Guest, IsWord, IsByte, code_start, memory_size, most_code_words, object_words, object_count, IsGuest, IsPlace}
+use Rattle.ir_image.specs.Guest.{limits_of, Guest, code_start, memory_size, most_code_words, object_words, object_count}
+use Rattle.ir_image.specs.Bounds.{IsWord, IsByte, IsGuest, IsPlace}
 use Rattle.ir_image.specs.Fields.{is_place}
 use Rattle.ir_elf.specs.declared.part.Part.TheVariants.{Memory}
 use Rattle.ir_elf.specs.declared.refusal.Refusal.{Refusal}
@@ -30,14 +31,14 @@ pub record IsWithin (code : ℕ) (t : TableParts) : Type 0 where
   pub whole_objects : length t.words % (limits_of t.form).words ≡ 0
   pub few_objects : length t.words / (limits_of t.form).words ≤ (limits_of t.form).objects
 
-pub place_if_is_place : (words n : ℕ) → is_place words n ≡ true → IsPlace words n
-place_if_is_place words n h =
+pub number_is_place_if_is_place_is_true : (words n : ℕ) → is_place words n ≡ true → IsPlace words n
+number_is_place_if_is_place_is_true words n h =
     let one = and_parts (eqb (n % 4) 0) (leb code_start n && ltb n (code_start + 4 * words)) h in
     let two = and_parts (leb code_start n) (ltb n (code_start + 4 * words)) one.1 in
     record { aligned = eqb-true _ _ one.0; low = leb-true _ _ two.0; high = ltb-true _ _ two.1 }
 
 entry_read_is_place : (words : ℕ) (bytes : List ℕ) (n : ℕ × List ℕ) → entry_at words bytes ≡ Ok n → IsPlace words n.0
-entry_read_is_place words bytes n e = place_if_is_place words n.0 (test_true_if_no_fault (is_place words n.0) Entry (field_read_passes_test Table (entry_field words) bytes n e))
+entry_read_is_place words bytes n e = number_is_place_if_is_place_is_true words n.0 (test_true_if_no_fault (is_place words n.0) Entry (field_read_passes_test Table (entry_field words) bytes n e))
 
 words_are_of_whole_objects : (form : ImageForm) (n : ℕ) → n % (4 * (limits_of form).words) ≡ 0 → n / 4 % (limits_of form).words ≡ 0
 words_are_of_whole_objects Small n e = omega (arith, e)
@@ -109,8 +110,8 @@ table_found_is_within code (Some table) t e = table_read_is_within code table t 
 table_found_is_within code None t e = absurd cc
 
 -- how many words of code there are
-length_of_code_words : (n : ℕ) (memory : List ℕ) → length memory ≡ 4 * most_code_words → n ≤ most_code_words → length (words_in (take (4 * n) memory)) ≡ n
-length_of_code_words n memory whole few =
+length_of_words_in_taken_memory : (n : ℕ) (memory : List ℕ) → length memory ≡ 4 * most_code_words → n ≤ most_code_words → length (words_in (take (4 * n) memory)) ≡ n
+length_of_words_in_taken_memory n memory whole few =
     let count = length_of_words_in (take (4 * n) memory) in
     let taken = length-take-le (4 * n) memory (omega (arith, whole, few)) in
     omega (arith, count, taken)
@@ -135,7 +136,7 @@ guest_of_segments_has_limits segments g short_code short_data whole e =
     (table_found (code_words segments) (table_of segments) >>= λ t. Ok (guest_by segments t)) g e in
     two_steps_succeed (table_found (code_words segments) (table_of segments)) (λ t. Ok (guest_by segments t)) g p.1 (λ t e0 e1.
     let w = table_found_is_within (code_words segments) (table_of segments) t e0 in
-    let count = length_of_code_words (code_words segments) (code_memory segments) whole short_code in
+    let count = length_of_words_in_taken_memory (code_words segments) (code_memory segments) whole short_code in
     subst HasLimits (ok_is_injective Refusal (guest_by segments t) g e1) (record {
       some_thread = w.some_thread;
       few_threads = w.few_threads;
@@ -162,7 +163,3 @@ guest_within_limits_is_guest g h code bytes words = record {
 }
 
 -- ---- numbers of a type
-
-pub all_hold_if_each_holds : (P : ℕ → Type 0) (xs : List ℕ) → ((i : ℕ) → P (slice_index xs i)) → AllByRecursion P xs
-all_hold_if_each_holds P [] each = tt
-all_hold_if_each_holds P (x ∷ xs) each = (each 0, all_hold_if_each_holds P xs (λ i. each (suc i)))

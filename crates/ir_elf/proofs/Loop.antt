@@ -10,15 +10,15 @@ use Rattle.ir_elf.specs.Segments.{Segment, loaded_at, end_after, with_first, seg
 abbrev pub after_read_segments : List Segment → Result (List Segment) Refusal → Result (List Segment) Refusal
 after_read_segments prefix read = read >>= λ xs. Ok (prefix ++ xs)
 
-append_of_with_first : (prefix : List Segment) (found : Option Segment) (xs : List Segment)
+append_of_with_first_regroups : (prefix : List Segment) (found : Option Segment) (xs : List Segment)
     → prefix ++ with_first found xs ≡ (prefix ++ with_first found []) ++ xs
-append_of_with_first prefix None xs = ap (λ (k : List Segment). k ++ xs) (sym (append-nil prefix))
-append_of_with_first prefix (Some s) xs = sym (append_assoc prefix (s ∷ []) xs)
+append_of_with_first_regroups prefix None xs = ap (λ (k : List Segment). k ++ xs) (sym (append-nil prefix))
+append_of_with_first_regroups prefix (Some s) xs = sym (append_assoc prefix (s ∷ []) xs)
 
-after_with_first_segment : (prefix : List Segment) (found : Option Segment) (read : Result (List Segment) Refusal)
+after_read_segments_takes_first_into_prefix : (prefix : List Segment) (found : Option Segment) (read : Result (List Segment) Refusal)
     → after_read_segments prefix (read >>= λ xs. Ok (with_first found xs)) ≡ after_read_segments (prefix ++ with_first found []) read
-after_with_first_segment prefix found (Ok xs) = ap (λ (k : List Segment). Ok k) (append_of_with_first prefix found xs)
-after_with_first_segment prefix found (Err e) = refl
+after_read_segments_takes_first_into_prefix prefix found (Ok xs) = ap (λ (k : List Segment). Ok k) (append_of_with_first_regroups prefix found xs)
+after_read_segments_takes_first_into_prefix prefix found (Err e) = refl
 
 pub segments_from_step : (file : List ℕ) (last : ℕ) (prefix : List Segment) (h : Header) (hs : List Header) (found : Option Segment)
     (total : Result (List Segment) Refusal) → loaded_at file last h ≡ Ok found
@@ -27,7 +27,7 @@ pub segments_from_step : (file : List ℕ) (last : ℕ) (prefix : List Segment) 
 segments_from_step file last prefix h hs found total e so_far =
     let step : after_read_segments prefix (segments_from file last (h ∷ hs))
     ≡ after_read_segments (prefix ++ with_first found []) (segments_from file (end_after last found) hs) = rw e
-    (after_with_first_segment prefix found (segments_from file (end_after last found) hs)) in
+    (after_read_segments_takes_first_into_prefix prefix found (segments_from file (end_after last found) hs)) in
     sym step ∙ so_far
 
 pub segments_from_stops_at_fault : (file : List ℕ) (last : ℕ) (prefix : List Segment) (h : Header) (hs : List Header) (e : Refusal)
@@ -37,6 +37,6 @@ segments_from_stops_at_fault file last prefix h hs e total fault so_far =
     let step : after_read_segments prefix (segments_from file last (h ∷ hs)) ≡ Err e = rw fault refl in
     sym so_far ∙ step
 
-pub segments_from_no_headers : (file : List ℕ) (last : ℕ) (prefix : List Segment) (total : Result (List Segment) Refusal)
+pub total_is_prefix_if_no_headers_are_left : (file : List ℕ) (last : ℕ) (prefix : List Segment) (total : Result (List Segment) Refusal)
     → after_read_segments prefix (segments_from file last []) ≡ total → total ≡ Ok prefix
-segments_from_no_headers file last prefix total so_far = sym so_far ∙ ap (λ (k : List Segment). Ok k) (append-nil prefix)
+total_is_prefix_if_no_headers_are_left file last prefix total so_far = sym so_far ∙ ap (λ (k : List Segment). Ok k) (append-nil prefix)

@@ -89,22 +89,22 @@ segment_at_is_next file last h s e =
 
 -- ---- all segments
 
-abbrev MayBeNext : ℕ → Option Segment → Type 0
-MayBeNext last None = Unit {0}
-MayBeNext last (Some s) = IsNext last s
+abbrev IsNextIfSome : ℕ → Option Segment → Type 0
+IsNextIfSome last None = Unit {0}
+IsNextIfSome last (Some s) = IsNext last s
 
-may_be_next_of_equal : (last : ℕ) (x y : Option Segment) → MayBeNext last x → x ≡ y → MayBeNext last y
-may_be_next_of_equal last x y h e = subst (MayBeNext last) e h
+is_next_if_some_of_equal : (last : ℕ) (x y : Option Segment) → IsNextIfSome last x → x ≡ y → IsNextIfSome last y
+is_next_if_some_of_equal last x y h e = subst (IsNextIfSome last) e h
 
-loaded_segment_may_be_next : (file : List ℕ) (last : ℕ) (h : Header) (first : Option Segment) → loaded_at file last h ≡ Ok first → MayBeNext last first
-loaded_segment_may_be_next file last h first e =
+loaded_segment_is_next_if_some : (file : List ℕ) (last : ℕ) (h : Header) (first : Option Segment) → loaded_at file last h ≡ Ok first → IsNextIfSome last first
+loaded_segment_is_next_if_some file last h first e =
     let g = guard_passed_if_ok (is_refused h.kind) Dynamic (cond (is_loaded h) (segment_at file last h >>= λ s. Ok (Some s)) (Ok None)) first e in
     conditional_cases (is_loaded h) (segment_at file last h >>= λ s. Ok (Some s)) (Ok None) (Ok first) g.1
     (λ t e1. two_steps_succeed (segment_at file last h) (λ s. Ok (Some s)) first e1 (λ s e2 e3.
-    may_be_next_of_equal last (Some s) first (segment_at_is_next file last h s e2) (ok_is_injective Refusal (Some s) first e3)))
-    (λ f e1. may_be_next_of_equal last None first tt (ok_is_injective Refusal None first e1))
+    is_next_if_some_of_equal last (Some s) first (segment_at_is_next file last h s e2) (ok_is_injective Refusal (Some s) first e3)))
+    (λ f e1. is_next_if_some_of_equal last None first tt (ok_is_injective Refusal None first e1))
 
-with_first_is_ordered : (last : ℕ) (first : Option Segment) (others : List Segment) → MayBeNext last first → AreOrdered (end_after last first) others
+with_first_is_ordered : (last : ℕ) (first : Option Segment) (others : List Segment) → IsNextIfSome last first → AreOrdered (end_after last first) others
     → AreOrdered last (with_first first others)
 with_first_is_ordered last None others p q = q
 with_first_is_ordered last (Some s) others p q = (p, q)
@@ -115,4 +115,4 @@ segments_from_are_ordered file last (h ∷ hs) ss e =
     three_steps_succeed (loaded_at file last h) (λ first. segments_from file (end_after last first) hs) (λ first others. Ok (with_first first others)) ss e
     (λ first others e0 e1 e2.
     subst (AreOrdered last) (ok_is_injective Refusal (with_first first others) ss e2)
-    (with_first_is_ordered last first others (loaded_segment_may_be_next file last h first e0) (segments_from_are_ordered file (end_after last first) hs others e1)))
+    (with_first_is_ordered last first others (loaded_segment_is_next_if_some file last h first e0) (segments_from_are_ordered file (end_after last first) hs others e1)))

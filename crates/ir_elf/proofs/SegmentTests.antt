@@ -18,35 +18,35 @@ use Rattle.ir_elf.proofs.Order.{segment_of_header}
 
 -- ---- the part
 
-abbrev placed_or : Part → Header → Result Part Refusal
-placed_or p h = cond (is_within p h.address h.size && is_placed p h) (Ok p) (Err refusal.Outside)
+abbrev placed_part_or_outside : Part → Header → Result Part Refusal
+placed_part_or_outside p h = cond (is_within p h.address h.size && is_placed p h) (Ok p) (Err refusal.Outside)
 
-part_placed_within_known_part : (h : Header) (p : Part) → part_around h ≡ Some p → part_in h ≡ p → is_within p h.address h.size ≡ true
-    → part_placed h (part_around h) ≡ placed_or (part_in h) h
-part_placed_within_known_part h p around own within =
-    let there : cond (is_placed p h) (Ok p) (Err refusal.Outside) ≡ placed_or p h = rw within refl in
-    ap (part_placed h) around ∙ there ∙ ap (λ (q : Part). placed_or q h) (sym own)
+part_placed_is_part_in_if_within_it : (h : Header) (p : Part) → part_around h ≡ Some p → part_in h ≡ p → is_within p h.address h.size ≡ true
+    → part_placed h (part_around h) ≡ placed_part_or_outside (part_in h) h
+part_placed_is_part_in_if_within_it h p around own within =
+    let there : cond (is_placed p h) (Ok p) (Err refusal.Outside) ≡ placed_part_or_outside p h = rw within refl in
+    ap (part_placed h) around ∙ there ∙ ap (λ (q : Part). placed_part_or_outside q h) (sym own)
 
-part_placed_is_part_in : (h : Header) → part_placed h (part_around h) ≡ placed_or (part_in h) h
+part_placed_is_part_in : (h : Header) → part_placed h (part_around h) ≡ placed_part_or_outside (part_in h) h
 part_placed_is_part_in h = elim (cases_Bool (is_within Code h.address h.size)) [
-  | inl t ↦ part_placed_within_known_part h Code (rw t refl) (rw t refl) t
+  | inl t ↦ part_placed_is_part_in_if_within_it h Code (rw t refl) (rw t refl) t
   | inr f ↦ elim (cases_Bool (is_within Memory h.address h.size)) [
-    | inl t ↦ part_placed_within_known_part h Memory (rw (f, t) refl) (rw (f, t) refl) t
+    | inl t ↦ part_placed_is_part_in_if_within_it h Memory (rw (f, t) refl) (rw (f, t) refl) t
     | inr g ↦ elim (cases_Bool (is_within Table h.address h.size)) [
-      | inl t ↦ part_placed_within_known_part h Table (rw (f, g, t) refl) (rw (f, g) refl) t
+      | inl t ↦ part_placed_is_part_in_if_within_it h Table (rw (f, g, t) refl) (rw (f, g) refl) t
       | inr k ↦ (let none : part_around h ≡ None = rw (f, g, k) refl in
           let own : part_in h ≡ Table = rw (f, g) refl in
-          let outside : placed_or Table h ≡ Err refusal.Outside = rw k refl in
-          ap (part_placed h) none ∙ sym (ap (λ (q : Part). placed_or q h) own ∙ outside))
+          let outside : placed_part_or_outside Table h ≡ Err refusal.Outside = rw k refl in
+          ap (part_placed h) none ∙ sym (ap (λ (q : Part). placed_part_or_outside q h) own ∙ outside))
     ]
   ]
 ]
 
 -- ---- one segment
 
-bytes_from_if_whole : (file : List ℕ) (place n : ℕ) → place + n ≤ length file → bytes_from place n file ≡ Ok (take n (drop place file))
+bytes_from_is_take_if_whole : (file : List ℕ) (place n : ℕ) → place + n ≤ length file → bytes_from place n file ≡ Ok (take n (drop place file))
 unfolding bytes_from bytes_at
-bytes_from_if_whole file place n there =
+bytes_from_is_take_if_whole file place n there =
     let left = length-drop place file in
     rw (le-ltb (length file) place (omega (arith, there)), le-ltb (length (drop place file)) n (omega (arith, left, there))) refl
 
@@ -59,39 +59,39 @@ bytes_from_is_short file place n lt =
       | inr g ↦ rw (le-ltb (length file) place g, lt-ltb (length (drop place file)) n (omega (arith, left, lt, g))) refl
     ]
 
-unless_steps_agree_with_tests : {Y : Type 0} (long placed above protected : Bool) (p : Part) (s : Segment) (k : Segment → Result Y Refusal) (others : List Test)
+unless_chain_agrees_with_tests : {Y : Type 0} (long placed above protected : Bool) (p : Part) (s : Segment) (k : Segment → Result Y Refusal) (others : List Test)
     → Agrees (k s) others
     → Agrees
     ((unless long refusal.Outside (cond placed (Ok p) (Err refusal.Outside)) >>= λ q. unless above refusal.Order (unless protected refusal.Writable (Ok s))) >>= k)
     (test long refusal.Outside (test placed refusal.Outside (test above refusal.Order (test protected refusal.Writable others))))
-unless_steps_agree_with_tests false placed above protected p s k others h = refl
-unless_steps_agree_with_tests true false above protected p s k others h = refl
-unless_steps_agree_with_tests true true false protected p s k others h = refl
-unless_steps_agree_with_tests true true true false p s k others h = refl
-unless_steps_agree_with_tests true true true true p s k others h = h
+unless_chain_agrees_with_tests false placed above protected p s k others h = refl
+unless_chain_agrees_with_tests true false above protected p s k others h = refl
+unless_chain_agrees_with_tests true true false protected p s k others h = refl
+unless_chain_agrees_with_tests true true true false p s k others h = refl
+unless_chain_agrees_with_tests true true true true p s k others h = h
 
 -- the part that was found is used after it
 abbrev after_bytes : List ℕ → ℕ → Header → List ℕ → Result Segment Refusal
 after_bytes file last h own = part_of h >>= λ part. unless (leb last h.address) refusal.Order
     (unless (is_protected part h.flags) refusal.Writable (Ok (segment_of_header own part h)))
 
-found_part_is_known_part : (own : List ℕ) (last : ℕ) (h : Header) (long : Bool) (placed : Bool) (p : Part)
+chain_with_found_part_is_chain_with_known_part : (own : List ℕ) (last : ℕ) (h : Header) (long : Bool) (placed : Bool) (p : Part)
     → (unless long refusal.Outside (cond placed (Ok p) (Err refusal.Outside)) >>= λ part. unless (leb last h.address) refusal.Order
     (unless (is_protected part h.flags) refusal.Writable (Ok (segment_of_header own part h))))
     ≡ (unless long refusal.Outside (cond placed (Ok p) (Err refusal.Outside)) >>= λ q. unless (leb last h.address) refusal.Order
     (unless (is_protected p h.flags) refusal.Writable (Ok (segment_of_header own p h))))
-found_part_is_known_part own last h false placed p = refl
-found_part_is_known_part own last h true false p = refl
-found_part_is_known_part own last h true true p = refl
+chain_with_found_part_is_chain_with_known_part own last h false placed p = refl
+chain_with_found_part_is_chain_with_known_part own last h true false p = refl
+chain_with_found_part_is_chain_with_known_part own last h true true p = refl
 
 after_bytes_uses_part_in : (file : List ℕ) (last : ℕ) (h : Header) (own : List ℕ)
     → after_bytes file last h own
-    ≡ (unless (leb h.length h.size) refusal.Outside (placed_or (part_in h) h) >>= λ q. unless (leb last h.address) refusal.Order
+    ≡ (unless (leb h.length h.size) refusal.Outside (placed_part_or_outside (part_in h) h) >>= λ q. unless (leb last h.address) refusal.Order
     (unless (is_protected (part_in h) h.flags) refusal.Writable (Ok (segment_of_header own (part_in h) h))))
 after_bytes_uses_part_in file last h own =
     ap (λ (r : Result Part Refusal). unless (leb h.length h.size) refusal.Outside r >>= λ part. unless (leb last h.address) refusal.Order
     (unless (is_protected part h.flags) refusal.Writable (Ok (segment_of_header own part h)))) (part_placed_is_part_in h)
-    ∙ found_part_is_known_part own last h (leb h.length h.size) (is_within (part_in h) h.address h.size && is_placed (part_in h) h) (part_in h)
+    ∙ chain_with_found_part_is_chain_with_known_part own last h (leb h.length h.size) (is_within (part_in h) h.address h.size && is_placed (part_in h) h) (part_in h)
 
 segment_at_agrees_with_tests : {Y : Type 0} (file : List ℕ) (last : ℕ) (h : Header) (k : Segment → Result Y Refusal) (others : List Test)
     → Agrees (k (segment_in file h)) others → Agrees (segment_at file last h >>= k) (loaded_tests file last h others)
@@ -99,9 +99,9 @@ unfolding segment_at
 segment_at_agrees_with_tests file last h k others agrees = elim (cases_lt (length file) (h.place + h.length)) [
   | inl l ↦ rw (bytes_from_is_short file h.place h.length l, lt-leb (h.place + h.length) (length file) l) refl
   | inr g ↦ (let own = take h.length (drop h.place file) in
-      let tests = unless_steps_agree_with_tests (leb h.length h.size) (is_within (part_in h) h.address h.size && is_placed (part_in h) h) (leb last h.address)
+      let tests = unless_chain_agrees_with_tests (leb h.length h.size) (is_within (part_in h) h.address h.size && is_placed (part_in h) h) (leb last h.address)
       (is_protected (part_in h) h.flags) (part_in h) (segment_in file h) k others agrees in
-      rw (bytes_from_if_whole file h.place h.length g, le-leb (h.place + h.length) (length file) g)
+      rw (bytes_from_is_take_if_whole file h.place h.length g, le-leb (h.place + h.length) (length file) g)
       (ap (λ (r : Result Segment Refusal). fault_of (r >>= k)) (after_bytes_uses_part_in file last h own) ∙ tests))
 ]
 

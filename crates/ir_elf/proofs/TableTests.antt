@@ -17,7 +17,7 @@ use Rattle.ir_elf.specs.Table.{TableParts, form_of, threads_field, entry_at, are
 use Rattle.ir_elf.specs.Reading.{code_words, table_found, guest_of, elf_guest_at}
 use Rattle.ir_elf.specs.Tests.{Test, first_failed, test, number_in, field, headers_place, headers_number, headers_in, segments_in, segment_tests, entry_tests, form_in, table_tests, found_tests, guest_tests, elf_tests, IsElfGuest}
 use Rattle.ir_elf.proofs.Limits.{table_parts_by, guest_by}
-use Rattle.ir_elf.proofs.Refused.{Agrees, field_known, bind_is_associative, field_step_agrees_with_tests, headers_place_agrees_with_tests}
+use Rattle.ir_elf.proofs.Refused.{Agrees, field_and_rest, bind_is_associative, field_bind_agrees_with_tests, headers_place_agrees_with_tests}
 use Rattle.ir_elf.proofs.HeaderTests.{headers_agree_with_tests}
 use Rattle.ir_elf.proofs.SegmentTests.{segments_from_agree_with_tests}
 
@@ -34,8 +34,8 @@ entries_agree_with_tests code table (suc n) place k others h =
     let same : place + 4 * suc n ≡ place + 4 + 4 * n = omega arith in
     let after : ℕ × List ℕ → Result (List ℕ × List ℕ) Refusal = λ first. fields_at (entry_at code) n first.1 >>= λ xs. Ok
     (first.0 ∷ xs.0, xs.1) in
-    let x = field_known place 4 table in
-    field_step_agrees_with_tests refusal.Table place 4 (is_place code) refusal.Entry table after k (entry_tests table code (place + 4) n others) (omega arith)
+    let x = field_and_rest place 4 table in
+    field_bind_agrees_with_tests refusal.Table place 4 (is_place code) refusal.Entry table after k (entry_tests table code (place + 4) n others) (omega arith)
     (ap fault_of (bind_is_associative (fields_at (entry_at code) n (drop (place + 4) table)) (λ xs. Ok (x.0 ∷ xs.0, xs.1)) k)
     ∙ entries_agree_with_tests code table n (place + 4) (λ xs. k (x.0 ∷ xs.0, xs.1)) others
     (λ xs. subst (λ (q : ℕ). Agrees (k (x.0 ∷ xs, drop q table)) others) same (h (x.0 ∷ xs))))
@@ -65,8 +65,8 @@ table_at_agrees_with_tests code table k h =
     let t3 = test (are_objects form (length (drop (8 + 4 * n) table))) refusal.Table [] in
     let t2 = entry_tests table code 8 n t3 in
     let t1 = field refusal.Table table 4 4 (λ n. leb 1 n && leb n (limits_of form).threads) refusal.Table t2 in
-    field_step_agrees_with_tests refusal.Table 0 4 (λ n. leb 1 n && leb n 2) refusal.Table table (after_form code) k t1 (omega arith)
-    (field_step_agrees_with_tests refusal.Table 4 4 (λ n. leb 1 n && leb n (limits_of form).threads) refusal.Table table (after_threads form code) k t2 (omega arith)
+    field_bind_agrees_with_tests refusal.Table 0 4 (λ n. leb 1 n && leb n 2) refusal.Table table (after_form code) k t1 (omega arith)
+    (field_bind_agrees_with_tests refusal.Table 4 4 (λ n. leb 1 n && leb n (limits_of form).threads) refusal.Table table (after_threads form code) k t2 (omega arith)
     (ap fault_of (bind_is_associative (fields_at (entry_at code) n (drop 8 table)) (after_entries form) k)
     ∙ entries_agree_with_tests code table n 8 (λ x. after_entries form x >>= k) t3
     (λ xs. objects_agree_with_test (are_objects form (length (drop (8 + 4 * n) table))) (table_parts_by form xs (drop (8 + 4 * n) table)) k h)))
@@ -78,15 +78,15 @@ table_found_agrees_with_tests code None k h = refl
 
 -- ---- the guest
 
-guest_step_agrees_with_code_test : (b : Bool) (read : Result Guest Refusal) (tests : List Test) → Agrees read tests
+unless_no_code_agrees_with_test : (b : Bool) (read : Result Guest Refusal) (tests : List Test) → Agrees read tests
     → Agrees (unless b refusal.NoCode read) (test b refusal.NoCode tests)
-guest_step_agrees_with_code_test true read tests h = h
-guest_step_agrees_with_code_test false read tests h = refl
+unless_no_code_agrees_with_test true read tests h = h
+unless_no_code_agrees_with_test false read tests h = refl
 
 guest_of_agrees_with_tests : (ss : List Segment) → Agrees (guest_of ss) (guest_tests ss)
 unfolding guest_of
 guest_of_agrees_with_tests ss =
-    guest_step_agrees_with_code_test (ltb 0 (code_words ss)) (table_found (code_words ss) (table_of ss) >>= λ t. Ok (guest_by ss t)) (found_tests (code_words ss) (table_of ss))
+    unless_no_code_agrees_with_test (ltb 0 (code_words ss)) (table_found (code_words ss) (table_of ss) >>= λ t. Ok (guest_by ss t)) (found_tests (code_words ss) (table_of ss))
     (table_found_agrees_with_tests (code_words ss) (table_of ss) (λ t. Ok (guest_by ss t)) (λ t. refl))
 
 -- ---- the file

@@ -10,7 +10,8 @@ use Rattle.ir_bytes.specs.Reading.{◌>>=◌, bytes_at, field_at, fields_at}
 use Rattle.ir_bytes.proofs.CallerLemmas.{two_steps_succeed, three_steps_succeed, four_steps_succeed, guard_passed_if_ok, test_passed_if_ok, ok_is_injective, conditional_cases, test_true_if_no_fault, number_within_if_no_fault, IsBytes, drop_of_bytes_is_bytes, prefix_encodes_number, bytes_are_bytes_of_their_number, Takes, field_at_takes_field, bytes_at_takes_bytes, fields_at_takes_fields}
 use Rattle.ir_image.specs.declared.form.ImageForm.{ImageForm}
 use Rattle.ir_image.specs.declared.form.ImageForm.TheVariants.{Small, Large}
-use Rattle.ir_image.specs.Guest.{limits_of, Guest, IsWord, IsByte, most_code_words, IsGuest, IsPlace}
+use Rattle.ir_image.specs.Guest.{limits_of, Guest, most_code_words}
+use Rattle.ir_image.specs.Bounds.{IsWord, IsByte, IsGuest, IsPlace}
 use Rattle.ir_image.specs.Encoding.{words_encoding}
 use Rattle.ir_elf.specs.declared.part.Part.{Part}
 use Rattle.ir_elf.specs.declared.part.Part.TheVariants.{Code, Memory, Table}
@@ -24,10 +25,10 @@ use Rattle.ir_elf.specs.Segments.{Segment, end_of, is_protected, part_of, bytes_
 use Rattle.ir_elf.specs.Memory.{is_same, over, with_segment, with_segments, memory_of, held_in, greatest, table_of, words_in}
 use Rattle.ir_elf.specs.Table.{TableParts, form_field, form_of, threads_field, entry_field, entry_at, are_objects, table_at, number_of, table_encoding}
 use Rattle.ir_elf.specs.Reading.{code_memory, code_words, data_bytes, table_found, guest_of, elf_guest_at}
-use Rattle.ir_elf.proofs.Limits.{parts_of_ok_unless, place_if_is_place, table_parts_by, guest_of_segments_has_limits, guest_within_limits_is_guest}
+use Rattle.ir_elf.proofs.Limits.{parts_of_ok_unless, number_is_place_if_is_place_is_true, table_parts_by, guest_of_segments_has_limits, guest_within_limits_is_guest}
 use Rattle.ir_elf.proofs.Order.{IsNext, AreOrdered, segment_of_header}
-use Rattle.ir_elf.proofs.Addresses.{equal_if_is_same}
-use Rattle.ir_elf.proofs.Contents.{segments_ordered, is_guest_of_if_guest_read, is_guest_of_if_file_read, length_of_memory_of, greatest_size_in_code_within_part}
+use Rattle.ir_elf.proofs.Addresses.{parts_are_equal_if_is_same_is_true}
+use Rattle.ir_elf.proofs.Contents.{segments_at_are_ordered, is_guest_of_if_guest_read, is_guest_of_if_file_read, length_of_memory_of, greatest_size_in_code_within_part}
 
 -- ---- bytes
 
@@ -152,7 +153,7 @@ entry_at_takes_little_bytes : (words : ℕ) (bytes : List ℕ) (n : ℕ × List 
     → Takes bytes (little_bytes 4 n.0) n.1 × IsPlace words n.0
 entry_at_takes_little_bytes words bytes n fits e =
     let t = field_at_takes_field refusal.Table (entry_field words) bytes n fits e in
-    (t.takes, place_if_is_place words n.0 (test_true_if_no_fault _ refusal.Entry t.passes))
+    (t.takes, number_is_place_if_is_place_is_true words n.0 (test_true_if_no_fault _ refusal.Entry t.passes))
 
 number_of_form_of : (n : ℕ) → 1 ≤ n → n ≤ 2 → number_of (form_of n) ≡ n
 number_of_form_of zero low high = absurd (omega (arith, low))
@@ -160,9 +161,9 @@ number_of_form_of (suc zero) low high = refl
 number_of_form_of (suc (suc zero)) low high = refl
 number_of_form_of (suc (suc (suc n))) low high = absurd (omega (arith, high))
 
-whole_objects_are_whole_words : (form : ImageForm) (n : ℕ) → n % (4 * (limits_of form).words) ≡ 0 → n % 4 ≡ 0
-whole_objects_are_whole_words Small n e = omega (arith, e)
-whole_objects_are_whole_words Large n e = omega (arith, e)
+size_of_whole_objects_is_multiple_of_4 : (form : ImageForm) (n : ℕ) → n % (4 * (limits_of form).words) ≡ 0 → n % 4 ≡ 0
+size_of_whole_objects_is_multiple_of_4 Small n e = omega (arith, e)
+size_of_whole_objects_is_multiple_of_4 Large n e = omega (arith, e)
 
 abbrev table_parts_encoding : TableParts → List ℕ
 table_parts_encoding t =
@@ -187,7 +188,7 @@ table_is_encoding_of_parts code bytes t fits e =
     let p = test_passed_if_ok (are_objects f (length entries.1)) refusal.Table (table_parts_by f entries.0 entries.1) t e3 in
     let both = and_parts (eqb (length entries.1 % (4 * (limits_of f).words)) 0)
     (leb (length entries.1) (4 * ((limits_of f).words * (limits_of f).objects))) p.0 in
-    let whole = words_encoding_of_words_in entries.1 t2.takes.rest_fits (whole_objects_are_whole_words f (length entries.1) (eqb-true _ _ both.0)) in
+    let whole = words_encoding_of_words_in entries.1 t2.takes.rest_fits (size_of_whole_objects_is_multiple_of_4 f (length entries.1) (eqb-true _ _ both.0)) in
     subst (λ (x : TableParts). bytes ≡ table_parts_encoding x) p.1
     (append_of_four_parts bytes form.1 threads.1 entries.1 [] (little_bytes 4 (number_of f)) (little_bytes 4 (length entries.0)) (words_encoding entries.0)
     (words_encoding (words_in entries.1))
@@ -214,7 +215,7 @@ held_in_memory_within_part s last next =
     let held = next.held in
     cond_both (is_same s.part Memory && ltb 0 (length s.bytes)) (s.place + length s.bytes) 0 (λ n. n ≤ size_of Memory)
     (λ both. let same = (and_parts (is_same s.part Memory) (ltb 0 (length s.bytes)) both).0 in
-    let within : s.place + s.size ≤ size_of Memory = subst (λ (p : Part). s.place + s.size ≤ size_of p) (equal_if_is_same s.part Memory same) next.within in
+    let within : s.place + s.size ≤ size_of Memory = subst (λ (p : Part). s.place + s.size ≤ size_of p) (parts_are_equal_if_is_same_is_true s.part Memory same) next.within in
     omega (arith, within, held)) (λ other. omega arith)
 
 greatest_held_in_memory_within_part : (ss : List Segment) (last : ℕ) → AreOrdered last ss → greatest (held_in Memory) ss ≤ size_of Memory
@@ -264,4 +265,4 @@ pub elf_guest_is_guest : (file : List ℕ) (g : Guest) → AllByRecursion IsByte
 unfolding elf_guest_at
 elf_guest_is_guest file g fits e =
     two_steps_succeed (segments_at file) (λ s. guest_of s) g e (λ ss e0 e1.
-    guest_of_segments_is_guest ss g (segments_ordered file ss e0) (segments_at_have_bytes file ss fits e0) e1)
+    guest_of_segments_is_guest ss g (segments_at_are_ordered file ss e0) (segments_at_have_bytes file ss fits e0) e1)

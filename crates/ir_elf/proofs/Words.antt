@@ -11,22 +11,22 @@ rest_of_read_words w ws a b c d more h k lt =
     let step : 4 * suc k ≡ suc (suc (suc (suc (4 * k)))) = omega arith in
     subst (λ (i : ℕ). slice_index ws k ≡ little_number 4 (drop i (a ∷ b ∷ c ∷ d ∷ more))) step (h (suc k) (omega arith))
 
-words_in_if_read : (ws own : List ℕ) → length own ≡ 4 * length ws → IsRead little_number 4 own ws → words_in own ≡ ws
-words_in_if_read [] [] e h = refl
-words_in_if_read [] (a ∷ own) e h = absurd (omega arith)
-words_in_if_read (w ∷ ws) [] e h = absurd (omega arith)
-words_in_if_read (w ∷ ws) (a ∷ []) e h = absurd (omega arith)
-words_in_if_read (w ∷ ws) (a ∷ b ∷ []) e h = absurd (omega arith)
-words_in_if_read (w ∷ ws) (a ∷ b ∷ c ∷ []) e h = absurd (omega arith)
-words_in_if_read (w ∷ ws) (a ∷ b ∷ c ∷ d ∷ more) e h =
+read_words_are_words_in : (ws own : List ℕ) → length own ≡ 4 * length ws → IsRead little_number 4 own ws → words_in own ≡ ws
+read_words_are_words_in [] [] e h = refl
+read_words_are_words_in [] (a ∷ own) e h = absurd (omega arith)
+read_words_are_words_in (w ∷ ws) [] e h = absurd (omega arith)
+read_words_are_words_in (w ∷ ws) (a ∷ []) e h = absurd (omega arith)
+read_words_are_words_in (w ∷ ws) (a ∷ b ∷ []) e h = absurd (omega arith)
+read_words_are_words_in (w ∷ ws) (a ∷ b ∷ c ∷ []) e h = absurd (omega arith)
+read_words_are_words_in (w ∷ ws) (a ∷ b ∷ c ∷ d ∷ more) e h =
     let first : w ≡ little_number 4 (a ∷ b ∷ c ∷ d ∷ []) = h 0 (omega arith) in
-    let next = words_in_if_read ws more (omega arith) (rest_of_read_words w ws a b c d more h) in
+    let next = read_words_are_words_in ws more (omega arith) (rest_of_read_words w ws a b c d more h) in
     rw (next, ← first) refl
 
-pub words_in_room_if_read : (room : ℕ) (own ws items : List ℕ) → length own ≡ 4 * length ws → room ≡ length ws → IsRead little_number 4 own ws
+pub read_words_in_room_are_words_in : (room : ℕ) (own ws items : List ℕ) → length own ≡ 4 * length ws → room ≡ length ws → IsRead little_number 4 own ws
     → take room (ws ++ drop (length ws) items) ≡ words_in own
-words_in_room_if_read room own ws items e full h =
-    ap (λ (k : ℕ). take k (ws ++ drop (length ws) items)) full ∙ take-append_seam ws (drop (length ws) items) ∙ sym (words_in_if_read ws own e h)
+read_words_in_room_are_words_in room own ws items e full h =
+    ap (λ (k : ℕ). take k (ws ++ drop (length ws) items)) full ∙ take-append_seam ws (drop (length ws) items) ∙ sym (read_words_are_words_in ws own e h)
 
 pub length_of_words_in : (own : List ℕ) → length (words_in own) ≡ length own / 4
 length_of_words_in [] = omega arith

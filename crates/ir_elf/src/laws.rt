@@ -2,7 +2,8 @@
 
 ghost use Rattle.std.specs.Prelude.{◌≡◌, ◌<◌, ◌+◌, ◌*◌, ℕ, List, length, slice_index, Ok, Some};
 ghost use Rattle.std.specs.List.{AllByRecursion};
-ghost use Rattle.ir_image.specs.Guest.{Guest, IsByte, code_start, memory_start, memory_size, IsGuest, guest_at};
+ghost use Rattle.ir_image.specs.Guest.{Guest, code_start, memory_start, memory_size, guest_at};
+ghost use Rattle.ir_image.specs.Bounds.{IsByte, IsGuest};
 ghost use Rattle.ir_image.specs.Encoding.{encoding};
 ghost use Rattle.ir_elf.specs.Memory.{table_of};
 ghost use Rattle.ir_bytes.specs.Format.{fault_of};

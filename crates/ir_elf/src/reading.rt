@@ -2,7 +2,8 @@
 
 ghost use Rattle.std.specs.Prelude.{◌≡◌, ◌≤◌, ◌*◌, length, map, IfOk};
 ghost use Rattle.std.specs.List.{AllByRecursion};
-ghost use Rattle.ir_image.specs.Guest.{IsByte, IsWord, most_code_words, memory_size};
+ghost use Rattle.ir_image.specs.Guest.{most_code_words, memory_size};
+ghost use Rattle.ir_image.specs.Bounds.{IsByte, IsWord};
 ghost use Rattle.ir_elf.specs.Refusal.{Gives};
 ghost use Rattle.ir_elf.specs.Segments.{seen};
 ghost use Rattle.ir_elf.specs.Reading.{code_memory, code_words, data_bytes, guest_of, elf_guest_at};

@@ -5,7 +5,7 @@ use Rattle.std.proofs.lemmas.List.{get_or_past}
 use Rattle.ir_flat.proofs.CallerLemmas.{guest_start_is_idle}
 use Rattle.ir_runs.specs.Run.{Step, trail, count}
 use Rattle.ir_fit.specs.Fit.{FittedTrace, IsRunOf}
-use Rattle.ir_fit.proofs.CallerLemmas.{idle_thread_has_empty_trail, get_or_of_at}
+use Rattle.ir_fit.proofs.CallerLemmas.{idle_thread_has_empty_trail, get_or_is_item_if_at_index}
 use Rattle.ir_cut.specs.Positions.{machine_of, start_of, cut_of, IsConsistentCut}
 use Rattle.ir_weave.specs.Standing.{Standing, flat_in, positions}
 use Rattle.ir_weave.specs.Stepping.{IsTarget, IsUnder, Rests}
@@ -26,7 +26,7 @@ pub ends_are_consistent_cut : (f : FittedTrace) (ends : List ℕ) → AreEnds f 
 ends_are_consistent_cut f ends are run whole = (
   λ t. let all = ends_are_step_counts f ends are run whole t in omega (arith, all),
   λ t k u j a b emitted needed needs less. let all = ends_are_step_counts f ends are run whole u in
-      let within = (get_or_of_at (trail (machine_of f) (start_of f) run u) j (needed.0, b) needed.1).0 in
+      let within = (get_or_is_item_if_at_index (trail (machine_of f) (start_of f) run u) j (needed.0, b) needed.1).0 in
       omega (arith, all, within),
 )
 

@@ -9,7 +9,7 @@ use Rattle.ir_thread.specs.State as thread
 use Rattle.ir_flat.specs.Flat.{idle}
 use Rattle.ir_runs.specs.Run.{Step}
 use Rattle.ir_fit.specs.Fit.{FittedTrace, HasRun, IsRunOf}
-use Rattle.ir_fit.proofs.CallerLemmas.{entry_positions_rise, entries_as_many_as_events, entry_position_below_steps}
+use Rattle.ir_fit.proofs.CallerLemmas.{event_positions_rise, event_positions_are_as_many_as_events, event_position_below_steps}
 use Rattle.ir_cut.specs.Positions.{cut_of}
 use Rattle.ir_weave.specs.Ahead.{thread_at}
 use Rattle.ir_weave.specs.Standing.{Standing, StandsAt, flat_in, positions}
@@ -29,7 +29,7 @@ later_event_has_later_position : (f : FittedTrace) → HasRun f → (t : ℕ) �
     → entry_of f t i ≤ entry_of f t j
 later_event_has_later_position f h t l i j up lj = elim (cases_eq j i) [
   | inl same ↦ subst (λ n. entry_of f t i ≤ entry_of f t n) (sym same) (omega arith)
-  | inr ne ↦ let less = entry_positions_rise f h t l i j (omega (arith, up, ne)) lj in omega (arith, less)
+  | inr ne ↦ let less = event_positions_rise f h t l i j (omega (arith, up, ne)) lj in omega (arith, less)
 ]
 
 -- the thread has gone on, at most to the next event
@@ -43,9 +43,9 @@ listed_up_to_next_event f t k k' pcs h l is within = record {
 }
 
 -- the pc of a thread of the state
-pub pc_of_standing_thread : (f : FittedTrace) (s : Standing) (t k : ℕ) → StandsAt f (positions (flat_in f s)) s → positions (flat_in f s) t ≡ k
+pub pc_of_standing_thread_is_that_of_run : (f : FittedTrace) (s : Standing) (t k : ℕ) → StandsAt f (positions (flat_in f s)) s → positions (flat_in f s) t ≡ k
     → (run : List Step) → IsRunOf f.guest f.recorded run → (slice_index_or s.threads t idle).core.pc ≡ (thread_at f run t k).core.pc
-pc_of_standing_thread f s t k stands at run whole =
+pc_of_standing_thread_is_that_of_run f s t k stands at run whole =
     ap (λ (x : thread.ThreadState). x.core.pc) ((stands.at.each run whole).threads t ∙ ap (thread_at f run t) at)
 
 -- the next event, by a list of the positions
@@ -75,7 +75,7 @@ listed_after_pc_added f t k pc pcs s h l is more stands at here =
         | inr past ↦
             let last : i ≡ length pcs = omega (arith, past, li, size) in
             subst (λ j. slice_index (pcs ++ pc ∷ []) j ≡ pc_of f run t j) (sym last)
-            (get_or-append_seam pcs pc [] 0 ∙ here ∙ pc_of_standing_thread f s t (entry_of f t (length pcs)) stands at run whole)
+            (get_or-append_seam pcs pc [] 0 ∙ here ∙ pc_of_standing_thread_is_that_of_run f s t (entry_of f t (length pcs)) stands at run whole)
       ];
       ahead = λ i past li. let up = later_event_has_later_position f h t l (length pcs) i (omega (arith, past, size)) li in omega (arith, at, up);
     }
@@ -97,10 +97,10 @@ listed_are_thread_pcs_at_end f ends t k pcs are l is done = record {
   size = elim (cases_lt (length pcs) (length (entries_of f t))) [
     | inl less ↦
         let left = is.ahead (length pcs) (omega arith) less in
-        let before = entry_position_below_steps f are.run t l (length pcs) less in
+        let before = event_position_below_steps f are.run t l (length pcs) less in
         let end = are.steps t l in
         absurd (omega (arith, left, before, end, done))
-    | inr all ↦ let few = is.few in let long = entries_as_many_as_events f are.run t l in omega (arith, few, all, long)
+    | inr all ↦ let few = is.few in let long = event_positions_are_as_many_as_events f are.run t l in omega (arith, few, all, long)
   ];
   each = is.each;
 }

@@ -56,10 +56,10 @@ pass_after_next_thread f ends t old s new k way further rests = record {
     second same u = let a = k.above u in let b = further_positions_never_fall f t s new further u in let e = same u in omega (arith, a, b, e)
 
 -- its list has grown, and the others are as they were
-pub lists_after_thread_goes_on : (f : FittedTrace) (t : ℕ) (old new : Standing) (lists lists' : List (List ℕ)) (list : List ℕ) → AreListed f old lists
+pub all_listed_after_thread_goes_on : (f : FittedTrace) (t : ℕ) (old new : Standing) (lists lists' : List (List ℕ)) (list : List ℕ) → AreListed f old lists
     → IsFurther f t old new → IsListed f t (positions (flat_in f new) t) list → t < length lists → lists' ≡ set lists t list
     → AreListed f new lists'
-lists_after_thread_goes_on f t old new lists lists' list are further is l made = subst (AreListed f new) (sym made) grown
+all_listed_after_thread_goes_on f t old new lists lists' list are further is l made = subst (AreListed f new) (sym made) grown
   where
     grown : AreListed f new (set lists t list)
     grown u lu = elim (cases_eq u t) [
@@ -73,9 +73,9 @@ lists_after_thread_goes_on f t old new lists lists' list are further is l made =
 -- ---- a pass over all
 
 -- a pass where some thread isn't at its end takes a step
-pub pass_steps_unless_at_ends : (f : FittedTrace) (ends : List ℕ) (n : ℕ) (old new : Standing) → AreEnds f ends → IsPass f ends n old new → length ends ≡ n
+pub steps_left_fall_in_pass_unless_at_ends : (f : FittedTrace) (ends : List ℕ) (n : ℕ) (old new : Standing) → AreEnds f ends → IsPass f ends n old new → length ends ≡ n
     → (t : ℕ) → positions (flat_in f old) t < cut_of ends t → steps_left ends (flat_in f new) < steps_left ends (flat_in f old)
-pass_steps_unless_at_ends f ends n old new are k size t below = elim (cases_lt (steps_left ends (flat_in f new)) (steps_left ends (flat_in f old))) [
+steps_left_fall_in_pass_unless_at_ends f ends n old new are k size t below = elim (cases_lt (steps_left ends (flat_in f new)) (steps_left ends (flat_in f old))) [
   | inl fewer ↦ fewer
   | inr stays ↦
       let same : IsSame (flat_in f old) (flat_in f new) = λ u. unmoved stays u in

@@ -3,13 +3,14 @@ use Rattle.std.specs.Prelude.{◌≡◌, ◌<◌, ℕ, List, [], length, slice_i
 use Rattle.std.specs.List.{slice_index_or}
 use Rattle.ir_runs.specs.Run.{Step}
 use Rattle.ir_trace.specs.Recorded.{recorded_thread}
-use Rattle.ir_fit.specs.Fit.{FittedTrace, placed_at}
+use Rattle.ir_fit.specs.Fit.{FittedTrace}
+use Rattle.ir_fit.specs.Placed.{placed_at, placed_of}
 use Rattle.ir_cut.specs.Positions.{EachRun}
 use Rattle.ir_weave.specs.Ahead.{thread_at}
 
 -- for each event of thread t, in order, how many steps the thread takes before the one that logs it
 abbrev pub entries_of : FittedTrace → ℕ → List ℕ
-entries_of f t = (placed_at f.placed t).entries
+entries_of f t = (placed_at (placed_of f) t).entries
 
 -- how many steps thread t takes before the one that logs its event i
 abbrev pub entry_of : FittedTrace → ℕ → ℕ → ℕ

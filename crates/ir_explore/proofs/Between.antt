@@ -9,7 +9,7 @@ use Rattle.ir_explore.specs.Following.{BothWays, Keeps, IsOpen}
 use Rattle.ir_explore.specs.Levels.{AllFollowed, AllOpen, AreWithin, AreAsked, AreGoneOver, LevelEnds}
 use Rattle.ir_explore.specs.Origins.{Whole, BeginsAt, Adds, IsReachedBy, AreReached, first_origin}
 use Rattle.ir_explore.specs.Searching.{HasGone, IsBetween}
-use Rattle.ir_explore.proofs.Gone.{asked_all, gone_over_if_notes_kept, gone_over_after_level, node_levels_after_adds, added_nodes_begin_next_level, row_of_empty_rows_is_empty}
+use Rattle.ir_explore.proofs.Gone.{asked_all, gone_over_if_notes_kept, gone_over_after_level, node_levels_bounded_after_adds, added_nodes_begin_next_level, row_of_empty_rows_is_empty}
 use Rattle.ir_explore.proofs.Reached.{place_of_element_is_below_length, rising_after_level_added}
 
 module _ (noted more : ℕ → BothWays) (size : ℕ) (nodes new : List Origin) (refusals table : List Refusal) (opened : List (List Bool)) (level : Level)
@@ -24,7 +24,7 @@ module _ (noted more : ℕ → BothWays) (size : ℕ) (nodes new : List Origin) 
     gone = subst (λ z. AreGoneOver more z new level.number) (sym same) (gone_over_if_notes_kept noted more (length opened) nodes new level.number kept adds.stays between.has.gone);
     reached = reached;
     rising = rising_after_level_added level.number nodes new between.has.rising levels_now adds;
-    most = node_levels_after_adds level.number nodes new levels_now adds;
+    most = node_levels_bounded_after_adds level.number nodes new levels_now adds;
     first = adds.stays 0 first_origin between.has.first;
     few = few;
   }
@@ -39,7 +39,7 @@ module _ (noted more : ℕ → BothWays) (size : ℕ) (nodes new : List Origin) 
         followed = followed;
         opens = λ t row few is w low less. opens t row few is w low (let u = between.until in omega (arith, less, u));
         within = within;
-        levels = node_levels_after_adds level.number nodes new levels_now adds;
+        levels = node_levels_bounded_after_adds level.number nodes new levels_now adds;
       } in
       let gone : AreGoneOver more (length opened) new (suc level.number) =
       gone_over_after_level noted more (length opened) nodes new rows level.number kept adds between.has.gone
@@ -52,7 +52,7 @@ module _ (noted more : ℕ → BothWays) (size : ℕ) (nodes new : List Origin) 
           gone = subst (λ z. AreGoneOver more z new next.number) (sym same) (subst (AreGoneOver more (length opened) new) one gone);
           reached = reached;
           rising = rising_after_level_added level.number nodes new between.has.rising levels_now adds;
-          most = λ v n is. let a = node_levels_after_adds level.number nodes new levels_now adds v n is in omega (arith, a, one);
+          most = λ v n is. let a = node_levels_bounded_after_adds level.number nodes new levels_now adds v n is in omega (arith, a, one);
           first = adds.stays 0 first_origin between.has.first;
           few = omega (arith, all);
         };
@@ -68,9 +68,9 @@ module _ (noted more : ℕ → BothWays) (size : ℕ) (nodes new : List Origin) 
       }
 
 -- what is between two levels of which the next has no node is finished
-pub finished_asked : (noted : ℕ → BothWays) (size : ℕ) (nodes : List Origin) (refusals : List Refusal) (opened : List (List Bool)) (level : Level)
+pub all_are_asked_if_next_level_is_empty : (noted : ℕ → BothWays) (size : ℕ) (nodes : List Origin) (refusals : List Refusal) (opened : List (List Bool)) (level : Level)
     → IsBetween noted size nodes refusals opened level → level.until ≤ level.first → AreAsked noted (length opened) size
-finished_asked noted size nodes refusals opened level between over =
+all_are_asked_if_next_level_is_empty noted size nodes refusals opened level between over =
     asked_all noted (length opened) nodes opened level.first (level.number - 1) between.ends
     (let a = between.until in let b = between.order in omega (arith, a, b, over)) size between.all
 

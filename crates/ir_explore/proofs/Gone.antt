@@ -5,12 +5,12 @@ use Rattle.std.proofs.lemmas.Bool.{cases_lt, le-leb}
 use Rattle.std.proofs.lemmas.Bool.Decides.{leb_tells}
 use Rattle.std.proofs.lemmas.Option.{slice_get-get_or, same_Some}
 use Rattle.std.proofs.Math.Dec.{leb}
-use Rattle.ir_states.proofs.CallerLemmas.{more_levels}
+use Rattle.ir_states.proofs.CallerLemmas.{levels_with_one_added}
 use Rattle.ir_explore.specs.declared.origin.Origin.{Origin}
 use Rattle.ir_explore.specs.Following.{Leading, BothWays, Keeps, GoesTo}
 use Rattle.ir_explore.specs.Levels.{AllFollowed, AllOpen, AreWithin, LevelEnds, AreAsked, Covered, AreGoneOver}
 use Rattle.ir_explore.specs.Origins.{BeginsAt, Adds}
-use Rattle.ir_explore.proofs.Opens.{open_if_element_or_false_true, element_or_false_true_if_open}
+use Rattle.ir_explore.proofs.Opens.{open_if_get_or_false_is_true, get_or_false_is_true_if_open}
 use Rattle.ir_explore.proofs.Reached.{place_of_element_is_below_length}
 
 -- whether node v is opened for thread t
@@ -23,20 +23,20 @@ row_below_length_is_element opened t l = slice_get-get_or opened t [] l
 pub opened_if_all_open : (opened : List (List Bool)) (n threads t v : ℕ) → AllOpen opened 0 n threads → threads ≤ length opened → t < threads → v < n
     → is_opened_for opened v t ≡ true
 opened_if_all_open opened n threads t v all wide l less =
-    element_or_false_true_if_open (get_or opened t []) v (all t (get_or opened t []) l (row_below_length_is_element opened t (omega (arith, l, wide))) v (omega arith) less)
+    get_or_false_is_true_if_open (get_or opened t []) v (all t (get_or opened t []) l (row_below_length_is_element opened t (omega (arith, l, wide))) v (omega arith) less)
 
 pub opened_node_is_followed : (noted : ℕ → BothWays) (opened : List (List Bool)) (t v : ℕ) → AllFollowed noted opened → t < length opened
     → is_opened_for opened v t ≡ true → (refused : Bool) → GoesTo (noted t refused) (λ w. is_opened_for opened w t ≡ true) v
 opened_node_is_followed noted opened t v all l is refused =
-    elim (all t (get_or opened t []) (row_below_length_is_element opened t l) v (open_if_element_or_false_true (get_or opened t []) v is) refused) [
+    elim (all t (get_or opened t []) (row_below_length_is_element opened t l) v (open_if_get_or_false_is_true (get_or opened t []) v is) refused) [
       | inl none ↦ inl none
-      | inr s ↦ inr (s.0, s.1, element_or_false_true_if_open (get_or opened t []) s.0 s.2)
+      | inr s ↦ inr (s.0, s.1, get_or_false_is_true_if_open (get_or opened t []) s.0 s.2)
     ]
 
 pub opened_node_is_within : (opened : List (List Bool)) (n t v : ℕ) → AreWithin opened n → t < length opened → is_opened_for opened v t ≡ true → v < n
 opened_node_is_within opened n t v within l is =
     let a = within t (get_or opened t []) (row_below_length_is_element opened t l) in
-    let b = place_of_element_is_below_length (get_or opened t []) v true (open_if_element_or_false_true (get_or opened t []) v is) in
+    let b = place_of_element_is_below_length (get_or opened t []) v true (open_if_get_or_false_is_true (get_or opened t []) v is) in
     omega (arith, a, b)
 
 pub element_below_length_exists : (xs : List Origin) (v : ℕ) → v < length xs → (n : Origin) × (slice_get xs v ≡ Some n)
@@ -81,10 +81,10 @@ module _ (noted : ℕ → BothWays) (threads : ℕ) (nodes : List Origin) (opene
     within = λ k v t l few is. let n = within_now until 0 h v t few is in (n.0, n.1, let a = n.2 in omega (arith, a));
   }
 
-  up_to : (levels : ℕ → ℕ → ℕ → Bool) (c k v t : ℕ) → k ≤ c → more_levels levels c (is_opened_for opened) k v t ≡ levels k v t
+  up_to : (levels : ℕ → ℕ → ℕ → Bool) (c k v t : ℕ) → k ≤ c → levels_with_one_added levels c (is_opened_for opened) k v t ≡ levels k v t
   up_to levels c k v t l = ap (λ b. cond b (levels k v t) (is_opened_for opened v t)) (le-leb k c l)
 
-  above : (levels : ℕ → ℕ → ℕ → Bool) (c k v t : ℕ) → c < k → more_levels levels c (is_opened_for opened) k v t ≡ is_opened_for opened v t
+  above : (levels : ℕ → ℕ → ℕ → Bool) (c k v t : ℕ) → c < k → levels_with_one_added levels c (is_opened_for opened) k v t ≡ is_opened_for opened v t
   above levels c k v t l =
       let no : leb k c ≡ false = elim (leb_tells k c) [ inl p ↦ absurd (let h = p.1 in omega (arith, h, l)) | inr p ↦ p.0 ] in
       ap (λ b. cond b (levels k v t) (is_opened_for opened v t)) no
@@ -93,7 +93,7 @@ module _ (noted : ℕ → BothWays) (threads : ℕ) (nodes : List Origin) (opene
   pub covered_more : (until c : ℕ) → (h : Covered noted threads nodes c) → LevelEnds noted threads nodes opened until (suc c)
       → ((v t : ℕ) → t < threads → h.levels c v t ≡ true → v < until) → Covered noted threads nodes (suc c)
   covered_more until c h now less = record {
-    levels = more_levels h.levels c (is_opened_for opened);
+    levels = levels_with_one_added h.levels c (is_opened_for opened);
     opens = λ t few. up_to h.levels c 0 0 t (omega arith) ∙ h.opens t few;
     followed = λ k v t l few is refused. elim (cases_lt c k) [
       | inl high ↦
@@ -147,9 +147,9 @@ gone_over_after_level noted more threads nodes new opened (suc c) kept adds gone
     (λ v t few is. let n = gone.within c v t (omega arith) few is in place_of_element_is_below_length nodes v n.0 n.1)
 
 -- the levels of the nodes, once these were added
-pub node_levels_after_adds : (k : ℕ) (nodes new : List Origin) → ((v : ℕ) (n : Origin) → slice_get nodes v ≡ Some n → n.level ≤ k) → Adds k nodes new
+pub node_levels_bounded_after_adds : (k : ℕ) (nodes new : List Origin) → ((v : ℕ) (n : Origin) → slice_get nodes v ≡ Some n → n.level ≤ k) → Adds k nodes new
     → (v : ℕ) (n : Origin) → slice_get new v ≡ Some n → n.level ≤ k
-node_levels_after_adds k nodes new old adds v n is = elim (cases_lt v (length nodes)) [
+node_levels_bounded_after_adds k nodes new old adds v n is = elim (cases_lt v (length nodes)) [
   | inl low ↦
       let m = element_below_length_exists nodes v low in
       let a = old v m.0 m.1 in

@@ -1,6 +1,6 @@
 mod Opens
 mod Reached
-mod Going
+mod TurnSoFar
 mod Rows
 mod Gone
 mod Between

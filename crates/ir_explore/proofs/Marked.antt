@@ -6,27 +6,27 @@ use Rattle.ir_explore.specs.Ways.{shut, IsBefore, IsMarkedBack, Leads, HasMarked
 use Rattle.ir_explore.proofs.Opens.{shut_less_after_opening, stays_open_through_opening, open_after_opening_cases}
 use Rattle.ir_explore.proofs.Reached.{place_of_element_is_below_length}
 
-pub open_node_has_marked : (noted : ℕ → BothWays) (threads : ℕ) (marks : List Bool) (v : ℕ) → IsOpen marks v → HasMarked noted threads marks v
-open_node_has_marked noted threads marks v is = (place_of_element_is_below_length marks v true is, [], v, refl, is)
+pub marked_node_leads_to_marked_node : (noted : ℕ → BothWays) (threads : ℕ) (marks : List Bool) (v : ℕ) → IsOpen marks v → HasMarked noted threads marks v
+marked_node_leads_to_marked_node noted threads marks v is = (place_of_element_is_below_length marks v true is, [], v, refl, is)
 
-pub has_marked_step : (noted : ℕ → BothWays) (threads : ℕ) (marks : List Bool) (v t : ℕ) (refused : Bool) (w : ℕ) → v < length marks → t < threads
+pub leads_to_marked_node_if_next_node_does : (noted : ℕ → BothWays) (threads : ℕ) (marks : List Bool) (v t : ℕ) (refused : Bool) (w : ℕ) → v < length marks → t < threads
     → noted t refused v ≡ Some (Some w) → HasMarked noted threads marks w → HasMarked noted threads marks v
-has_marked_step noted threads marks v t refused w less few is (l, ts, x, path, open_at) = (less, (t, refused) ∷ ts, x, (w, few, is, l, path), open_at)
+leads_to_marked_node_if_next_node_does noted threads marks v t refused w less few is (l, ts, x, path, open_at) = (less, (t, refused) ∷ ts, x, (w, few, is, l, path), open_at)
 
 -- a way to what has a way
-pub has_marked_through_new_marks : (noted : ℕ → BothWays) (threads : ℕ) (old new : List Bool) → length new ≡ length old
+pub leads_to_old_marked_node_if_to_new_marked_node : (noted : ℕ → BothWays) (threads : ℕ) (old new : List Bool) → length new ≡ length old
     → ((v : ℕ) → IsOpen new v → HasMarked noted threads old v) → (v : ℕ) → HasMarked noted threads new v → HasMarked noted threads old v
-has_marked_through_new_marks noted threads old new same ways v (l, ts, w, path, is) = by ts v l path
+leads_to_old_marked_node_if_to_new_marked_node noted threads old new same ways v (l, ts, w, path, is) = by ts v l path
   where
     by : (ts : List (ℕ × Bool)) (v : ℕ) → v < length new → Leads noted threads (length new) v ts w → HasMarked noted threads old v
     by [] v l path = subst (HasMarked noted threads old) (sym path) (ways w is)
     by ((t, refused) ∷ ts) v l (x, few, to, less, path) =
-        has_marked_step noted threads old v t refused x (omega (arith, l, same)) few to (by ts x less path)
+        leads_to_marked_node_if_next_node_does noted threads old v t refused x (omega (arith, l, same)) few to (by ts x less path)
 
 -- who has a way is marked, where marks are passed on back
-pub node_with_way_is_marked_back : (noted : ℕ → BothWays) (threads : ℕ) (old new : List Bool) → length new ≡ length old → StaysOpen old new
+pub node_is_marked_if_it_leads_to_marked_node : (noted : ℕ → BothWays) (threads : ℕ) (old new : List Bool) → length new ≡ length old → StaysOpen old new
     → IsMarkedBack noted threads new → (v : ℕ) → HasMarked noted threads old v → IsOpen new v
-node_with_way_is_marked_back noted threads old new same stays back v (l, ts, w, path, is) = by ts v l path
+node_is_marked_if_it_leads_to_marked_node noted threads old new same stays back v (l, ts, w, path, is) = by ts v l path
   where
     by : (ts : List (ℕ × Bool)) (v : ℕ) → v < length old → Leads noted threads (length old) v ts w → IsOpen new v
     by [] v l path = subst (IsOpen new) (sym path) (stays w is)
@@ -45,7 +45,7 @@ pub sweep_starts : (noted : ℕ → BothWays) (threads : ℕ) (marks : List Bool
 sweep_starts noted threads marks = record {
   nodes = refl;
   stays = λ v is. is;
-  ways = λ v is. open_node_has_marked noted threads marks v is;
+  ways = λ v is. marked_node_leads_to_marked_node noted threads marks v is;
   most = omega arith;
   less = λ is. absurd (true≢false (sym is));
   back = λ same v low less. absurd (omega (arith, low, less));
@@ -62,7 +62,7 @@ sweep_marks_node noted threads old marks changed k node d s l unmarked (t, refus
       ways = λ v now. elim (open_after_opening_cases marks node v now) [
         | inl before ↦ s.ways v before
         | inr same ↦ subst (HasMarked noted threads old) (sym same)
-            (has_marked_step noted threads old node t refused w (let a = s.nodes in omega (arith, a, l)) few to (s.ways w is))
+            (leads_to_marked_node_if_next_node_does noted threads old node t refused w (let a = s.nodes in omega (arith, a, l)) few to (s.ways w is))
       ];
       most = let a = s.most in omega (arith, a, fewer);
       less = λ _. let a = s.most in omega (arith, a, fewer);

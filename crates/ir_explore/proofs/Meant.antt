@@ -24,9 +24,9 @@ changes_of_replicated_thread : (t n : ℕ) → changes t (replicate n t) ≡ 0
 changes_of_replicated_thread t zero = refl
 changes_of_replicated_thread t (suc n) = ap (λ b. cond b (changes t (replicate n t)) (suc (changes t (replicate n t)))) (eq-eqb t t refl) ∙ changes_of_replicated_thread t n
 
-changes_after_repeated_turn : (t : ℕ) (ts : List ℕ) (u n : ℕ) → changes t (ts ++ replicate n u) ≤ suc (changes t ts)
-changes_after_repeated_turn t [] u zero = omega arith
-changes_after_repeated_turn t [] u (suc n) = elim (cases_eq u t) [
+repeated_turn_adds_one_change_at_most : (t : ℕ) (ts : List ℕ) (u n : ℕ) → changes t (ts ++ replicate n u) ≤ suc (changes t ts)
+repeated_turn_adds_one_change_at_most t [] u zero = omega arith
+repeated_turn_adds_one_change_at_most t [] u (suc n) = elim (cases_eq u t) [
   | inl same ↦
       let e = ap (λ b. cond b (changes t (replicate n u)) (suc (changes u (replicate n u)))) (eq-eqb u t same) in
       let none : changes t (replicate n u) ≡ 0 = subst (λ z. changes t (replicate n z) ≡ 0) (sym same) (changes_of_replicated_thread t n) in
@@ -36,25 +36,25 @@ changes_after_repeated_turn t [] u (suc n) = elim (cases_eq u t) [
       let none = changes_of_replicated_thread u n in
       omega (arith, e, none)
 ]
-changes_after_repeated_turn t (v ∷ ts) u n = elim (cases_eq v t) [
+repeated_turn_adds_one_change_at_most t (v ∷ ts) u n = elim (cases_eq v t) [
   | inl same ↦
       let p = eq-eqb v t same in
       let e = ap (λ b. cond b (changes t (ts ++ replicate n u)) (suc (changes v (ts ++ replicate n u)))) p in
       let f = ap (λ b. cond b (changes t ts) (suc (changes v ts))) p in
-      let h = changes_after_repeated_turn t ts u n in
+      let h = repeated_turn_adds_one_change_at_most t ts u n in
       omega (arith, e, f, h)
   | inr other ↦
       let p = ne_eqb v t other in
       let e = ap (λ b. cond b (changes t (ts ++ replicate n u)) (suc (changes v (ts ++ replicate n u)))) p in
       let f = ap (λ b. cond b (changes t ts) (suc (changes v ts))) p in
-      let h = changes_after_repeated_turn v ts u n in
+      let h = repeated_turn_adds_one_change_at_most v ts u n in
       omega (arith, e, f, h)
 ]
 
-pub switches_after_repeated_turn : (ts : List ℕ) (u n : ℕ) → switches (ts ++ replicate n u) ≤ suc (switches ts)
-switches_after_repeated_turn [] u zero = omega arith
-switches_after_repeated_turn [] u (suc n) = let h = changes_of_replicated_thread u n in omega (arith, h)
-switches_after_repeated_turn (t ∷ ts) u n = changes_after_repeated_turn t ts u n
+pub repeated_turn_adds_one_switch_at_most : (ts : List ℕ) (u n : ℕ) → switches (ts ++ replicate n u) ≤ suc (switches ts)
+repeated_turn_adds_one_switch_at_most [] u zero = omega arith
+repeated_turn_adds_one_switch_at_most [] u (suc n) = let h = changes_of_replicated_thread u n in omega (arith, h)
+repeated_turn_adds_one_switch_at_most (t ∷ ts) u n = repeated_turn_adds_one_change_at_most t ts u n
 
 pub switches_of_replicated_thread : (u n : ℕ) → switches (replicate n u) ≤ 0
 switches_of_replicated_thread u zero = omega arith
@@ -96,7 +96,7 @@ module _ {T : Type 0} (m : Machine T) (answers : Answers T) (Alike : State T →
         (n, is, from.0, from.1, r.1, r.2, refl),
         path_append (Steps m state_of noted size) 0 n.from v from.0 (replicate (length r.1) n.thread) from.2
             (goes_path n.thread r.1 n.from v l goes),
-        let a = switches_after_repeated_turn from.0 n.thread (length r.1) in let b = from.3 in omega (arith, a, b),
+        let a = repeated_turn_adds_one_switch_at_most from.0 n.thread (length r.1) in let b = from.3 in omega (arith, a, b),
       )
 
   -- where each thread was asked at each node, the search is finished

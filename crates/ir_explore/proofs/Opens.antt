@@ -3,10 +3,10 @@ use Rattle.std.proofs.Common.{◌≡◌, ℕ, suc, zero, ◌<◌, ◌≤◌, Boo
 use Rattle.std.specs.Prelude.{slice_get, replicate}
 use Rattle.std.proofs.lemmas.Bool.{cases_eq}
 use Rattle.std.proofs.lemmas.Option.{slice_get-get_or, get_or_from_slice_get}
+use Rattle.ir_lemmas.proofs.CallerLemmas.{slice_get_after_push_cases, slice_get_kept_by_append}
 use Rattle.ir_explore.specs.Following.{Leading, BothWays, Keeps, IsOpen, StaysOpen, GoesTo, IsFollowed}
-use Rattle.ir_explore.specs.Going.{left_to_open}
+use Rattle.ir_explore.specs.TurnSoFar.{left_to_open}
 use Rattle.ir_explore.specs.Ways.{shut}
-use Rattle.ir_explore.proofs.Reached.{slice_get_after_push_cases, slice_get_kept_by_append}
 
 pub shut_less_after_opening : (xs : List Bool) (x : ℕ) (d : Bool) → x < length xs → get_or xs x d ≡ false → shut (slice_set xs x true) < shut xs
 unfolding shut
@@ -53,10 +53,10 @@ replicated_false_has_no_open zero v o = cc o
 replicated_false_has_no_open (suc n) zero o = cc o
 replicated_false_has_no_open (suc n) (suc v) o = replicated_false_has_no_open n v o
 
-pub open_despite_closed_places_added : (xs : List Bool) (n v : ℕ) → IsOpen (xs ++ replicate n false) v → IsOpen xs v
-open_despite_closed_places_added [] n v o = absurd (replicated_false_has_no_open n v o)
-open_despite_closed_places_added (b ∷ xs) n zero o = o
-open_despite_closed_places_added (b ∷ xs) n (suc v) o = open_despite_closed_places_added xs n v o
+pub open_before_if_open_after_closed_places_added : (xs : List Bool) (n v : ℕ) → IsOpen (xs ++ replicate n false) v → IsOpen xs v
+open_before_if_open_after_closed_places_added [] n v o = absurd (replicated_false_has_no_open n v o)
+open_before_if_open_after_closed_places_added (b ∷ xs) n zero o = o
+open_before_if_open_after_closed_places_added (b ∷ xs) n (suc v) o = open_before_if_open_after_closed_places_added xs n v o
 
 pub stays_open_after_closed_places_added : (xs : List Bool) (n : ℕ) → StaysOpen xs (xs ++ replicate n false)
 stays_open_after_closed_places_added [] n v o = absurd (cc o)
@@ -64,18 +64,18 @@ stays_open_after_closed_places_added (b ∷ xs) n zero o = o
 stays_open_after_closed_places_added (b ∷ xs) n (suc v) o = stays_open_after_closed_places_added xs n v o
 
 pub followed_after_closed_places_added : (leading : BothWays) (xs : List Bool) (n : ℕ) → IsFollowed leading xs → IsFollowed leading (xs ++ replicate n false)
-followed_after_closed_places_added leading xs n f v o refused = elim (f v (open_despite_closed_places_added xs n v o) refused) [
+followed_after_closed_places_added leading xs n f v o refused = elim (f v (open_before_if_open_after_closed_places_added xs n v o) refused) [
   | inl none ↦ inl none
   | inr s ↦ inr (s.0, s.1, stays_open_after_closed_places_added xs n s.0 s.2)
 ]
 
-pub open_if_element_or_false_true : (xs : List Bool) (v : ℕ) → get_or xs v false ≡ true → IsOpen xs v
-open_if_element_or_false_true [] v e = absurd (true≢false (sym e))
-open_if_element_or_false_true (b ∷ xs) zero e = ap Some e
-open_if_element_or_false_true (b ∷ xs) (suc v) e = open_if_element_or_false_true xs v e
+pub open_if_get_or_false_is_true : (xs : List Bool) (v : ℕ) → get_or xs v false ≡ true → IsOpen xs v
+open_if_get_or_false_is_true [] v e = absurd (true≢false (sym e))
+open_if_get_or_false_is_true (b ∷ xs) zero e = ap Some e
+open_if_get_or_false_is_true (b ∷ xs) (suc v) e = open_if_get_or_false_is_true xs v e
 
-pub element_or_false_true_if_open : (xs : List Bool) (v : ℕ) → IsOpen xs v → get_or xs v false ≡ true
-element_or_false_true_if_open xs v o = get_or_from_slice_get xs v true false o
+pub get_or_false_is_true_if_open : (xs : List Bool) (v : ℕ) → IsOpen xs v → get_or xs v false ≡ true
+get_or_false_is_true_if_open xs v o = get_or_from_slice_get xs v true false o
 
 -- what a thread goes on to stays so, where what was noted stays and nothing is shut
 pub goes_to_if_notes_kept : (leading more : Leading) (xs ys : List Bool) (v : ℕ) → Keeps leading more → StaysOpen xs ys
@@ -98,35 +98,35 @@ pub record Opening (xs ys : List Bool) (y : ℕ) : Type 0 where
   pub only : (v : ℕ) → IsOpen ys v → IsOpen xs v ⊎ (v ≡ y)
   pub counts : ((length ys ≡ length xs) × (shut ys < shut xs)) ⊎ ((length ys ≡ suc (length xs)) × (shut ys ≡ shut xs))
 
-pub shut_place_opened : (xs : List Bool) (y : ℕ) (d : Bool) → y < length xs → get_or xs y d ≡ false → Opening xs (slice_set xs y true) y
-shut_place_opened xs y d l e = record {
+pub setting_shut_place_is_opening : (xs : List Bool) (y : ℕ) (d : Bool) → y < length xs → get_or xs y d ≡ false → Opening xs (slice_set xs y true) y
+setting_shut_place_is_opening xs y d l e = record {
   opens = opened_place_is_open xs y l;
   stays = stays_open_after_opening xs y l;
   only = open_after_opening_cases xs y;
   counts = inl (length-set xs y true, shut_less_after_opening xs y d l e);
 }
 
-shut_after_open_place_added : (xs : List Bool) → shut (xs ++ true ∷ []) ≡ shut xs
+shut_ignores_open_place_added : (xs : List Bool) → shut (xs ++ true ∷ []) ≡ shut xs
 unfolding shut
-shut_after_open_place_added [] = refl
-shut_after_open_place_added (true ∷ xs) = shut_after_open_place_added xs
-shut_after_open_place_added (false ∷ xs) = ap suc (shut_after_open_place_added xs)
+shut_ignores_open_place_added [] = refl
+shut_ignores_open_place_added (true ∷ xs) = shut_ignores_open_place_added xs
+shut_ignores_open_place_added (false ∷ xs) = ap suc (shut_ignores_open_place_added xs)
 
-added_place_is_last : (xs : List Bool) → IsOpen (xs ++ true ∷ []) (length xs)
-added_place_is_last [] = refl
-added_place_is_last (x ∷ xs) = added_place_is_last xs
+added_open_place_is_open : (xs : List Bool) → IsOpen (xs ++ true ∷ []) (length xs)
+added_open_place_is_open [] = refl
+added_open_place_is_open (x ∷ xs) = added_open_place_is_open xs
 
-pub open_place_added : (xs : List Bool) → Opening xs (xs ++ true ∷ []) (length xs)
-open_place_added xs = record {
-  opens = added_place_is_last xs;
+pub adding_open_place_is_opening : (xs : List Bool) → Opening xs (xs ++ true ∷ []) (length xs)
+adding_open_place_is_opening xs = record {
+  opens = added_open_place_is_open xs;
   stays = λ v is. slice_get_kept_by_append xs (true ∷ []) v true is;
   only = λ v is. elim (slice_get_after_push_cases xs true v true is) [ inl old ↦ inl old | inr p ↦ inr p.0 ];
-  counts = let a = length-append xs (true ∷ []) in inr (omega (arith, a), shut_after_open_place_added xs);
+  counts = let a = length-append xs (true ∷ []) in inr (omega (arith, a), shut_ignores_open_place_added xs);
 }
 
-pub opened_counts_less : (most : ℕ) (xs ys : List Bool) (y : ℕ) → Opening xs ys y → length ys ≤ most
+pub opening_leaves_fewer_to_open : (most : ℕ) (xs ys : List Bool) (y : ℕ) → Opening xs ys y → length ys ≤ most
     → suc (left_to_open most ys) ≤ left_to_open most xs
-opened_counts_less most xs ys y o room = elim o.counts [
+opening_leaves_fewer_to_open most xs ys y o room = elim o.counts [
   | inl p ↦ let a = p.0 in let b = p.1 in omega (arith, a, b)
   | inr p ↦ let a = p.0 in let b = p.1 in omega (arith, a, b, room)
 ]

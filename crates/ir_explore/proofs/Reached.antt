@@ -3,24 +3,12 @@ use Rattle.std.proofs.Common.{◌≡◌, ℕ, suc, zero, ◌<◌, ◌≤◌, Boo
 use Rattle.std.specs.Prelude.{slice_get, replicate}
 use Rattle.std.proofs.lemmas.Bool.{cases_lt}
 use Rattle.std.proofs.lemmas.Option.{same_Some}
+use Rattle.ir_lemmas.proofs.CallerLemmas.{slice_get_after_push_cases, slice_get_kept_by_append, added_element_is_last}
 use Rattle.ir_explore.specs.declared.origin.Origin.{Origin}
 use Rattle.ir_explore.specs.declared.origin.Refusal.{Refusal}
 use Rattle.ir_explore.specs.Following.{BothWays, Keeps, Stay}
-use Rattle.ir_explore.specs.Going.{IsAfter}
-use Rattle.ir_explore.specs.Origins.{Goes, Spells, Whole, Refused, AreWaysOf, BeginsAt, IsReachedBy, AreReached, AreRising, Adds}
-
--- what is at a place of a list with one more
-pub slice_get_after_push_cases : {A : Type 0} (xs : List A) (y : A) (v : ℕ) (n : A) → slice_get (xs ++ y ∷ []) v ≡ Some n
-    → (slice_get xs v ≡ Some n) ⊎ ((v ≡ length xs) × (y ≡ n))
-slice_get_after_push_cases [] y zero n e = inr (refl, same_Some y n e)
-slice_get_after_push_cases [] y (suc v) n e = absurd (cc e)
-slice_get_after_push_cases (x ∷ xs) y zero n e = inl e
-slice_get_after_push_cases (x ∷ xs) y (suc v) n e = elim (slice_get_after_push_cases xs y v n e) [ inl old ↦ inl old | inr p ↦ inr (ap suc p.0, p.1) ]
-
-pub slice_get_kept_by_append : {A : Type 0} (xs ys : List A) (v : ℕ) (n : A) → slice_get xs v ≡ Some n → slice_get (xs ++ ys) v ≡ Some n
-slice_get_kept_by_append [] ys v n e = absurd (cc e)
-slice_get_kept_by_append (x ∷ xs) ys zero n e = e
-slice_get_kept_by_append (x ∷ xs) ys (suc v) n e = slice_get_kept_by_append xs ys v n e
+use Rattle.ir_explore.specs.TurnSoFar.{IsAfter}
+use Rattle.ir_explore.specs.Origins.{Goes, AreWaysUnder, Whole, Refused, AreWaysOf, BeginsAt, IsReachedBy, AreReached, AreRising, Adds}
 
 pub place_of_element_is_below_length : {A : Type 0} (xs : List A) (v : ℕ) (n : A) → slice_get xs v ≡ Some n → v < length xs
 place_of_element_is_below_length [] v n e = absurd (cc e)
@@ -40,10 +28,10 @@ goes_one_step_further leading size [] refused v w x g is l = (x, ap (leading ref
 goes_one_step_further leading size (way ∷ ways) refused v w x g is l =
     (g.0, g.1, g.2, goes_one_step_further leading size ways refused g.0 w x g.3 is l)
 
-pub spells_if_table_grows : (old new : List Refusal) → Stay old new → (number : ℕ) (ways : List Bool) → Spells old number ways → Spells new number ways
-spells_if_table_grows old new stay number ways Whole = Whole
-spells_if_table_grows old new stay number ways (Refused i x before at s) =
-    Refused i x before (stay i x at) (spells_if_table_grows old new stay x.before before s)
+pub ways_under_number_stay_if_table_grows : (old new : List Refusal) → Stay old new → (number : ℕ) (ways : List Bool) → AreWaysUnder old number ways → AreWaysUnder new number ways
+ways_under_number_stay_if_table_grows old new stay number ways Whole = Whole
+ways_under_number_stay_if_table_grows old new stay number ways (Refused i x before at s) =
+    Refused i x before (stay i x at) (ways_under_number_stay_if_table_grows old new stay x.before before s)
 
 pub begins_at_if_nodes_kept : (nodes more : List Origin) → ((v : ℕ) (n : Origin) → slice_get nodes v ≡ Some n → slice_get more v ≡ Some n)
     → (k from : ℕ) → BeginsAt nodes k from → BeginsAt more k from
@@ -60,7 +48,7 @@ pub reached_by_if_grown : (noted more : ℕ → BothWays) (refusals table : List
 reached_by_if_grown noted more refusals table nodes new kept stay stays longer v n r = (
   begins_at_if_nodes_kept nodes new stays n.level n.from r.0,
   r.1,
-  (r.2.0, spells_if_table_grows refusals table stay n.refusals r.2.0 r.2.1, r.2.2),
+  (r.2.0, ways_under_number_stay_if_table_grows refusals table stay n.last_refusal r.2.0 r.2.1, r.2.2),
   goes_if_notes_kept (noted n.thread) (more n.thread) (length nodes) (length new) (kept n.thread) longer r.1 n.from v r.3,
 )
 
@@ -81,10 +69,6 @@ reached_after_node_added noted more refusals table nodes new kept stay r by v n 
       (subst (λ z. IsReachedBy more table (nodes ++ new ∷ []) z new) (sym p.0) by)
 ]
 
-pub added_element_is_last : {A : Type 0} (xs : List A) (y : A) → slice_get (xs ++ y ∷ []) (length xs) ≡ Some y
-added_element_is_last [] y = refl
-added_element_is_last (x ∷ xs) y = added_element_is_last xs y
-
 replicate_and_one_more : (n : ℕ) → replicate n false ++ false ∷ [] ≡ replicate (suc n) false
 replicate_and_one_more zero = refl
 replicate_and_one_more (suc n) = ap (λ z. false ∷ z) (replicate_and_one_more n)
@@ -93,7 +77,7 @@ pub table_stays_after_step : (refusals table : List Refusal) (n : Origin) (refus
     → Stay refusals table
 table_stays_after_step refusals table n false next a v x is = subst (λ z. slice_get z v ≡ Some x) (sym a.0) is
 table_stays_after_step refusals table n true next a v x is =
-    subst (λ z. slice_get z v ≡ Some x) (sym a.0) (slice_get_kept_by_append refusals (record { before = n.refusals; entries = n.entries } ∷ []) v x is)
+    subst (λ z. slice_get z v ≡ Some x) (sym a.0) (slice_get_kept_by_append refusals (record { before = n.last_refusal; entries = n.entries } ∷ []) v x is)
 
 -- the ways of a turn that goes on by one more
 ways_after_step : (refusals table : List Refusal) (n : Origin) (refused : Bool) (next : Origin) → IsAfter refusals table n refused next
@@ -101,26 +85,26 @@ ways_after_step : (refusals table : List Refusal) (n : Origin) (refused : Bool) 
 ways_after_step refusals table n false next a ways (before, spelled, is) =
     subst (λ z. AreWaysOf table z (ways ++ false ∷ [])) (sym a.1) (
       before,
-      spells_if_table_grows refusals table (table_stays_after_step refusals table n false next a) n.refusals before spelled,
+      ways_under_number_stay_if_table_grows refusals table (table_stays_after_step refusals table n false next a) n.last_refusal before spelled,
       ap (λ z. z ++ false ∷ []) is ∙ append_assoc before (replicate n.entries false) (false ∷ []) ∙ ap (λ z. before ++ z) (replicate_and_one_more n.entries),
     )
 ways_after_step refusals table n true next a ways (before, spelled, is) =
-    let last : Refusal = record { before = n.refusals; entries = n.entries } in
+    let last : Refusal = record { before = n.last_refusal; entries = n.entries } in
     let at : slice_get table (length refusals) ≡ Some last =
     subst (λ z. slice_get z (length refusals) ≡ Some last) (sym a.0) (added_element_is_last refusals last) in
     let all : List Bool = before ++ replicate n.entries false ++ true ∷ [] in
     subst (λ z. AreWaysOf table z (ways ++ true ∷ [])) (sym a.1) (
       all,
       Refused (length refusals) last before at
-          (spells_if_table_grows refusals table (table_stays_after_step refusals table n true next a) n.refusals before spelled),
+          (ways_under_number_stay_if_table_grows refusals table (table_stays_after_step refusals table n true next a) n.last_refusal before spelled),
       ap (λ z. z ++ true ∷ []) is ∙ sym (append-nil all),
     )
 
-pub after_step_is_in_turn : (refusals table : List Refusal) (n : Origin) (refused : Bool) (next : Origin) → IsAfter refusals table n refused next
+pub step_keeps_from_thread_and_level : (refusals table : List Refusal) (n : Origin) (refused : Bool) (next : Origin) → IsAfter refusals table n refused next
     → (next.from ≡ n.from) × (next.thread ≡ n.thread) × (next.level ≡ n.level)
-after_step_is_in_turn refusals table n false next a =
+step_keeps_from_thread_and_level refusals table n false next a =
     (ap (λ z. z.from) a.1, ap (λ z. z.thread) a.1, ap (λ z. z.level) a.1)
-after_step_is_in_turn refusals table n true next a =
+step_keeps_from_thread_and_level refusals table n true next a =
     (ap (λ z. z.from) a.1, ap (λ z. z.thread) a.1, ap (λ z. z.level) a.1)
 
 -- by one step more
@@ -128,7 +112,7 @@ pub reached_by_after_step : (noted more : ℕ → BothWays) (refusals table : Li
     → Stay nodes new → length nodes ≤ length new → (v w : ℕ) (n : Origin) (refused : Bool) (next : Origin) → IsAfter refusals table n refused next
     → IsReachedBy noted refusals nodes v n → more n.thread refused v ≡ Some (Some w) → w < length new → IsReachedBy more table new w next
 reached_by_after_step noted more refusals table nodes new kept stays longer v w n refused next after r is less =
-    let t = after_step_is_in_turn refusals table n refused next after in
+    let t = step_keeps_from_thread_and_level refusals table n refused next after in
     let goes : Goes (more n.thread) (length new) n.from (r.1 ++ refused ∷ []) w =
     goes_one_step_further (more n.thread) (length new) r.1 refused n.from v w
     (goes_if_notes_kept (noted n.thread) (more n.thread) (length nodes) (length new) (kept n.thread) longer r.1 n.from v r.3) is less in (

@@ -3,5 +3,5 @@ pub mod Meaning
 pub mod Origins
 pub mod Levels
 pub mod Ways
-pub mod Going
+pub mod TurnSoFar
 pub mod Searching

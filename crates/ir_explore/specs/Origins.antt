@@ -12,14 +12,14 @@ Goes leading size v (refused ∷ ways) w = (x : ℕ) × (leading refused v ≡ S
 
 -- The ways that the table has under a number: under 0 there are none. Each other number is a place and 1, and what stands there gives the
 -- ways under an earlier number, then so many that aren't refused, and then one that is.
-pub data Spells (refusals : List Refusal) : ℕ → List Bool → Type 0 where
-  Whole : Spells refusals zero []
-  Refused : (i : ℕ) → (x : Refusal) → (before : List Bool) → slice_get refusals i ≡ Some x → Spells refusals x.before before
-      → Spells refusals (suc i) (before ++ replicate x.entries false ++ true ∷ [])
+pub data AreWaysUnder (refusals : List Refusal) : ℕ → List Bool → Type 0 where
+  Whole : AreWaysUnder refusals zero []
+  Refused : (i : ℕ) → (x : Refusal) → (before : List Bool) → slice_get refusals i ≡ Some x → AreWaysUnder refusals x.before before
+      → AreWaysUnder refusals (suc i) (before ++ replicate x.entries false ++ true ∷ [])
 
 -- the ways of a turn: those under its number, and then so many that aren't refused
 abbrev pub AreWaysOf : List Refusal → Origin → List Bool → Type 0
-AreWaysOf refusals n ways = (before : List Bool) × Spells refusals n.refusals before × (ways ≡ before ++ replicate n.entries false)
+AreWaysOf refusals n ways = (before : List Bool) × AreWaysUnder refusals n.last_refusal before × (ways ≡ before ++ replicate n.entries false)
 
 -- in level k a turn may begin at this node: at the first, or at one of the level before
 abbrev pub BeginsAt : List Origin → ℕ → ℕ → Type 0
@@ -28,7 +28,7 @@ BeginsAt nodes (suc k) from = (n : Origin) × (slice_get nodes from ≡ Some n) 
 
 -- the first node, where the search began
 abbrev pub first_origin : Origin
-first_origin = record { from = 0; thread = 0; refusals = 0; entries = 0; level = 0 }
+first_origin = record { from = 0; thread = 0; last_refusal = 0; entries = 0; level = 0 }
 
 -- node v was reached so: a turn may begin where this one did, and its ways lead from there to v
 abbrev pub IsReachedBy : (ℕ → BothWays) → List Refusal → List Origin → ℕ → Origin → Type 0

@@ -3,7 +3,7 @@
 ghost use Rattle.std.specs.Prelude.{◌≡◌, ◌⊎◌, ◌++◌, ℕ, Bool, false, true, suc, [], ◌∷◌, ◌+◌, ◌-◌, ◌<◌, ◌≤◌, length, slice_set, IfOk, OnErr, IfErr, IsErrOf, OnOk};
 ghost use Rattle.ir_explore.specs.declared.stop.Stop.TheVariants.{Nodes, Memory};
 ghost use Rattle.ir_explore.specs.Following.{Keeps, Stay, IsOpen, StaysOpen, GoesTo, IsFollowed};
-ghost use Rattle.ir_explore.specs.Going.{IsGoing, IsAfter, left_to_open};
+ghost use Rattle.ir_explore.specs.TurnSoFar.{IsTurnSoFar, IsAfter, left_to_open};
 ghost use Rattle.ir_explore.specs.Origins.{BeginsAt, AreReached, Adds};
 
 use crate::found::{Found, Pending};
@@ -24,11 +24,11 @@ fn origin_after(refusals: &mut Vec<Refusal>, origin: Origin, refused: bool) -> R
     }
     let number = narrow(refusals.len() + 1)?;
     refusals.push(Refusal {
-        before: origin.refusals,
+        before: origin.last_refusal,
         entries: origin.entries,
     })?;
     Ok(Origin {
-        refusals: number,
+        last_refusal: number,
         entries: 0,
         ..origin
     })
@@ -71,13 +71,13 @@ fn follow<S: Successors, O: Observer>(
     refused: bool,
     observer: &O,
 ) -> Result<(), Stop>
-    requires going { IsGoing (S.noted graph.old) here.origin.thread here.origin.level opened.old.items found.old.nodes.items found.old.refusals.items (here ∷ found.old.pending.items) }
+    requires turn { IsTurnSoFar (S.noted graph.old) here.origin.thread here.origin.level opened.old.items found.old.nodes.items found.old.refusals.items (here ∷ found.old.pending.items) }
     requires nodes { length found.old.nodes.items ≡ S.size graph.old }
     requires room { S.size graph.old ≤ S.most graph.old }
     requires sound { S.is_sound graph.old }
 
     // Once it has gone on
-    ensures going { OnOk result (IsGoing (S.noted graph.new) here.origin.thread here.origin.level opened.new.items found.new.nodes.items found.new.refusals.items (here ∷ found.new.pending.items)) }
+    ensures turn { OnOk result (IsTurnSoFar (S.noted graph.new) here.origin.thread here.origin.level opened.new.items found.new.nodes.items found.new.refusals.items (here ∷ found.new.pending.items)) }
     ensures follows { OnOk result (GoesTo (S.noted graph.new here.origin.thread refused) (IsOpen opened.new.items) here.node) }
     ensures nodes { OnOk result (length found.new.nodes.items ≡ S.size graph.new) }
     ensures less { OnOk result (left_to_open (S.most graph.new) opened.new.items + length found.new.pending.items ≤ left_to_open (S.most graph.old) opened.old.items + length found.old.pending.items) }
@@ -108,7 +108,7 @@ fn follow<S: Successors, O: Observer>(
 }
 
 /// Opens a node for a thread, and each node to which the thread goes on from there, by either way, up to where it can't or to opened ones.
-/// `start` is the turn: its node, its thread, its level, and no entry yet. What it finds joins the nodes.
+/// `start` is the turn: its node, its thread, its level, and no entry or try yet. What it finds joins the nodes.
 ///
 /// # Errors
 /// The graph stops, or out of memory. What was opened stays so, but isn't followed.
@@ -121,7 +121,7 @@ pub fn go_alone<S: Successors, O: Observer>(
 ) -> Result<(), Stop>
     requires followed { IsFollowed (S.noted graph.old start.thread) opened.old.items }
     requires begins { BeginsAt found.old.nodes.items start.level start.from }
-    requires none { (start.refusals ≡ 0) × (start.entries ≡ 0) }
+    requires none { (start.last_refusal ≡ 0) × (start.entries ≡ 0) }
     requires reached { AreReached (S.noted graph.old) found.old.refusals.items found.old.nodes.items }
     requires node { start.from < length found.old.nodes.items }
     requires row { length opened.old.items ≡ length found.old.nodes.items }
@@ -161,6 +161,10 @@ pub fn go_alone<S: Successors, O: Observer>(
     open(opened, found, first, observer)?;
     'pending: while let Some(here) = found.pending.pop() {
         follow(graph, opened, found, here, false, observer)?;
+        let thread = here.origin.thread as usize;
+        if let Some(None) = graph.known(thread, true, here.node) {
+            continue;
+        }
         follow(graph, opened, found, here, true, observer)?;
     }
     Ok(())

@@ -1,6 +1,6 @@
 //! How a search came to a node, and the level it is in.
 
-ghost use Rattle.std.specs.Prelude.{◌≡◌, IfOk};
+ghost use Rattle.std.specs.Prelude.{◌≡◌, ◌≤◌, ◌^◌, IfOk, IfErr};
 
 use std::alloc::AllocError;
 
@@ -11,9 +11,9 @@ pub struct Origin {
     pub from: u32,
     /// The thread.
     pub thread: u32,
-    /// Its steps from there up to the last refused try: 0 where no try was refused, else a place in the table of refused tries and 1.
-    pub refusals: u32,
-    /// How many entries it made after these.
+    /// The last of its tries that was refused: 0 where none was, else its place in the table of refused tries and 1.
+    pub last_refusal: u32,
+    /// How many entries and tries that enter came after it.
     pub entries: u32,
     /// The level: how often the thread was switched on the way.
     pub level: u32,
@@ -22,9 +22,9 @@ pub struct Origin {
 /// A refused try of a turn, with the steps before it.
 #[derive(Clone, Copy, Debug, PartialEq, Eq)]
 pub struct Refusal {
-    /// The steps up to the refused try before: 0 where there is none, else a place in the table and 1.
+    /// The refused try before: 0 where there is none, else its place in the table and 1.
     pub before: u32,
-    /// How many entries came between.
+    /// How many entries and tries that enter came between.
     pub entries: u32,
 }
 
@@ -41,7 +41,8 @@ pub struct Level {
 
 // A number in 32 bits. The error is for one that is too large.
 pub(crate) fn narrow(number: usize) -> Result<u32, AllocError>
-    ensures { IfOk result (λ n. n ≡ number) }
+    ensures same { IfOk result (λ n. n ≡ number) }
+    ensures large { IfErr result (λ _. 2 ^ 32 ≤ number) }
 {
     if number <= u32::MAX as usize {
         Ok(number as u32)
@@ -55,12 +56,12 @@ pub(crate) fn turn_from(from: usize, thread: usize, level: usize) -> Result<Orig
     ensures from { IfOk result (λ start. start.from ≡ from) }
     ensures thread { IfOk result (λ start. start.thread ≡ thread) }
     ensures level { IfOk result (λ start. start.level ≡ level) }
-    ensures none { IfOk result (λ start. (start.refusals ≡ 0) × (start.entries ≡ 0)) }
+    ensures none { IfOk result (λ start. (start.last_refusal ≡ 0) × (start.entries ≡ 0)) }
 {
     Ok(Origin {
         from: narrow(from)?,
         thread: narrow(thread)?,
-        refusals: 0,
+        last_refusal: 0,
         entries: 0,
         level: narrow(level)?,
     })

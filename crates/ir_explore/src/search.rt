@@ -57,7 +57,7 @@ fn first_node(alloc: Global) -> Result<Vec<Origin>, AllocError>
     nodes.push(Origin {
         from: 0,
         thread: 0,
-        refusals: 0,
+        last_refusal: 0,
         entries: 0,
         level: 0,
     })?;

@@ -10,13 +10,13 @@ use std::alloc::{AllocError, AllocFailed};
 pub enum Stop {
     /// There are as many nodes as there may be.
     Nodes,
-    /// This thread took as many steps between two entries as it may.
+    /// This thread took as many steps without an entry or a try as it may.
     Private(usize),
     /// This thread's log is full, or its budget spent.
     Log(usize),
     /// No order of the threads led to this node once more.
     Order(usize),
-    /// This thread calls the environment.
+    /// This thread calls for the time once more than can be counted.
     World(usize),
     /// Out of memory.
     Memory,

@@ -12,7 +12,8 @@ use crate::origin::{Level, turn_from};
 use crate::stop::Stop;
 use crate::successors::Successors;
 
-/// Opens each node of the level for a thread, and each node to which the thread goes on alone from there, by either way. What it finds joins the nodes.
+/// Opens each node of the level for a thread, and each node to which the thread goes on alone from there, by either way. What it finds joins
+/// the nodes.
 ///
 /// # Errors
 /// The graph stops, or out of memory. What was opened stays so, but isn't followed.

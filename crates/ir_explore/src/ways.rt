@@ -55,8 +55,8 @@ fn sweep<S: Successors>(graph: &S, threads: usize, marks: &mut [bool]) -> bool
     changed
 }
 
-/// Marks each node from which some order of these threads leads to a marked one, each by one of its ways, as far as it was noted. That takes as many sweeps over the
-/// nodes, at most, as there are nodes to mark, and one more; few where the nodes come by rising levels.
+/// Marks each node from which some order of these threads leads to a marked one, each by one of its ways, as far as it was noted. That takes
+/// as many sweeps over the nodes, at most, as there are nodes to mark, and one more; few where the nodes come by rising levels.
 pub fn mark_ways<S: Successors>(graph: &S, threads: usize, marks: &mut [bool])
     ensures nodes { length marks.new ≡ length marks.old }
     ensures exact { (v : ℕ) → IsOpen marks.new v ↔ HasMarked (S.noted graph.now) threads marks.old v }

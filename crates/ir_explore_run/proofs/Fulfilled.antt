@@ -43,10 +43,10 @@ object_words_are_first_of n (c ∷ cells) all = λ i.
     ∷ object_words_are_first_of n cells (λ o l. all (suc o) (omega (arith, l))) i
 
 -- what threads and objects came to is their outcome as conditions see it
-pub outcome_is_seen : (guest : Guest) (f : Flat) → length f.threads ≡ length guest.entries → length f.objects ≡ object_count guest
+pub outcome_equals_seen_outcome : (guest : Guest) (f : Flat) → length f.threads ≡ length guest.entries → length f.objects ≡ object_count guest
     → ((o : ℕ) → o < length f.objects → length (cell_of f o).words ≡ most_object_words)
     → conditions.outcome_of f ≡ seen_outcome guest (outcome_of (tables f))
-outcome_is_seen guest f threads objects words = λ i. record {
+outcome_equals_seen_outcome guest f threads objects words = λ i. record {
   ends = (map_is_first_of (λ x. x.ended) f.threads idle ∙ ap (λ n. first_of n (λ t. (thread_of f t).ended)) threads) i;
   outputs = (map_is_first_of (λ x. x.output) f.threads idle ∙ ap (λ n. first_of n (λ t. (thread_of f t).output)) threads) i;
   words = (object_words_are_first_of most_object_words f.objects words
@@ -54,14 +54,14 @@ outcome_is_seen guest f threads objects words = λ i. record {
 }
 
 pub outcomes_decide : OutcomesDecide
-outcomes_decide guest c f threads objects words = ap (fulfils c) (outcome_is_seen guest f threads objects words)
+outcomes_decide guest c f threads objects words = ap (fulfils c) (outcome_equals_seen_outcome guest f threads objects words)
 
 -- whether a state's outcome fulfils each condition
 pub reached_state_fulfils_as_outcome : (setup : Setup) (cs : List Condition) (s : SourcedFlat) → IsReached setup s → IsFlat s.flat
     → list_all (λ c. fulfils c (conditions.outcome_of s.flat)) cs ≡ fulfils_each setup.guest cs (outcome_of (tables s.flat))
 reached_state_fulfils_as_outcome setup cs s reached flat =
     ap (λ z. list_all (λ c. fulfils c z) cs)
-    (outcome_is_seen setup.guest s.flat
+    (outcome_equals_seen_outcome setup.guest s.flat
     (reached.like.threads ∙ length_of_start_threads setup.guest most_budget setup.profile 0 (length setup.guest.entries))
     (reached.like.objects ∙ length_of_start_cells setup.guest 0 (object_count setup.guest)) (λ o l. (flat.objects o l).words))
 

@@ -1,15 +1,16 @@
 -- The outcome that is recorded.
-use Rattle.std.proofs.Common.{◌≡◌, ℕ, ◌<◌, ◌≤◌, true, Some, List, [], ◌∷◌, length, map, refl, sym, ap, ◌∙◌, subst, arith, inl, inr}
+use Rattle.std.proofs.Common.{◌≡◌, ℕ, ◌<◌, ◌≤◌, true, Some, List, [], ◌∷◌, length, map, refl, ap, ◌∙◌, subst, arith, inl, inr}
 use Rattle.std.specs.Prelude.{◌≢◌, Ok}
 use Rattle.std.specs.List.{AllByRecursion}
 use Rattle.std.proofs.lemmas.Bool.{cases_lt}
+use Rattle.ir_lemmas.proofs.CallerLemmas.{same_head, same_tail}
 use Rattle.ir_chaos.specs.Conditions.{Condition}
 use Rattle.ir_flat.proofs.CallerLemmas.{guest_start_is_idle}
 use Rattle.ir_flat.specs.Flat.{start_flat, tables}
 use Rattle.ir_graph.specs.Outcomes.{outcome_of}
 use Rattle.ir_graph.specs.Setup.{Setup}
 use Rattle.ir_image.specs.Guest.{Guest, guest_at}
-use Rattle.ir_order.proofs.CallerLemmas.{complete_runs_have_steps, recordings_in_turns}
+use Rattle.ir_order.proofs.CallerLemmas.{complete_runs_have_steps, recordings_by_list_are_of_the_run}
 use Rattle.ir_order.specs.Spelling.{SpellsTurns}
 use Rattle.ir_outcomes.specs.Again.{TakesEach}
 use Rattle.ir_outcomes.specs.Explored.{IsAt, AreExplored}
@@ -31,12 +32,6 @@ use Rattle.ir_explore_run.specs.Plan.{ExplorePlan, setup_of}
 use Rattle.ir_explore_run.specs.Until.{recording, IsHit, IsHitText, IsFinding}
 use Rattle.ir_explore_run.proofs.Answered.{log_is_answered_by_world}
 use Rattle.ir_explore_run.proofs.Fulfilled.{never_within_level_of_first}
-
-same_head : (x y : ℕ) (xs ys : List ℕ) → x ∷ xs ≡ y ∷ ys → x ≡ y
-same_head x y xs ys e = cc e
-
-same_tail : (x y : ℕ) (xs ys : List ℕ) → x ∷ xs ≡ y ∷ ys → xs ≡ ys
-same_tail x y xs ys e = cc e
 
 -- who steps is one of the guest's threads
 turns_are_of_threads : (code : List ℕ) (n : ℕ) (s : State thread.ThreadState) (turns : List Turn) (steps : List Step) → IsIdle (thread_machine code) s n
@@ -97,6 +92,6 @@ recording_of_hit_is_finding image plan cs list text trace outputs guest is found
   guest = guest;
   is = is;
   found = found;
-  recorded = recordings_in_turns image guest (recording plan (Some list)) list found.hit.turns found.hit.run trace outputs is refl found.hit.spelled
+  recorded = recordings_by_list_are_of_the_run image guest (recording plan (Some list)) list found.hit.turns found.hit.run trace outputs is refl found.hit.spelled
       found.hit.planned r;
 }

@@ -12,8 +12,8 @@ use Rattle.ir_outcomes.specs.declared.shown.Shown.{Shown}
 use Rattle.ir_explore_run.specs.Texts.{Objects, IsOutcomeText, AreTexts}
 
 -- what is left of bytes, where that is no more than a line
-pub last_line_takes_all_left : (bytes : List ℕ) (k : ℕ) → length bytes - k ≤ 32 → take (length bytes - k) (drop k bytes) ≡ take 32 (drop k bytes)
-last_line_takes_all_left bytes k few =
+pub take_of_short_rest_is_take_of_32 : (bytes : List ℕ) (k : ℕ) → length bytes - k ≤ 32 → take (length bytes - k) (drop k bytes) ≡ take 32 (drop k bytes)
+take_of_short_rest_is_take_of_32 bytes k few =
     let size = length-drop k bytes in
     take_all (length bytes - k) (drop k bytes) (omega (arith, size)) ∙ sym (take_all 32 (drop k bytes) (omega (arith, size, few)))
 
@@ -43,11 +43,11 @@ texts_after_outcome o flats outcomes many text own x f t at is = record {
 }
 
 -- outcomes keep their lines while more are found
-pub texts_among_more : (o : Objects) (flats flats' : List SourcedFlat) (outcomes outcomes' : List Shown) (many : ℕ) (text : List ℕ)
+pub texts_kept_among_more_outcomes : (o : Objects) (flats flats' : List SourcedFlat) (outcomes outcomes' : List Shown) (many : ℕ) (text : List ℕ)
     → AreTexts o flats outcomes many text → many ≤ length outcomes
     → ((i : ℕ) (x : Shown) → slice_get outcomes i ≡ Some x → x.node < length flats) → Stay flats flats' → Stay outcomes outcomes'
     → AreTexts o flats' outcomes' many text
-texts_among_more o flats flats' outcomes outcomes' many text t few nodes stay stays = record {
+texts_kept_among_more_outcomes o flats flats' outcomes outcomes' many text t few nodes stay stays = record {
   texts = t.texts;
   count = t.count;
   each = λ i x f own at is.

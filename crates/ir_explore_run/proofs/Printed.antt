@@ -16,21 +16,21 @@ use Rattle.ir_image.specs.Guest.{Guest}
 use Rattle.ir_outcomes.specs.Explored.{AreExplored, IsExplored}
 use Rattle.ir_outcomes.specs.declared.explored.Explored.{Explored}
 use Rattle.ir_outcomes.specs.declared.exploring.Exploring.{Exploring}
-use Rattle.ir_outcomes.proofs.CallerLemmas.{none_explored}
+use Rattle.ir_outcomes.proofs.CallerLemmas.{are_explored_before_first_level}
 use Rattle.ir_explore_run.specs.Faults.{StopsPrinting}
-use Rattle.ir_explore_run.specs.Printing.{HasPrinted}
+use Rattle.ir_explore_run.specs.Printed.{HasPrinted}
 use Rattle.ir_explore_run.specs.Texts.{Objects, objects_of, AreTexts, IsPart, AreKnown, known_of, IsEnding, IsAnswerAbout}
 use Rattle.ir_explore_run.specs.declared.fault.ExploreFault.TheVariants.{NoMem, Write}
 use Rattle.ir_explore_run.specs.Plan.{ExplorePlan, setup_of}
-use Rattle.ir_explore_run.proofs.Joined.{texts_of_no_outcome, texts_among_more}
+use Rattle.ir_explore_run.proofs.Joined.{texts_of_no_outcome, texts_kept_among_more_outcomes}
 
 -- before the first outcome nothing is printed
-pub nothing_is_part : (setup : Setup) → IsPart setup []
-nothing_is_part setup = record {
+pub empty_text_is_part : (setup : Setup) → IsPart setup []
+empty_text_is_part setup = record {
   flats = [];
   outcomes = [];
   levels = 0;
-  explored = none_explored setup [];
+  explored = are_explored_before_first_level setup [];
   texts = texts_of_no_outcome (objects_of setup.guest) [] [];
 }
 
@@ -49,7 +49,7 @@ printed_outcomes_are_part setup o e text same explored printed = record {
 -- out of memory before anything is printed
 pub stops_before_first_line : (guest : Guest) (plan : ExplorePlan) (w : Writer) → w.before ≡ w.after → StopsPrinting NoMem guest plan w
 stops_before_first_line guest plan w same =
-    inl ([], nothing_is_part (setup_of guest plan), subst (λ z. Took (record w { after = z }) []) same (Appends-nil w.before))
+    inl ([], empty_text_is_part (setup_of guest plan), subst (λ z. Took (record w { after = z }) []) same (Appends-nil w.before))
 
 -- the writer fails in a whole answer
 pub stops_in_answer : (guest : Guest) (plan : ExplorePlan) (answered : ExitStatus) (text : List ℕ) (w : Writer) → IsAnswerAbout guest plan answered text
@@ -65,13 +65,13 @@ kept_list_is_not_longer (x ∷ xs) ys stay =
     omega (arith, less)
 
 -- what was printed, among the outcomes that were found since
-pub printed_among_more : (o : Objects) (e e' : Exploring) (many : ℕ) (text : List ℕ) → many ≡ length e.list.outcomes.items
+pub printed_kept_among_more_outcomes : (o : Objects) (e e' : Exploring) (many : ℕ) (text : List ℕ) → many ≡ length e.list.outcomes.items
     → ((i : ℕ) (x : Shown) → slice_get e.list.outcomes.items i ≡ Some x → x.node < length e.states.graph.flats.items)
     → Stay e.states.graph.flats.items e'.states.graph.flats.items → Stay e.list.outcomes.items e'.list.outcomes.items
     → HasPrinted o e (length e.list.outcomes.items) text → HasPrinted o e' many text
-printed_among_more o e e' many text is nodes stay stays printed =
+printed_kept_among_more_outcomes o e e' many text is nodes stay stays printed =
     subst (λ n. HasPrinted o e' n text) (sym is)
-    (texts_among_more o e.states.graph.flats.items e'.states.graph.flats.items e.list.outcomes.items e'.list.outcomes.items
+    (texts_kept_among_more_outcomes o e.states.graph.flats.items e'.states.graph.flats.items e.list.outcomes.items e'.list.outcomes.items
     (length e.list.outcomes.items) text printed (omega arith) nodes stay stays)
 
 -- the writer fails in what comes after what it took

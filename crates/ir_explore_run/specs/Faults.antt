@@ -11,7 +11,7 @@ use Rattle.ir_record_run.specs.Faults as record_run
 use Rattle.ir_record_run.specs.declared.record_fault.RecordFault.TheVariants as record_run_fault
 use Rattle.ir_thread.specs.State.{IsAllowed}
 use Rattle.ir_thread.specs.declared.profile.Profile.{Profile}
-use Rattle.ir_explore_run.specs.Printing.{EndsEarly}
+use Rattle.ir_explore_run.specs.Printed.{EndsEarly}
 use Rattle.ir_explore_run.specs.Texts.{IsAnswerAbout}
 use Rattle.ir_explore_run.specs.Plan.{ExplorePlan, setup_of}
 use Rattle.ir_explore_run.specs.declared.fault.ExploreFault.{ExploreFault}

@@ -1,7 +1,7 @@
 pub mod Plan
 pub mod Lines
 pub mod Texts
-pub mod Printing
+pub mod Printed
 pub mod Faults
 pub mod Conditions
 pub mod Until

@@ -8,7 +8,7 @@ use Rattle.ir_thread.specs.declared.profile.Profile.{Profile}
 pub record ExplorePlan : Type 0 where
   -- how many states there may be, and how many steps of a thread up to its next entry
   pub bounds : Bounds
-  -- the most switches of the thread that enters
+  -- the most switches of the thread that enters or tries
   pub switches : ℕ
   -- which system calls there are
   pub profile : Profile

@@ -1,5 +1,5 @@
 -- What `ir explore` writes.
-use Rattle.std.specs.Prelude.{◌≡◌, ◌≢◌, ◌⊎◌, ℕ, zero, suc, Option, Some, None, List, [], ◌++◌, length, take, flat_map, if◌then◌else◌, nat_eq, slice_get}
+use Rattle.std.specs.Prelude.{◌≡◌, ◌⊎◌, ℕ, zero, suc, Option, Some, None, List, [], ◌++◌, length, take, flat_map, if◌then◌else◌, nat_eq, slice_get}
 use Rattle.std.specs.List.{slice_index_or}
 use Rattle.std.specs.Cmp.Lexicographic.{pointwise}
 use Rattle.ir_explore.specs.declared.search.Ended.{Ended}
@@ -15,13 +15,12 @@ use Rattle.ir_graph.specs.Setup.{Setup}
 use Rattle.ir_graph.specs.Stops.{IsStop, MayStop}
 use Rattle.ir_image.specs.Guest.{Guest, object_count, object_words}
 use Rattle.ir_object.specs.Cell.{Cell}
-use Rattle.ir_order.specs.Spelling.{SpellsTurns}
+use Rattle.ir_order.specs.Spelling.{IsListOf}
 use Rattle.ir_outcomes.specs.Explored.{IsAt, AreExplored, AreAll, AreHangs}
 use Rattle.ir_outcomes.specs.Hang.{IsOrder}
 use Rattle.ir_outcomes.specs.declared.explored.Explored.{Explored}
 use Rattle.ir_outcomes.specs.declared.shown.Shown.{Shown}
 use Rattle.ir_record.specs.Recording.{turns_of_items}
-use Rattle.ir_record.specs.Refusing.{Turn}
 use Rattle.ir_thread.specs.State.{ThreadState}
 use Rattle.ir_store.specs.Nodes.{SourcedFlat}
 use Rattle.ir_explore_run.specs.declared.started.Started.{Started}
@@ -43,11 +42,6 @@ objects_text words first now zero = []
 objects_text words first now (suc n) =
     objects_text words first now n
     ++ object_text n (take words (slice_index_or first n empty).words) (take words (slice_index_or now n empty).words)
-
--- the list spells these turns, and is empty where there are none
-pub record IsListOf (list : List ℕ) (turns : List Turn) : Type 0 where
-  pub spells : turns ≢ [] → SpellsTurns list turns
-  pub none : turns ≡ [] → list ≡ []
 
 -- the objects of a guest at first, and how many words each has
 pub record Objects : Type 0 where

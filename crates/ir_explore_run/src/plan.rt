@@ -13,9 +13,9 @@ use std::marker::Model;
 /// How far a guest is explored, and what answers its threads.
 #[derive(Drop)]
 pub struct ExplorePlan<'a> {
-    /// How many states there may be, and how many steps of a thread up to its next entry.
+    /// How many states there may be, and how many steps of a thread up to its next entry or try.
     pub bounds: Bounds,
-    /// The most switches of the thread that enters.
+    /// The most switches of the thread that enters or tries.
     pub switches: usize,
     /// Which system calls there are.
     pub profile: Profile,
@@ -33,8 +33,8 @@ impl<'a> Model for ExplorePlan<'a> {
 }
 
 impl<'a> ExplorePlan<'a> {
-    /// At most so many states, steps of a thread up to its next entry, and switches; which system calls there are; where random words start, and the
-    /// bytes that each thread reads.
+    /// At most so many states, steps of a thread up to its next entry or try, and switches; which system calls there are; where random words
+    /// start, and the bytes that each thread reads.
     pub fn new(
         states: usize,
         private: u64,
@@ -76,7 +76,7 @@ impl<'a> ExplorePlan<'a> {
         }
     }
 
-    /// The most switches of the thread that enters.
+    /// The most switches of the thread that enters or tries.
     pub fn most(&self) -> usize
         ensures { result ≡ self.now.switches }
     {

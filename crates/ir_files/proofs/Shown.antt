@@ -3,21 +3,10 @@ use Rattle.std.proofs.Common.{◌≡◌, refl, ◌==◌, ◌&&◌, if◌then◌e
 use Rattle.std.specs.Prelude.{Option, not, nat_lt}
 use Rattle.std.specs.List.{list_all}
 use Rattle.std.specs.Io.KnownBytes.{Appends}
+use Rattle.ir_lemmas.proofs.CallerLemmas.{false_if_not_is_true, left_of_true_and, right_of_true_and}
 use Rattle.ir_stream.specs.Answers.{AppendsPrefix}
 use Rattle.ir_stream.proofs.CallerLemmas.{prefix_after_whole_text, prefix_of_longer_text}
 use Rattle.ir_files.specs.Shown.{shown, shown_byte, is_control, is_late_control, is_plain, mark}
-
-left_of_true_and : (a b : Bool) → (a && b) ≡ true → a ≡ true
-left_of_true_and true b h = refl
-left_of_true_and false b h = absurd (cc h)
-
-right_of_true_and : (a b : Bool) → (a && b) ≡ true → b ≡ true
-right_of_true_and true b h = h
-right_of_true_and false b h = absurd (cc h)
-
-false_if_not_is_true : (a : Bool) → not a ≡ true → a ≡ false
-false_if_not_is_true true h = absurd (cc h)
-false_if_not_is_true false h = refl
 
 shown_of_plain_byte : (b : ℕ) → is_plain b ≡ true → shown_byte b ≡ b
 shown_of_plain_byte b h = ap (λ z. if z then mark else b) (false_if_not_is_true (is_control b) (left_of_true_and (not (is_control b)) (not (b == 194)) h))

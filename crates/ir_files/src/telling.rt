@@ -1,10 +1,9 @@
 //! Faults, reported in one line.
 
-ghost use Rattle.std.specs.Prelude.{◌≡◌, ◌<◌, [], ◌∷◌, length, true, false, OnOk, OnErr, MatchOption};
+ghost use Rattle.std.specs.Prelude.{◌≡◌, ◌<◌, [], ◌∷◌, length, false, MatchOption};
 ghost use Rattle.std.specs.List.{list_all};
 ghost use Rattle.ir_files.specs.Shown.{shown, shown_byte, is_plain};
-ghost use Rattle.std.specs.Io.KnownBytes.{Appends};
-ghost use Rattle.ir_stream.specs.Answers.{AppendsPrefix};
+ghost use Rattle.ir_stream.specs.Writing.{WritesText};
 ghost use Rattle.ir_files.specs.Writers.{writer_of, Reports, fault_text, named_fault};
 
 use ir_stream::{DeviceErr, Sink, write_all};
@@ -43,9 +42,7 @@ fn first_shown(text: &[u8]) -> Option<(u8, &[u8])>
 
 // Writes a text byte by byte, a question mark for each control character.
 fn put_each<E: Sink>(faults: &mut E, text: &[u8]) -> Result<(), DeviceErr>
-    ensures ok { OnOk result (Appends (E.written faults.old) (E.written faults.new) (shown text.now)) }
-    ensures prefix { OnErr result (AppendsPrefix (E.written faults.old) (E.written faults.new) (shown text.now)) }
-    ensures err { OnErr result (E.broken faults.new ≡ true) }
+    ensures { WritesText E.written E.broken faults.old faults.new (shown text.now) result }
 {
     let mut rest = text;
     'bytes: while let Some((byte, after)) = first_shown(rest) {
@@ -58,9 +55,7 @@ fn put_each<E: Sink>(faults: &mut E, text: &[u8]) -> Result<(), DeviceErr>
 // Writes a text, a question mark for each control character.
 #[tactic(auto, using(crate::proofs::Shown::shown_of_plain_text))]
 fn put_shown<E: Sink>(faults: &mut E, text: &str) -> Result<(), DeviceErr>
-    ensures ok { OnOk result (Appends (E.written faults.old) (E.written faults.new) (shown text.now)) }
-    ensures prefix { OnErr result (AppendsPrefix (E.written faults.old) (E.written faults.new) (shown text.now)) }
-    ensures err { OnErr result (E.broken faults.new ≡ true) }
+    ensures { WritesText E.written E.broken faults.old faults.new (shown text.now) result }
 {
     let bytes = text.as_bytes();
     if all_are_plain(bytes) {
@@ -78,9 +73,7 @@ fn reported<E: Sink>(
     what: &str,
     why: &str,
 ) -> Result<(), DeviceErr>
-    ensures ok { OnOk result (Appends (E.written faults.old) (E.written faults.new) (fault_text (named_fault before.now name.now what.now why.now))) }
-    ensures prefix { OnErr result (AppendsPrefix (E.written faults.old) (E.written faults.new) (fault_text (named_fault before.now name.now what.now why.now))) }
-    ensures err { OnErr result (E.broken faults.new ≡ true) }
+    ensures { WritesText E.written E.broken faults.old faults.new (fault_text (named_fault before.now name.now what.now why.now)) result }
 {
     write_all(faults, b"ir: ")?;
     write_all(faults, before.as_bytes())?;
@@ -101,9 +94,7 @@ pub fn tell_of<E: Sink>(faults: &mut E, before: &str, name: &str, what: &str, wh
 
 // Writes the line that reports a fault.
 fn put_line<E: Sink>(faults: &mut E, words: &str) -> Result<(), DeviceErr>
-    ensures ok { OnOk result (Appends (E.written faults.old) (E.written faults.new) (fault_text words.now)) }
-    ensures prefix { OnErr result (AppendsPrefix (E.written faults.old) (E.written faults.new) (fault_text words.now)) }
-    ensures err { OnErr result (E.broken faults.new ≡ true) }
+    ensures { WritesText E.written E.broken faults.old faults.new (fault_text words.now) result }
 {
     write_all(faults, b"ir: ")?;
     write_all(faults, words.as_bytes())?;

@@ -11,7 +11,7 @@ use Rattle.ir_runs.specs.Run.{join_if}
 use Rattle.ir_runs.proofs.CallerLemmas.{join_if_of_append}
 use Rattle.ir_log.specs.declared.event.Event.{Event}
 use Rattle.ir_log.specs.declared.event.Event.TheVariants.{Answer, Read, Write, Try}
-use Rattle.ir_fit.specs.Fit.{Visit, of_threads, enter_if, entered_by, same_access, picked, Listing, listed, IsListing}
+use Rattle.ir_fit.specs.Placed.{Visit, enter_if, entered_by, same_access, picked, Listing, listed}
 use Rattle.ir_fit.specs.Listed.{AddsAll, AreSorted, IsInOrder, none_listed, left_by}
 use Rattle.ir_fit.specs.declared.leave.Leave.{Leave}
 use Rattle.ir_fit.specs.declared.place.Place.{Place}
@@ -27,15 +27,15 @@ drop_is_non_decreasing xs i up j k d le l = rw (get_or-drop i xs j d, get_or-dro
     (up (i + j) (i + k) d (omega (arith, le)) (omega (arith, l, length-drop i xs)))
 
 -- where those before version v end, and where those at it end
-abbrev pub IsBefore : List Place → ℕ → ℕ → Type 0
-IsBefore xs v i = IsPartitionPoint (λ (p : Place). p.version < v) (λ p. v ≤ p.version) xs i
+abbrev pub IsVersionStart : List Place → ℕ → ℕ → Type 0
+IsVersionStart xs v i = IsPartitionPoint (λ (p : Place). p.version < v) (λ p. v ≤ p.version) xs i
 
-abbrev pub IsUpTo : List Place → ℕ → ℕ → Type 0
-IsUpTo xs v n = IsPartitionPoint (λ (p : Place). p.version ≤ v) (λ p. v < p.version) xs n
+abbrev pub IsVersionEnd : List Place → ℕ → ℕ → Type 0
+IsVersionEnd xs v n = IsPartitionPoint (λ (p : Place). p.version ≤ v) (λ p. v < p.version) xs n
 
-range_holds_only_version : (xs : List Place) (i n v : ℕ) → n ≤ length (drop i xs) → IsBefore xs v i → IsUpTo (drop i xs) v n → (p : Place)
+range_holds_only_places_of_version : (xs : List Place) (i n v : ℕ) → n ≤ length (drop i xs) → IsVersionStart xs v i → IsVersionEnd (drop i xs) v n → (p : Place)
     → Contains (take n (drop i xs)) p → Contains xs p × (p.version ≡ v)
-range_holds_only_version xs i n v le first second p h =
+range_holds_only_places_of_version xs i n v le first second p h =
     let k : ℕ = h.0 in
     let kn : k < n = omega (arith, h.1, length-take-le n (drop i xs) le) in
     let here : get_or (drop i xs) k p ≡ p = sym (get_or-take n (drop i xs) k p kn) ∙ h.2 in
@@ -45,9 +45,9 @@ range_holds_only_version xs i n v le first second p h =
     let high : p.version ≤ v = subst (λ (y : Place). y.version ≤ v) here (second.0 k p (omega arith) kn) in
     ((i + k, within, there), omega (arith, low, high))
 
-range_holds_all_of_version : (xs : List Place) (i n v : ℕ) → n ≤ length (drop i xs) → IsBefore xs v i → IsUpTo (drop i xs) v n → (p : Place) → Contains xs p
+range_holds_all_places_of_version : (xs : List Place) (i n v : ℕ) → n ≤ length (drop i xs) → IsVersionStart xs v i → IsVersionEnd (drop i xs) v n → (p : Place) → Contains xs p
     → p.version ≡ v → Contains (take n (drop i xs)) p
-range_holds_all_of_version xs i n v le first second p h e = elim (cases_lt h.0 i) [
+range_holds_all_places_of_version xs i n v le first second p h e = elim (cases_lt h.0 i) [
   | inl l ↦ absurd (let low = subst (λ (y : Place). y.version < v) h.2 (first.0 h.0 p (omega arith) l) in omega (arith, low, e))
   | inr from ↦
       let j : ℕ = h.0 - i in
@@ -61,18 +61,18 @@ range_holds_all_of_version xs i n v le first second p h e = elim (cases_lt h.0 i
 ]
 
 -- the steps between are those at the version
-pub range_is_exactly_version : (xs ys : List Place) (i n v : ℕ) → xs ≡ ys → n ≤ length (take (length xs - i) (drop i xs)) → IsBefore xs v i
-    → IsUpTo (take (length xs - i) (drop i xs)) v n
+pub range_holds_exactly_places_of_version : (xs ys : List Place) (i n v : ℕ) → xs ≡ ys → n ≤ length (take (length xs - i) (drop i xs)) → IsVersionStart xs v i
+    → IsVersionEnd (take (length xs - i) (drop i xs)) v n
     → ((p : Place) → Contains (take n (take (length xs - i) (drop i xs))) p → Contains ys p × (p.version ≡ v))
     × ((p : Place) → Contains ys p → p.version ≡ v → Contains (take n (take (length xs - i) (drop i xs))) p)
-range_is_exactly_version xs ys i n v same le first second =
+range_holds_exactly_places_of_version xs ys i n v same le first second =
     let rest = take_all_of_drop xs i in
     let fits : n ≤ length (drop i xs) = subst (λ l. n ≤ length l) rest le in
-    let behind : IsUpTo (drop i xs) v n = subst (λ l. IsUpTo l v n) rest second in (
+    let behind : IsVersionEnd (drop i xs) v n = subst (λ l. IsVersionEnd l v n) rest second in (
       λ p h. subst (λ l. Contains l p × (p.version ≡ v)) same
-          (range_holds_only_version xs i n v fits first behind p (subst (λ l. Contains (take n l) p) rest h)),
+          (range_holds_only_places_of_version xs i n v fits first behind p (subst (λ l. Contains (take n l) p) rest h)),
       λ p h e. subst (λ l. Contains (take n l) p) (sym rest)
-          (range_holds_all_of_version xs i n v fits first behind p (subst (λ l. Contains l p) (sym same) h) e),
+          (range_holds_all_places_of_version xs i n v fits first behind p (subst (λ l. Contains l p) (sym same) h) e),
     )
 
 pub take_of_drop_is_non_decreasing : (xs : List Place) (i : ℕ) → IsNonDecreasingBy (λ (p : Place). p.version) xs
@@ -80,9 +80,9 @@ pub take_of_drop_is_non_decreasing : (xs : List Place) (i : ℕ) → IsNonDecrea
 take_of_drop_is_non_decreasing xs i up = subst (IsNonDecreasingBy (λ (p : Place). p.version)) (sym (take_all_of_drop xs i)) (drop_is_non_decreasing xs i up)
 
 -- a place that is at the version, and those before it are not
-pub is_before_by_neighbours : (xs : List Place) (v i : ℕ) (d : Place) → IsNonDecreasingBy (λ (p : Place). p.version) xs → i < length xs
-    → (get_or xs i d).version ≡ v → (0 < i → (get_or xs (i - 1) d).version < v) → IsBefore xs v i
-is_before_by_neighbours xs v i d up l at low = (
+pub is_version_start_by_neighbours : (xs : List Place) (v i : ℕ) (d : Place) → IsNonDecreasingBy (λ (p : Place). p.version) xs → i < length xs
+    → (get_or xs i d).version ≡ v → (0 < i → (get_or xs (i - 1) d).version < v) → IsVersionStart xs v i
+is_version_start_by_neighbours xs v i d up l at low = (
   λ k e from lt. let a = up k (i - 1) d (omega (arith, lt)) (omega (arith, l)) in let b = low (omega (arith, lt)) in
       let s : get_or xs k e ≡ get_or xs k d = get_or_default xs k e d (omega (arith, lt, l)) in
       subst (λ (y : Place). y.version < v) (sym s) (omega (arith, a, b)),
@@ -91,9 +91,9 @@ is_before_by_neighbours xs v i d up l at low = (
 )
 
 -- those from i on are past the version, and the one before i is not
-pub is_up_to_by_neighbours : (xs : List Place) (v i : ℕ) (d : Place) → IsNonDecreasingBy (λ (p : Place). p.version) xs → (0 < i → i ≤ length xs)
-    → (0 < i → (get_or xs (i - 1) d).version ≤ v) → (i < length xs → v < (get_or xs i d).version) → IsUpTo xs v i
-is_up_to_by_neighbours xs v i d up l low high = (
+pub is_version_end_by_neighbours : (xs : List Place) (v i : ℕ) (d : Place) → IsNonDecreasingBy (λ (p : Place). p.version) xs → (0 < i → i ≤ length xs)
+    → (0 < i → (get_or xs (i - 1) d).version ≤ v) → (i < length xs → v < (get_or xs i d).version) → IsVersionEnd xs v i
+is_version_end_by_neighbours xs v i d up l low high = (
   λ k e from lt.
       let le = l (omega (arith, lt)) in
       let a = up k (i - 1) d (omega (arith, lt)) (omega (arith, lt, le)) in
@@ -108,13 +108,13 @@ is_up_to_by_neighbours xs v i d up l low high = (
 )
 
 -- the same of the tests of a search
-pub is_before_by_tests : (xs : List Place) (v i : ℕ)
-    → IsPartitionPoint (λ (y : Place). ltb y.version v ≡ true) (λ y. ltb y.version v ≡ false) xs i → IsBefore xs v i
-is_before_by_tests xs v i h = (λ k d from lt. ltb-true _ v (h.0 k d from lt), λ k d from lt. ltb-false _ v (h.1 k d from lt))
+pub is_version_start_if_partition_by_tests : (xs : List Place) (v i : ℕ)
+    → IsPartitionPoint (λ (y : Place). ltb y.version v ≡ true) (λ y. ltb y.version v ≡ false) xs i → IsVersionStart xs v i
+is_version_start_if_partition_by_tests xs v i h = (λ k d from lt. ltb-true _ v (h.0 k d from lt), λ k d from lt. ltb-false _ v (h.1 k d from lt))
 
-pub is_up_to_by_tests : (xs : List Place) (v n : ℕ)
-    → IsPartitionPoint (λ (y : Place). leb y.version v ≡ true) (λ y. leb y.version v ≡ false) xs n → IsUpTo xs v n
-is_up_to_by_tests xs v n h = (λ k d from lt. leb-true _ v (h.0 k d from lt), λ k d from lt. leb-false _ v (h.1 k d from lt))
+pub is_version_end_if_partition_by_tests : (xs : List Place) (v n : ℕ)
+    → IsPartitionPoint (λ (y : Place). leb y.version v ≡ true) (λ y. leb y.version v ≡ false) xs n → IsVersionEnd xs v n
+is_version_end_if_partition_by_tests xs v n h = (λ k d from lt. leb-true _ v (h.0 k d from lt), λ k d from lt. leb-false _ v (h.1 k d from lt))
 
 -- ---- lists that are sorted in turn
 
@@ -150,8 +150,8 @@ sorted_below_with_list_sorted n old new x y l read same up h = record {
   rest = λ o lo. get_or-set_other new n o y [] (λ e. absurd (omega (arith, lo, e))) ∙ h.rest o (omega (arith, lo));
 }
 
-pub lists_sorted_if_below_length : (n : ℕ) (old new : List (List Place)) → SortedBelow n old new → length old ≤ n → AreSorted old new
-lists_sorted_if_below_length n old new h l o = elim (cases_lt o n) [
+pub lists_are_sorted_if_sorted_below_length : (n : ℕ) (old new : List (List Place)) → SortedBelow n old new → length old ≤ n → AreSorted old new
+lists_are_sorted_if_sorted_below_length n old new h l o = elim (cases_lt o n) [
   | inl lo ↦ h.below o lo
   | inr past ↦
       let none : get_or new o [] ≡ [] = get_or_past new o [] (omega (arith, h.size, l, past)) in (
@@ -175,11 +175,11 @@ adds_all_of_append x y z vs ws h k o a =
     k o a ∙ ap (λ xs. xs ++ picked o a ws) (h o a) ∙ append_assoc (listed x o a) (picked o a vs) (picked o a ws)
     ∙ ap (λ xs. listed x o a ++ xs) (sym (picked_append o a vs ws))
 
-enter_if_of_append : (t : ℕ) (e : Event) (k : ℕ) (vs ws : List Visit) → enter_if t e k (vs ++ ws) ≡ enter_if t e k vs ++ ws
-enter_if_of_append t (Answer kind value) k vs ws = refl
-enter_if_of_append t (Try o) k vs ws = refl
-enter_if_of_append t (Read o v) k vs ws = refl
-enter_if_of_append t (Write o v r) k vs ws = refl
+pub enter_if_commutes_with_append : (t : ℕ) (e : Event) (k : ℕ) (vs ws : List Visit) → enter_if t e k (vs ++ ws) ≡ enter_if t e k vs ++ ws
+enter_if_commutes_with_append t (Answer kind value) k vs ws = refl
+enter_if_commutes_with_append t (Try o) k vs ws = refl
+enter_if_commutes_with_append t (Read o v) k vs ws = refl
+enter_if_commutes_with_append t (Write o v r) k vs ws = refl
 
 entered_by_with_next_event : (t : ℕ) (es : List Event) (ks : List ℕ) (i : ℕ) (d : Event) → i < length es → i < length ks
     → entered_by t (take (suc i) es) ks ≡ entered_by t (take i es) ks ++ enter_if t (get_or es i d) (get_or ks i 0) []
@@ -187,7 +187,7 @@ entered_by_with_next_event t [] ks i d l m = absurd (omega (arith, l))
 entered_by_with_next_event t (e ∷ es) [] i d l m = absurd (omega (arith, m))
 entered_by_with_next_event t (e ∷ es) (k ∷ ks) zero d l m = refl
 entered_by_with_next_event t (e ∷ es) (k ∷ ks) (suc i) d l m = ap (enter_if t e k) (entered_by_with_next_event t es ks i d (omega (arith, l)) (omega (arith, m)))
-    ∙ enter_if_of_append t e k (entered_by t (take i es) ks) (enter_if t (get_or es i d) (get_or ks i 0) [])
+    ∙ enter_if_commutes_with_append t e k (entered_by t (take i es) ks) (enter_if t (get_or es i d) (get_or ks i 0) [])
 
 -- one more event of a log
 pub adds_all_with_event : (x y z : Listing) (t : ℕ) (es : List Event) (ks : List ℕ) (i : ℕ) (d : Event) → i < length es → i < length ks
@@ -206,25 +206,13 @@ adds_all_with_leave x y z t ls i d l old new =
     let next : left_by t (take (i + 1) ls) ≡ left_by t (take i ls) ++ f (get_or ls i d) ∷ [] = map_more f ls i d l in
     subst (AddsAll x z) (sym next) (adds_all_of_append x y z (left_by t (take i ls)) (f (get_or ls i d) ∷ []) old new)
 
--- one more thread
-pub adds_all_with_thread : (x y z : Listing) (n : ℕ) (f : ℕ → List Visit) → AddsAll x y (of_threads n f) → AddsAll y z (f n)
-    → AddsAll x z (of_threads (n + 1) f)
-adds_all_with_thread x y z n f old new = subst (λ k. AddsAll x z (of_threads k f)) (sym (add-one n)) (adds_all_of_append x y z (of_threads n f) (f n) old new)
-
 -- ---- the whole
 
-none_listed_is_empty : (o : ℕ) (a : Access) → listed none_listed o a ≡ []
+pub none_listed_is_empty : (o : ℕ) (a : Access) → listed none_listed o a ≡ []
 none_listed_is_empty o Reading = get_or_past [] o [] (omega arith)
 none_listed_is_empty o Writing = get_or_past [] o [] (omega arith)
 
-listed_is_in_order : (x y : Listing) → IsInOrder x y → (o : ℕ) (a : Access) → IsPermutation (listed x o a) (listed y o a)
+pub listed_is_sorted_permutation_if_in_order : (x y : Listing) → IsInOrder x y → (o : ℕ) (a : Access) → IsPermutation (listed x o a) (listed y o a)
     × IsNonDecreasingBy (λ (p : Place). p.version) (listed y o a)
-listed_is_in_order x y h o Reading = h.0 o
-listed_is_in_order x y h o Writing = h.1 o
-
-pub listing_if_added_and_ordered : (x y : Listing) (vs : List Visit) → AddsAll none_listed x vs → IsInOrder x y → IsListing vs y
-listing_if_added_and_ordered x y vs h sorted = record {
-  same = λ o a. subst (λ z. IsPermutation z (listed y o a)) (h o a ∙ ap (λ z. z ++ picked o a vs) (none_listed_is_empty o a))
-      (listed_is_in_order x y sorted o a).0;
-  sorted = λ o a. (listed_is_in_order x y sorted o a).1;
-}
+listed_is_sorted_permutation_if_in_order x y h o Reading = h.0 o
+listed_is_sorted_permutation_if_in_order x y h o Writing = h.1 o

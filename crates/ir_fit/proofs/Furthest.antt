@@ -1,7 +1,6 @@
 -- Whether a recorded trace is that of a run of a guest's, by the run that follows it furthest.
 use Rattle.std.proofs.Common.{◌≡◌, ◌≢◌, ℕ, zero, suc, ◌<◌, ◌≤◌, List, [], ◌∷◌, ◌++◌, ◌⊎◌, length, map, Some, refl, sym, ap, ◌∙◌, subst, arith, inl, inr, get_or}
 use Rattle.std.specs.Prelude.{slice_get}
-use Rattle.std.proofs.lemmas.List.{length-map}
 use Rattle.std.specs.List.{AllByRecursion}
 use Rattle.std.proofs.lemmas.Bool.{cases_lt}
 use Rattle.ir_image.specs.Guest.{Guest}
@@ -17,17 +16,18 @@ use Rattle.ir_log.specs.Logging.{label_of}
 use Rattle.ir_log.specs.declared.event.Event.{Event}
 use Rattle.ir_log.specs.declared.event.Event.TheVariants.{Answer, Read, Write, Try}
 use Rattle.ir_thread.specs.declared.profile.Profile.{Profile}
-use Rattle.ir_trace.specs.Recorded.{Recorded, RecordedThread, trace_of, IsRecorded, IsRecordedThread, IsEvent}
+use Rattle.ir_trace.specs.Recorded.{Recorded, RecordedThread, trace_of}
+use Rattle.ir_trace.specs.Bounds.{IsRecorded, IsRecordedThread, IsEvent}
 use Rattle.ir_trace.specs.Absent.{absent}
 use Rattle.ir_coherence.proofs.CallerLemmas.{coherent_trace_is_unbroken}
 use Rattle.ir_fit.proofs.Guests.{guest_start_is_start, guest_start_is_live}
 use Rattle.ir_coherence.specs.Breaking.{HasCause, IsFirstBreak}
 use Rattle.ir_coherence.specs.declared.cause.Cause.{Cause}
-use Rattle.ir_fit.specs.Fit.{HasHeader, IsRunOf, HasRun, GoesFurthest, AreVerdicts, IsRefused, placed_at}
+use Rattle.ir_fit.specs.Fit.{HasHeader, IsRunOf, GoesFurthest, AreVerdicts, IsRefused}
 use Rattle.ir_fit.specs.Within.{BreaksBy}
 use Rattle.ir_fit.specs.Follower.{IsFollowed, AreStanding}
 use Rattle.ir_runs.specs.Verdicts as following
-use Rattle.ir_fit.specs.Growing.{Growing, grown, growing_at}
+use Rattle.ir_fit.specs.Growing.{Growing}
 use Rattle.ir_runs.specs.Standing.{StandsAs}
 use Rattle.ir_runs.specs.Events as events
 use Rattle.ir_runs.specs.Coherent.{IsCoherent}
@@ -63,18 +63,18 @@ recorded_trace_holds_events code r is t i k h = thread_labels_are_machine_events
 
 -- ---- a run that goes furthest
 
-get_below_length_is_some : (vs : List ThreadVerdict) (t : ℕ) → t < length vs → (v : ThreadVerdict) × (slice_get vs t ≡ Some v)
+pub get_below_length_is_some : (vs : List ThreadVerdict) (t : ℕ) → t < length vs → (v : ThreadVerdict) × (slice_get vs t ≡ Some v)
 get_below_length_is_some [] t l = absurd (omega (arith, l))
 get_below_length_is_some (v ∷ vs) zero l = (v, refl)
 get_below_length_is_some (v ∷ vs) (suc t) l = get_below_length_is_some vs t (omega (arith, l))
 
 -- the run goes furthest, and what is said of the threads is how they are at its end
-pub standing_threads_give_verdicts : (g : Guest) (r : Recorded) → IsRecorded r → HasHeader g r → IsCoherent (length g.entries) (trace_of r) → (run : List Step)
+pub goes_furthest_with_verdicts_if_threads_stand : (g : Guest) (r : Recorded) → IsRecorded r → HasHeader g r → IsCoherent (length g.entries) (trace_of r) → (run : List Step)
     → following.Follows (following.closing (thread_machine g.code) (trace_of r)) (thread_machine g.code) (tables (start_flat g r.budget r.profile))
     (trace_of r) run → (vs : List ThreadVerdict) → length vs ≡ length g.entries
     → ((t : ℕ) (v : ThreadVerdict) → slice_get vs t ≡ Some v
     → StandsAs (thread_machine g.code) (tables (start_flat g r.budget r.profile)) (trace_of r) run t v) → GoesFurthest g r run × AreVerdicts g r vs
-standing_threads_give_verdicts g r is header co run f vs each stands =
+goes_furthest_with_verdicts_if_threads_stand g r is header co run f vs each stands =
     let m = thread_machine g.code in
     let s = tables (start_flat g r.budget r.profile) in
     let tr = trace_of r in
@@ -152,14 +152,6 @@ trace_with_run_is_coherent g r run is =
 
 -- ---- what the code answers
 
--- a list, and one more at its end
-pub slice_get_after_push_cases : {A : Type 0} (xs : List A) (y : A) (t : ℕ) (v : A) → slice_get (xs ++ y ∷ []) t ≡ Some v → (slice_get xs t ≡ Some v)
-    ⊎ ((t ≡ length xs) × (y ≡ v))
-slice_get_after_push_cases [] y zero v h = inr (refl, cc h)
-slice_get_after_push_cases [] y (suc t) v h = absurd (cc h)
-slice_get_after_push_cases (x ∷ xs) y zero v h = inl h
-slice_get_after_push_cases (x ∷ xs) y (suc t) v h = elim (slice_get_after_push_cases xs y t v h) [ inl g ↦ inl g | inr e ↦ inr (ap suc e.0, e.1) ]
-
 -- why the trace of one of the events is no run's
 pub broken_coherence_refuses_trace : (g : Guest) (r : Recorded) → HasHeader g r → (e : FitErr) → BreaksBy r e → IsRefused g r e
 broken_coherence_refuses_trace g r header NoMem b = tt
@@ -177,28 +169,5 @@ pub differing_thread_refuses_trace : (g : Guest) (r : Recorded) → IsRecorded r
     × ((run : List Step) → IsRunOf g r run → ⊥)
 differing_thread_refuses_trace g r is header co f ps followed vs each stand t v at ne =
     let k = followed.follower in
-    let both = standing_threads_give_verdicts g r is header co k.run k.follows vs (each ∙ k.threads) (stand g k) in
+    let both = goes_furthest_with_verdicts_if_threads_stand g r is header co k.run k.follows vs (each ∙ k.threads) (stand g k) in
     ((header, coherent_trace_is_unbroken (length g.entries) (trace_of r) co, both.1), no_run_if_thread_differs g r co k.run both.0 t v (stand g k t v at) ne)
-
-placed_at_of_grown : (ps : List Growing) (t : ℕ) → placed_at (map grown ps) t ≡ grown (growing_at ps t)
-placed_at_of_grown [] t = refl
-placed_at_of_grown (x ∷ xs) zero = refl
-placed_at_of_grown (x ∷ xs) (suc t) = placed_at_of_grown xs t
-
--- all are the same
-pub same_threads_give_run : (g : Guest) (r : Recorded) → HasHeader g r → (f : Flat) (ps : List Growing) → IsFollowed g r f ps
-    → length ps ≡ length f.threads → (vs : List ThreadVerdict) → length vs ≡ length f.threads → AreStanding r f ps vs
-    → ((t : ℕ) (v : ThreadVerdict) → slice_get vs t ≡ Some v → v ≡ Same)
-    → HasRun (record { guest = g; recorded = r; placed = map grown ps })
-same_threads_give_run g r header f ps followed placed vs each stand same =
-    let k = followed.follower in
-    record {
-      run = k.run;
-      whole = run_has_trace_if_threads_same g r header k.run k.follows (λ t l.
-          let v = get_below_length_is_some vs t (omega (arith, l, each, k.threads)) in
-          subst (StandsAs (thread_machine g.code) (tables (start_flat g r.budget r.profile)) (trace_of r) k.run t) (same t v.0 v.1)
-          (stand g k t v.0 v.1));
-      each = length-map ps grown ∙ placed ∙ k.threads;
-      entries = λ t l. ap (λ z. z.entries) (placed_at_of_grown ps t) ∙ k.placed t l;
-      leaves = λ t l. ap (λ z. z.leaves) (placed_at_of_grown ps t) ∙ k.left t l;
-    }

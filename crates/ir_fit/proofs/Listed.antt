@@ -3,22 +3,22 @@ use Rattle.std.proofs.Common.{◌≡◌, ℕ, suc, zero, ◌+◌, ◌<◌, ◌�
 use Rattle.std.proofs.lemmas.Bool.{cases_lt}
 use Rattle.std.proofs.lemmas.List.{length-map, get_or-map}
 use Rattle.ir_thread.specs.State.{thread_machine}
-use Rattle.ir_runs.specs.Machine.{Machine, Label, Quiet, Answer, In, Refused, Out, logged}
+use Rattle.ir_runs.specs.Machine.{Label, Quiet, Answer, In, Refused, Out, logged}
 use Rattle.ir_thread.specs.State as thread
 use Rattle.ir_runs.specs.declared.access.Access.{Access}
 use Rattle.ir_runs.specs.declared.env_kind.EnvKind.{EnvKind}
 use Rattle.ir_runs.specs.declared.env_kind.EnvKind.TheVariants.{Clock}
 use Rattle.ir_flat.specs.Flat.{start_flat, tables, machine}
-use Rattle.ir_runs.specs.Run.{State, Step, after, IsRun, trail, count, events, At}
-use Rattle.ir_runs.specs.Bounds.{IsIdle}
+use Rattle.ir_runs.specs.Run.{trail, count, events, At}
 use Rattle.ir_flat.proofs.CallerLemmas.{guest_start_is_idle}
 use Rattle.ir_log.specs.Logging.{label_of}
 use Rattle.ir_log.specs.declared.event.Event.{Event}
 use Rattle.ir_log.specs.declared.event.Event.TheVariants as logged_event
 use Rattle.ir_trace.specs.Recorded.{recorded_thread}
-use Rattle.ir_runs.proofs.CallerLemmas.{trail_of_cons_other_thread, step_below_idle_keeps_idle}
-use Rattle.ir_fit.specs.Fit.{FittedTrace, HasRun, placed_at, place_if, places_from, leave_if, leaves_from}
+use Rattle.ir_fit.specs.Fit.{FittedTrace, HasRun}
+use Rattle.ir_fit.specs.Placed.{placed_at, place_if, places_from, leave_if, leaves_from, placed_of}
 use Rattle.ir_fit.specs.Listed.{EmitsIn}
+use Rattle.ir_fit.proofs.Placements.{idle_thread_has_empty_trail, placed_entries_are_places_of_run, placed_leaves_are_leaves_of_run}
 use Rattle.ir_fit.specs.declared.leave.Leave.{Leave}
 
 -- ---- one step
@@ -41,19 +41,19 @@ label_is_logged_or_unlogged (Out o a v) = inr (record { place = λ k ks. refl; e
 
 -- ---- events and their positions
 
-length_of_places_is_events : {T : Type 0} (n : ℕ) (xs : List (T × Label)) → length (places_from n xs) ≡ length (events xs)
-length_of_places_is_events n [] = refl
-length_of_places_is_events n (x ∷ xs) = elim (label_is_logged_or_unlogged x.1) [
-  | inl l ↦ ap length (l.place n (places_from (suc n) xs)) ∙ ap suc (length_of_places_is_events (suc n) xs) ∙ sym (ap length (l.event (events xs)))
-  | inr p ↦ ap length (p.place n (places_from (suc n) xs)) ∙ length_of_places_is_events (suc n) xs ∙ sym (ap length (p.event (events xs)))
+places_are_as_many_as_events : {T : Type 0} (n : ℕ) (xs : List (T × Label)) → length (places_from n xs) ≡ length (events xs)
+places_are_as_many_as_events n [] = refl
+places_are_as_many_as_events n (x ∷ xs) = elim (label_is_logged_or_unlogged x.1) [
+  | inl l ↦ ap length (l.place n (places_from (suc n) xs)) ∙ ap suc (places_are_as_many_as_events (suc n) xs) ∙ sym (ap length (l.event (events xs)))
+  | inr p ↦ ap length (p.place n (places_from (suc n) xs)) ∙ places_are_as_many_as_events (suc n) xs ∙ sym (ap length (p.event (events xs)))
 ]
 
 -- the step at position k emits e, where the first of these is at n
 abbrev StepAt : {T : Type 0} → ℕ → List (T × Label) → ℕ → Label → Type 0
 StepAt {T} n xs k e = (j : ℕ) × (k ≡ n + j) × ((x : T) × At xs j (x, e))
 
-step_at_of_later_steps : {T : Type 0} (n : ℕ) (x : T × Label) (xs : List (T × Label)) (k : ℕ) (e : Label) → StepAt (suc n) xs k e → StepAt n (x ∷ xs) k e
-step_at_of_later_steps n x xs k e g = (suc g.0, g.1 ∙ (let q : suc n + g.0 ≡ n + suc g.0 = omega arith in q), g.2)
+cons_keeps_step_at : {T : Type 0} (n : ℕ) (x : T × Label) (xs : List (T × Label)) (k : ℕ) (e : Label) → StepAt (suc n) xs k e → StepAt n (x ∷ xs) k e
+cons_keeps_step_at n x xs k e g = (suc g.0, g.1 ∙ (let q : suc n + g.0 ≡ n + suc g.0 = omega arith in q), g.2)
 
 -- the step of event i is at entry i of the positions
 step_at_place_of_event : {T : Type 0} (n : ℕ) (xs : List (T × Label)) (i k : ℕ) (e : Label) → At (events xs) i e → At (places_from n xs) i k
@@ -64,13 +64,13 @@ step_at_place_of_event n (x ∷ xs) zero k e h g = elim (label_is_logged_or_unlo
       let emits : x.1 ≡ e = subst (λ es. At es 0 e) (l.event (events xs)) h in
       let at : n ≡ k = subst (λ ks. At ks 0 k) (l.place n (places_from (suc n) xs)) g in
       (0, sym at ∙ (let q : n ≡ n + 0 = omega arith in q), (x.0, ap (λ m. (x.0, m)) emits))
-  | inr p ↦ step_at_of_later_steps n x xs k e (step_at_place_of_event (suc n) xs 0 k e (subst (λ es. At es 0 e) (p.event (events xs)) h)
+  | inr p ↦ cons_keeps_step_at n x xs k e (step_at_place_of_event (suc n) xs 0 k e (subst (λ es. At es 0 e) (p.event (events xs)) h)
       (subst (λ ks. At ks 0 k) (p.place n (places_from (suc n) xs)) g))
 ]
 step_at_place_of_event n (x ∷ xs) (suc i) k e h g = elim (label_is_logged_or_unlogged x.1) [
-  | inl l ↦ step_at_of_later_steps n x xs k e (step_at_place_of_event (suc n) xs i k e (subst (λ es. At es (suc i) e) (l.event (events xs)) h)
+  | inl l ↦ cons_keeps_step_at n x xs k e (step_at_place_of_event (suc n) xs i k e (subst (λ es. At es (suc i) e) (l.event (events xs)) h)
       (subst (λ ks. At ks (suc i) k) (l.place n (places_from (suc n) xs)) g))
-  | inr p ↦ step_at_of_later_steps n x xs k e (step_at_place_of_event (suc n) xs (suc i) k e (subst (λ es. At es (suc i) e) (p.event (events xs)) h)
+  | inr p ↦ cons_keeps_step_at n x xs k e (step_at_place_of_event (suc n) xs (suc i) k e (subst (λ es. At es (suc i) e) (p.event (events xs)) h)
       (subst (λ ks. At ks (suc i) k) (p.place n (places_from (suc n) xs)) g))
 ]
 
@@ -132,13 +132,13 @@ step_at_place_of_leave n (x ∷ xs) zero l h = elim (label_is_leave_or_not x.1) 
         ap (λ z. z.position) (sym same) ∙ (let q : n ≡ n + 0 = omega arith in q),
         (x.0, ap (λ m. (x.0, m)) is ∙ ap (λ z. (x.0, Out z.object z.access z.version)) same),
       )
-  | inr p ↦ step_at_of_later_steps n x xs l.position (Out l.object l.access l.version)
+  | inr p ↦ cons_keeps_step_at n x xs l.position (Out l.object l.access l.version)
       (step_at_place_of_leave (suc n) xs 0 l (subst (λ ls. At ls 0 l) (p n (leaves_from (suc n) xs)) h))
 ]
 step_at_place_of_leave n (x ∷ xs) (suc i) l h = elim (label_is_leave_or_not x.1) [
-  | inl (o, a, v, is) ↦ step_at_of_later_steps n x xs l.position (Out l.object l.access l.version)
+  | inl (o, a, v, is) ↦ cons_keeps_step_at n x xs l.position (Out l.object l.access l.version)
       (step_at_place_of_leave (suc n) xs i l (subst (λ m. At (leave_if m n (leaves_from (suc n) xs)) (suc i) l) is h))
-  | inr p ↦ step_at_of_later_steps n x xs l.position (Out l.object l.access l.version)
+  | inr p ↦ cons_keeps_step_at n x xs l.position (Out l.object l.access l.version)
       (step_at_place_of_leave (suc n) xs (suc i) l (subst (λ ls. At ls (suc i) l) (p n (leaves_from (suc n) xs)) h))
 ]
 
@@ -185,13 +185,13 @@ places_rise n (x ∷ xs) = elim (label_is_logged_or_unlogged x.1) [
 abbrev positions : List Leave → List ℕ
 positions ls = map (λ l. l.position) ls
 
-leave_positions_from_rise : {T : Type 0} (n : ℕ) (xs : List (T × Label)) → Rises n (positions (leaves_from n xs))
-leave_positions_from_rise n [] = tt
-leave_positions_from_rise n (x ∷ xs) = elim (label_is_leave_or_not x.1) [
+positions_of_leaves_from_rise : {T : Type 0} (n : ℕ) (xs : List (T × Label)) → Rises n (positions (leaves_from n xs))
+positions_of_leaves_from_rise n [] = tt
+positions_of_leaves_from_rise n (x ∷ xs) = elim (label_is_leave_or_not x.1) [
   | inl (o, a, v, is) ↦ subst (λ m. Rises n (positions (leave_if m n (leaves_from (suc n) xs)))) (sym is)
-      (omega arith, leave_positions_from_rise (suc n) xs)
+      (omega arith, positions_of_leaves_from_rise (suc n) xs)
   | inr p ↦ subst (λ ls. Rises n (positions ls)) (sym (p n (leaves_from (suc n) xs)))
-      (rises_from_lower_bound n (suc n) (positions (leaves_from (suc n) xs)) (omega arith) (leave_positions_from_rise (suc n) xs))
+      (rises_from_lower_bound n (suc n) (positions (leaves_from (suc n) xs)) (omega arith) (positions_of_leaves_from_rise (suc n) xs))
 ]
 
 rising_list_is_above_bound : (n : ℕ) (ks : List ℕ) → Rises n ks → (i : ℕ) → i < length ks → n ≤ get_or ks i 0
@@ -207,28 +207,21 @@ rising_list_is_increasing n (k ∷ ks) h (suc i) (suc j) l m = rising_list_is_in
 
 -- ---- places in lists
 
-pub at_place_of_get_or : {A : Type 0} (xs : List A) (i : ℕ) (d : A) → i < length xs → At xs i (get_or xs i d)
-at_place_of_get_or [] i d l = absurd (omega (arith, l))
-at_place_of_get_or (x ∷ xs) zero d l = refl
-at_place_of_get_or (x ∷ xs) (suc i) d l = at_place_of_get_or xs i d (omega (arith, l))
+pub get_or_is_at_index_if_below_length : {A : Type 0} (xs : List A) (i : ℕ) (d : A) → i < length xs → At xs i (get_or xs i d)
+get_or_is_at_index_if_below_length [] i d l = absurd (omega (arith, l))
+get_or_is_at_index_if_below_length (x ∷ xs) zero d l = refl
+get_or_is_at_index_if_below_length (x ∷ xs) (suc i) d l = get_or_is_at_index_if_below_length xs i d (omega (arith, l))
 
-pub get_or_of_at : {A : Type 0} (xs : List A) (i : ℕ) (x : A) → At xs i x → (i < length xs) × ((d : A) → get_or xs i d ≡ x)
-get_or_of_at [] i x h = absurd h
-get_or_of_at (y ∷ ys) zero x h = (omega arith, λ d. h)
-get_or_of_at (y ∷ ys) (suc i) x h = let g = get_or_of_at ys i x h in (omega (arith, g.0), g.1)
+pub get_or_is_item_if_at_index : {A : Type 0} (xs : List A) (i : ℕ) (x : A) → At xs i x → (i < length xs) × ((d : A) → get_or xs i d ≡ x)
+get_or_is_item_if_at_index [] i x h = absurd h
+get_or_is_item_if_at_index (y ∷ ys) zero x h = (omega arith, λ d. h)
+get_or_is_item_if_at_index (y ∷ ys) (suc i) x h = let g = get_or_is_item_if_at_index ys i x h in (omega (arith, g.0), g.1)
 
 -- ---- what is kept of a run
 
 -- the steps of thread t in the run that is kept
 abbrev trail_in : (f : FittedTrace) → HasRun f → ℕ → List (thread.ThreadState × Label)
 trail_in f h t = trail (machine (start_flat f.guest f.recorded.budget f.recorded.profile)) (tables (start_flat f.guest f.recorded.budget f.recorded.profile)) h.run t
-
-pub idle_thread_has_empty_trail : {T : Type 0} (m : Machine T) (s : State T) (n : ℕ) → IsIdle m s n → (run : List Step) → IsRun m s run → (t : ℕ) → n ≤ t
-    → trail m s run t ≡ []
-idle_thread_has_empty_trail m s n idle [] ok t l = refl
-idle_thread_has_empty_trail m s n idle (e ∷ run) ok t l =
-    let g = step_below_idle_keeps_idle m s n idle e ok.0 in
-    trail_of_cons_other_thread m s e run t (λ q. absurd (omega (arith, q, l, g.0))) ∙ idle_thread_has_empty_trail m (after m s e) n g.1 run ok.1 t l
 
 -- only the guest's threads take steps
 pub emitting_thread_is_guest_thread : (f : FittedTrace) (h : HasRun f) (t k : ℕ) (e : Label) → EmitsIn f h t k e → t < length f.guest.entries
@@ -249,108 +242,108 @@ count_in_run_is_recorded_steps f h t l = h.whole.1.steps t l
 -- no step is past them
 pub emitting_step_below_recorded_steps : (f : FittedTrace) (h : HasRun f) (t k : ℕ) (e : Label) → EmitsIn f h t k e → k < (recorded_thread f.recorded t).steps
 emitting_step_below_recorded_steps f h t k e emitted = subst (λ n. k < n) (count_in_run_is_recorded_steps f h t (emitting_thread_is_guest_thread f h t k e emitted))
-    (get_or_of_at (trail_in f h t) k (emitted.0, e) emitted.1).0
+    (get_or_is_item_if_at_index (trail_in f h t) k (emitted.0, e) emitted.1).0
 
 step_at_trail_is_emitted : (f : FittedTrace) (h : HasRun f) (t k : ℕ) (e : Label) → StepAt 0 (trail_in f h t) k e → EmitsIn f h t k e
 step_at_trail_is_emitted f h t k e g = (g.2.0, subst (λ j. At (trail_in f h t) j (g.2.0, e)) (let q : g.0 ≡ k = omega (arith, g.1) in q) g.2.1)
 
 -- a thread has as many positions as events
-pub entries_as_many_as_events : (f : FittedTrace) (h : HasRun f) (t : ℕ) → t < length f.guest.entries
-    → length (placed_at f.placed t).entries ≡ length (recorded_thread f.recorded t).events
-entries_as_many_as_events f h t l = ap length (h.entries t l) ∙ length_of_places_is_events 0 (trail_in f h t) ∙ ap length (h.whole.1.logs t l)
+pub event_positions_are_as_many_as_events : (f : FittedTrace) (h : HasRun f) (t : ℕ) → t < length f.guest.entries
+    → length (placed_at (placed_of f) t).entries ≡ length (recorded_thread f.recorded t).events
+event_positions_are_as_many_as_events f h t l = ap length (placed_entries_are_places_of_run f h t l) ∙ places_are_as_many_as_events 0 (trail_in f h t) ∙ ap length (h.whole.1.logs t l)
     ∙ length-map (recorded_thread f.recorded t).events label_of
 
 -- the step at the position of event i emits event i
-pub step_of_entry_emits_event : (f : FittedTrace) (h : HasRun f) (t : ℕ) → t < length f.guest.entries → (i : ℕ) (d : Event)
+pub step_at_event_position_emits_event : (f : FittedTrace) (h : HasRun f) (t : ℕ) → t < length f.guest.entries → (i : ℕ) (d : Event)
     → i < length (recorded_thread f.recorded t).events
-    → EmitsIn f h t (get_or (placed_at f.placed t).entries i 0) (label_of (get_or (recorded_thread f.recorded t).events i d))
-step_of_entry_emits_event f h t l i d li =
+    → EmitsIn f h t (get_or (placed_at (placed_of f) t).entries i 0) (label_of (get_or (recorded_thread f.recorded t).events i d))
+step_at_event_position_emits_event f h t l i d li =
     let es : List Event = (recorded_thread f.recorded t).events in
-    let k : ℕ = get_or (placed_at f.placed t).entries i 0 in
+    let k : ℕ = get_or (placed_at (placed_of f) t).entries i 0 in
     let e : Label = label_of (get_or es i d) in
     let event : At (map label_of es) i e = subst (At (map label_of es) i) (get_or-map label_of es i d e li)
-    (at_place_of_get_or (map label_of es) i e (let n = length-map es label_of in omega (arith, n, li))) in
-    let place : At (placed_at f.placed t).entries i k =
-    at_place_of_get_or (placed_at f.placed t).entries i 0 (let n = entries_as_many_as_events f h t l in omega (arith, n, li)) in
+    (get_or_is_at_index_if_below_length (map label_of es) i e (let n = length-map es label_of in omega (arith, n, li))) in
+    let place : At (placed_at (placed_of f) t).entries i k =
+    get_or_is_at_index_if_below_length (placed_at (placed_of f) t).entries i 0 (let n = event_positions_are_as_many_as_events f h t l in omega (arith, n, li)) in
     step_at_trail_is_emitted f h t k e (step_at_place_of_event 0 (trail_in f h t) i k e (subst (λ xs. At xs i e) (sym (h.whole.1.logs t l)) event)
-    (subst (λ xs. At xs i k) (h.entries t l) place))
+    (subst (λ xs. At xs i k) (placed_entries_are_places_of_run f h t l) place))
 
 -- a step that is logged is an event's, at its position
 pub logged_step_is_of_event : (f : FittedTrace) (h : HasRun f) (t k : ℕ) (e : Label) → ((es : List Label) → logged e es ≡ e ∷ es) → EmitsIn f h t k e
-    → (i : ℕ) × (i < length (recorded_thread f.recorded t).events) × (get_or (placed_at f.placed t).entries i 0 ≡ k)
+    → (i : ℕ) × (i < length (recorded_thread f.recorded t).events) × (get_or (placed_at (placed_of f) t).entries i 0 ≡ k)
     × ((d : Event) → label_of (get_or (recorded_thread f.recorded t).events i d) ≡ e)
 logged_step_is_of_event f h t k e logs emitted =
     let l = emitting_thread_is_guest_thread f h t k e emitted in
     let es : List Event = (recorded_thread f.recorded t).events in
     let g = event_of_logged_step 0 (trail_in f h t) k emitted.0 e logs emitted.1 in
     let event : At (map label_of es) g.0 e = subst (λ xs. At xs g.0 e) (h.whole.1.logs t l) g.1 in
-    let place : At (placed_at f.placed t).entries g.0 (0 + k) = subst (λ xs. At xs g.0 (0 + k)) (sym (h.entries t l)) g.2 in
-    let found = get_or_of_at (map label_of es) g.0 e event in
+    let place : At (placed_at (placed_of f) t).entries g.0 (0 + k) = subst (λ xs. At xs g.0 (0 + k)) (sym (placed_entries_are_places_of_run f h t l)) g.2 in
+    let found = get_or_is_item_if_at_index (map label_of es) g.0 e event in
     let li : g.0 < length es = let n = length-map es label_of in let m = found.0 in omega (arith, n, m) in (
       g.0,
       li,
-      (get_or_of_at (placed_at f.placed t).entries g.0 (0 + k) place).1 0
+      (get_or_is_item_if_at_index (placed_at (placed_of f) t).entries g.0 (0 + k) place).1 0
           ∙ (let q : 0 + k ≡ k = omega arith in q),
       λ d. sym (get_or-map label_of es g.0 d e li) ∙ found.1 e,
     )
 
 -- each entry is an event's
 pub entry_step_is_of_event : (f : FittedTrace) (h : HasRun f) (t k o : ℕ) (a : Access) (v n : ℕ) → EmitsIn f h t k (In o a v n)
-    → (i : ℕ) × (i < length (recorded_thread f.recorded t).events) × (get_or (placed_at f.placed t).entries i 0 ≡ k)
+    → (i : ℕ) × (i < length (recorded_thread f.recorded t).events) × (get_or (placed_at (placed_of f) t).entries i 0 ≡ k)
     × ((d : Event) → label_of (get_or (recorded_thread f.recorded t).events i d) ≡ In o a v n)
 entry_step_is_of_event f h t k o a v n emitted = logged_step_is_of_event f h t k (In o a v n) (λ es. refl) emitted
 
 -- so is each answer
 pub answer_step_is_of_event : (f : FittedTrace) (h : HasRun f) (t k : ℕ) (kind : EnvKind) (value : ℕ) → EmitsIn f h t k (Answer kind value)
-    → (i : ℕ) × (i < length (recorded_thread f.recorded t).events) × (get_or (placed_at f.placed t).entries i 0 ≡ k)
+    → (i : ℕ) × (i < length (recorded_thread f.recorded t).events) × (get_or (placed_at (placed_of f) t).entries i 0 ≡ k)
     × ((d : Event) → label_of (get_or (recorded_thread f.recorded t).events i d) ≡ Answer kind value)
 answer_step_is_of_event f h t k kind value emitted = logged_step_is_of_event f h t k (Answer kind value) (λ es. refl) emitted
 
 -- the positions of the events rise
-pub entry_positions_rise : (f : FittedTrace) (h : HasRun f) (t : ℕ) → t < length f.guest.entries → (i j : ℕ) → i < j
-    → j < length (placed_at f.placed t).entries → get_or (placed_at f.placed t).entries i 0 < get_or (placed_at f.placed t).entries j 0
-entry_positions_rise f h t l = rising_list_is_increasing 0 (placed_at f.placed t).entries (subst (Rises 0) (sym (h.entries t l)) (places_rise 0 (trail_in f h t)))
+pub event_positions_rise : (f : FittedTrace) (h : HasRun f) (t : ℕ) → t < length f.guest.entries → (i j : ℕ) → i < j
+    → j < length (placed_at (placed_of f) t).entries → get_or (placed_at (placed_of f) t).entries i 0 < get_or (placed_at (placed_of f) t).entries j 0
+event_positions_rise f h t l = rising_list_is_increasing 0 (placed_at (placed_of f) t).entries (subst (Rises 0) (sym (placed_entries_are_places_of_run f h t l)) (places_rise 0 (trail_in f h t)))
 
 -- and are below the thread's steps
-pub entry_position_below_steps : (f : FittedTrace) (h : HasRun f) (t : ℕ) → t < length f.guest.entries → (i : ℕ)
-    → i < length (placed_at f.placed t).entries → get_or (placed_at f.placed t).entries i 0 < (recorded_thread f.recorded t).steps
-entry_position_below_steps f h t l i li =
+pub event_position_below_steps : (f : FittedTrace) (h : HasRun f) (t : ℕ) → t < length f.guest.entries → (i : ℕ)
+    → i < length (placed_at (placed_of f) t).entries → get_or (placed_at (placed_of f) t).entries i 0 < (recorded_thread f.recorded t).steps
+event_position_below_steps f h t l i li =
     let d : Event = logged_event.Answer Clock 0 in
-    emitting_step_below_recorded_steps f h t (get_or (placed_at f.placed t).entries i 0) (label_of (get_or (recorded_thread f.recorded t).events i d))
-    (step_of_entry_emits_event f h t l i d (let n = entries_as_many_as_events f h t l in omega (arith, n, li)))
+    emitting_step_below_recorded_steps f h t (get_or (placed_at (placed_of f) t).entries i 0) (label_of (get_or (recorded_thread f.recorded t).events i d))
+    (step_at_event_position_emits_event f h t l i d (let n = event_positions_are_as_many_as_events f h t l in omega (arith, n, li)))
 
 -- the step of leave i emits leave i
 pub step_of_leave_emits_leave : (f : FittedTrace) (h : HasRun f) (t : ℕ) → t < length f.guest.entries → (i : ℕ) (d : Leave)
-    → i < length (placed_at f.placed t).leaves
-    → EmitsIn f h t (get_or (placed_at f.placed t).leaves i d).position
-    (Out (get_or (placed_at f.placed t).leaves i d).object (get_or (placed_at f.placed t).leaves i d).access
-    (get_or (placed_at f.placed t).leaves i d).version)
+    → i < length (placed_at (placed_of f) t).leaves
+    → EmitsIn f h t (get_or (placed_at (placed_of f) t).leaves i d).position
+    (Out (get_or (placed_at (placed_of f) t).leaves i d).object (get_or (placed_at (placed_of f) t).leaves i d).access
+    (get_or (placed_at (placed_of f) t).leaves i d).version)
 step_of_leave_emits_leave f h t l i d li =
-    let e : Leave = get_or (placed_at f.placed t).leaves i d in
+    let e : Leave = get_or (placed_at (placed_of f) t).leaves i d in
     step_at_trail_is_emitted f h t e.position (Out e.object e.access e.version)
-    (step_at_place_of_leave 0 (trail_in f h t) i e (subst (λ xs. At xs i e) (h.leaves t l) (at_place_of_get_or (placed_at f.placed t).leaves i d li)))
+    (step_at_place_of_leave 0 (trail_in f h t) i e (subst (λ xs. At xs i e) (placed_leaves_are_leaves_of_run f h t l) (get_or_is_at_index_if_below_length (placed_at (placed_of f) t).leaves i d li)))
 
 -- each leave is one of these
 pub leave_step_is_kept : (f : FittedTrace) (h : HasRun f) (t k o : ℕ) (a : Access) (v : ℕ) → EmitsIn f h t k (Out o a v)
-    → (i : ℕ) × (i < length (placed_at f.placed t).leaves)
-    × ((d : Leave) → get_or (placed_at f.placed t).leaves i d ≡ record { position = k; object = o; access = a; version = v })
+    → (i : ℕ) × (i < length (placed_at (placed_of f) t).leaves)
+    × ((d : Leave) → get_or (placed_at (placed_of f) t).leaves i d ≡ record { position = k; object = o; access = a; version = v })
 leave_step_is_kept f h t k o a v emitted =
     let l = emitting_thread_is_guest_thread f h t k (Out o a v) emitted in
     let g = leave_of_step 0 (trail_in f h t) k emitted.0 o a v emitted.1 in
-    let at : At (placed_at f.placed t).leaves g.0 (leave_at (0 + k) o a v) =
-    subst (λ xs. At xs g.0 (leave_at (0 + k) o a v)) (sym (h.leaves t l)) g.1 in
-    let found = get_or_of_at (placed_at f.placed t).leaves g.0 (leave_at (0 + k) o a v) at in
+    let at : At (placed_at (placed_of f) t).leaves g.0 (leave_at (0 + k) o a v) =
+    subst (λ xs. At xs g.0 (leave_at (0 + k) o a v)) (sym (placed_leaves_are_leaves_of_run f h t l)) g.1 in
+    let found = get_or_is_item_if_at_index (placed_at (placed_of f) t).leaves g.0 (leave_at (0 + k) o a v) at in
     (g.0, found.0, λ d. found.1 d ∙ ap (λ j. leave_at j o a v) (let q : 0 + k ≡ k = omega arith in q))
 
 -- the positions of the leaves rise
 pub leave_positions_rise : (f : FittedTrace) (h : HasRun f) (t : ℕ) → t < length f.guest.entries → (i j : ℕ) (d : Leave) → i < j
-    → j < length (placed_at f.placed t).leaves
-    → (get_or (placed_at f.placed t).leaves i d).position < (get_or (placed_at f.placed t).leaves j d).position
+    → j < length (placed_at (placed_of f) t).leaves
+    → (get_or (placed_at (placed_of f) t).leaves i d).position < (get_or (placed_at (placed_of f) t).leaves j d).position
 leave_positions_rise f h t l i j d lt lj =
-    let ls : List Leave = (placed_at f.placed t).leaves in
+    let ls : List Leave = (placed_at (placed_of f) t).leaves in
     let place : Leave → ℕ = λ e. e.position in
     let n = length-map ls place in
-    let up = rising_list_is_increasing 0 (positions ls) (subst (λ xs. Rises 0 (positions xs)) (sym (h.leaves t l)) (leave_positions_from_rise 0 (trail_in f h t)))
+    let up = rising_list_is_increasing 0 (positions ls) (subst (λ xs. Rises 0 (positions xs)) (sym (placed_leaves_are_leaves_of_run f h t l)) (positions_of_leaves_from_rise 0 (trail_in f h t)))
     i j lt (omega (arith, n, lj)) in
     let first : get_or (positions ls) i 0 ≡ (get_or ls i d).position = get_or-map place ls i d 0 (omega (arith, lt, lj)) in
     let second : get_or (positions ls) j 0 ≡ (get_or ls j d).position = get_or-map place ls j d 0 lj in
@@ -358,7 +351,7 @@ leave_positions_rise f h t l i j d lt lj =
 
 -- and are below the thread's steps
 pub leave_position_below_steps : (f : FittedTrace) (h : HasRun f) (t : ℕ) → t < length f.guest.entries → (i : ℕ) (d : Leave)
-    → i < length (placed_at f.placed t).leaves → (get_or (placed_at f.placed t).leaves i d).position < (recorded_thread f.recorded t).steps
+    → i < length (placed_at (placed_of f) t).leaves → (get_or (placed_at (placed_of f) t).leaves i d).position < (recorded_thread f.recorded t).steps
 leave_position_below_steps f h t l i d li =
-    let e : Leave = get_or (placed_at f.placed t).leaves i d in
+    let e : Leave = get_or (placed_at (placed_of f) t).leaves i d in
     emitting_step_below_recorded_steps f h t e.position (Out e.object e.access e.version) (step_of_leave_emits_leave f h t l i d li)

@@ -23,7 +23,7 @@ use Rattle.ir_trace.specs.Recorded.{Recorded, RecordedThread, recorded_thread, t
 use Rattle.ir_trace.specs.Absent.{absent}
 use Rattle.ir_fit.specs.Ahead.{steps_ahead, log_ahead, StepFollows, CanFollow, IsStopped, AgreesAhead, IsMove}
 use Rattle.ir_fit.specs.Follower.{IsFollower, IsFollowed, IsPlaced, GoesOn, all_ahead}
-use Rattle.ir_fit.specs.Fit.{place_if, leave_if}
+use Rattle.ir_fit.specs.Placed.{place_if, leave_if}
 use Rattle.ir_fit.specs.Growing.{Growing, growing_at, placed_by, placed_more, none_growing, places_of, leaves_of}
 use Rattle.ir_runs.specs.Standing.{StandsAs}
 use Rattle.ir_runs.specs.Verdicts.{Agrees, sum_below, Check, unlogged, left_log, left_steps, Fits, Follows, Meets, closing}
@@ -31,7 +31,7 @@ use Rattle.ir_runs.specs.declared.thread_verdict.ThreadVerdict.{ThreadVerdict}
 use Rattle.ir_runs.specs.declared.thread_verdict.ThreadVerdict.TheVariants.{Same, Disagrees, Starves}
 use Rattle.ir_fit.specs.declared.follower.look.Move.{Move}
 use Rattle.ir_fit.proofs.Placed.{AllQuiet, join_if_is_quiet, places_of_quiet_steps_are_empty, leaves_of_quiet_steps_are_empty, places_append, leaves_append, entries_after_placed_by, leaves_after_placed_by, room_after_placed_by, entries_count_events_after_placed, leaves_within_events_after_placed}
-use Rattle.ir_fit.proofs.Seen.{end_asked, ends_now_is_end_asked, emits, events_within_after_following_step}
+use Rattle.ir_fit.proofs.Seen.{end_asked, ends_now_is_end_asked, label_of_step, events_within_after_following_step}
 use Rattle.ir_thread.specs.declared.profile.Profile.{Profile}
 
 -- ---- what is left
@@ -169,9 +169,9 @@ module _ (guest : Guest) (r : Recorded) (f : Flat) (ps qs : List Growing) (n : M
   may = subst (λ q. Admits (machine_of f) (act_of (shared_ask q) n.result) ((tables f).objects (target (act_of (shared_ask q) n.result))))
       (sym move.asked) move.follows.0
 
-  emits_there : emits f n.asked n.result ≡ label (guest_machine guest r) (end (guest_machine guest r) (guest_start guest r) k.run)
+  emits_there : label_of_step f n.asked n.result ≡ label (guest_machine guest r) (end (guest_machine guest r) (guest_start guest r) k.run)
       (n.thread, n.result)
-  emits_there = ap (λ q. emits f q n.result) move.asked ∙ ap (λ c. label (thread_machine c) (tables f) (n.thread, n.result)) k.code
+  emits_there = ap (λ q. label_of_step f q n.result) move.asked ∙ ap (λ c. label (thread_machine c) (tables f) (n.thread, n.result)) k.code
       ∙ ap (λ z. label (guest_machine guest r) z (n.thread, n.result)) k.ends
 
   position : (thread_of f n.thread).steps ≡ 0 + length (trail (guest_machine guest r) (guest_start guest r) k.run n.thread)
@@ -184,7 +184,7 @@ module _ (guest : Guest) (r : Recorded) (f : Flat) (ps qs : List Growing) (n : M
     | inl e ↦ subst (λ u. (growing_at qs u).entries ≡ places_of
         (trail (guest_machine guest r) (guest_start guest r) (k.run ++ (n.thread, n.result) ∷ []) u)) (sym e)
         (ap (λ z. z.entries) kept_own ∙ entries_after_placed_by f n.thread n.result (growing_at ps n.thread) n.asked may
-        ∙ ap (λ z. z ++ place_if (emits f n.asked n.result) (thread_of f n.thread).steps [])
+        ∙ ap (λ z. z ++ place_if (label_of_step f n.asked n.result) (thread_of f n.thread).steps [])
         (k.placed n.thread (subst (λ u. u < length guest.entries) e l))
         ∙ ap (λ z. places_of (trail (guest_machine guest r) (guest_start guest r) k.run n.thread) ++ z)
         (ap (λ z. place_if z (thread_of f n.thread).steps []) emits_there
@@ -205,7 +205,7 @@ module _ (guest : Guest) (r : Recorded) (f : Flat) (ps qs : List Growing) (n : M
     | inl e ↦ subst (λ u. (growing_at qs u).leaves ≡ leaves_of
         (trail (guest_machine guest r) (guest_start guest r) (k.run ++ (n.thread, n.result) ∷ []) u)) (sym e)
         (ap (λ z. z.leaves) kept_own ∙ leaves_after_placed_by f n.thread n.result (growing_at ps n.thread) n.asked
-        ∙ ap (λ z. z ++ leave_if (emits f n.asked n.result) (thread_of f n.thread).steps [])
+        ∙ ap (λ z. z ++ leave_if (label_of_step f n.asked n.result) (thread_of f n.thread).steps [])
         (k.left n.thread (subst (λ u. u < length guest.entries) e l))
         ∙ ap (λ z. leaves_of (trail (guest_machine guest r) (guest_start guest r) k.run n.thread) ++ z)
         (ap (λ z. leave_if z (thread_of f n.thread).steps []) emits_there
@@ -308,8 +308,8 @@ follower_after_private_steps guest r f g ps t n w le k =
 
 -- ---- fewer are left
 
-difference_falls_with_subtrahend : (a b c k : ℕ) → b ≡ c + k → a - b ≤ a - c
-difference_falls_with_subtrahend a b c k e = omega (arith, e)
+difference_falls_if_subtrahend_grows : (a b c k : ℕ) → b ≡ c + k → a - b ≤ a - c
+difference_falls_if_subtrahend_grows a b c k e = omega (arith, e)
 
 pub all_ahead_fewer_after_step : (r : Recorded) (f g : Flat) (t v : ℕ) → t < length f.threads → CanFollow r f t v
     → tables g ≡ after (machine_of f) (tables f) (t, v) → length g.threads ≡ length f.threads → all_ahead r g < all_ahead r f
@@ -322,13 +322,13 @@ all_ahead_fewer_after_step r f g t v l can taken threads =
     let own : (thread_of g t).steps ≡ (thread_of f t).steps + count m (tables f) ((t, v) ∷ []) t = steps t in
     subst (λ n. sum_below n (steps_ahead r g) < all_ahead r f) (sym threads)
     (sum_below_less_if_one_less (length f.threads) t (steps_ahead r g) (steps_ahead r f) l (omega (arith, own, one, some))
-    (λ u. difference_falls_with_subtrahend (recorded_thread r u).steps (thread_of g u).steps (thread_of f u).steps _ (steps u)))
+    (λ u. difference_falls_if_subtrahend_grows (recorded_thread r u).steps (thread_of g u).steps (thread_of f u).steps _ (steps u)))
 
-all_ahead_after_private_steps : (r : Recorded) (f g : Flat) (t n : ℕ) → WentAlone f g t n → all_ahead r g ≤ all_ahead r f
-all_ahead_after_private_steps r f g t n w =
+all_ahead_not_more_after_private_steps : (r : Recorded) (f g : Flat) (t n : ℕ) → WentAlone f g t n → all_ahead r g ≤ all_ahead r f
+all_ahead_not_more_after_private_steps r f g t n w =
     subst (λ k. sum_below k (steps_ahead r g) ≤ all_ahead r f) (sym w.threads)
     (sum_below_is_monotone (length f.threads) (steps_ahead r g) (steps_ahead r f)
-    (λ u. difference_falls_with_subtrahend (recorded_thread r u).steps (thread_of g u).steps (thread_of f u).steps
+    (λ u. difference_falls_if_subtrahend_grows (recorded_thread r u).steps (thread_of g u).steps (thread_of f u).steps
     (count (machine_of f) (tables f) (replicate n (t, 0)) u)
     (ap (λ s. (s.now u).steps) w.ends ∙ (tallies_along_run f.code (tables f) (replicate n (t, 0)) w.runs u).steps)))
 
@@ -384,9 +384,9 @@ module _ (r : Recorded) (f g : Flat) (ps qs : List Growing) (n : Move) (move : I
   }
 
 -- who leaves an object leaves one of the guest's, and there is room to keep the leave
-pub left_object_is_of_state : (f : Flat) (t o : ℕ) (a : Access) → IsFlat f → t < length f.threads → ask_of f.code (thread_of f t) ≡ Leaves o a
+pub object_exists_if_thread_leaves_it : (f : Flat) (t o : ℕ) (a : Access) → IsFlat f → t < length f.threads → ask_of f.code (thread_of f t) ≡ Leaves o a
     → o < length f.objects
-left_object_is_of_state f t o a flat l is = let p = subst (Permits (thread_of f t)) is (ask_of_permitted f.code (thread_of f t)) in
+object_exists_if_thread_leaves_it f t o a flat l is = let p = subst (Permits (thread_of f t)) is (ask_of_permitted f.code (thread_of f t)) in
     omega (arith, p.1, flat.places t l)
 
 pub room_to_keep_leave : (r : Recorded) (f : Flat) (ps : List Growing) (t o : ℕ) (a : Access) → IsPlaced r f ps → t < length f.threads
@@ -440,8 +440,8 @@ placed_after_private_steps r f g ps t n kept w =
 -- ---- what is kept at the start
 
 -- nothing, with room for what the trace emits of a thread
-abbrev pub room_for : RecordedThread → Growing
-room_for t = record { entries = []; leaves = []; room = length t.events }
+abbrev pub empty_growing_for : RecordedThread → Growing
+empty_growing_for t = record { entries = []; leaves = []; room = length t.events }
 
 start_thread_holds_nothing : (guest : Guest) (budget : ℕ) (profile : Profile) (from n t : ℕ) → held_count (get_or (start_threads guest budget profile from n) t idle).held ≡ 0
 start_thread_holds_nothing guest budget profile from zero t = refl
@@ -449,21 +449,21 @@ start_thread_holds_nothing guest budget profile from (suc n) zero = sum_by-repli
     ∙ (let e : object_count guest * 0 ≡ 0 = omega arith in e)
 start_thread_holds_nothing guest budget profile from (suc n) (suc t) = start_thread_holds_nothing guest budget profile (suc from) n t
 
-growing_at_of_room_for : (rs : List RecordedThread) (t : ℕ) → growing_at (map room_for rs) t ≡ room_for (get_or rs t absent)
-growing_at_of_room_for [] t = refl
-growing_at_of_room_for (x ∷ rs) zero = refl
-growing_at_of_room_for (x ∷ rs) (suc t) = growing_at_of_room_for rs t
+growing_at_of_map_empty_growing : (rs : List RecordedThread) (t : ℕ) → growing_at (map empty_growing_for rs) t ≡ empty_growing_for (get_or rs t absent)
+growing_at_of_map_empty_growing [] t = refl
+growing_at_of_map_empty_growing (x ∷ rs) zero = refl
+growing_at_of_map_empty_growing (x ∷ rs) (suc t) = growing_at_of_map_empty_growing rs t
 
 pub start_is_placed : (guest : Guest) (r : Recorded) (f : Flat) (ps : List Growing) → f ≡ start_flat guest r.budget r.profile
-    → ps ≡ map room_for r.threads → length r.threads ≡ length f.threads → IsPlaced r f ps
+    → ps ≡ map empty_growing_for r.threads → length r.threads ≡ length f.threads → IsPlaced r f ps
 start_is_placed guest r f ps start rooms count =
-    let at : (t : ℕ) → growing_at ps t ≡ room_for (recorded_thread r t) = λ t. ap (λ z. growing_at z t) rooms ∙ growing_at_of_room_for r.threads t in
+    let at : (t : ℕ) → growing_at ps t ≡ empty_growing_for (recorded_thread r t) = λ t. ap (λ z. growing_at z t) rooms ∙ growing_at_of_map_empty_growing r.threads t in
     let no_events : (t : ℕ) → (thread_of f t).events ≡ 0 = λ t. ap (λ z. (thread_of z t).events) start
     ∙ (start_thread_is_fresh guest r.budget r.profile 0 (length guest.entries) t).events in
     let no_held : (t : ℕ) → held_count (thread_of f t).held ≡ 0 = λ t. ap (λ z. held_count (thread_of z t).held) start
     ∙ start_thread_holds_nothing guest r.budget r.profile 0 (length guest.entries) t in
     record {
-      each = ap (λ z. length z) rooms ∙ length-map r.threads room_for ∙ count;
+      each = ap (λ z. length z) rooms ∙ length-map r.threads empty_growing_for ∙ count;
       rooms = λ t l. ap (λ z. z.room) (at t);
       counts = λ t l. ap (λ z. length z.entries) (at t) ∙ sym (no_events t);
       fewer = λ t l. let none : length (growing_at ps t).leaves ≡ 0 = ap (λ z. length z.leaves) (at t) in let held = no_held t in
@@ -471,12 +471,12 @@ start_is_placed guest r f ps start rooms count =
       within = λ t l. let none = no_events t in omega (arith, none);
     }
 
-pub start_has_no_places : (r : Recorded) (ps : List Growing) → ps ≡ map room_for r.threads → (t : ℕ) → ((growing_at ps t).entries ≡ [])
+pub start_has_no_places : (r : Recorded) (ps : List Growing) → ps ≡ map empty_growing_for r.threads → (t : ℕ) → ((growing_at ps t).entries ≡ [])
     × ((growing_at ps t).leaves ≡ [])
 start_has_no_places r ps rooms t = (
   ap (λ z. (growing_at z t).entries) rooms
-      ∙ ap (λ z. z.entries) (growing_at_of_room_for r.threads t),
-  ap (λ z. (growing_at z t).leaves) rooms ∙ ap (λ z. z.leaves) (growing_at_of_room_for r.threads t),
+      ∙ ap (λ z. z.entries) (growing_at_of_map_empty_growing r.threads t),
+  ap (λ z. (growing_at z t).leaves) rooms ∙ ap (λ z. z.leaves) (growing_at_of_map_empty_growing r.threads t),
 )
 
 -- ---- continuing
@@ -487,7 +487,7 @@ goes_on_by_private_steps r f g ps t n w le = record {
   threads = w.threads;
   objects =
       w.objects;
-  fewer = all_ahead_after_private_steps r f g t n w;
+  fewer = all_ahead_not_more_after_private_steps r f g t n w;
 }
 
 -- a step that was taken
@@ -549,19 +549,22 @@ goes_on_past_private_steps r q f g h i ps qs os t n left same goes w le is move 
 -- which leaves fewer
 pub fewer_ahead_past_private_steps : (r q : Recorded) (f g h : Flat) (t n : ℕ) → WentAlone f g t n → all_ahead q h < all_ahead r g
     → all_ahead q h < all_ahead r f
-fewer_ahead_past_private_steps r q f g h t n w less = let same = all_ahead_after_private_steps r f g t n w in omega (arith, same, less)
+fewer_ahead_past_private_steps r q f g h t n w less = let same = all_ahead_not_more_after_private_steps r f g t n w in omega (arith, same, less)
 
 -- a step after a look, and what comes after it
-pub goes_on_through_look : (r q p : Recorded) (f g g' h i : Flat) (ps bs bs' cs ds : List Growing) → GoesOn r f ps g bs → g' ≡ g → bs' ≡ bs → q ≡ r
+pub goes_on_by_three_parts : (r q p : Recorded) (f g g' h i : Flat) (ps bs bs' cs ds : List Growing) → GoesOn r f ps g bs → g' ≡ g → bs' ≡ bs → q ≡ r
     → GoesOn q g' bs' h cs → p ≡ q → GoesOn p h cs i ds → GoesOn r f ps i ds
-goes_on_through_look r q p f g g' h i ps bs bs' cs ds goes same kept trace step after_it then =
+goes_on_by_three_parts r q p f g g' h i ps bs bs' cs ds goes same kept trace step after_it then =
     goes_on_is_transitive r f h i ps cs ds (goes_on_is_transitive r f g h ps bs cs goes
     (subst (λ z. GoesOn r z bs h cs) same (subst (λ z. GoesOn r g' z h cs) kept (subst (λ z. GoesOn z g' bs' h cs) trace step))))
     (subst (λ z. GoesOn z h cs i ds) (after_it ∙ trace) then)
 
-pub fewer_ahead_through_look : (r q p o : Recorded) (g g' h i : Flat) (cs ds : List Growing) → g' ≡ g → q ≡ r → all_ahead p h < all_ahead q g'
+pub goes_on_if_end_same : (r : Recorded) (f g h : Flat) (ps bs cs : List Growing) → h ≡ g → cs ≡ bs → GoesOn r f ps g bs → GoesOn r f ps h cs
+goes_on_if_end_same r f g h ps bs cs same kept goes = subst (λ z. GoesOn r f ps z cs) (sym same) (subst (λ z. GoesOn r f ps g z) (sym kept) goes)
+
+pub fewer_ahead_if_fewer_then_goes_on : (r q p o : Recorded) (g g' h i : Flat) (cs ds : List Growing) → g' ≡ g → q ≡ r → all_ahead p h < all_ahead q g'
     → GoesOn p h cs i ds → o ≡ p → all_ahead o i < all_ahead r g
-fewer_ahead_through_look r q p o g g' h i cs ds same trace less then last =
+fewer_ahead_if_fewer_then_goes_on r q p o g g' h i cs ds same trace less then last =
     let fewer = then.fewer in
     let there_left : all_ahead q g' ≡ all_ahead r g = ap (λ z. all_ahead z g') trace ∙ ap (all_ahead r) same in
     let here_left : all_ahead o i ≡ all_ahead p i = ap (λ z. all_ahead z i) last in
@@ -603,19 +606,19 @@ thread_not_done_at_run_end : (guest : Guest) (r : Recorded) (f : Flat) (ps : Lis
 thread_not_done_at_run_end guest r f ps k t ne done = ne (shared_done_is_done (ask_of f.code (thread_of f t))
     (property_moves_from_run_end guest r f ps k t (λ m s n es. asked m s t ≡ machine.Done) done))
 
-pub thread_stands_disagreeing : (guest : Guest) (r : Recorded) (f : Flat) (ps : List Growing) → (k : IsFollower guest r f ps) → (t : ℕ)
+pub thread_stands_disagreeing_if_not_agreeing : (guest : Guest) (r : Recorded) (f : Flat) (ps : List Growing) → (k : IsFollower guest r f ps) → (t : ℕ)
     → ask_of f.code (thread_of f t) ≢ Done → (AgreesAhead r f t → ⊥)
     → Stands guest r f ps k t (Disagrees (thread_of f t).events (thread_of f t).steps)
-thread_stands_disagreeing guest r f ps k t ne other = (
+thread_stands_disagreeing_if_not_agreeing guest r f ps k t ne other = (
   thread_not_done_at_run_end guest r f ps k t ne,
   λ h. other (property_moves_from_run_end guest r f ps k t (λ m s n es. Agrees m ((trace_of r).ends t) (s.now t) n es) h),
   k.events t,
   k.steps t,
 )
 
-pub thread_stands_starving : (guest : Guest) (r : Recorded) (f : Flat) (ps : List Growing) → (k : IsFollower guest r f ps) → (t : ℕ)
+pub thread_stands_starving_if_agreeing_and_stopped : (guest : Guest) (r : Recorded) (f : Flat) (ps : List Growing) → (k : IsFollower guest r f ps) → (t : ℕ)
     → ask_of f.code (thread_of f t) ≢ Done → AgreesAhead r f t → IsStopped r f t → Stands guest r f ps k t (Starves (thread_of f t).events)
-thread_stands_starving guest r f ps k t ne same stopped = (
+thread_stands_starving_if_agreeing_and_stopped guest r f ps k t ne same stopped = (
   thread_not_done_at_run_end guest r f ps k t ne,
   property_moves_to_run_end guest r f ps k t (λ m s n es. Agrees m ((trace_of r).ends t) (s.now t) n es) same,
   λ h. stopped_thread_cannot_follow guest r f ps k t _ stopped h,

@@ -1,6 +1,7 @@
 -- Positions of events and leaves along the steps of a thread.
 use Rattle.std.proofs.Common.{◌≡◌, ℕ, zero, suc, ◌+◌, ◌<◌, ◌≤◌, Bool, true, false, List, [], ◌∷◌, ◌++◌, length, length-append, set, Option, Some, None, refl, sym, ap, ◌∙◌, arith, append-nil}
 use Rattle.std.proofs.lemmas.List.Sums.{sum_by-set}
+use Rattle.ir_lemmas.proofs.CallerLemmas.{length_of_append_item}
 use Rattle.ir_thread.specs.Permitted.{Permits, held_count}
 use Rattle.ir_thread.specs.State.{held_at, one_if_held, after_ask, shared_ask}
 use Rattle.ir_thread.specs.State as thread
@@ -13,25 +14,25 @@ use Rattle.ir_thread.specs.declared.ask.Reply.TheVariants.{Go, Value}
 use Rattle.ir_runs.specs.Machine.{act_of, target, Admits, Label, Quiet, Answer, In, Refused, Out}
 use Rattle.ir_thread.proofs.CallerLemmas.{held_count_after_leave, held_after_other_try_answer}
 use Rattle.ir_flat.specs.Flat.{Flat, thread_of, tables, machine}
-use Rattle.ir_fit.proofs.Seen.{emits}
+use Rattle.ir_fit.proofs.Seen.{label_of_step}
 use Rattle.ir_runs.specs.Run.{join_if}
-use Rattle.ir_fit.specs.Fit.{place_if, places_from, leave_if, leaves_from}
+use Rattle.ir_fit.specs.Placed.{place_if, places_from, leave_if, leaves_from}
 use Rattle.ir_fit.specs.Growing.{Growing, placed_by}
 use Rattle.ir_fit.specs.declared.leave.Leave.{Leave}
 
-place_if_of_append : (k : Label) (i : ℕ) (ps qs : List ℕ) → place_if k i (ps ++ qs) ≡ place_if k i ps ++ qs
-place_if_of_append Quiet i ps qs = refl
-place_if_of_append (Answer a v) i ps qs = refl
-place_if_of_append (In o a v l) i ps qs = refl
-place_if_of_append (Refused o) i ps qs = refl
-place_if_of_append (Out o a v) i ps qs = refl
+place_if_commutes_with_append : (k : Label) (i : ℕ) (ps qs : List ℕ) → place_if k i (ps ++ qs) ≡ place_if k i ps ++ qs
+place_if_commutes_with_append Quiet i ps qs = refl
+place_if_commutes_with_append (Answer a v) i ps qs = refl
+place_if_commutes_with_append (In o a v l) i ps qs = refl
+place_if_commutes_with_append (Refused o) i ps qs = refl
+place_if_commutes_with_append (Out o a v) i ps qs = refl
 
-leave_if_of_append : (k : Label) (i : ℕ) (ps qs : List Leave) → leave_if k i (ps ++ qs) ≡ leave_if k i ps ++ qs
-leave_if_of_append Quiet i ps qs = refl
-leave_if_of_append (Answer a v) i ps qs = refl
-leave_if_of_append (In o a v l) i ps qs = refl
-leave_if_of_append (Refused o) i ps qs = refl
-leave_if_of_append (Out o a v) i ps qs = refl
+leave_if_commutes_with_append : (k : Label) (i : ℕ) (ps qs : List Leave) → leave_if k i (ps ++ qs) ≡ leave_if k i ps ++ qs
+leave_if_commutes_with_append Quiet i ps qs = refl
+leave_if_commutes_with_append (Answer a v) i ps qs = refl
+leave_if_commutes_with_append (In o a v l) i ps qs = refl
+leave_if_commutes_with_append (Refused o) i ps qs = refl
+leave_if_commutes_with_append (Out o a v) i ps qs = refl
 
 pub places_append : {T : Type 0} (i : ℕ) (xs ys : List (T × Label))
     → places_from i (xs ++ ys) ≡ places_from i xs ++ places_from (i + length xs) ys
@@ -39,7 +40,7 @@ places_append i [] ys = ap (λ (k : ℕ). places_from k ys) (let e : i ≡ i + 0
 places_append i (x ∷ xs) ys =
     ap (place_if x.1 i) (places_append (suc i) xs ys
     ∙ ap (λ (k : ℕ). places_from (suc i) xs ++ places_from k ys) (let e : suc i + length xs ≡ i + suc (length xs) = omega arith in e))
-    ∙ place_if_of_append x.1 i (places_from (suc i) xs) (places_from (i + suc (length xs)) ys)
+    ∙ place_if_commutes_with_append x.1 i (places_from (suc i) xs) (places_from (i + suc (length xs)) ys)
 
 pub leaves_append : {T : Type 0} (i : ℕ) (xs ys : List (T × Label))
     → leaves_from i (xs ++ ys) ≡ leaves_from i xs ++ leaves_from (i + length xs) ys
@@ -47,7 +48,7 @@ leaves_append i [] ys = ap (λ (k : ℕ). leaves_from k ys) (let e : i ≡ i + 0
 leaves_append i (x ∷ xs) ys =
     ap (leave_if x.1 i) (leaves_append (suc i) xs ys
     ∙ ap (λ (k : ℕ). leaves_from (suc i) xs ++ leaves_from k ys) (let e : suc i + length xs ≡ i + suc (length xs) = omega arith in e))
-    ∙ leave_if_of_append x.1 i (leaves_from (suc i) xs) (leaves_from (i + suc (length xs)) ys)
+    ∙ leave_if_commutes_with_append x.1 i (leaves_from (suc i) xs) (leaves_from (i + suc (length xs)) ys)
 
 -- steps that emit nothing
 abbrev pub AllQuiet : {T : Type 0} → List (T × Label) → Type 0
@@ -70,7 +71,7 @@ join_if_is_quiet false x xs h rest = rest
 
 pub entries_after_placed_by : (f : Flat) (t v : ℕ) (p : Growing) (q : Ask)
     → Admits (machine f) (act_of (shared_ask q) v) ((tables f).objects (target (act_of (shared_ask q) v)))
-    → (placed_by f t p q).entries ≡ p.entries ++ place_if (emits f q v) (thread_of f t).steps []
+    → (placed_by f t p q).entries ≡ p.entries ++ place_if (label_of_step f q v) (thread_of f t).steps []
 entries_after_placed_by f t v p Private can = sym (append-nil p.entries)
 entries_after_placed_by f t v p (Env kind) can = refl
 entries_after_placed_by f t v p (Enter o Reading) can = refl
@@ -86,7 +87,7 @@ entries_after_placed_by f t v p (End e) can = sym (append-nil p.entries)
 entries_after_placed_by f t v p Done can = sym (append-nil p.entries)
 
 pub leaves_after_placed_by : (f : Flat) (t v : ℕ) (p : Growing) (q : Ask)
-    → (placed_by f t p q).leaves ≡ p.leaves ++ leave_if (emits f q v) (thread_of f t).steps []
+    → (placed_by f t p q).leaves ≡ p.leaves ++ leave_if (label_of_step f q v) (thread_of f t).steps []
 leaves_after_placed_by f t v p Private = sym (append-nil p.leaves)
 leaves_after_placed_by f t v p (Env kind) = sym (append-nil p.leaves)
 leaves_after_placed_by f t v p (Enter o Reading) = sym (append-nil p.leaves)
@@ -115,9 +116,6 @@ room_after_placed_by f t p Done = refl
 
 -- ---- how many there are
 
-length_of_append_item : {X : Type 0} (xs : List X) (x : X) → length (xs ++ x ∷ []) ≡ length xs + 1
-length_of_append_item xs x = length-append xs (x ∷ [])
-
 pub entries_count_events_after_placed : (code : List ℕ) (f : Flat) (t : ℕ) (p : Growing) (x : thread.ThreadState) (q : Ask) (r : Reply) → length p.entries ≡ x.events
     → length (placed_by f t p q).entries ≡ (after_ask code x q r).events
 entries_count_events_after_placed code f t p x Private r h = h
@@ -131,8 +129,8 @@ entries_count_events_after_placed code f t p x Print r h = h
 entries_count_events_after_placed code f t p x (End e) r h = h
 entries_count_events_after_placed code f t p x Done r h = h
 
-held_count_after_set_some : (held : List (Option Access)) (o : ℕ) (a : Access) → o < length held → held_count (set held o (Some a)) ≤ held_count held + 1
-held_count_after_set_some held o a l = let sums = sum_by-set one_if_held held o (Some a) None l in omega (arith, sums)
+held_count_after_set_some_is_at_most_one_more : (held : List (Option Access)) (o : ℕ) (a : Access) → o < length held → held_count (set held o (Some a)) ≤ held_count held + 1
+held_count_after_set_some_is_at_most_one_more held o a l = let sums = sum_by-set one_if_held held o (Some a) None l in omega (arith, sums)
 
 some_is_not_none : (x : Option Access) (a : Access) → x ≡ Some a → x ≡ None → ⊥
 some_is_not_none x a e n = cc (e, n)
@@ -142,10 +140,10 @@ pub leaves_within_events_after_placed : (code : List ℕ) (f : Flat) (t : ℕ) (
     → length (placed_by f t p q).leaves + held_count (after_ask code x q r).held ≤ (after_ask code x q r).events
 leaves_within_events_after_placed code f t p x Private r k h = h
 leaves_within_events_after_placed code f t p x (Env kind) r k h = omega (arith, h)
-leaves_within_events_after_placed code f t p x (Enter o a) r k h = let more = held_count_after_set_some x.held o a k.2 in omega (arith, h, more)
+leaves_within_events_after_placed code f t p x (Enter o a) r k h = let more = held_count_after_set_some_is_at_most_one_more x.held o a k.2 in omega (arith, h, more)
 leaves_within_events_after_placed code f t p x (Try o) Go k h = omega (arith, h)
 leaves_within_events_after_placed code f t p x (Try o) (Value zero) k h = omega (arith, h)
-leaves_within_events_after_placed code f t p x (Try o) (Value (suc zero)) k h = let more = held_count_after_set_some x.held o Writing k.2 in omega (arith, h, more)
+leaves_within_events_after_placed code f t p x (Try o) (Value (suc zero)) k h = let more = held_count_after_set_some_is_at_most_one_more x.held o Writing k.2 in omega (arith, h, more)
 leaves_within_events_after_placed code f t p x (Try o) (Value (suc (suc v))) k h = let same = ap held_count (held_after_other_try_answer x.held o v) in omega (arith, h, same)
 leaves_within_events_after_placed code f t p x (Leaves o a) r k h =
     let less = held_count_after_leave x.held o k.1 (some_is_not_none (held_at x.held o) a k.2) in

@@ -4,7 +4,8 @@ use Rattle.std.specs.List.{AllByRecursion, range_with_len}
 use Rattle.std.proofs.lemmas.Bool.{cases_eq}
 use Rattle.std.proofs.lemmas.List.{length-map}
 use Rattle.std.proofs.lemmas.List.FromFn.{get_or-map-range_with_len, length-map-range_with_len}
-use Rattle.ir_image.specs.Guest.{Guest, object_count, IsGuest}
+use Rattle.ir_image.specs.Guest.{Guest, object_count}
+use Rattle.ir_image.specs.Bounds.{IsGuest}
 use Rattle.ir_image.proofs.CallerLemmas.{guest_threads_at_most_limit, guest_objects_at_most_limit}
 use Rattle.ir_thread.specs.State.{IsAllowed, end_number, end_code, ask_of, most_budget, shared_ask, thread_machine}
 use Rattle.ir_thread.specs.Permitted.{Permits}
@@ -25,7 +26,8 @@ use Rattle.ir_flat.proofs.CallerLemmas.{counts_all_fit, start_thread_has_no_step
 use Rattle.ir_log.specs.Logging.{label_of}
 use Rattle.ir_log.specs.declared.event.Event.{Event}
 use Rattle.ir_log.specs.declared.event.Event.TheVariants.{Answer, Read, Write, Try}
-use Rattle.ir_trace.specs.Recorded.{IsWord, RecordedThread, Recorded, recorded_thread, IsEvent, IsRecordedThread, IsRecorded}
+use Rattle.ir_trace.specs.Recorded.{RecordedThread, Recorded, recorded_thread}
+use Rattle.ir_trace.specs.Bounds.{IsWord, IsEvent, IsRecordedThread, IsRecorded}
 use Rattle.ir_trace.specs.Absent.{absent}
 use Rattle.ir_fit.specs.Fit.{IsRunOf}
 use Rattle.ir_fit.specs.Laws.{EachRunIsRecorded}
@@ -109,9 +111,9 @@ end_code_is_word : (e : Option End) → CodeFits e → IsWord (end_code (end_or_
 end_code_is_word None h = omega arith
 end_code_is_word (Some e) h = h
 
-over_some_is_end_numbers : (e : Option End) (p : ℕ × ℕ) → end_number_and_code e ≡ Some p → end_number_and_code e ≡ Some (end_number (end_or_breakpoint e), end_code (end_or_breakpoint e))
-over_some_is_end_numbers None p h = absurd (cc h)
-over_some_is_end_numbers (Some e) p h = refl
+end_number_and_code_is_of_end_or_breakpoint : (e : Option End) (p : ℕ × ℕ) → end_number_and_code e ≡ Some p → end_number_and_code e ≡ Some (end_number (end_or_breakpoint e), end_code (end_or_breakpoint e))
+end_number_and_code_is_of_end_or_breakpoint None p h = absurd (cc h)
+end_number_and_code_is_of_end_or_breakpoint (Some e) p h = refl
 
 all_of_mapped_range : {X : Type 0} (P : X → Type 0) (f : ℕ → X) (a n : ℕ) → ((t : ℕ) → t < a + n → P (f t))
     → AllByRecursion P (map f (range_with_len a n))
@@ -199,7 +201,7 @@ module _ (g : Guest) (budget : ℕ) (profile : Profile) (run : List Step) (guest
       logs = λ t l. sym (ap (λ z. map label_of z.events) (thread_there t l) ∙ (logged_of t).same);
       ends = λ t l.
           let e = (thread_machine_is_closing g.code).done (last.now t) (done t) in
-          over_some_is_end_numbers (last.now t).ended e.0 e.1 ∙ sym (ap (λ z. Some (end_number z.end, end_code z.end)) (thread_there t l));
+          end_number_and_code_is_of_end_or_breakpoint (last.now t).ended e.0 e.1 ∙ sym (ap (λ z. Some (end_number z.end, end_code z.end)) (thread_there t l));
     },
   )
 

@@ -20,12 +20,14 @@ use Rattle.ir_object.specs.Standing.{Admitted}
 use Rattle.ir_flat.specs.Flat.{Flat, thread_of, cell_of, tables, machine, IsFlat}
 use Rattle.ir_flat.proofs.CallerLemmas.{may_step_is_admits, events_added_by}
 use Rattle.std.proofs.lemmas.Option.{slice_get_within}
+use Rattle.ir_lemmas.proofs.CallerLemmas.{found_element_of_all_by_recursion, false_test_refutes}
 use Rattle.ir_log.specs.Logging.{label_of}
 use Rattle.ir_log.specs.Asked.{ask_of as event_ask, Suits}
 use Rattle.ir_log.proofs.CallerLemmas.{ask_of_suiting_call_event as call_asked, ask_of_suiting_entry_event as entry_asked}
 use Rattle.ir_log.specs.declared.event.Event.{Event}
 use Rattle.ir_log.specs.declared.event.Event.TheVariants.{Answer, Read, Write, Try as Refused}
-use Rattle.ir_trace.specs.Recorded.{Recorded, recorded_thread, trace_of, IsEvent, IsRecordedThread}
+use Rattle.ir_trace.specs.Recorded.{Recorded, recorded_thread, trace_of}
+use Rattle.ir_trace.specs.Bounds.{IsEvent, IsRecordedThread}
 use Rattle.ir_fit.specs.Ahead.{steps_ahead, log_ahead, CanFollow, IsStopped, AgreesAhead, IsOpen, IsOwn, EndsSo, IsSeen}
 use Rattle.ir_fit.specs.declared.follower.look.Look.{Look}
 use Rattle.ir_fit.specs.declared.follower.look.Look.TheVariants as look
@@ -64,19 +66,19 @@ ends_now_is_end_asked code s = end_after_ask_is_end_asked code s (reply_of (ask_
 -- ---- steps by what is asked
 
 -- what a step emits that is asked so and has this result
-abbrev pub emits : Flat → Ask → ℕ → Label
-emits f q v = emitted (act_of (shared_ask q) v) ((tables f).objects (target (act_of (shared_ask q) v)))
+abbrev pub label_of_step : Flat → Ask → ℕ → Label
+label_of_step f q v = emitted (act_of (shared_ask q) v) ((tables f).objects (target (act_of (shared_ask q) v)))
 
 -- a step that is asked so follows, where n steps and the log es are left
 pub record FollowsAs (r : Recorded) (f : Flat) (t v n : ℕ) (es : List Label) (q : Ask) : Type 0 where
   pub can : Admits (machine f) (act_of (shared_ask q) v) ((tables f).objects (target (act_of (shared_ask q) v)))
   pub steps : 0 < n
-  pub logs : logged (emits f q v) (unlogged (emits f q v) es) ≡ es
+  pub logs : logged (label_of_step f q v) (unlogged (label_of_step f q v) es) ≡ es
   pub ends : Meets (end_asked q) ((trace_of r).ends t) (held_count (thread_of f t).held) n es
 
-pub follows_as_if_can_follow : (r : Recorded) (f : Flat) (t v : ℕ) (q : Ask) → ask_of f.code (thread_of f t) ≡ q → CanFollow r f t v
+pub follows_as_asked_if_can_follow : (r : Recorded) (f : Flat) (t v : ℕ) (q : Ask) → ask_of f.code (thread_of f t) ≡ q → CanFollow r f t v
     → FollowsAs r f t v (steps_ahead r f t) (log_ahead r f t) q
-follows_as_if_can_follow r f t v q is h = subst (FollowsAs r f t v (steps_ahead r f t) (log_ahead r f t)) is (record {
+follows_as_asked_if_can_follow r f t v q is h = subst (FollowsAs r f t v (steps_ahead r f t) (log_ahead r f t)) is (record {
   can = h.0;
   steps = h.1;
   logs = h.2;
@@ -84,9 +86,9 @@ follows_as_if_can_follow r f t v q is h = subst (FollowsAs r f t v (steps_ahead 
       (ends_now_is_end_asked f.code (thread_of f t)) h.3;
 })
 
-pub can_follow_if_follows_as : (r : Recorded) (f : Flat) (t v : ℕ) (q : Ask) → ask_of f.code (thread_of f t) ≡ q
+pub can_follow_if_follows_as_asked : (r : Recorded) (f : Flat) (t v : ℕ) (q : Ask) → ask_of f.code (thread_of f t) ≡ q
     → FollowsAs r f t v (steps_ahead r f t) (log_ahead r f t) q → CanFollow r f t v
-can_follow_if_follows_as r f t v q is h =
+can_follow_if_follows_as_asked r f t v q is h =
     let k : FollowsAs r f t v (steps_ahead r f t) (log_ahead r f t) (ask_of f.code (thread_of f t)) =
     subst (FollowsAs r f t v (steps_ahead r f t) (log_ahead r f t)) (sym is) h in (
       k.can,
@@ -102,18 +104,18 @@ pub record AgreesAs (r : Recorded) (f : Flat) (t n : ℕ) (es : List Label) (q :
   pub suits : verdicts.Suits (shared_ask q) es
   pub ends : Meets (end_asked q) ((trace_of r).ends t) (held_count (thread_of f t).held) n es
 
-pub agrees_as_if_agrees_ahead : (r : Recorded) (f : Flat) (t : ℕ) (q : Ask) → ask_of f.code (thread_of f t) ≡ q → AgreesAhead r f t
+pub agrees_as_asked_if_agrees_ahead : (r : Recorded) (f : Flat) (t : ℕ) (q : Ask) → ask_of f.code (thread_of f t) ≡ q → AgreesAhead r f t
     → AgreesAs r f t (steps_ahead r f t) (log_ahead r f t) q
-agrees_as_if_agrees_ahead r f t q is h = subst (AgreesAs r f t (steps_ahead r f t) (log_ahead r f t)) is (record {
+agrees_as_asked_if_agrees_ahead r f t q is h = subst (AgreesAs r f t (steps_ahead r f t) (log_ahead r f t)) is (record {
   steps = h.0;
   suits = h.1;
   ends = subst (λ e. Meets e ((trace_of r).ends t) (held_count (thread_of f t).held) (steps_ahead r f t) (log_ahead r f t))
       (ends_now_is_end_asked f.code (thread_of f t)) h.2;
 })
 
-pub agrees_ahead_if_agrees_as : (r : Recorded) (f : Flat) (t : ℕ) (q : Ask) → ask_of f.code (thread_of f t) ≡ q
+pub agrees_ahead_if_agrees_as_asked : (r : Recorded) (f : Flat) (t : ℕ) (q : Ask) → ask_of f.code (thread_of f t) ≡ q
     → AgreesAs r f t (steps_ahead r f t) (log_ahead r f t) q → AgreesAhead r f t
-agrees_ahead_if_agrees_as r f t q is h =
+agrees_ahead_if_agrees_as_asked r f t q is h =
     let k : AgreesAs r f t (steps_ahead r f t) (log_ahead r f t) (ask_of f.code (thread_of f t)) =
     subst (AgreesAs r f t (steps_ahead r f t) (log_ahead r f t)) (sym is) h in (
       k.steps,
@@ -130,11 +132,6 @@ pub labels_ahead_start_with_event : (xs : List Event) (i : ℕ) (e : Event) → 
 labels_ahead_start_with_event [] i e h = absurd (cc h)
 labels_ahead_start_with_event (x ∷ xs) zero e h = let same : x ≡ e = cc h in ap (λ z. label_of z ∷ map label_of xs) same
 labels_ahead_start_with_event (x ∷ xs) (suc i) e h = labels_ahead_start_with_event xs i e h
-
-pub found_element_of_all_by_recursion : {X : Type 0} (P : X → Type 0) (xs : List X) (i : ℕ) (e : X) → AllByRecursion P xs → slice_get xs i ≡ Some e → P e
-found_element_of_all_by_recursion P [] i e all h = absurd (cc h)
-found_element_of_all_by_recursion P (x ∷ xs) zero e all h = let same : x ≡ e = cc h in subst P same all.0
-found_element_of_all_by_recursion P (x ∷ xs) (suc i) e all h = found_element_of_all_by_recursion P xs i e all.1 h
 
 -- a log whose next event suits what is asked
 event_suits_call_if_label_does : (x : Event) (es : List Label) (kind : EnvKind) → verdicts.Suits (machine.Env kind) (label_of x ∷ es) → Suits (Env kind) x
@@ -156,15 +153,15 @@ event_suits_try_if_label_does (Read p v) es o h = absurd (let is : ◌≡◌ {A 
 event_suits_try_if_label_does (Write p v l) es o h = inr (λ i. Some (Try (h.0 i)))
 event_suits_try_if_label_does (Refused p) es o h = inl (ap Try h)
 
-label_suits_entry_by_ask : (x : Event) (es : List Label) (o : ℕ) (a : Access) → event_ask x ≡ Enter o a → verdicts.Suits (machine.Enter o a) (label_of x ∷ es)
-label_suits_entry_by_ask (Answer j v) es o a h = absurd (cc h)
-label_suits_entry_by_ask (Read p v) es o a h = ((let e : ◌≡◌ {A = ℕ} p o = cc h in e), (let e : ◌≡◌ {A = Access} Reading a = cc h in e))
-label_suits_entry_by_ask (Write p v l) es o a h = ((let e : ◌≡◌ {A = ℕ} p o = cc h in e), (let e : ◌≡◌ {A = Access} Writing a = cc h in e))
-label_suits_entry_by_ask (Refused p) es o a h = absurd (cc h)
+label_suits_entry_if_event_asks_it : (x : Event) (es : List Label) (o : ℕ) (a : Access) → event_ask x ≡ Enter o a → verdicts.Suits (machine.Enter o a) (label_of x ∷ es)
+label_suits_entry_if_event_asks_it (Answer j v) es o a h = absurd (cc h)
+label_suits_entry_if_event_asks_it (Read p v) es o a h = ((let e : ◌≡◌ {A = ℕ} p o = cc h in e), (let e : ◌≡◌ {A = Access} Reading a = cc h in e))
+label_suits_entry_if_event_asks_it (Write p v l) es o a h = ((let e : ◌≡◌ {A = ℕ} p o = cc h in e), (let e : ◌≡◌ {A = Access} Writing a = cc h in e))
+label_suits_entry_if_event_asks_it (Refused p) es o a h = absurd (cc h)
 
 pub label_suits_entry_if_event_does : (x : Event) (es : List Label) (o : ℕ) (a : Access) → Suits (Enter o a) x
     → verdicts.Suits (machine.Enter o a) (label_of x ∷ es)
-label_suits_entry_if_event_does x es o a h = label_suits_entry_by_ask x es o a (entry_asked o a x h)
+label_suits_entry_if_event_does x es o a h = label_suits_entry_if_event_asks_it x es o a (entry_asked o a x h)
 
 pub label_suits_try_if_event_does : (x : Event) (es : List Label) (o : ℕ) → Suits (Try o) x → verdicts.Suits (machine.Try o) (label_of x ∷ es)
 label_suits_try_if_event_does (Answer j v) es o (inl h) = absurd (cc h)
@@ -211,7 +208,7 @@ suited_call_can_follow r f t v kind j fits is steps next suits =
     (subst (λ z. slice_get (recorded_thread r t).events (thread_of f t).events ≡ Some z) here next) in
     let result : is_result kind v ≡ true = subst (λ z. is_result z v ≡ true) same
     (found_element_of_all_by_recursion (IsEvent r.profile r.objects) (recorded_thread r t).events (thread_of f t).events (Answer j v) fits.events_fit next) in
-    can_follow_if_follows_as r f t v (Env kind) is (record {
+    can_follow_if_follows_as_asked r f t v (Env kind) is (record {
       can = result;
       steps = steps;
       logs = ap (λ z. machine.Answer kind v ∷ unlogged (machine.Answer kind v) z) es ∙ sym es;
@@ -222,14 +219,14 @@ suited_call_can_follow r f t v kind j fits is steps next suits =
 
 open_entry_is_admitted_and_logs : (f : Flat) (t v o : ℕ) (a : Access) (e : Event) (es rest : List Label) → es ≡ label_of e ∷ rest → Suits (Enter o a) e
     → IsOpen (cell_of f o) e → (Admitted a (cell_of f o).fields)
-    × (logged (emits f (Enter o a) v) (unlogged (emits f (Enter o a) v) es) ≡ es)
+    × (logged (label_of_step f (Enter o a) v) (unlogged (label_of_step f (Enter o a) v) es) ≡ es)
 open_entry_is_admitted_and_logs f t v o a (Answer k w) es rest is suits h = absurd h
 open_entry_is_admitted_and_logs f t v o a (Refused p) es rest is suits h = absurd h
 open_entry_is_admitted_and_logs f t v o a (Read p w) es rest is suits h =
     let asked = entry_asked o a (Read p w) suits in
     let object : ◌≡◌ {A = ℕ} o p = sym (let e : ◌≡◌ {A = ℕ} p o = cc asked in e) in
     let access : ◌≡◌ {A = Access} Reading a = cc asked in
-    subst (λ z. (Admitted z (cell_of f o).fields) × (logged (emits f (Enter o z) v) (unlogged (emits f (Enter o z) v) es) ≡ es)) access (
+    subst (λ z. (Admitted z (cell_of f o).fields) × (logged (label_of_step f (Enter o z) v) (unlogged (label_of_step f (Enter o z) v) es) ≡ es)) access (
       h.1,
       ap (λ z. machine.In o Reading (cell_of f o).fields.version 0 ∷ unlogged (machine.In o Reading (cell_of f o).fields.version 0) z) is
           ∙ (λ i. machine.In (object i) Reading (h.0 i) 0 ∷ rest) ∙ sym is,
@@ -238,7 +235,7 @@ open_entry_is_admitted_and_logs f t v o a (Write p w l) es rest is suits h =
     let asked = entry_asked o a (Write p w l) suits in
     let object : ◌≡◌ {A = ℕ} o p = sym (let e : ◌≡◌ {A = ℕ} p o = cc asked in e) in
     let access : ◌≡◌ {A = Access} Writing a = cc asked in
-    subst (λ z. (Admitted z (cell_of f o).fields) × (logged (emits f (Enter o z) v) (unlogged (emits f (Enter o z) v) es) ≡ es)) access (
+    subst (λ z. (Admitted z (cell_of f o).fields) × (logged (label_of_step f (Enter o z) v) (unlogged (label_of_step f (Enter o z) v) es) ≡ es)) access (
       h.2,
       ap (λ z. machine.In o Writing (cell_of f o).fields.version (cell_of f o).fields.left
           ∷ unlogged (machine.In o Writing (cell_of f o).fields.version (cell_of f o).fields.left) z) is
@@ -246,7 +243,7 @@ open_entry_is_admitted_and_logs f t v o a (Write p w l) es rest is suits h =
     )
 
 admitted_entry_that_logs_is_open : (f : Flat) (t v o : ℕ) (a : Access) (e : Event) (es rest : List Label) → es ≡ label_of e ∷ rest → Suits (Enter o a) e
-    → Admitted a (cell_of f o).fields → logged (emits f (Enter o a) v) (unlogged (emits f (Enter o a) v) es) ≡ es → IsOpen (cell_of f o) e
+    → Admitted a (cell_of f o).fields → logged (label_of_step f (Enter o a) v) (unlogged (label_of_step f (Enter o a) v) es) ≡ es → IsOpen (cell_of f o) e
 admitted_entry_that_logs_is_open f t v o a (Answer k w) es rest is suits can h = let asked = entry_asked o a (Answer k w) suits in absurd (cc asked)
 admitted_entry_that_logs_is_open f t v o a (Refused p) es rest is suits can h = let asked = entry_asked o a (Refused p) suits in absurd (cc asked)
 admitted_entry_that_logs_is_open f t v o a (Read p w) es rest is suits can h =
@@ -254,7 +251,7 @@ admitted_entry_that_logs_is_open f t v o a (Read p w) es rest is suits can h =
     let access : ◌≡◌ {A = Access} a Reading = sym (let e : ◌≡◌ {A = Access} Reading a = cc asked in e) in
     let emits_read : machine.In o Reading (cell_of f o).fields.version 0
     ∷ unlogged (machine.In o Reading (cell_of f o).fields.version 0) es ≡ es =
-    subst (λ z. logged (emits f (Enter o z) v) (unlogged (emits f (Enter o z) v) es) ≡ es) access h in
+    subst (λ z. logged (label_of_step f (Enter o z) v) (unlogged (label_of_step f (Enter o z) v) es) ≡ es) access h in
     let both = emits_read ∙ is in
     ((let e : ◌≡◌ {A = ℕ} (cell_of f o).fields.version w = cc both in e), subst (λ z. Admitted z (cell_of f o).fields) access can)
 admitted_entry_that_logs_is_open f t v o a (Write p w l) es rest is suits can h =
@@ -262,16 +259,12 @@ admitted_entry_that_logs_is_open f t v o a (Write p w l) es rest is suits can h 
     let access : ◌≡◌ {A = Access} a Writing = sym (let e : ◌≡◌ {A = Access} Writing a = cc asked in e) in
     let emits_write : machine.In o Writing (cell_of f o).fields.version (cell_of f o).fields.left
     ∷ unlogged (machine.In o Writing (cell_of f o).fields.version (cell_of f o).fields.left) es ≡ es =
-    subst (λ z. logged (emits f (Enter o z) v) (unlogged (emits f (Enter o z) v) es) ≡ es) access h in
+    subst (λ z. logged (label_of_step f (Enter o z) v) (unlogged (label_of_step f (Enter o z) v) es) ≡ es) access h in
     let both = emits_write ∙ is in (
       (let e : ◌≡◌ {A = ℕ} (cell_of f o).fields.version w = cc both in e),
       (let e : ◌≡◌ {A = ℕ} (cell_of f o).fields.left l = cc both in e),
       subst (λ z. Admitted z (cell_of f o).fields) access can,
     )
-
--- what isn't so where its test says no
-pub false_test_refutes : (b : Bool) (P : Type 0) → IsTrue b ↔ P → b ≡ false → P → ⊥
-false_test_refutes b P test is h = let so : IsTrue b = test.1 h in cc (is, so)
 
 -- what the test of an object says
 pub found_cell_open_if_test_true : (b : Bool) (found c : Cell) (e : Event) → found ≡ c → IsTrue b ↔ IsOpen found e → b ≡ true → IsOpen c e
@@ -288,7 +281,7 @@ open_entry_can_follow r f t o a e flat l is steps next suits opens =
     let es = labels_ahead_start_with_event (recorded_thread r t).events (thread_of f t).events e next in
     let both = open_entry_is_admitted_and_logs f t 0 o a e (log_ahead r f t) (drop (suc (thread_of f t).events) (map label_of (recorded_thread r t).events)) es
     suits opens in
-    can_follow_if_follows_as r f t 0 (Enter o a) is (record {
+    can_follow_if_follows_as_asked r f t 0 (Enter o a) is (record {
       can = (may_step_is_admits f t 0 (Enter o a) flat l (subst (Permits (thread_of f t)) is (ask_of_permitted f.code (thread_of f t)))).0 both.0;
       steps = steps;
       logs = both.1;
@@ -300,7 +293,7 @@ pub shut_entry_is_stopped : (r : Recorded) (f : Flat) (t o : ℕ) (a : Access) (
     → slice_get (recorded_thread r t).events (thread_of f t).events ≡ Some e → Suits (Enter o a) e → (IsOpen (cell_of f o) e → ⊥)
     → IsStopped r f t
 shut_entry_is_stopped r f t o a e flat l is next suits shut v h =
-    let k : FollowsAs r f t v (steps_ahead r f t) (log_ahead r f t) (Enter o a) = follows_as_if_can_follow r f t v (Enter o a) is h in
+    let k : FollowsAs r f t v (steps_ahead r f t) (log_ahead r f t) (Enter o a) = follows_as_asked_if_can_follow r f t v (Enter o a) is h in
     shut (admitted_entry_that_logs_is_open f t v o a e (log_ahead r f t) (drop (suc (thread_of f t).events) (map label_of (recorded_thread r t).events))
     (labels_ahead_start_with_event (recorded_thread r t).events (thread_of f t).events e next) suits
     ((may_step_is_admits f t v (Enter o a) flat l (subst (Permits (thread_of f t)) is (ask_of_permitted f.code (thread_of f t)))).1 k.can) k.logs)
@@ -308,7 +301,7 @@ shut_entry_is_stopped r f t o a e flat l is next suits shut v h =
 pub suited_entry_agrees : (r : Recorded) (f : Flat) (t o : ℕ) (a : Access) (e : Event) → ask_of f.code (thread_of f t) ≡ Enter o a
     → 0 < steps_ahead r f t
     → slice_get (recorded_thread r t).events (thread_of f t).events ≡ Some e → Suits (Enter o a) e → AgreesAhead r f t
-suited_entry_agrees r f t o a e is steps next suits = agrees_ahead_if_agrees_as r f t (Enter o a) is (record {
+suited_entry_agrees r f t o a e is steps next suits = agrees_ahead_if_agrees_as_asked r f t (Enter o a) is (record {
   steps = steps;
   suits = subst (verdicts.Suits (machine.Enter o a)) (sym (labels_ahead_start_with_event (recorded_thread r t).events (thread_of f t).events e next))
       (label_suits_entry_if_event_does e _ o a suits);
@@ -329,7 +322,7 @@ refused_try_can_follow r f t o p is steps next suits =
     let same : ◌≡◌ {A = ℕ} p o = label_suits_try_if_event_does (Refused p) rest o suits in
     let es : log_ahead r f t ≡ machine.Refused o ∷ rest =
     labels_ahead_start_with_event (recorded_thread r t).events (thread_of f t).events (Refused p) next ∙ ap (λ z. machine.Refused z ∷ rest) same in
-    can_follow_if_follows_as r f t 0 (Try o) is (record {
+    can_follow_if_follows_as_asked r f t 0 (Try o) is (record {
       can = tt;
       steps = steps;
       logs = ap (λ z. machine.Refused o ∷ unlogged (machine.Refused o) z) es ∙ sym es;
@@ -350,7 +343,7 @@ open_try_can_follow r f t o (Write p w n) flat l is steps next suits opens =
     let es = labels_ahead_start_with_event (recorded_thread r t).events (thread_of f t).events (Write p w n) next in
     let both = open_entry_is_admitted_and_logs f t 0 o Writing (Write p w n) (log_ahead r f t)
     (drop (suc (thread_of f t).events) (map label_of (recorded_thread r t).events)) es (event_suiting_try_suits_entry o p w n suits) opens in
-    can_follow_if_follows_as r f t 1 (Try o) is (record {
+    can_follow_if_follows_as_asked r f t 1 (Try o) is (record {
       can = (may_step_is_admits f t 1 (Try o) flat l (subst (Permits (thread_of f t)) is (ask_of_permitted f.code (thread_of f t)))).0 both.0;
       steps = steps;
       logs = both.1;
@@ -392,7 +385,7 @@ shut_try_is_stopped r f t o (Answer j v) flat l is next suits in_ shut u h = in_
 shut_try_is_stopped r f t o (Read p w) flat l is next suits in_ shut u h = in_
 shut_try_is_stopped r f t o (Refused p) flat l is next suits in_ shut u h = in_
 shut_try_is_stopped r f t o (Write p w n) flat l is next suits in_ shut u h = shut_try_does_not_follow r f t o p w n u flat l is next suits shut
-    (follows_as_if_can_follow r f t u (Try o) is h)
+    (follows_as_asked_if_can_follow r f t u (Try o) is h)
 
 pub try_that_got_in_awaits : (r : Recorded) (f : Flat) (t o : ℕ) (e : Event) → ask_of f.code (thread_of f t) ≡ Try o
     → slice_get (recorded_thread r t).events (thread_of f t).events ≡ Some e → GotIn e
@@ -410,7 +403,7 @@ entry_awaits_event r f t o a is = subst (λ q. verdicts.Awaits (shared_ask q) (l
 
 pub suited_try_agrees : (r : Recorded) (f : Flat) (t o : ℕ) (e : Event) → ask_of f.code (thread_of f t) ≡ Try o → 0 < steps_ahead r f t
     → slice_get (recorded_thread r t).events (thread_of f t).events ≡ Some e → Suits (Try o) e → AgreesAhead r f t
-suited_try_agrees r f t o e is steps next suits = agrees_ahead_if_agrees_as r f t (Try o) is (record {
+suited_try_agrees r f t o e is steps next suits = agrees_ahead_if_agrees_as_asked r f t (Try o) is (record {
   steps = steps;
   suits = subst (verdicts.Suits (machine.Try o)) (sym (labels_ahead_start_with_event (recorded_thread r t).events (thread_of f t).events e next))
       (label_suits_try_if_event_does e _ o suits);
@@ -427,23 +420,23 @@ awaiting_ask_is_not_done q es awaits done = no_wait es (subst (λ z. verdicts.Aw
 
 -- ---- disagreements
 
-pub try_is_not_done : (q : Ask) (o : ℕ) → q ≡ Try o → q ≢ Done
-try_is_not_done q o is done = cc (is, done)
+pub ask_of_try_is_not_done : (q : Ask) (o : ℕ) → q ≡ Try o → q ≢ Done
+ask_of_try_is_not_done q o is done = cc (is, done)
 
-pub environment_call_is_not_done : (q : Ask) (kind : EnvKind) → q ≡ Env kind → q ≢ Done
-environment_call_is_not_done q kind is done = cc (is, done)
+pub ask_of_environment_is_not_done : (q : Ask) (kind : EnvKind) → q ≡ Env kind → q ≢ Done
+ask_of_environment_is_not_done q kind is done = cc (is, done)
 
-pub entry_is_not_done : (q : Ask) (o : ℕ) (a : Access) → q ≡ Enter o a → q ≢ Done
-entry_is_not_done q o a is done = cc (is, done)
+pub ask_of_entry_is_not_done : (q : Ask) (o : ℕ) (a : Access) → q ≡ Enter o a → q ≢ Done
+ask_of_entry_is_not_done q o a is done = cc (is, done)
 
-pub end_is_not_done : (q : Ask) (e : end.End) → q ≡ End e → q ≢ Done
-end_is_not_done q e is done = cc (is, done)
+pub ask_of_end_is_not_done : (q : Ask) (e : end.End) → q ≡ End e → q ≢ Done
+ask_of_end_is_not_done q e is done = cc (is, done)
 
 pub unsuited_call_disagrees : (r : Recorded) (f : Flat) (t : ℕ) (kind : EnvKind) → ask_of f.code (thread_of f t) ≡ Env kind
     → ((e : Event) → slice_get (recorded_thread r t).events (thread_of f t).events ≡ Some e → Suits (Env kind) e → ⊥) → AgreesAhead r f t
     → ⊥
 unsuited_call_disagrees r f t kind is none h =
-    let k : AgreesAs r f t (steps_ahead r f t) (log_ahead r f t) (Env kind) = agrees_as_if_agrees_ahead r f t (Env kind) is h in
+    let k : AgreesAs r f t (steps_ahead r f t) (log_ahead r f t) (Env kind) = agrees_as_asked_if_agrees_ahead r f t (Env kind) is h in
     let e = suited_call_has_event (recorded_thread r t).events (thread_of f t).events kind k.suits in
     none e.0 e.1 e.2
 
@@ -451,14 +444,14 @@ pub unsuited_entry_disagrees : (r : Recorded) (f : Flat) (t o : ℕ) (a : Access
     → ((e : Event) → slice_get (recorded_thread r t).events (thread_of f t).events ≡ Some e → Suits (Enter o a) e → ⊥) → AgreesAhead r f t
     → ⊥
 unsuited_entry_disagrees r f t o a is none h =
-    let k : AgreesAs r f t (steps_ahead r f t) (log_ahead r f t) (Enter o a) = agrees_as_if_agrees_ahead r f t (Enter o a) is h in
+    let k : AgreesAs r f t (steps_ahead r f t) (log_ahead r f t) (Enter o a) = agrees_as_asked_if_agrees_ahead r f t (Enter o a) is h in
     let e = suited_entry_has_event (recorded_thread r t).events (thread_of f t).events o a k.suits in
     none e.0 e.1 e.2
 
 pub unsuited_try_disagrees : (r : Recorded) (f : Flat) (t o : ℕ) → ask_of f.code (thread_of f t) ≡ Try o
     → ((e : Event) → slice_get (recorded_thread r t).events (thread_of f t).events ≡ Some e → Suits (Try o) e → ⊥) → AgreesAhead r f t → ⊥
 unsuited_try_disagrees r f t o is none h =
-    let k : AgreesAs r f t (steps_ahead r f t) (log_ahead r f t) (Try o) = agrees_as_if_agrees_ahead r f t (Try o) is h in
+    let k : AgreesAs r f t (steps_ahead r f t) (log_ahead r f t) (Try o) = agrees_as_asked_if_agrees_ahead r f t (Try o) is h in
     let e = suited_try_has_event (recorded_thread r t).events (thread_of f t).events o k.suits in
     none e.0 e.1 e.2
 
@@ -480,7 +473,7 @@ no_labels_means_past_length (x ∷ xs) (suc i) h = let rest : length xs ≤ i = 
 
 pub end_as_recorded_can_follow : (r : Recorded) (f : Flat) (t : ℕ) (e : end.End) → ask_of f.code (thread_of f t) ≡ End e → 0 < steps_ahead r f t
     → EndsSo r f t e → CanFollow r f t 0
-end_as_recorded_can_follow r f t e is steps so = can_follow_if_follows_as r f t 0 (End e) is (record {
+end_as_recorded_can_follow r f t e is steps so = can_follow_if_follows_as_asked r f t 0 (End e) is (record {
   can = tt;
   steps = steps;
   logs = refl;
@@ -490,7 +483,7 @@ end_as_recorded_can_follow r f t e is steps so = can_follow_if_follows_as r f t 
 pub end_not_as_recorded_disagrees : (r : Recorded) (f : Flat) (t : ℕ) (e : end.End) → ask_of f.code (thread_of f t) ≡ End e → (EndsSo r f t e → ⊥)
     → AgreesAhead r f t → ⊥
 end_not_as_recorded_disagrees r f t e is other h =
-    let k : AgreesAs r f t (steps_ahead r f t) (log_ahead r f t) (End e) = agrees_as_if_agrees_ahead r f t (End e) is h in
+    let k : AgreesAs r f t (steps_ahead r f t) (log_ahead r f t) (End e) = agrees_as_asked_if_agrees_ahead r f t (End e) is h in
     let pair = some_pair k.ends.0 in
     other (record {
       number = ap (λ z. z.0) pair;
@@ -517,7 +510,7 @@ own_step_follows_as r f t n es (End e) k steps = absurd k
 own_step_follows_as r f t n es Done k steps = absurd k
 
 pub own_step_can_follow : (r : Recorded) (f : Flat) (t : ℕ) → IsOwn (ask_of f.code (thread_of f t)) → 0 < steps_ahead r f t → CanFollow r f t 0
-own_step_can_follow r f t own steps = can_follow_if_follows_as r f t 0 (ask_of f.code (thread_of f t))
+own_step_can_follow r f t own steps = can_follow_if_follows_as_asked r f t 0 (ask_of f.code (thread_of f t))
     refl (own_step_follows_as r f t (steps_ahead r f t) (log_ahead r f t) (ask_of f.code (thread_of f t)) own steps)
 
 -- ---- threads that are stopped
@@ -532,7 +525,7 @@ stopped_thread_seen_otherwise_disagrees r f t l seen stopped (inr g) =
 
 ask_suits_log_if_step_follows : (f : Flat) (v : ℕ) (es : List Label) (q : Ask)
     → Admits (machine f) (act_of (shared_ask q) v) ((tables f).objects (target (act_of (shared_ask q) v)))
-    → logged (emits f q v) (unlogged (emits f q v) es) ≡ es → verdicts.Suits (shared_ask q) es
+    → logged (label_of_step f q v) (unlogged (label_of_step f q v) es) ≡ es → verdicts.Suits (shared_ask q) es
 ask_suits_log_if_step_follows f v es Private can h = tt
 ask_suits_log_if_step_follows f v es (Env kind) can h = subst (verdicts.Suits (machine.Env kind)) h refl
 ask_suits_log_if_step_follows f v es (Enter o Reading) can h = subst (verdicts.Suits (machine.Enter o Reading)) h (refl, refl)
@@ -552,7 +545,7 @@ following_step_agrees : (r : Recorded) (f : Flat) (t v : ℕ) → CanFollow r f 
 following_step_agrees r f t v h = (h.1, ask_suits_log_if_step_follows f v (log_ahead r f t) (ask_of f.code (thread_of f t)) h.0 h.2, h.3)
 
 pub done_thread_is_stopped : (r : Recorded) (f : Flat) (t : ℕ) → ask_of f.code (thread_of f t) ≡ Done → IsStopped r f t
-done_thread_is_stopped r f t is v h = (follows_as_if_can_follow r f t v Done is h).can
+done_thread_is_stopped r f t is v h = (follows_as_asked_if_can_follow r f t v Done is h).can
 
 pub thread_without_move_is_stopped : (r : Recorded) (f : Flat) (t : ℕ) (l : Look) → IsSeen r f t l → ((m : Move) → l ≢ look.Goes m) → IsStopped r f t
 thread_without_move_is_stopped r f t look.Done seen no_move = done_thread_is_stopped r f t seen
@@ -563,24 +556,24 @@ thread_without_move_is_stopped r f t (look.Goes m) seen no_move = absurd (no_mov
 -- ---- events and the log
 
 -- an event that suits is in the log
-pub suited_event_is_left : (r : Recorded) (f : Flat) (t : ℕ) (q : Ask) → ask_of f.code (thread_of f t) ≡ q → AgreesAhead r f t → events_added_by q ≡ 1
+pub next_event_exists_if_agreeing_ask_logs_one : (r : Recorded) (f : Flat) (t : ℕ) (q : Ask) → ask_of f.code (thread_of f t) ≡ q → AgreesAhead r f t → events_added_by q ≡ 1
     → (thread_of f t).events < length (recorded_thread r t).events
-suited_event_is_left r f t (Env kind) is h one = let e =
-    suited_call_has_event (recorded_thread r t).events (thread_of f t).events kind (agrees_as_if_agrees_ahead r f t (Env kind) is h).suits in
+next_event_exists_if_agreeing_ask_logs_one r f t (Env kind) is h one = let e =
+    suited_call_has_event (recorded_thread r t).events (thread_of f t).events kind (agrees_as_asked_if_agrees_ahead r f t (Env kind) is h).suits in
     slice_get_within (recorded_thread r t).events (thread_of f t).events e.0 e.1
-suited_event_is_left r f t (Enter o a) is h one = let e =
-    suited_entry_has_event (recorded_thread r t).events (thread_of f t).events o a (agrees_as_if_agrees_ahead r f t (Enter o a) is h).suits in
+next_event_exists_if_agreeing_ask_logs_one r f t (Enter o a) is h one = let e =
+    suited_entry_has_event (recorded_thread r t).events (thread_of f t).events o a (agrees_as_asked_if_agrees_ahead r f t (Enter o a) is h).suits in
     slice_get_within (recorded_thread r t).events (thread_of f t).events e.0 e.1
-suited_event_is_left r f t (Try o) is h one = let e =
-    suited_try_has_event (recorded_thread r t).events (thread_of f t).events o (agrees_as_if_agrees_ahead r f t (Try o) is h).suits in
+next_event_exists_if_agreeing_ask_logs_one r f t (Try o) is h one = let e =
+    suited_try_has_event (recorded_thread r t).events (thread_of f t).events o (agrees_as_asked_if_agrees_ahead r f t (Try o) is h).suits in
     slice_get_within (recorded_thread r t).events (thread_of f t).events e.0 e.1
-suited_event_is_left r f t Private is h one = absurd (cc one)
-suited_event_is_left r f t (Leave o a) is h one = absurd (cc one)
-suited_event_is_left r f t (Get o i) is h one = absurd (cc one)
-suited_event_is_left r f t (Put o i w) is h one = absurd (cc one)
-suited_event_is_left r f t Print is h one = absurd (cc one)
-suited_event_is_left r f t (End e) is h one = absurd (cc one)
-suited_event_is_left r f t Done is h one = absurd (cc one)
+next_event_exists_if_agreeing_ask_logs_one r f t Private is h one = absurd (cc one)
+next_event_exists_if_agreeing_ask_logs_one r f t (Leave o a) is h one = absurd (cc one)
+next_event_exists_if_agreeing_ask_logs_one r f t (Get o i) is h one = absurd (cc one)
+next_event_exists_if_agreeing_ask_logs_one r f t (Put o i w) is h one = absurd (cc one)
+next_event_exists_if_agreeing_ask_logs_one r f t Print is h one = absurd (cc one)
+next_event_exists_if_agreeing_ask_logs_one r f t (End e) is h one = absurd (cc one)
+next_event_exists_if_agreeing_ask_logs_one r f t Done is h one = absurd (cc one)
 
 events_within_after_ask : (code : List ℕ) (x : thread.ThreadState) (q : Ask) (reply : Reply) (n : ℕ) → (events_added_by q ≡ 1 → x.events < n) → x.events ≤ n
     → (after_ask code x q reply).events ≤ n
@@ -599,4 +592,4 @@ pub events_within_after_following_step : (r : Recorded) (f : Flat) (t v : ℕ) (
     → (thread_of f t).events ≤ length (recorded_thread r t).events
     → (after_ask f.code (thread_of f t) (ask_of f.code (thread_of f t)) reply).events ≤ length (recorded_thread r t).events
 events_within_after_following_step r f t v reply h le = events_within_after_ask f.code (thread_of f t) (ask_of f.code (thread_of f t)) reply
-    (length (recorded_thread r t).events) (suited_event_is_left r f t (ask_of f.code (thread_of f t)) refl (following_step_agrees r f t v h)) le
+    (length (recorded_thread r t).events) (next_event_exists_if_agreeing_ask_logs_one r f t (ask_of f.code (thread_of f t)) refl (following_step_agrees r f t v h)) le

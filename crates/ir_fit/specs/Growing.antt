@@ -4,7 +4,7 @@ use Rattle.std.specs.List.{slice_index_or}
 use Rattle.ir_thread.specs.declared.ask.Ask.{Ask}
 use Rattle.ir_thread.specs.declared.ask.Ask.TheVariants.{Env, Enter, Try, Leave as Leaves}
 use Rattle.ir_flat.specs.Flat.{Flat, thread_of, cell_of}
-use Rattle.ir_fit.specs.Fit.{Placed, places_from, leaves_from}
+use Rattle.ir_fit.specs.Placed.{Placed, places_from, leaves_from}
 use Rattle.ir_fit.specs.declared.leave.Leave.{Leave}
 use Rattle.ir_runs.specs.Machine.{Label}
 

@@ -1,19 +1,21 @@
 -- What holds of all runs of a guest, and of traces and the runs that follow them.
 use Rattle.std.specs.Prelude.{◌≡◌, ◌↔◌, ◌≤◌, ℕ, List, [], ◌∷◌, ◌++◌, length}
-use Rattle.ir_image.specs.Guest.{Guest, IsGuest}
+use Rattle.ir_image.specs.Guest.{Guest}
+use Rattle.ir_image.specs.Bounds.{IsGuest}
 use Rattle.ir_runs.specs.Machine.{Trace}
 use Rattle.ir_flat.specs.Flat.{start_flat, tables, machine}
-use Rattle.ir_runs.specs.Run.{Step, IsRun, asked, end, trail, Cut, IsCut, Consistent}
+use Rattle.ir_runs.specs.Run.{Step, IsRun, asked, end, trail, Cut, IsCut, Consistent, IsWhole}
 use Rattle.ir_runs.specs.Bounds.{IsComplete, trace}
 use Rattle.ir_runs.specs.Alike.{SameTrace, SameRun, Reaches}
 use Rattle.ir_runs.specs.Admitted.{AtCut}
 use Rattle.ir_runs.specs.declared.thread_verdict.ThreadVerdict.{ThreadVerdict}
 use Rattle.ir_runs.specs.declared.thread_verdict.ThreadVerdict.TheVariants.{Same}
-use Rattle.ir_runs.specs.Verdicts.{IsVerdict, IsWhole, Follows, IsMaximal, closing, left_log}
+use Rattle.ir_runs.specs.Verdicts.{IsVerdict, Follows, IsMaximal, closing, left_log}
 use Rattle.ir_runs.specs.Coherent.{IsCoherent}
 use Rattle.ir_runs.specs.Events.{HoldsEvents, result_of}
 use Rattle.ir_thread.specs.State.{IsAllowed, most_budget}
-use Rattle.ir_trace.specs.Recorded.{Recorded, IsRecorded}
+use Rattle.ir_trace.specs.Recorded.{Recorded}
+use Rattle.ir_trace.specs.Bounds.{IsRecorded}
 use Rattle.ir_fit.specs.Fit.{IsRunOf}
 use Rattle.ir_thread.specs.declared.profile.Profile.{Profile}
 

@@ -1,8 +1,10 @@
 pub mod Laws
 pub mod Fit
+pub mod Placed
 pub mod Ahead
 pub mod Growing
 pub mod Follower
 pub mod Passed
 pub mod Within
 pub mod Listed
+pub mod PartlyListed

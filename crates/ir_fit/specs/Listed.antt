@@ -6,7 +6,8 @@ use Rattle.ir_runs.specs.Machine.{Label, In, Out}
 use Rattle.ir_runs.specs.declared.access.Access.{Access}
 use Rattle.ir_flat.specs.Flat.{start_flat, tables, machine}
 use Rattle.ir_runs.specs.Run.{join_if, Emits}
-use Rattle.ir_fit.specs.Fit.{FittedTrace, HasRun, Listing, Visit, picked, listed}
+use Rattle.ir_fit.specs.Fit.{FittedTrace, HasRun}
+use Rattle.ir_fit.specs.Placed.{Listing, Visit, picked, listed}
 use Rattle.ir_fit.specs.declared.place.Place.{Place}
 use Rattle.ir_fit.specs.declared.leave.Leave.{Leave}
 

@@ -1,8 +1,8 @@
 -- What holds of a trace that fits.
 use Rattle.std.specs.Prelude.{length, ⊤}
-use Rattle.ir_trace.specs.Recorded.{Recorded, trace_of, IsRecorded}
+use Rattle.ir_trace.specs.Recorded.{Recorded, trace_of}
+use Rattle.ir_trace.specs.Bounds.{IsRecorded}
 use Rattle.ir_coherence.specs.Breaking.{IsFirstBreak}
-use Rattle.ir_fit.specs.declared.header_cause.HeaderCause.TheVariants.{Threads}
 use Rattle.ir_fit.specs.declared.fit_err.FitErr.{FitErr}
 use Rattle.ir_fit.specs.declared.fit_err.FitErr.TheVariants.{NoMem, Refused}
 use Rattle.ir_fit.specs.declared.verdict.Verdict.{Verdict}

@@ -1,13 +1,15 @@
 //! A guest with the trace of one of its runs.
 
 ghost use Rattle.std.specs.Prelude.{◌≡◌, ◌<◌, length, IfOk};
-ghost use Rattle.ir_fit.specs.Fit.{FittedTrace, HasRun, placed_at, IsListing, all_entered, all_left};
+ghost use Rattle.ir_fit.specs.Fit.{FittedTrace, HasRun};
+ghost use Rattle.ir_fit.specs.Placed.{placed_at, IsListing, all_entered, all_left, placed_of};
 ghost use Rattle.ir_fit.specs.Within.{IsFitted};
 ghost use Rattle.ir_fit.specs.Listed.{OnlyEntries, AllEntries, OnlyLeaves, AllLeaves};
 
 use crate::leave::Leave;
 use crate::place::Place;
 use crate::places::Places;
+use crate::stretch::Stretch;
 use crate::visiting::{entered, left, rooms};
 use crate::visits::Visits;
 use ir_image::Image;
@@ -16,7 +18,7 @@ use ir_trace::Trace;
 use std::alloc::{AllocError, Global};
 use std::marker::Model;
 
-/// A guest, a trace that a run of it has, and where each thread's events and leaves are among its steps.
+/// A guest and a trace that a run of it has. Kept beside them is where each thread's events and leaves are among its steps.
 #[derive(Drop)]
 pub struct Fitted {
     image: Image,
@@ -29,25 +31,28 @@ pub struct Fitted {
 impl Model for Fitted {
     ghost Value = { FittedTrace };
 
-    ghost view = { λ f. record { guest = f.image; recorded = f.trace; placed = f.places.items } };
+    ghost view = { λ f. record { guest = f.image; recorded = f.trace } };
 
-    ghost invariant = { λ f. HasRun (record { guest = f.image; recorded = f.trace; placed = f.places.items }) × IsListing (all_entered f.trace f.places.items) f.entered × IsListing (all_left f.places.items) f.left };
+    ghost invariant = { λ f. HasRun (record { guest = f.image; recorded = f.trace }) × (f.places.items ≡ placed_of (record { guest = f.image; recorded = f.trace })) × IsListing (all_entered f.trace f.places.items) f.entered × IsListing (all_left f.places.items) f.left };
 }
 
 impl Fitted {
-    // The guest, the trace that one of its runs has, and the positions in this run.
+    // The guest, the trace that one of its runs has, the positions in this run, and stretches of it, in whose order its visits
+    // are listed.
     pub(crate) fn new(
         alloc: Global,
         image: Image,
         trace: Trace,
         places: Vec<Places>,
+        stretches: &[Stretch],
     ) -> Result<Fitted, AllocError>
-        requires { HasRun (record { guest = image; recorded = trace; placed = places.items }) }
-        ensures { IfOk result (λ f. f ≡ record { guest = image; recorded = trace; placed = places.items }) }
+        requires run { HasRun (record { guest = image; recorded = trace }) }
+        requires places { places.items ≡ placed_of (record { guest = image; recorded = trace }) }
+        ensures { IfOk result (λ f. f ≡ record { guest = image; recorded = trace }) }
     {
         let rooms = rooms(&trace);
-        let entered = entered(alloc, &rooms, &trace, &places)?;
-        let left = left(alloc, &rooms, &places)?;
+        let entered = entered(alloc, &rooms, &trace, &places, stretches)?;
+        let left = left(alloc, &rooms, &trace, &places, stretches)?;
         Ok(Fitted {
             image,
             trace,
@@ -83,7 +88,7 @@ impl Fitted {
     /// For each event of thread t, in order, how many steps the thread took before it.
     pub fn entries(&self, t: usize) -> &[u64]
         requires { t < length self.now.guest.entries }
-        ensures { result.now ≡ (placed_at self.now.placed t).entries }
+        ensures { result.now ≡ (placed_at (placed_of self.now) t).entries }
     {
         self.places[t].entries()
     }
@@ -91,7 +96,7 @@ impl Fitted {
     /// The leaves of thread t, in order; those after its end are among them.
     pub fn leaves(&self, t: usize) -> &[Leave]
         requires { t < length self.now.guest.entries }
-        ensures { result.now ≡ (placed_at self.now.placed t).leaves }
+        ensures { result.now ≡ (placed_at (placed_of self.now) t).leaves }
     {
         self.places[t].leaves()
     }

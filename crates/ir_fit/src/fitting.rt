@@ -17,6 +17,7 @@ use crate::follower::growing::{GrowingPlaces, all_grown};
 use crate::follower::passing::Passing;
 use crate::header::same_header;
 use crate::passed_state::PassedState;
+use crate::stretch::Stretch;
 use crate::verdict::Verdict;
 use ir_image::Image;
 use ir_object::Gate;
@@ -40,13 +41,18 @@ impl Follower<'_> {
         Ok(verdicts)
     }
 
-    // The trace, and where each thread's events and leaves are.
-    fn into_parts(self) -> (Trace, Vec<GrowingPlaces>)
+    // The trace, where each thread's events and leaves are, and the stretches of the run.
+    fn into_parts(self) -> (Trace, Vec<GrowingPlaces>, Vec<Stretch>)
         ensures trace { result.0 ≡ self.entry.trace }
         ensures places { result.1.items ≡ self.entry.places.items }
     {
-        let Follower { trace, places, .. } = self;
-        (trace, places)
+        let Follower {
+            trace,
+            places,
+            stretches,
+            ..
+        } = self;
+        (trace, places, stretches)
     }
 }
 
@@ -86,9 +92,9 @@ fn fit_with<G: Gate>(
         coherent(alloc, &follower.trace)?;
         return Err(FitErr::Refused(Verdict::Threads(verdicts)));
     }
-    let (trace, growing) = follower.into_parts();
+    let (trace, growing, stretches) = follower.into_parts();
     let places = all_grown(alloc, growing)?;
-    Ok(Fitted::new(alloc, image, trace, places)?)
+    Ok(Fitted::new(alloc, image, trace, places, &stretches)?)
 }
 
 /// Whether a trace is that of a complete run of a guest's, under the budget that the trace names. The guest is run once,

@@ -2,11 +2,13 @@
 
 ghost use Rattle.std.specs.Prelude.{◌≡◌, ◌<◌, length};
 ghost use Rattle.ir_flat.specs.Flat.{thread_of, cell_of, IsFlat};
-ghost use Rattle.ir_trace.specs.Recorded.{recorded_thread, IsRecordedThread};
+ghost use Rattle.ir_trace.specs.Recorded.{recorded_thread};
+ghost use Rattle.ir_trace.specs.Bounds.{IsRecordedThread};
 ghost use Rattle.ir_fit.specs.Ahead.{steps_ahead};
 
 use crate::follower::growing::GrowingPlaces;
 use crate::follower::readiness::Readiness;
+use crate::stretch::Stretch;
 use ir_flat::Flat;
 use ir_object::Object;
 use ir_thread::Thread;
@@ -30,6 +32,8 @@ pub struct Follower<'a> {
     // As many threads wait at most. While it is 0 no thread is looked for that waits.
     pub waiting: usize,
     pub places: Vec<GrowingPlaces>,
+    // In which order the threads took their steps, for as much of the run as there is memory. It's a hint, on which no clause rests.
+    pub stretches: Vec<Stretch>,
 }
 
 impl Follower<'_> {

@@ -15,7 +15,10 @@ mod object_places;
 mod passed_state;
 mod place;
 mod places;
+mod run_visits;
+mod stretch;
 mod verdict;
+mod visit_kind;
 mod visiting;
 mod visits;
 

@@ -1,7 +1,7 @@
 //! Where a thread's events and leaves are among its steps.
 
 ghost use Rattle.std.specs.Prelude.{◌≡◌};
-ghost use Rattle.ir_fit.specs.Fit.{Placed};
+ghost use Rattle.ir_fit.specs.Placed.{Placed};
 
 use crate::leave::Leave;
 use std::marker::Model;

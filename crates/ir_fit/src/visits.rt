@@ -3,7 +3,7 @@
 ghost use Rattle.std.specs.Prelude.{◌≡◌, ◌<◌, [], ◌∷◌, length, OnOk};
 ghost use Rattle.std.specs.List.{Contains};
 ghost use Rattle.std.specs.List.Sorted.{IsNonDecreasingBy};
-ghost use Rattle.ir_fit.specs.Fit.{Listing, lists_for, listed};
+ghost use Rattle.ir_fit.specs.Placed.{Listing, lists_for, listed};
 ghost use Rattle.ir_fit.specs.Listed.{AreSame, IsOneMore, AddsAll, none_listed, AreSorted, IsInOrder};
 ghost use Rattle.ir_fit.specs.declared.place.Place.{Place};
 

@@ -6,6 +6,6 @@ pub use Rattle.ir_fit_run.proofs.Shown.{refusal_is_answered_or_stopped, refusal_
 -- where the events of a thread are among its steps, and the leaves of what it entered
 pub use Rattle.ir_fit_run.proofs.Leaves.{recorded_event_is_inside, inside_event_is_recorded, entry_position_fits, leave_is_past_event, leave_is_within_thread, leave_position_fits}
 -- lists whose elements belong to those of another, made one element after the other
-pub use Rattle.ir_fit_run.proofs.Paired.{element_below_length_is_listed, ArePairedTo, paired_to_none, paired_to_next_element, paired_if_all_paired_to}
+pub use Rattle.ir_fit_run.proofs.Paired.{slice_get_is_get_or_below_length, ArePairedTo, paired_to_no_element, paired_to_next_element, paired_if_all_paired_to}
 -- what an event enters its thread leaves
 pub use Rattle.ir_fit_run.proofs.Left.{entering_event_has_leave}

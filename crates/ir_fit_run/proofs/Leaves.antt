@@ -13,10 +13,11 @@ use Rattle.ir_log.specs.declared.event.Event.{Event}
 use Rattle.ir_log.specs.declared.event.Event.TheVariants.{Answer, Read, Write, Try}
 use Rattle.ir_trace.specs.Recorded.{Recorded, recorded_thread}
 use Rattle.ir_coherence.proofs.CallerLemmas.{recorded_thread_at_number_is_recorded}
-use Rattle.ir_fit.specs.Fit.{FittedTrace, HasRun, placed_at}
+use Rattle.ir_fit.specs.Fit.{FittedTrace, HasRun}
+use Rattle.ir_fit.specs.Placed.{placed_at, placed_of}
 use Rattle.ir_fit.specs.Within.{IsFitted}
 use Rattle.ir_fit.specs.declared.leave.Leave.{Leave}
-use Rattle.ir_fit.proofs.CallerLemmas.{entries_as_many_as_events, entry_position_below_steps, get_or_of_at, step_of_leave_emits_leave, leave_step_is_kept, leave_positions_rise}
+use Rattle.ir_fit.proofs.CallerLemmas.{event_positions_are_as_many_as_events, event_position_below_steps, get_or_is_item_if_at_index, step_of_leave_emits_leave, leave_step_is_kept, leave_positions_rise}
 use Rattle.ir_cut.specs.Positions.{EachRun, machine_of, start_of}
 use Rattle.ir_cut.proofs.CallerLemmas.{trail_same_in_runs_of_trace}
 use Rattle.ir_past.specs.Past.{event_at, entered}
@@ -34,23 +35,23 @@ step_emits_in_each_run f h t k a emitted run of = (
 
 -- its leaves are in the order of their positions
 pub leaves_are_in_order : (f : FittedTrace) → HasRun f → (t : ℕ) → t < length f.guest.entries
-    → IsNonDecreasingBy (λ (l : Leave). l.position) (placed_at f.placed t).leaves
+    → IsNonDecreasingBy (λ (l : Leave). l.position) (placed_at (placed_of f) t).leaves
 leaves_are_in_order f h t l i j d le lj = elim (cases_lt i j) [
   | inl less ↦ let up = leave_positions_rise f h t l i j d less lj in omega (arith, up)
   | inr past ↦
       let same : i ≡ j = omega (arith, le, past) in
-      let equal = ap (λ k. (get_or (placed_at f.placed t).leaves k d).position) same in omega (arith, equal)
+      let equal = ap (λ k. (get_or (placed_at (placed_of f) t).leaves k d).position) same in omega (arith, equal)
 ]
 
 -- where a search found that those at `from` or past it begin
-pub partition_point_of_positions : (xs : List Leave) (from i : ℕ)
+pub partition_point_by_position_if_by_test : (xs : List Leave) (from i : ℕ)
     → IsPartitionPoint (λ (y : Leave). ltb y.position from ≡ true) (λ y. ltb y.position from ≡ false) xs i
     → IsPartitionPoint (λ (y : Leave). y.position < from) (λ y. from ≤ y.position) xs i
-partition_point_of_positions xs from i h = (λ k d low lt. ltb-true _ from (h.0 k d low lt), λ k d low lt. ltb-false _ from (h.1 k d low lt))
+partition_point_by_position_if_by_test xs from i h = (λ k d low lt. ltb-true _ from (h.0 k d low lt), λ k d low lt. ltb-false _ from (h.1 k d low lt))
 
 -- the leaves of thread t, and where those at `from` or past it begin
 pub record AreLeavesFrom (f : FittedTrace) (t from : ℕ) (ls : List Leave) (start : ℕ) : Type 0 where
-  pub leaves : ls ≡ (placed_at f.placed t).leaves
+  pub leaves : ls ≡ (placed_at (placed_of f) t).leaves
   pub point : IsPartitionPoint (λ (l : Leave). l.position < from) (λ l. from ≤ l.position) ls start
 
 leave_equal_by_fields : (k o : ℕ) (a : Access) (v : ℕ) (l : Leave) → IsLeaveAs l o a v → l.position ≡ k
@@ -107,8 +108,8 @@ first_listed_leave_leaves_first f h t from ls start o a v k l x first = (
 
     emitted : Emits (machine_of f) (start_of f) h.run t k (Out o a v)
     emitted =
-        let at : get_or (placed_at f.placed t).leaves first.number p ≡ p = subst (λ (z : List Leave). get_or z first.number p ≡ p) x.leaves is in
-        let within : first.number < length (placed_at f.placed t).leaves = subst (λ (z : List Leave). first.number < length z) x.leaves first.within in
+        let at : get_or (placed_at (placed_of f) t).leaves first.number p ≡ p = subst (λ (z : List Leave). get_or z first.number p ≡ p) x.leaves is in
+        let within : first.number < length (placed_at (placed_of f) t).leaves = subst (λ (z : List Leave). first.number < length z) x.leaves first.within in
         subst (λ (z : Leave). Emits (machine_of f) (start_of f) h.run t z.position (Out z.object z.access z.version)) at
         (step_of_leave_emits_leave f h t l first.number p within)
 
@@ -180,7 +181,7 @@ event_without_entry_never_leaves f t from k (Try p) none at = at
 -- the position of an event fits, and one more
 pub entry_position_fits : (f : FittedTrace) → IsFitted f → (t i : ℕ) → IsInside f t i → entry_of f t i + 1 < 2 ^ 64
 entry_position_fits f fitted t i recorded_event_is_inside =
-    let within = entry_position_below_steps f fitted.run t recorded_event_is_inside.thread i recorded_event_is_inside.event in
+    let within = event_position_below_steps f fitted.run t recorded_event_is_inside.thread i recorded_event_is_inside.event in
     let same = fitted.run.whole.0.threads in
     let fits = (recorded_thread_at_number_is_recorded f.recorded fitted.within t (let l = recorded_event_is_inside.thread in omega (arith, l, same))).steps_fit in
     omega (arith, within, fits)
@@ -189,7 +190,7 @@ leave_step_is_within_thread : (f : FittedTrace) → HasRun f → (t o : ℕ) (a 
     → EachRun f (λ run. Emits (machine_of f) (start_of f) run t k (Out o a v)) → k < (recorded_thread f.recorded t).steps
 leave_step_is_within_thread f h t o a v k l at =
     let e = at h.run h.whole in
-    let a = (get_or_of_at (trail (machine_of f) (start_of f) h.run t) k (e.0, Out o a v) e.1).0 in
+    let a = (get_or_is_item_if_at_index (trail (machine_of f) (start_of f) h.run t) k (e.0, Out o a v) e.1).0 in
     let b = h.whole.1.steps t l in
     omega (arith, a, b)
 
@@ -233,11 +234,11 @@ recorded_event_is_inside f h t i e there =
     let b = h.whole.0.threads in omega (arith, a, b)) in
     record {
       thread = l;
-      event = let long = entries_as_many_as_events f h t l in let within = slice_get_within es i e there in omega (arith, within, long);
+      event = let long = event_positions_are_as_many_as_events f h t l in let within = slice_get_within es i e there in omega (arith, within, long);
     }
 
 -- and has as many events there
 pub inside_event_is_recorded : (f : FittedTrace) → HasRun f → (t i : ℕ) → IsInside f t i → (r : Recorded) → r ≡ f.recorded → i < length (recorded_thread r t).events
 inside_event_is_recorded f h t i recorded_event_is_inside r same =
     subst (λ (x : Recorded). i < length (recorded_thread x t).events) (sym same)
-    (let long = entries_as_many_as_events f h t recorded_event_is_inside.thread in let within = recorded_event_is_inside.event in omega (arith, within, long))
+    (let long = event_positions_are_as_many_as_events f h t recorded_event_is_inside.thread in let within = recorded_event_is_inside.event in omega (arith, within, long))

@@ -10,15 +10,15 @@ use Rattle.ir_log.specs.declared.event.Event.{Event}
 use Rattle.ir_log.specs.declared.event.Event.TheVariants.{Answer, Read, Write, Try}
 use Rattle.ir_trace.specs.Recorded.{recorded_thread}
 use Rattle.ir_fit.specs.Fit.{FittedTrace, HasRun}
-use Rattle.ir_fit.proofs.CallerLemmas.{guest_start_is_start, step_of_entry_emits_event}
+use Rattle.ir_fit.proofs.CallerLemmas.{guest_start_is_start, step_at_event_position_emits_event}
 use Rattle.ir_cut.specs.Positions.{machine_of, start_of}
 use Rattle.ir_past.specs.Leaving.{LeavesFirst}
 use Rattle.ir_past.specs.Past.{event_at, entered}
-use Rattle.ir_past.proofs.CallerLemmas.{entries_left}
+use Rattle.ir_past.proofs.CallerLemmas.{entry_is_left_in_complete_run}
 use Rattle.ir_events.specs.Events.{entry_of}
 use Rattle.ir_fit_run.specs.Positions.{LeavesFrom, EntryLeaves, IsLeaveOf}
 use Rattle.ir_fit_run.proofs.Leaves.{step_emits_in_each_run, recorded_event_is_inside}
-use Rattle.ir_fit_run.proofs.Paired.{element_below_length_is_listed}
+use Rattle.ir_fit_run.proofs.Paired.{slice_get_is_get_or_below_length}
 
 -- the step of an event emits what is logged as it
 event_step_emits_its_label : (f : FittedTrace) (h : HasRun f) (t i : ℕ) (e : Event) → event_at f.recorded t i ≡ Some e
@@ -26,14 +26,14 @@ event_step_emits_its_label : (f : FittedTrace) (h : HasRun f) (t i : ℕ) (e : E
 event_step_emits_its_label f h t i e there =
     let es : List Event = (recorded_thread f.recorded t).events in
     let l : i < length es = slice_get_within es i e there in
-    let same = same_Some _ e (sym (element_below_length_is_listed es i e l) ∙ there) in
-    subst (λ z. Emits (machine_of f) (start_of f) h.run t (entry_of f t i) (label_of z)) same (step_of_entry_emits_event f h t (recorded_event_is_inside f h t i e there).thread i e l)
+    let same = same_Some _ e (sym (slice_get_is_get_or_below_length es i e l) ∙ there) in
+    subst (λ z. Emits (machine_of f) (start_of f) h.run t (entry_of f t i) (label_of z)) same (step_at_event_position_emits_event f h t (recorded_event_is_inside f h t i e there).thread i e l)
 
 -- the first leave behind an entry
 first_leave_behind_entry_exists : (f : FittedTrace) (h : HasRun f) (t j o : ℕ) (a : Access) (v l : ℕ) → Emits (machine_of f) (start_of f) h.run t j (In o a v l)
     → (k : ℕ) × LeavesFrom f t (j + 1) o a v k × ((n : ℕ) → LeavesFrom f t (j + 1) o a v n → k ≤ n)
 first_leave_behind_entry_exists f h t j o a v l enters =
-    let x : LeavesFirst (machine_of f) (start_of f) h.run t j o a v = entries_left f.guest.code (start_of f)
+    let x : LeavesFirst (machine_of f) (start_of f) h.run t j o a v = entry_is_left_in_complete_run f.guest.code (start_of f)
     (guest_start_is_start f.guest f.recorded.budget f.recorded.profile) h.run (h.whole.1.runs, h.whole.1.done) t j o a v l enters in (
       x.leave,
       ((let past = x.past in omega (arith, past)), step_emits_in_each_run f h t x.leave (Out o a v) x.leaves),

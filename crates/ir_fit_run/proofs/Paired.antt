@@ -2,30 +2,22 @@
 use Rattle.std.proofs.Common.{◌≡◌, ◌⊎◌, ℕ, zero, suc, ◌+◌, ◌<◌, ◌≤◌, inl, inr, Some, List, [], ◌∷◌, ◌++◌, get_or, length, refl, sym, ap, ◌∙◌, subst, arith}
 use Rattle.std.specs.Prelude.{slice_get}
 use Rattle.std.proofs.lemmas.Option.{same_Some, none-some}
+use Rattle.ir_lemmas.proofs.CallerLemmas.{slice_get_of_append_cases}
 use Rattle.ir_fit_run.specs.Paired.{ArePaired}
 
-slice_get_of_append_cases : {X : Type 0} (xs ys : List X) (k : ℕ) (x : X) → slice_get (xs ++ ys) k ≡ Some x
-    → (slice_get xs k ≡ Some x) ⊎ ((m : ℕ) × (k ≡ length xs + m) × (slice_get ys m ≡ Some x))
-slice_get_of_append_cases [] ys k x e = inr (k, (let same : k ≡ 0 + k = omega arith in same), e)
-slice_get_of_append_cases (z ∷ zs) ys zero x e = inl e
-slice_get_of_append_cases (z ∷ zs) ys (suc k) x e = elim (slice_get_of_append_cases zs ys k x e) [
-  | inl h ↦ inl h
-  | inr h ↦ inr (h.0, (let same : suc k ≡ suc (length zs) + h.0 = omega (arith, h.1) in same), h.2)
-]
-
 -- an element of a list is at its place
-pub element_below_length_is_listed : {X : Type 0} (xs : List X) (n : ℕ) (d : X) → n < length xs → slice_get xs n ≡ Some (get_or xs n d)
-element_below_length_is_listed [] n d l = absurd (omega arith)
-element_below_length_is_listed (x ∷ xs) zero d l = refl
-element_below_length_is_listed (x ∷ xs) (suc n) d l = element_below_length_is_listed xs n d (omega arith)
+pub slice_get_is_get_or_below_length : {X : Type 0} (xs : List X) (n : ℕ) (d : X) → n < length xs → slice_get xs n ≡ Some (get_or xs n d)
+slice_get_is_get_or_below_length [] n d l = absurd (omega arith)
+slice_get_is_get_or_below_length (x ∷ xs) zero d l = refl
+slice_get_is_get_or_below_length (x ∷ xs) (suc n) d l = slice_get_is_get_or_below_length xs n d (omega arith)
 
 -- the first n elements have theirs
 pub record ArePairedTo {X Y : Type 0} (P : X → Y → Type 0) (xs : List X) (n : ℕ) (ys : List Y) : Type 0 where
   pub size : length ys ≡ n
   pub each : (k : ℕ) (x : X) (y : Y) → slice_get xs k ≡ Some x → slice_get ys k ≡ Some y → P x y
 
-pub paired_to_none : {X Y : Type 0} (P : X → Y → Type 0) (xs : List X) → ArePairedTo P xs 0 []
-paired_to_none P xs = record { size = refl; each = λ k x y a b. absurd (none-some y b) }
+pub paired_to_no_element : {X Y : Type 0} (P : X → Y → Type 0) (xs : List X) → ArePairedTo P xs 0 []
+paired_to_no_element P xs = record { size = refl; each = λ k x y a b. absurd (none-some y b) }
 
 pub paired_to_next_element : {X Y : Type 0} (P : X → Y → Type 0) (xs : List X) (n : ℕ) (ys : List Y) (x : X) (y : Y) → ArePairedTo P xs n ys
     → slice_get xs n ≡ Some x → P x y → ArePairedTo P xs (n + 1) (ys ++ y ∷ [])

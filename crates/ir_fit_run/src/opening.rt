@@ -1,8 +1,8 @@
 //! Bytes that are opened as a guest and a trace of one of its runs, and the text that says why they aren't.
 
-ghost use Rattle.std.specs.Prelude.{◌≡◌, ℕ, List, Ok, IfOk, OnOk, OnErr, IfErr, true, false};
+ghost use Rattle.std.specs.Prelude.{◌≡◌, ℕ, List, Ok, IfOk, OnOk, IfErr, false};
 ghost use Rattle.std.specs.Io.KnownBytes.{Appends};
-ghost use Rattle.ir_stream.specs.Answers.{AppendsPrefix};
+ghost use Rattle.ir_stream.specs.Writing.{WritesText};
 ghost use Rattle.ir_image.specs.Guest.{guest_at};
 ghost use Rattle.ir_trace.specs.Recorded.{recorded_at};
 ghost use Rattle.ir_files.specs.Writers.{writer_of};
@@ -66,10 +66,7 @@ pub fn open_fit(alloc: Global, image: &[u8], trace: &[u8]) -> Result<Opened, All
 
 // Writes the text that says why bytes don't fit.
 fn write_refusal<O: Sink>(why: &Refusal, out: &mut O) -> Result<(), DeviceErr>
-    ensures ok { OnOk result (Appends (O.written out.old) (O.written out.new) (refusal_text why.now)) }
-    ensures stays { OnOk result (O.broken out.new ≡ O.broken out.old) }
-    ensures prefix { OnErr result (AppendsPrefix (O.written out.old) (O.written out.new) (refusal_text why.now)) }
-    ensures err { OnErr result (O.broken out.new ≡ true) }
+    ensures { WritesText O.written O.broken out.old out.new (refusal_text why.now) result }
 {
     match why {
         Refusal::NoImage(fault) => write_all(

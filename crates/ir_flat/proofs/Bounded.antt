@@ -3,7 +3,8 @@ use Rattle.std.proofs.Common.{◌≡◌, ℕ, zero, suc, ◌+◌, ◌*◌, ◌<�
 use Rattle.std.proofs.lemmas.Bool.{cases_lt}
 use Rattle.std.proofs.lemmas.Bool.Decides.{nat_tests}
 use Rattle.std.proofs.lemmas.List.{get_or_past, length-replicate}
-use Rattle.ir_image.specs.Guest.{Guest, IsWord, object_count, object_words, IsGuest}
+use Rattle.ir_image.specs.Guest.{Guest, object_count, object_words}
+use Rattle.ir_image.specs.Bounds.{IsWord, IsGuest}
 use Rattle.ir_image.proofs.CallerLemmas.{guest_threads_at_most_limit, element_of_padded}
 use Rattle.ir_mach.proofs.CallerLemmas.{property_at_place_or_default, all_of_take, all_of_drop, HasWords, start_core_has_words}
 use Rattle.ir_thread.specs.Permitted.{IsRunning, Permits, held_count}

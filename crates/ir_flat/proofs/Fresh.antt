@@ -2,7 +2,8 @@
 use Rattle.std.proofs.Common.{◌≡◌, ℕ, zero, suc, ◌+◌, ◌-◌, ◌*◌, ◌<◌, ◌≤◌, List, [], ◌∷◌, ◌++◌, length, take, drop, replicate, get_or, Option, None, refl, sym, ap, ◌∙◌, subst, arith, inl, inr, false}
 use Rattle.std.proofs.lemmas.List.{get_or-replicate, get_or_past, length-replicate, length-append, length-take}
 use Rattle.std.proofs.lemmas.Bool.{cases_lt}
-use Rattle.ir_image.specs.Guest.{Guest, object_count, object_words, most_object_words, first_words, IsGuest}
+use Rattle.ir_image.specs.Guest.{Guest, object_count, object_words, most_object_words, first_words}
+use Rattle.ir_image.specs.Bounds.{IsGuest}
 use Rattle.ir_image.proofs.CallerLemmas.{words_of_form_at_most_limit, guest_threads_at_most_limit, guest_objects_at_most_limit}
 use Rattle.ir_thread.specs.State.{held_at}
 use Rattle.ir_thread.specs.declared.profile.Profile.{Profile}

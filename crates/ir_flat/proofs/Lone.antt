@@ -9,7 +9,7 @@ use Rattle.ir_thread.specs.declared.ask.Ask.{Ask}
 use Rattle.ir_thread.specs.declared.ask.Ask.TheVariants.{Private, Env, Enter, Try, Leave, Get, Put, Print, End, Done}
 use Rattle.ir_thread.proofs.CallerLemmas.{lone_run_by_reply_values}
 use Rattle.ir_flat.specs.Splice.{replies_to, AloneIsLone}
-use Rattle.ir_flat.specs.Lone.{MayReply, MayRun, alone_after}
+use Rattle.ir_flat.specs.Flat.{MayReply, MayRun, alone_after}
 
 allowed_reply_suits : (code : List ℕ) (q : Ask) (v : ℕ) → MayReply (thread_machine code) (act_of (shared_ask q) v) v → Suits q (reply_of q v)
 allowed_reply_suits code Private v may = refl

@@ -1,5 +1,6 @@
 -- Lists whose elements are replaced, the first ones first.
 use Rattle.std.proofs.Common.{◌≡◌, ℕ, suc, zero, ◌+◌, ◌<◌, ◌≤◌, List, [], ◌∷◌, ◌++◌, length, drop, get_or, slice_set, append_assoc, append-nil, refl, sym, ap, ◌∙◌, subst, arith}
+use Rattle.ir_lemmas.proofs.CallerLemmas.{drop_past_length_is_empty}
 use Rattle.ir_image.specs.Guest.{Guest, object_count, first_words}
 use Rattle.ir_thread.specs.State as thread
 use Rattle.ir_thread.specs.declared.profile.Profile.{Profile}
@@ -36,12 +37,6 @@ get_after_front (y ∷ front) ys d = get_after_front front ys d
 -- the next one is as it was
 pub next_item_is_unchanged : {X : Type 0} (front xs : List X) (n : ℕ) (d : X) → length front ≡ n → get_or (front ++ drop n xs) n d ≡ get_or xs n d
 next_item_is_unchanged front xs n d size = ap (λ k. get_or (front ++ drop n xs) k d) (sym size) ∙ get_after_front front (drop n xs) d ∙ get_first_of_drop xs n d
-
-drop_past_length_is_empty : {X : Type 0} (xs : List X) (n : ℕ) → length xs ≤ n → drop n xs ≡ []
-drop_past_length_is_empty [] zero l = refl
-drop_past_length_is_empty [] (suc n) l = refl
-drop_past_length_is_empty (y ∷ ys) zero l = absurd (omega (arith, l))
-drop_past_length_is_empty (y ∷ ys) (suc n) l = drop_past_length_is_empty ys n (omega (arith, l))
 
 -- all were replaced
 pub all_items_replaced : {X : Type 0} (front xs now : List X) (n : ℕ) → now ≡ front ++ drop n xs → length xs ≤ n → now ≡ front

@@ -1,12 +1,13 @@
 -- In a run each thread takes the steps that it takes alone.
 use Rattle.std.proofs.Common.{◌≡◌, ℕ, suc, zero, ◌+◌, ◌&&◌, Bool, true, false, List, [], ◌∷◌, length, refl, sym, ap, ◌∙◌, subst, arith, inl, inr, eq-eqb, ne_eqb}
 use Rattle.std.proofs.lemmas.Bool.{cases_eq}
-use Rattle.ir_runs.specs.Machine.{Ask, Private, Env, Enter, Try, Leave, Get, Put, Done, Act, act_of, Machine, Object, target, Admits, reply, emitted, is_shared, Label}
+use Rattle.ir_runs.specs.Machine.{Ask, Private, Env, Enter, Try, Leave, Get, Put, Done, Act, act_of, Machine, Object, target, Admits, reply, emitted, Label}
+use Rattle.ir_runs.specs.Shared.{is_shared}
 use Rattle.ir_runs.proofs.CallerLemmas.{upd_at_own_place, upd_at_other_place}
 use Rattle.ir_runs.specs.Run.{State, Step, act, after, label, IsRun, end, join_if, trail}
 use Rattle.ir_thread.specs.State.{start_state}
-use Rattle.ir_flat.specs.Flat.{start_flat, tables, machine}
-use Rattle.ir_flat.specs.Lone.{MayReply, alone_label, labels_left, alone_trail}
+use Rattle.ir_flat.specs.Flat.{start_flat, tables, machine, MayReply}
+use Rattle.ir_flat.specs.Trails.{alone_label, labels_left, alone_trail}
 use Rattle.ir_flat.specs.Replies.{replied, shared_labels, StepsAlone, EachAlone}
 use Rattle.ir_flat.proofs.Bounded.{start_thread_at_place}
 use Rattle.ir_flat.proofs.Splice.{unshared_act_emits_alone_label, shared_act_emits_first_label}

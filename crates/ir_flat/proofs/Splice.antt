@@ -2,12 +2,15 @@
 use Rattle.std.proofs.Common.{◌≡◌, ◌≢◌, ℕ, suc, zero, ◌<◌, ◌≤◌, Bool, true, false, cond, eqb, ltb, List, [], ◌∷◌, ◌++◌, map, refl, sym, ap, ◌∙◌, subst, arith, inl, inr, eq-eqb, ne_eqb, append-nil}
 use Rattle.std.proofs.Math.Path.{fun_ext}
 use Rattle.std.proofs.lemmas.Bool.{cases_eq, cases_lt, lt-ltb, le-ltb, eqb-true}
-use Rattle.ir_runs.specs.Machine.{Ask, Private, Env, Enter, Try, Leave, Get, Put, Done, Act, act_of, Silent, Result, Entry, Refusal, Exit, Load, Store, Never, Machine, upd, Object, target, Admits, acted, reply, emitted, is_shared, Label}
+use Rattle.ir_lemmas.proofs.CallerLemmas.{text_is_put_if_nothing_left}
+use Rattle.ir_runs.specs.Machine.{Ask, Private, Env, Enter, Try, Leave, Get, Put, Done, Act, act_of, Silent, Result, Entry, Refusal, Exit, Load, Store, Never, Machine, upd, Object, target, Admits, acted, reply, emitted, Label}
+use Rattle.ir_runs.specs.Shared.{is_shared}
 use Rattle.ir_object.specs.Order.{Shared, keep_if, of_thread, IsAllowed, objects_after, order_labels}
 use Rattle.ir_runs.proofs.CallerLemmas.{upd_at_own_place, upd_at_other_place, upd_with_old_value, append_of_runs_is_run, trail_append, end_append}
 use Rattle.ir_runs.specs.Run.{State, Step, after_act, Can, after, IsRun, end, trail, join_if, label}
 use Rattle.ir_flat.specs.Splice.{shared_steps, lead, led, remain, tail_of, last_steps, splice}
-use Rattle.ir_flat.specs.Lone.{MayReply, MayRun, alone_after, alone_label, labels_left, alone_trail}
+use Rattle.ir_flat.specs.Flat.{MayReply, MayRun, alone_after}
+use Rattle.ir_flat.specs.Trails.{alone_label, labels_left, alone_trail}
 
 upd_twice_is_last_upd : {A : Type 0} (f : ℕ → A) (i : ℕ) (v w : A) → upd (upd f i v) i w ≡ upd f i w
 upd_twice_is_last_upd f i v w = fun_ext (λ j. elim (cases_eq j i) [
@@ -180,9 +183,6 @@ no_replies_if_no_shared_steps m y [] next e = refl
 no_replies_if_no_shared_steps m y (v ∷ vs) next e = absurd (cc
     (subst (λ b. keep_if b (act_of (m.ask y) v, v) (shared_steps m (m.take y v) vs) ≡ []) (next v vs refl) e))
 
-append_of_empty_is_first : (xs ys zs : List ℕ) → xs ++ ys ≡ zs → ys ≡ [] → xs ≡ zs
-append_of_empty_is_first xs ys zs e n = sym (append-nil xs) ∙ ap (λ z. xs ++ z) (sym n) ∙ e
-
 -- the trails where the threads below n are still to go
 abbrev pub TrailsLeft : {T : Type 0} → Machine T → (ℕ → T) → (ℕ → List ℕ) → ℕ → ℕ → List (T × Label)
 TrailsLeft m now rs n u = cond (ltb u n) (alone_trail m (now u) (rs u) []) []
@@ -206,7 +206,7 @@ last_steps_run_with_trails m now f rs (suc n) h =
     led_to_object_step m now n (now n) f (rs n) a.0 in
     let none : remain m (now n) (rs n) ≡ [] = no_replies_if_no_shared_steps m (led m (now n) (rs n)) (remain m (now n) (rs n)) k.next
     (k.same_steps ∙ a.1) in
-    let all : lead m (now n) (rs n) ≡ rs n = append_of_empty_is_first (lead m (now n) (rs n)) (remain m (now n) (rs n)) (rs n) k.parts none in
+    let all : lead m (now n) (rs n) ≡ rs n = text_is_put_if_nothing_left (lead m (now n) (rs n)) (remain m (now n) (rs n)) (rs n) k.parts none in
     let y = led m (now n) (rs n) in
     let there : y ≡ alone_after m (now n) (rs n) = ap (alone_after m y) (sym none) ∙ k.rest in
     let start = state_of now f in

@@ -1,10 +1,10 @@
 -- The threads and objects of a guest.
-use Rattle.std.specs.Prelude.{◌≡◌, ◌<◌, ◌≤◌, ℕ, zero, suc, List, [], ◌∷◌, length, slice_index, Option, Some, false, ◌≢◌, ◌+◌, None, if◌then◌else◌}
+use Rattle.std.specs.Prelude.{◌≡◌, ◌<◌, ◌≤◌, ℕ, zero, suc, List, [], ◌∷◌, length, slice_index, Option, Some, false, ◌≢◌, ◌+◌, None, if◌then◌else◌, true}
 use Rattle.std.specs.List.{slice_index_or}
 use Rattle.ir_image.specs.Guest.{Guest, most_threads, most_objects, most_object_words, object_count, first_words}
 use Rattle.ir_image.specs.declared.form.ImageForm.TheVariants.{Small}
 use Rattle.ir_thread.specs.State.{held_at, ThreadState, start_state, thread_machine, most_events}
-use Rattle.ir_runs.specs.Machine.{Machine}
+use Rattle.ir_runs.specs.Machine.{Machine, Act, act_of, Result, Entry, Load, Never}
 use Rattle.ir_runs.specs.declared.access.Access.{Access}
 use Rattle.ir_thread.specs.declared.end.End.TheVariants.{Breakpoint}
 use Rattle.ir_thread.specs.declared.profile.Profile.{Profile}
@@ -105,3 +105,21 @@ pub record IsFlat (f : Flat) : Type 0 where
   pub places : (t : ℕ) → t < length f.threads → length (thread_of f t).held ≡ length f.objects
   pub objects : (o : ℕ) → o < length f.objects → IsShared f o
   pub kept : IsKept (length f.threads) (tables f)
+
+-- what may be answered to a thread that runs alone
+abbrev pub MayReply : {T : Type 0} → Machine T → Act → ℕ → Type 0
+MayReply m (Result k w) v = m.fits k v ≡ true
+MayReply m (Entry o a w) v = v ≡ w
+MayReply m (Load o i) v = Unit {0}
+MayReply m Never v = ⊥
+MayReply m q v = v ≡ 0
+
+-- a thread that starts as x, alone, may be given these replies
+abbrev pub MayRun : {T : Type 0} → Machine T → T → List ℕ → Type 0
+MayRun m x [] = Unit {0}
+MayRun m x (v ∷ vs) = MayReply m (act_of (m.ask x) v) v × MayRun m (m.take x v) vs
+
+-- what it is after them
+abbrev pub alone_after : {T : Type 0} → Machine T → T → List ℕ → T
+alone_after m x [] = x
+alone_after m x (v ∷ vs) = alone_after m (m.take x v) vs

@@ -4,5 +4,5 @@ pub mod Alone
 pub mod Laws
 pub mod Splice
 pub mod Replies
-pub mod Lone
+pub mod Trails
 pub mod Room

@@ -3,10 +3,11 @@ use Rattle.std.specs.Prelude.{◌≡◌, ℕ, ◌<◌, ◌&&◌, eqb, List, [], 
 use Rattle.ir_image.specs.Guest.{Guest}
 use Rattle.ir_thread.specs.State.{start_state}
 use Rattle.ir_thread.specs.declared.profile.Profile.{Profile}
-use Rattle.ir_runs.specs.Machine.{Machine, target, reply, is_shared, Label}
+use Rattle.ir_runs.specs.Machine.{Machine, target, reply, Label}
+use Rattle.ir_runs.specs.Shared.{is_shared}
 use Rattle.ir_runs.specs.Run.{State, Step, act, after, label, IsRun, end, join_if, trail}
-use Rattle.ir_flat.specs.Flat.{start_flat, tables, machine}
-use Rattle.ir_flat.specs.Lone.{MayRun, alone_after, alone_trail}
+use Rattle.ir_flat.specs.Flat.{start_flat, tables, machine, MayRun, alone_after}
+use Rattle.ir_flat.specs.Trails.{alone_trail}
 
 -- what a run replies to thread t, step by step
 abbrev pub replied : {T : Type 0} → Machine T → State T → List Step → ℕ → List ℕ

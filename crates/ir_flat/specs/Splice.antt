@@ -4,10 +4,12 @@ use Rattle.ir_thread.specs.Alone.{lone_run, values_of}
 use Rattle.ir_thread.specs.State.{ask_of, reply_of, thread_machine}
 use Rattle.ir_thread.specs.State as thread
 use Rattle.ir_thread.specs.declared.ask.Reply.{Reply}
-use Rattle.ir_runs.specs.Machine.{act_of, Done, Machine, upd, is_shared}
+use Rattle.ir_runs.specs.Machine.{act_of, Done, Machine, upd}
+use Rattle.ir_runs.specs.Shared.{is_shared}
 use Rattle.ir_object.specs.Order.{Shared, keep_if, of_thread, IsAllowed, objects_after, order_labels}
 use Rattle.ir_runs.specs.Run.{State, Step, IsRun, IsDone, end, trail}
-use Rattle.ir_flat.specs.Lone.{MayRun, alone_after, alone_trail}
+use Rattle.ir_flat.specs.Flat.{MayRun, alone_after}
+use Rattle.ir_flat.specs.Trails.{alone_trail}
 
 -- the object steps of a thread alone
 abbrev pub shared_steps : {T : Type 0} → Machine T → T → List ℕ → List Shared

@@ -2,7 +2,8 @@
 use Rattle.std.proofs.Common.{◌≡◌, ◌↔◌, ◌<◌, ◌^◌, ℕ, Bool, true, false, List, ◌∷◌, ◌++◌, length, drop, ◌==◌, map, flat_map, refl, sym, ap, ◌∙◌, subst, arith, cond, Option, Some, None, eq-eqb, inl, inr, ◌&&◌}
 use Rattle.std.specs.Prelude.{is_some, is_none, MatchOption, ⊤, find}
 use Rattle.std.proofs.lemmas.List.{append_assoc, length-append}
-use Rattle.ir_image.specs.Guest.{IsWord}
+use Rattle.ir_lemmas.proofs.CallerLemmas.{same_head, same_tail}
+use Rattle.ir_image.specs.Bounds.{IsWord}
 use Rattle.ir_mach.specs.Core.{memory_size}
 use Rattle.ir_runs.specs.Machine as machine
 use Rattle.ir_runs.specs.declared.access.Access.{Access}
@@ -16,7 +17,7 @@ use Rattle.ir_thread.specs.declared.end.End.TheVariants as end
 use Rattle.ir_seen.specs.Seen.{Same, view}
 use Rattle.ir_freeze.specs.Frozen.{word, held_byte, end_bytes, changes, is_over, fixed_bytes, going_bytes, frozen}
 use Rattle.ir_freeze.specs.Twins.{AreTwins, IsBounded}
-use Rattle.ir_freeze.proofs.Apart.{cons_heads_equal, cons_tails_equal, append_parts_equal, word_bytes_injective, flat_words_injective, flat_words_length_equal, held_bytes_injective, changes_injective}
+use Rattle.ir_freeze.proofs.Apart.{parts_equal_if_appends_equal, word_bytes_injective, flat_words_injective, flat_words_length_equal, held_bytes_injective, changes_injective}
 use Rattle.ir_freeze.proofs.Back.{length_of_end_bytes, length_of_held_bytes, length_of_fixed_bytes}
 
 -- the ends that aren't exits
@@ -64,9 +65,9 @@ end_bytes_injective : (a b : Option End) → MatchOption a ⊤ (λ e. IsWord (en
     → end_bytes a ≡ end_bytes b → a ≡ b
 end_bytes_injective a b fa fb e =
     let both : optional_end_number a ∷ word (optional_end_code a) ≡ optional_end_number b ∷ word (optional_end_code b) = sym (end_bytes_are_number_and_code a) ∙ e ∙ end_bytes_are_number_and_code b in
-    let n : optional_end_number a ≡ optional_end_number b = cons_heads_equal (optional_end_number a) (optional_end_number b) (word (optional_end_code a)) (word (optional_end_code b)) both in
+    let n : optional_end_number a ≡ optional_end_number b = same_head (optional_end_number a) (optional_end_number b) (word (optional_end_code a)) (word (optional_end_code b)) both in
     let c : optional_end_code a ≡ optional_end_code b = word_bytes_injective (optional_end_code a) (optional_end_code b) (optional_end_code_fits_word a fa) (optional_end_code_fits_word b fb)
-    (cons_tails_equal (optional_end_number a) (optional_end_number b) (word (optional_end_code a)) (word (optional_end_code b)) both) in
+    (same_tail (optional_end_number a) (optional_end_number b) (word (optional_end_code a)) (word (optional_end_code b)) both) in
     sym (optional_end_of_number_and_code a) ∙ (λ i. end_of (n i) (c i)) ∙ optional_end_of_number_and_code b
 
 -- ---- who is over asks nothing
@@ -123,13 +124,13 @@ parts_equal_if_fixed_bytes_equal x y twins bx by m n lm e =
     ≡ length ((word y.core.pc ++ flat_map word y.core.registers) ++ map held_byte y.held) =
     three (word x.core.pc) (flat_map word x.core.registers) (map held_byte x.held) (word y.core.pc) (flat_map word y.core.registers)
     (map held_byte y.held) refl rx hx in
-    let s1 = append_parts_equal ((word x.core.pc ++ flat_map word x.core.registers) ++ map held_byte x.held)
+    let s1 = parts_equal_if_appends_equal ((word x.core.pc ++ flat_map word x.core.registers) ++ map held_byte x.held)
     ((word y.core.pc ++ flat_map word y.core.registers) ++ map held_byte y.held) m n l3 e in
     let l2 : length (word x.core.pc ++ flat_map word x.core.registers) ≡ length (word y.core.pc ++ flat_map word y.core.registers) =
     two (word x.core.pc) (flat_map word x.core.registers) (word y.core.pc) (flat_map word y.core.registers) refl rx in
-    let s2 = append_parts_equal (word x.core.pc ++ flat_map word x.core.registers) (word y.core.pc ++ flat_map word y.core.registers)
+    let s2 = parts_equal_if_appends_equal (word x.core.pc ++ flat_map word x.core.registers) (word y.core.pc ++ flat_map word y.core.registers)
     (map held_byte x.held) (map held_byte y.held) l2 s1.0 in
-    let s3 = append_parts_equal (word x.core.pc) (word y.core.pc) (flat_map word x.core.registers) (flat_map word y.core.registers) refl s2.0 in
+    let s3 = parts_equal_if_appends_equal (word x.core.pc) (word y.core.pc) (flat_map word x.core.registers) (flat_map word y.core.registers) refl s2.0 in
     record {
       pc = word_bytes_injective x.core.pc y.core.pc bx.core.pc_fits by.core.pc_fits s3.0;
       registers = flat_words_injective x.core.registers y.core.registers (bx.core.register_count ∙ sym by.core.register_count)
@@ -156,14 +157,14 @@ view_equal_if_going_bytes_equal start size x y twins bx by m n lm ends e =
     let objects = twins.objects in
     let lf : length (fixed_bytes x m) ≡ length (fixed_bytes y n) =
     length_of_fixed_bytes x m bx.core.register_count ∙ omega (arith, objects, lm) ∙ sym (length_of_fixed_bytes y n by.core.register_count) in
-    let s1 = append_parts_equal (fixed_bytes x m) (fixed_bytes y n) (word (length x.output) ++ (x.output ++ cx)) (word (length y.output) ++ (y.output ++ cy))
+    let s1 = parts_equal_if_appends_equal (fixed_bytes x m) (fixed_bytes y n) (word (length x.output) ++ (x.output ++ cx)) (word (length y.output) ++ (y.output ++ cy))
     lf apart in
     let p = parts_equal_if_fixed_bytes_equal x y twins bx by m n lm s1.0 in
-    let s2 = append_parts_equal (word (length x.output)) (word (length y.output)) (x.output ++ cx) (y.output ++ cy) refl s1.1 in
+    let s2 = parts_equal_if_appends_equal (word (length x.output)) (word (length y.output)) (x.output ++ cx) (y.output ++ cy) refl s1.1 in
     let ox = bx.output in
     let oy = by.output in
     let lo = word_bytes_injective (length x.output) (length y.output) (omega (arith, ox)) (omega (arith, oy)) s2.0 in
-    let s3 = append_parts_equal x.output y.output cx cy lo s2.1 in
+    let s3 = parts_equal_if_appends_equal x.output y.output cx cy lo s2.1 in
     let memory = changes_injective 0 start x.core.memory y.core.memory (bx.core.memory_length ∙ sym size) (by.core.memory_length ∙ sym size)
     (omega (arith, size)) s3.1 in
     λ i. (
@@ -187,13 +188,13 @@ same_looks_if_flagged_bytes_equal : (code start : List ℕ) → length start ≡
     → cond a (1 ∷ x.output) (0 ∷ going_bytes start x m) ≡ cond b (1 ∷ y.output) (0 ∷ going_bytes start y n)
     → Same code (view x, m) (view y, n)
 same_looks_if_flagged_bytes_equal code start size x y twins bx by m n lm ends true true ox oy e =
-    inr (shared_ask_done_if_over code (view x) ox, shared_ask_done_if_over code (view y) oy, ends, cons_tails_equal 1 1 x.output y.output e)
+    inr (shared_ask_done_if_over code (view x) ox, shared_ask_done_if_over code (view y) oy, ends, same_tail 1 1 x.output y.output e)
 same_looks_if_flagged_bytes_equal code start size x y twins bx by m n lm ends true false ox oy e =
-    absurd (let h = cons_heads_equal 1 0 x.output (going_bytes start y n) e in omega (arith, h))
+    absurd (let h = same_head 1 0 x.output (going_bytes start y n) e in omega (arith, h))
 same_looks_if_flagged_bytes_equal code start size x y twins bx by m n lm ends false true ox oy e =
-    absurd (let h = cons_heads_equal 0 1 (going_bytes start x m) y.output e in omega (arith, h))
+    absurd (let h = same_head 0 1 (going_bytes start x m) y.output e in omega (arith, h))
 same_looks_if_flagged_bytes_equal code start size x y twins bx by m n lm ends false false ox oy e =
-    inl (view_equal_if_going_bytes_equal start size x y twins bx by m n lm ends (cons_tails_equal 0 0 (going_bytes start x m) (going_bytes start y n) e))
+    inl (view_equal_if_going_bytes_equal start size x y twins bx by m n lm ends (same_tail 0 0 (going_bytes start x m) (going_bytes start y n) e))
 
 frozen_bytes_of_over_thread : (start : List ℕ) (s : ThreadState) (m : List ℕ) → is_over s ≡ true → frozen start s m ≡ end_bytes s.ended ++ 1 ∷ s.output
 frozen_bytes_of_over_thread start s m over = ap (λ b. end_bytes s.ended ++ cond b (1 ∷ s.output) (0 ∷ going_bytes start s m)) over
@@ -203,7 +204,7 @@ pub frozen_bytes_equal_iff_same_looks : (code start : List ℕ) → length start
     → (frozen start x m ≡ frozen start y n) ↔ Same code (view x, m) (view y, n)
 frozen_bytes_equal_iff_same_looks code start size x y twins bx by m n lm = (
   λ e.
-      let s = append_parts_equal (end_bytes x.ended) (end_bytes y.ended) (cond (is_over x) (1 ∷ x.output) (0 ∷ going_bytes start x m))
+      let s = parts_equal_if_appends_equal (end_bytes x.ended) (end_bytes y.ended) (cond (is_over x) (1 ∷ x.output) (0 ∷ going_bytes start x m))
       (cond (is_over y) (1 ∷ y.output) (0 ∷ going_bytes start y n)) (length_of_end_bytes x.ended ∙ sym (length_of_end_bytes y.ended)) e in
       same_looks_if_flagged_bytes_equal code start size x y twins bx by m n lm (end_bytes_injective x.ended y.ended bx.code by.code s.0) (is_over x) (is_over y) refl refl s.1,
   λ h. elim h [

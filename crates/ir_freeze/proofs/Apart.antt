@@ -3,24 +3,19 @@ use Rattle.std.proofs.Common.{◌≡◌, ◌+◌, ◌≤◌, ◌<◌, ◌^◌, �
 use Rattle.std.proofs.lemmas.Bool.{cases_eq}
 use Rattle.std.proofs.lemmas.Nat.{from_le_bytes-to_le_bytes_2, from_le_bytes-to_le_bytes_4}
 use Rattle.std.specs.Int.{w16, w32, to_le_bytes, from_le_bytes}
+use Rattle.ir_lemmas.proofs.CallerLemmas.{same_head, same_tail}
 use Rattle.ir_runs.specs.declared.access.Access.{Access}
 use Rattle.ir_runs.specs.declared.access.Access.TheVariants.{Reading, Writing}
 use Rattle.ir_freeze.specs.Frozen.{word, held_byte, change, changes}
 
-pub cons_heads_equal : (x y : ℕ) (xs ys : List ℕ) → x ∷ xs ≡ y ∷ ys → x ≡ y
-cons_heads_equal x y xs ys e = ap (λ l. get_or l 0 x) e
-
-pub cons_tails_equal : (x y : ℕ) (xs ys : List ℕ) → x ∷ xs ≡ y ∷ ys → xs ≡ ys
-cons_tails_equal x y xs ys e = ap (λ l. drop 1 l) e
-
 -- lists that begin with as many bytes are equal in two parts
-pub append_parts_equal : (a b c d : List ℕ) → length a ≡ length b → a ++ c ≡ b ++ d → (a ≡ b) × (c ≡ d)
-append_parts_equal [] [] c d l e = (refl, e)
-append_parts_equal [] (y ∷ b) c d l e = absurd (cc l)
-append_parts_equal (x ∷ a) [] c d l e = absurd (cc l)
-append_parts_equal (x ∷ a) (y ∷ b) c d l e =
-    let r = append_parts_equal a b c d (omega (arith, l)) (cons_tails_equal x y (a ++ c) (b ++ d) e) in
-    ((λ i. cons_heads_equal x y (a ++ c) (b ++ d) e i ∷ r.0 i), r.1)
+pub parts_equal_if_appends_equal : (a b c d : List ℕ) → length a ≡ length b → a ++ c ≡ b ++ d → (a ≡ b) × (c ≡ d)
+parts_equal_if_appends_equal [] [] c d l e = (refl, e)
+parts_equal_if_appends_equal [] (y ∷ b) c d l e = absurd (cc l)
+parts_equal_if_appends_equal (x ∷ a) [] c d l e = absurd (cc l)
+parts_equal_if_appends_equal (x ∷ a) (y ∷ b) c d l e =
+    let r = parts_equal_if_appends_equal a b c d (omega (arith, l)) (same_tail x y (a ++ c) (b ++ d) e) in
+    ((λ i. same_head x y (a ++ c) (b ++ d) e i ∷ r.0 i), r.1)
 
 pub word_bytes_injective : (x y : ℕ) → x < 2 ^ 32 → y < 2 ^ 32 → word x ≡ word y → x ≡ y
 word_bytes_injective x y a b e = sym (from_le_bytes-to_le_bytes_4 x a) ∙ ap (from_le_bytes w32) e ∙ from_le_bytes-to_le_bytes_4 y b
@@ -31,7 +26,7 @@ flat_words_injective [] [] l a b e = refl
 flat_words_injective [] (y ∷ ys) l a b e = absurd (cc l)
 flat_words_injective (x ∷ xs) [] l a b e = absurd (cc l)
 flat_words_injective (x ∷ xs) (y ∷ ys) l a b e =
-    let s = append_parts_equal (word x) (word y) (flat_map word xs) (flat_map word ys) refl e in
+    let s = parts_equal_if_appends_equal (word x) (word y) (flat_map word xs) (flat_map word ys) refl e in
     let r = flat_words_injective xs ys (omega (arith, l)) (λ i. a (suc i)) (λ i. b (suc i)) s.1 in
     (λ i. word_bytes_injective x y (a 0) (b 0) s.0 i ∷ r i)
 
@@ -57,8 +52,8 @@ held_bytes_injective [] [] e = refl
 held_bytes_injective [] (y ∷ ys) e = absurd (cc e)
 held_bytes_injective (x ∷ xs) [] e = absurd (cc e)
 held_bytes_injective (x ∷ xs) (y ∷ ys) e =
-    let h = held_byte_injective x y (cons_heads_equal (held_byte x) (held_byte y) (map held_byte xs) (map held_byte ys) e) in
-    let t = held_bytes_injective xs ys (cons_tails_equal (held_byte x) (held_byte y) (map held_byte xs) (map held_byte ys) e) in
+    let h = held_byte_injective x y (same_head (held_byte x) (held_byte y) (map held_byte xs) (map held_byte ys) e) in
+    let t = held_bytes_injective xs ys (same_tail (held_byte x) (held_byte y) (map held_byte xs) (map held_byte ys) e) in
     (λ i. h i ∷ t i)
 
 place_bytes_injective : (p q : ℕ) → p < 2 ^ 16 → q < 2 ^ 16 → to_le_bytes w16 p ≡ to_le_bytes w16 q → p ≡ q
@@ -82,7 +77,7 @@ changed_place_is_no_earlier place p (x ∷ start) (y ∷ memory) new rest room f
       (sym (ap (λ l. l ++ changes (suc place) start memory) same.1) ∙ e) in
       omega (arith, n)
   | inr other ↦
-      let s = append_parts_equal (to_le_bytes w16 place) (to_le_bytes w16 p) (y ∷ changes (suc place) start memory) (new ∷ rest) refl
+      let s = parts_equal_if_appends_equal (to_le_bytes w16 place) (to_le_bytes w16 p) (y ∷ changes (suc place) start memory) (new ∷ rest) refl
       (sym (ap (λ l. l ++ changes (suc place) start memory) other) ∙ e) in
       let q = place_bytes_injective place p (omega (arith, room)) fits s.0 in
       omega (arith, q)
@@ -115,10 +110,10 @@ changes_injective place (o ∷ start) (x ∷ a) (y ∷ b) la lb room e =
         | inl q ↦ absurd (changes_never_begin_before_place place start b x (changes (suc place) start a) more
             (sym (ap (λ l. l ++ changes (suc place) start b) q.1) ∙ sym e ∙ ap (λ l. l ++ changes (suc place) start a) p))
         | inr q ↦
-            let s = append_parts_equal (to_le_bytes w16 place) (to_le_bytes w16 place) (x ∷ changes (suc place) start a) (y ∷ changes (suc place) start b) refl
+            let s = parts_equal_if_appends_equal (to_le_bytes w16 place) (to_le_bytes w16 place) (x ∷ changes (suc place) start a) (y ∷ changes (suc place) start b) refl
             (sym (ap (λ l. l ++ changes (suc place) start a) p) ∙ e ∙ ap (λ l. l ++ changes (suc place) start b) q) in
             let r = changes_injective (suc place) start a b (omega (arith, la)) (omega (arith, lb)) more
-            (cons_tails_equal x y (changes (suc place) start a) (changes (suc place) start b) s.1) in
-            (λ i. cons_heads_equal x y (changes (suc place) start a) (changes (suc place) start b) s.1 i ∷ r i)
+            (same_tail x y (changes (suc place) start a) (changes (suc place) start b) s.1) in
+            (λ i. same_head x y (changes (suc place) start a) (changes (suc place) start b) s.1 i ∷ r i)
       ]
     ]

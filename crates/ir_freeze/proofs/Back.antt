@@ -16,11 +16,11 @@ use Rattle.ir_freeze.proofs.Apart.{change_is_empty_or_written}
 use Rattle.ir_freeze.specs.Thawed.{changed, before_changes, thawed}
 
 -- fewer than three bytes are no change
-changed_by_too_few_bytes : (memory bytes : List ℕ) → length bytes < 3 → changed memory bytes ≡ memory
-changed_by_too_few_bytes memory [] few = refl
-changed_by_too_few_bytes memory (a ∷ []) few = refl
-changed_by_too_few_bytes memory (a ∷ b ∷ []) few = refl
-changed_by_too_few_bytes memory (a ∷ b ∷ c ∷ bytes) few = absurd (omega (arith, few))
+too_few_bytes_change_nothing : (memory bytes : List ℕ) → length bytes < 3 → changed memory bytes ≡ memory
+too_few_bytes_change_nothing memory [] few = refl
+too_few_bytes_change_nothing memory (a ∷ []) few = refl
+too_few_bytes_change_nothing memory (a ∷ b ∷ []) few = refl
+too_few_bytes_change_nothing memory (a ∷ b ∷ c ∷ bytes) few = absurd (omega (arith, few))
 
 -- one change more
 pub changed_step : (memory bytes : List ℕ) (k place : ℕ) (whole : List ℕ) → k < length bytes / 3
@@ -47,17 +47,17 @@ changed_step memory bytes k place whole below is size before =
           ∙ sym (ap (changed memory) three) ∙ before;
     }
 
-pub changed_is_whole_at_end : (memory bytes : List ℕ) (k : ℕ) (whole : List ℕ) → length bytes / 3 ≤ k → changed memory (drop (3 * k) bytes) ≡ whole
+pub memory_is_whole_after_last_change : (memory bytes : List ℕ) (k : ℕ) (whole : List ℕ) → length bytes / 3 ≤ k → changed memory (drop (3 * k) bytes) ≡ whole
     → memory ≡ whole
-changed_is_whole_at_end memory bytes k whole past before =
+memory_is_whole_after_last_change memory bytes k whole past before =
     let few : length (drop (3 * k) bytes) < 3 = omega (arith, length-drop (3 * k) bytes, past) in
-    sym (changed_by_too_few_bytes memory (drop (3 * k) bytes) few) ∙ before
+    sym (too_few_bytes_change_nothing memory (drop (3 * k) bytes) few) ∙ before
 
 -- one page more
-pub pages_after_page_set : {X : Type 0} (g : X → List ℕ) (pages : List X) (x : X) (memory : List ℕ) (i : ℕ) → length pages ≡ 16 → i < 16
+pub equal_pages_prefix_step : {X : Type 0} (g : X → List ℕ) (pages : List X) (x : X) (memory : List ℕ) (i : ℕ) → length pages ≡ 16 → i < 16
     → g x ≡ page_of memory i → map g (take i pages) ≡ take i (pages_of memory)
     → map g (take (i + 1) (set pages i x)) ≡ take (i + 1) (pages_of memory)
-pages_after_page_set g pages x memory i many lt is before =
+equal_pages_prefix_step g pages x memory i many lt is before =
     ap (map g) (take_more_set pages i x (omega (arith, many, lt))) ∙ map_push g (take i pages) x
     ∙ (λ j. before j ++ (is ∙ ap (page_of memory) (omega arith) ∙ sym (page_at_place_of_pages_from memory 0 memory_pages i [] lt)) j ∷ [])
     ∙ sym (take_more (pages_of memory) i [] lt)

@@ -41,10 +41,10 @@ changes_byte_step first i old new out more whole here there e before =
     ∙ before
 
 -- the first object is held or not
-pub highest_unchanged_if_object_free : (x : Option Access) (h : Option (ℕ × Access)) → is_some x ≡ false → is_none (higher_of x h) ≡ is_none h
-highest_unchanged_if_object_free None None e = refl
-highest_unchanged_if_object_free None (Some top) e = refl
-highest_unchanged_if_object_free (Some access) h e = absurd (cc e)
+pub highest_is_none_as_before_if_object_free : (x : Option Access) (h : Option (ℕ × Access)) → is_some x ≡ false → is_none (higher_of x h) ≡ is_none h
+highest_is_none_as_before_if_object_free None None e = refl
+highest_is_none_as_before_if_object_free None (Some top) e = refl
+highest_is_none_as_before_if_object_free (Some access) h e = absurd (cc e)
 
 pub highest_exists_if_object_held : (x : Option Access) (h : Option (ℕ × Access)) → is_some x ≡ true → is_none (higher_of x h) ≡ false
 highest_exists_if_object_held None h e = absurd (cc e)

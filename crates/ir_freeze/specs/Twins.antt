@@ -1,6 +1,6 @@
 -- Threads whose bytes can be compared.
 use Rattle.std.specs.Prelude.{◌≡◌, ◌↔◌, ℕ, ◌≤◌, List, length, false, MatchOption, ⊤}
-use Rattle.ir_image.specs.Guest.{IsWord}
+use Rattle.ir_image.specs.Bounds.{IsWord}
 use Rattle.ir_mach.specs.Core.{memory_size}
 use Rattle.ir_mach.specs.Within.{IsCore}
 use Rattle.ir_thread.specs.State.{end_code, ThreadState, most_output}

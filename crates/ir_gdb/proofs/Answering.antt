@@ -79,9 +79,9 @@ answers_line_by_response false l line s answer goes r = inl (
 )
 
 -- where the answer leads
-link_after_line_is_sent : (l : Link) (s : Stub) (mid answered next : Link) → mid ≡ record l { stub = s } → sent answered answered.stub ≡ sent mid mid.stub
+link_after_answer_is_sent_of_old_link : (l : Link) (s : Stub) (mid answered next : Link) → mid ≡ record l { stub = s } → sent answered answered.stub ≡ sent mid mid.stub
     → next ≡ sent answered answered.stub → next ≡ sent l s
-link_after_line_is_sent l s mid answered next is same after = after ∙ same ∙ ap (λ (m : Link). sent m m.stub) is
+link_after_answer_is_sent_of_old_link l s mid answered next is same after = after ∙ same ∙ ap (λ (m : Link). sent m m.stub) is
 
 pub sent_answer_to_line : (b : Bool) (l : Link) (line : List ℕ) (s : Stub) (answer : List ℕ) (mid answered next : Link) (w w1 w2 : Option (List ℕ))
     → b ≡ false → Responds l.stub line s (λ text. answer ≡ text) → mid ≡ record l { stub = s }
@@ -90,14 +90,14 @@ pub sent_answer_to_line : (b : Bool) (l : Link) (line : List ℕ) (s : Stub) (an
 sent_answer_to_line b l line s answer mid answered next w w1 w2 goes r is same after first rest = record {
   text = answer_text answer ++ packet_of (reply_text reply.Done);
   is = subst (AnswersLine b l line (answer_text answer ++ packet_of (reply_text reply.Done)))
-      (sym (link_after_line_is_sent l s mid answered next is same after)) (answers_line_by_response b l line s answer goes r);
+      (sym (link_after_answer_is_sent_of_old_link l s mid answered next is same after)) (answers_line_by_response b l line s answer goes r);
   grown = Appends-trans w w1 w2 (answer_text answer) (packet_of (reply_text reply.Done)) first rest;
 }
 
-pub sent_part_of_closing_packet : (b : Bool) (l : Link) (line : List ℕ) (s : Stub) (answer : List ℕ) (w w1 w2 : Option (List ℕ))
+pub sent_part_of_done_packet_after_answer : (b : Bool) (l : Link) (line : List ℕ) (s : Stub) (answer : List ℕ) (w w1 w2 : Option (List ℕ))
     → b ≡ false → Responds l.stub line s (λ text. answer ≡ text) → Appends w w1 (answer_text answer)
     → AppendsPrefix w1 w2 (packet_of (reply_text reply.Done)) → SentInPart (AnswersLine b l line) [] w w2
-sent_part_of_closing_packet b l line s answer w w1 w2 goes r first rest = record {
+sent_part_of_done_packet_after_answer b l line s answer w w1 w2 goes r first rest = record {
   text = answer_text answer ++ packet_of (reply_text reply.Done);
   is = inl (sent l s, answers_line_by_response b l line s answer goes r);
   grown = prefix_after_whole_text w w1 w2 (answer_text answer) (packet_of (reply_text reply.Done)) first rest;
@@ -116,11 +116,20 @@ answers_quitting_line_not_permitted : (b : Bool) (l : Link) (line : List ℕ) �
 answers_quitting_line_not_permitted true l line quits = (refl, refl)
 answers_quitting_line_not_permitted false l line quits = absurd cc
 
-pub sent_part_to_quitting_line : (b : Bool) (l : Link) (line : List ℕ) (w w' : Option (List ℕ)) → b ≡ true
+pub sent_part_of_answer_to_quitting_line : (b : Bool) (l : Link) (line : List ℕ) (w w' : Option (List ℕ)) → b ≡ true
     → AppendsPrefix w w' (packet_of (reply_text reply.NotPermitted)) → SentInPart (AnswersLine b l line) [] w w'
-sent_part_to_quitting_line b l line w w' quits grown = record {
+sent_part_of_answer_to_quitting_line b l line w w' quits grown = record {
   text = packet_of (reply_text reply.NotPermitted);
   is = inl (sent l l.stub, answers_quitting_line_not_permitted b l line quits);
+  grown = grown;
+}
+
+pub sent_answer_to_quitting_line : (b : Bool) (l : Link) (line : List ℕ) (mid next : Link) (w w' : Option (List ℕ)) → b ≡ true → mid ≡ l
+    → next ≡ sent mid mid.stub → Appends w w' (packet_of (reply_text reply.NotPermitted)) → Sent (AnswersLine b l line) next w w'
+sent_answer_to_quitting_line b l line mid next w w' quits same after grown = record {
+  text = packet_of (reply_text reply.NotPermitted);
+  is = subst (AnswersLine b l line (packet_of (reply_text reply.NotPermitted))) (sym (after ∙ ap (λ (m : Link). sent m m.stub) same))
+      (answers_quitting_line_not_permitted b l line quits);
   grown = grown;
 }
 
@@ -130,6 +139,15 @@ answers_line_no_memory : (b : Bool) (l : Link) (line : List ℕ) (mid next : Lin
 answers_line_no_memory true l line mid next goes r after = absurd cc
 answers_line_no_memory false l line mid next goes (inl same) after = inr (inl (after ∙ ap (λ (m : Link). sent m m.stub) same), refl)
 answers_line_no_memory false l line mid next goes (inr (s, r, is)) after = inr (inr (s, r, after ∙ ap (λ (m : Link). sent m m.stub) is), refl)
+
+pub sent_no_memory_reply : (b : Bool) (l : Link) (line : List ℕ) (mid next : Link) (w w' : Option (List ℕ)) → b ≡ false
+    → ((mid ≡ l) ⊎ ((s : Stub) × Responds l.stub line s (λ text. ⊤) × (mid ≡ record l { stub = s }))) → next ≡ sent mid mid.stub
+    → Appends w w' (packet_of (reply_text reply.NoMemory)) → Sent (AnswersLine b l line) next w w'
+sent_no_memory_reply b l line mid next w w' goes r after grown = record {
+  text = packet_of (reply_text reply.NoMemory);
+  is = answers_line_no_memory b l line mid next goes r after;
+  grown = grown;
+}
 
 pub sent_part_of_no_memory_reply : (b : Bool) (l : Link) (line : List ℕ) (mid : Link) (w w' : Option (List ℕ)) → b ≡ false
     → ((mid ≡ l) ⊎ ((s : Stub) × Responds l.stub line s (λ text. ⊤) × (mid ≡ record l { stub = s })))
@@ -150,16 +168,16 @@ sent_answer_to_packet l payload next w w1 w2 first rest = record {
   grown = Appends-trans w w1 w2 (sign l (codes "+")) rest.text first rest.grown;
 }
 
-signed_answer_is_packet_answer : (l : Link) (payload text : List ℕ) → ((next : Link) × AnswersRequest l payload (request_of payload) text next) ⊎ (text ≡ [])
+signed_text_answers_packet_if_text_answers_request : (l : Link) (payload text : List ℕ) → ((next : Link) × AnswersRequest l payload (request_of payload) text next) ⊎ (text ≡ [])
     → ((next : Link) × AnswersPacket l payload (sign l (codes "+") ++ text) next) ⊎ (sign l (codes "+") ++ text ≡ sign l (codes "+"))
-signed_answer_is_packet_answer l payload text (inl (next, is)) = inl (next, (text, is, refl))
-signed_answer_is_packet_answer l payload text (inr none) = inr (ap (λ (x : List ℕ). sign l (codes "+") ++ x) none ∙ append-nil (sign l (codes "+")))
+signed_text_answers_packet_if_text_answers_request l payload text (inl (next, is)) = inl (next, (text, is, refl))
+signed_text_answers_packet_if_text_answers_request l payload text (inr none) = inr (ap (λ (x : List ℕ). sign l (codes "+") ++ x) none ∙ append-nil (sign l (codes "+")))
 
 pub sent_part_of_answer_to_packet : (l : Link) (payload : List ℕ) (w w1 w2 : Option (List ℕ)) → Appends w w1 (sign l (codes "+"))
     → SentInPart (AnswersRequest l payload (request_of payload)) [] w1 w2 → SentInPart (AnswersPacket l payload) (sign l (codes "+")) w w2
 sent_part_of_answer_to_packet l payload w w1 w2 first rest = record {
   text = sign l (codes "+") ++ rest.text;
-  is = signed_answer_is_packet_answer l payload rest.text rest.is;
+  is = signed_text_answers_packet_if_text_answers_request l payload rest.text rest.is;
   grown = prefix_after_whole_text w w1 w2 (sign l (codes "+")) rest.text first rest.grown;
 }
 
@@ -178,16 +196,16 @@ sent_answer_to_too_long_packet l next w w1 w2 after first rest = record {
   grown = Appends-trans w w1 w2 (sign l (codes "+")) (packet_of (reply_text reply.Nothing)) first rest;
 }
 
-pub sent_part_to_too_long_packet : (l : Link) (w w1 w2 : Option (List ℕ)) → Appends w w1 (sign l (codes "+"))
+pub sent_part_of_answer_to_too_long_packet : (l : Link) (w w1 w2 : Option (List ℕ)) → Appends w w1 (sign l (codes "+"))
     → AppendsPrefix w1 w2 (packet_of (reply_text reply.Nothing)) → SentInPart (AnswersNew l TooLong) [] w w2
-sent_part_to_too_long_packet l w w1 w2 first rest = record {
+sent_part_of_answer_to_too_long_packet l w w1 w2 first rest = record {
   text = sign l (codes "+") ++ packet_of (reply_text reply.Nothing);
   is = inl (sent l l.stub, answers_too_long_by_empty_packet l (sent l l.stub) refl);
   grown = prefix_after_whole_text w w1 w2 (sign l (codes "+")) (packet_of (reply_text reply.Nothing)) first rest;
 }
 
-pub sent_part_of_too_long_sign : (l : Link) (w w1 : Option (List ℕ)) → AppendsPrefix w w1 (sign l (codes "+")) → SentInPart (AnswersNew l TooLong) [] w w1
-sent_part_of_too_long_sign l w w1 first = record {
+pub sent_part_of_sign_to_too_long_packet : (l : Link) (w w1 : Option (List ℕ)) → AppendsPrefix w w1 (sign l (codes "+")) → SentInPart (AnswersNew l TooLong) [] w w1
+sent_part_of_sign_to_too_long_packet l w w1 first = record {
   text = sign l (codes "+") ++ packet_of (reply_text reply.Nothing);
   is = inl (sent l l.stub, answers_too_long_by_empty_packet l (sent l l.stub) refl);
   grown = prefix_of_longer_text w w1 (sign l (codes "+")) (packet_of (reply_text reply.Nothing)) first;

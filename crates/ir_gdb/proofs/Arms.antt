@@ -26,88 +26,88 @@ use Rattle.ir_gdb.specs.Connection.{Link, sent, sign, unacknowledged, is_copy, i
 abbrev pub IsReplied : Request → Type 0
 IsReplied asked = (l : Link) (payload text : List ℕ) (next : Link) → AnswersBy l asked text next → AnswersRequest l payload asked text next
 
-is_replied_unless_special : (asked : Request) → (asked ≡ request.Kill → ⊥) → (asked ≡ request.Console → ⊥) → (asked ≡ request.NoAcknowledgements → ⊥) → IsReplied asked
-is_replied_unless_special request.Supported kill console quiet = λ l payload text next is. is
-is_replied_unless_special request.NoAcknowledgements kill console quiet = absurd (quiet refl)
-is_replied_unless_special request.Reason kill console quiet = λ l payload text next is. is
-is_replied_unless_special (request.General who) kill console quiet = λ l payload text next is. is
-is_replied_unless_special (request.Choose who) kill console quiet = λ l payload text next is. is
-is_replied_unless_special (request.Alive id) kill console quiet = λ l payload text next is. is
-is_replied_unless_special (request.Description from most) kill console quiet = λ l payload text next is. is
-is_replied_unless_special (request.Threads from most) kill console quiet = λ l payload text next is. is
-is_replied_unless_special request.Attached kill console quiet = λ l payload text next is. is
-is_replied_unless_special request.Offsets kill console quiet = λ l payload text next is. is
-is_replied_unless_special request.Symbols kill console quiet = λ l payload text next is. is
-is_replied_unless_special request.Motions kill console quiet = λ l payload text next is. is
-is_replied_unless_special request.Registers kill console quiet = λ l payload text next is. is
-is_replied_unless_special (request.Register i) kill console quiet = λ l payload text next is. is
-is_replied_unless_special (request.Memory a size) kill console quiet = λ l payload text next is. is
-is_replied_unless_special request.Change kill console quiet = λ l payload text next is. is
-is_replied_unless_special (request.SetBreak a hardware) kill console quiet = λ l payload text next is. is
-is_replied_unless_special (request.ClearBreak a hardware) kill console quiet = λ l payload text next is. is
-is_replied_unless_special (request.SetWatch a size) kill console quiet = λ l payload text next is. is
-is_replied_unless_special (request.ClearWatch a size) kill console quiet = λ l payload text next is. is
-is_replied_unless_special (request.Move motion who) kill console quiet = λ l payload text next is. is
-is_replied_unless_special request.Console kill console quiet = absurd (console refl)
-is_replied_unless_special request.Extended kill console quiet = λ l payload text next is. is
-is_replied_unless_special request.Restart kill console quiet = λ l payload text next is. is
-is_replied_unless_special (request.RestartAt i) kill console quiet = λ l payload text next is. is
-is_replied_unless_special request.EndProcess kill console quiet = λ l payload text next is. is
-is_replied_unless_special request.Detach kill console quiet = λ l payload text next is. is
-is_replied_unless_special request.Kill kill console quiet = absurd (kill refl)
-is_replied_unless_special request.Malformed kill console quiet = λ l payload text next is. is
-is_replied_unless_special request.Unknown kill console quiet = λ l payload text next is. is
+is_replied_unless_kill_console_or_no_acknowledgements : (asked : Request) → (asked ≡ request.Kill → ⊥) → (asked ≡ request.Console → ⊥) → (asked ≡ request.NoAcknowledgements → ⊥) → IsReplied asked
+is_replied_unless_kill_console_or_no_acknowledgements request.Supported kill console quiet = λ l payload text next is. is
+is_replied_unless_kill_console_or_no_acknowledgements request.NoAcknowledgements kill console quiet = absurd (quiet refl)
+is_replied_unless_kill_console_or_no_acknowledgements request.Reason kill console quiet = λ l payload text next is. is
+is_replied_unless_kill_console_or_no_acknowledgements (request.General who) kill console quiet = λ l payload text next is. is
+is_replied_unless_kill_console_or_no_acknowledgements (request.Choose who) kill console quiet = λ l payload text next is. is
+is_replied_unless_kill_console_or_no_acknowledgements (request.Alive id) kill console quiet = λ l payload text next is. is
+is_replied_unless_kill_console_or_no_acknowledgements (request.Description from most) kill console quiet = λ l payload text next is. is
+is_replied_unless_kill_console_or_no_acknowledgements (request.Threads from most) kill console quiet = λ l payload text next is. is
+is_replied_unless_kill_console_or_no_acknowledgements request.Attached kill console quiet = λ l payload text next is. is
+is_replied_unless_kill_console_or_no_acknowledgements request.Offsets kill console quiet = λ l payload text next is. is
+is_replied_unless_kill_console_or_no_acknowledgements request.Symbols kill console quiet = λ l payload text next is. is
+is_replied_unless_kill_console_or_no_acknowledgements request.Motions kill console quiet = λ l payload text next is. is
+is_replied_unless_kill_console_or_no_acknowledgements request.Registers kill console quiet = λ l payload text next is. is
+is_replied_unless_kill_console_or_no_acknowledgements (request.Register i) kill console quiet = λ l payload text next is. is
+is_replied_unless_kill_console_or_no_acknowledgements (request.Memory a size) kill console quiet = λ l payload text next is. is
+is_replied_unless_kill_console_or_no_acknowledgements request.Change kill console quiet = λ l payload text next is. is
+is_replied_unless_kill_console_or_no_acknowledgements (request.SetBreak a hardware) kill console quiet = λ l payload text next is. is
+is_replied_unless_kill_console_or_no_acknowledgements (request.ClearBreak a hardware) kill console quiet = λ l payload text next is. is
+is_replied_unless_kill_console_or_no_acknowledgements (request.SetWatch a size) kill console quiet = λ l payload text next is. is
+is_replied_unless_kill_console_or_no_acknowledgements (request.ClearWatch a size) kill console quiet = λ l payload text next is. is
+is_replied_unless_kill_console_or_no_acknowledgements (request.Move motion who) kill console quiet = λ l payload text next is. is
+is_replied_unless_kill_console_or_no_acknowledgements request.Console kill console quiet = absurd (console refl)
+is_replied_unless_kill_console_or_no_acknowledgements request.Extended kill console quiet = λ l payload text next is. is
+is_replied_unless_kill_console_or_no_acknowledgements request.Restart kill console quiet = λ l payload text next is. is
+is_replied_unless_kill_console_or_no_acknowledgements (request.RestartAt i) kill console quiet = λ l payload text next is. is
+is_replied_unless_kill_console_or_no_acknowledgements request.EndProcess kill console quiet = λ l payload text next is. is
+is_replied_unless_kill_console_or_no_acknowledgements request.Detach kill console quiet = λ l payload text next is. is
+is_replied_unless_kill_console_or_no_acknowledgements request.Kill kill console quiet = absurd (kill refl)
+is_replied_unless_kill_console_or_no_acknowledgements request.Malformed kill console quiet = λ l payload text next is. is
+is_replied_unless_kill_console_or_no_acknowledgements request.Unknown kill console quiet = λ l payload text next is. is
 
-pub connection_goes_on_after_request : (asked : Request) → (asked ≡ request.Kill → ⊥) → (asked ≡ request.Detach → ⊥) → ends_request asked ≡ false
-connection_goes_on_after_request request.Supported kill detach = refl
-connection_goes_on_after_request request.NoAcknowledgements kill detach = refl
-connection_goes_on_after_request request.Reason kill detach = refl
-connection_goes_on_after_request (request.General who) kill detach = refl
-connection_goes_on_after_request (request.Choose who) kill detach = refl
-connection_goes_on_after_request (request.Alive id) kill detach = refl
-connection_goes_on_after_request (request.Description from most) kill detach = refl
-connection_goes_on_after_request (request.Threads from most) kill detach = refl
-connection_goes_on_after_request request.Attached kill detach = refl
-connection_goes_on_after_request request.Offsets kill detach = refl
-connection_goes_on_after_request request.Symbols kill detach = refl
-connection_goes_on_after_request request.Motions kill detach = refl
-connection_goes_on_after_request request.Registers kill detach = refl
-connection_goes_on_after_request (request.Register i) kill detach = refl
-connection_goes_on_after_request (request.Memory a size) kill detach = refl
-connection_goes_on_after_request request.Change kill detach = refl
-connection_goes_on_after_request (request.SetBreak a hardware) kill detach = refl
-connection_goes_on_after_request (request.ClearBreak a hardware) kill detach = refl
-connection_goes_on_after_request (request.SetWatch a size) kill detach = refl
-connection_goes_on_after_request (request.ClearWatch a size) kill detach = refl
-connection_goes_on_after_request (request.Move motion who) kill detach = refl
-connection_goes_on_after_request request.Console kill detach = refl
-connection_goes_on_after_request request.Extended kill detach = refl
-connection_goes_on_after_request request.Restart kill detach = refl
-connection_goes_on_after_request (request.RestartAt i) kill detach = refl
-connection_goes_on_after_request request.EndProcess kill detach = refl
-connection_goes_on_after_request request.Detach kill detach = absurd (detach refl)
-connection_goes_on_after_request request.Kill kill detach = absurd (kill refl)
-connection_goes_on_after_request request.Malformed kill detach = refl
-connection_goes_on_after_request request.Unknown kill detach = refl
+pub request_ends_no_connection_unless_kill_or_detach : (asked : Request) → (asked ≡ request.Kill → ⊥) → (asked ≡ request.Detach → ⊥) → ends_request asked ≡ false
+request_ends_no_connection_unless_kill_or_detach request.Supported kill detach = refl
+request_ends_no_connection_unless_kill_or_detach request.NoAcknowledgements kill detach = refl
+request_ends_no_connection_unless_kill_or_detach request.Reason kill detach = refl
+request_ends_no_connection_unless_kill_or_detach (request.General who) kill detach = refl
+request_ends_no_connection_unless_kill_or_detach (request.Choose who) kill detach = refl
+request_ends_no_connection_unless_kill_or_detach (request.Alive id) kill detach = refl
+request_ends_no_connection_unless_kill_or_detach (request.Description from most) kill detach = refl
+request_ends_no_connection_unless_kill_or_detach (request.Threads from most) kill detach = refl
+request_ends_no_connection_unless_kill_or_detach request.Attached kill detach = refl
+request_ends_no_connection_unless_kill_or_detach request.Offsets kill detach = refl
+request_ends_no_connection_unless_kill_or_detach request.Symbols kill detach = refl
+request_ends_no_connection_unless_kill_or_detach request.Motions kill detach = refl
+request_ends_no_connection_unless_kill_or_detach request.Registers kill detach = refl
+request_ends_no_connection_unless_kill_or_detach (request.Register i) kill detach = refl
+request_ends_no_connection_unless_kill_or_detach (request.Memory a size) kill detach = refl
+request_ends_no_connection_unless_kill_or_detach request.Change kill detach = refl
+request_ends_no_connection_unless_kill_or_detach (request.SetBreak a hardware) kill detach = refl
+request_ends_no_connection_unless_kill_or_detach (request.ClearBreak a hardware) kill detach = refl
+request_ends_no_connection_unless_kill_or_detach (request.SetWatch a size) kill detach = refl
+request_ends_no_connection_unless_kill_or_detach (request.ClearWatch a size) kill detach = refl
+request_ends_no_connection_unless_kill_or_detach (request.Move motion who) kill detach = refl
+request_ends_no_connection_unless_kill_or_detach request.Console kill detach = refl
+request_ends_no_connection_unless_kill_or_detach request.Extended kill detach = refl
+request_ends_no_connection_unless_kill_or_detach request.Restart kill detach = refl
+request_ends_no_connection_unless_kill_or_detach (request.RestartAt i) kill detach = refl
+request_ends_no_connection_unless_kill_or_detach request.EndProcess kill detach = refl
+request_ends_no_connection_unless_kill_or_detach request.Detach kill detach = absurd (detach refl)
+request_ends_no_connection_unless_kill_or_detach request.Kill kill detach = absurd (kill refl)
+request_ends_no_connection_unless_kill_or_detach request.Malformed kill detach = refl
+request_ends_no_connection_unless_kill_or_detach request.Unknown kill detach = refl
 
-replied_request_is_answered : (l : Link) (payload : List ℕ) (asked : Request) (text : List ℕ) → IsReplied asked
+replied_request_is_answered_by_its_reply : (l : Link) (payload : List ℕ) (asked : Request) (text : List ℕ) → IsReplied asked
     → ((next : Link) × AnswersBy l asked text next) ⊎ (text ≡ []) → ((next : Link) × AnswersRequest l payload asked text next) ⊎ (text ≡ [])
-replied_request_is_answered l payload asked text replies (inl (next, is)) = inl (next, replies l payload text next is)
-replied_request_is_answered l payload asked text replies (inr none) = inr none
+replied_request_is_answered_by_its_reply l payload asked text replies (inl (next, is)) = inl (next, replies l payload text next is)
+replied_request_is_answered_by_its_reply l payload asked text replies (inr none) = inr none
 
 module _ (l : Link) (payload : List ℕ) (asked : Request) (next : Link) (w w' : Option (List ℕ)) where
   reply_sent : IsReplied asked → Sent (AnswersBy l asked) next w w' → Sent (AnswersRequest l payload asked) next w w'
   reply_sent replies s = record { text = s.text; is = replies l payload s.text next s.is; grown = s.grown }
 
   reply_part : IsReplied asked → SentInPart (AnswersBy l asked) [] w w' → SentInPart (AnswersRequest l payload asked) [] w w'
-  reply_part replies s = record { text = s.text; is = replied_request_is_answered l payload asked s.text replies s.is; grown = s.grown }
+  reply_part replies s = record { text = s.text; is = replied_request_is_answered_by_its_reply l payload asked s.text replies s.is; grown = s.grown }
 
   module _ (kill : asked ≡ request.Kill → ⊥) (console : asked ≡ request.Console → ⊥) (quiet : asked ≡ request.NoAcknowledgements → ⊥) where
     pub replied_sent : Sent (AnswersBy l asked) next w w' → Sent (AnswersRequest l payload asked) next w w'
-    replied_sent = reply_sent (is_replied_unless_special asked kill console quiet)
+    replied_sent = reply_sent (is_replied_unless_kill_console_or_no_acknowledgements asked kill console quiet)
 
     pub replied_part : SentInPart (AnswersBy l asked) [] w w' → SentInPart (AnswersRequest l payload asked) [] w w'
-    replied_part = reply_part (is_replied_unless_special asked kill console quiet)
+    replied_part = reply_part (is_replied_unless_kill_console_or_no_acknowledgements asked kill console quiet)
 
   pub detach_sent : asked ≡ request.Detach → Sent (AnswersBy l asked) next w w' → Sent (AnswersRequest l payload asked) next w w'
   detach_sent is = reply_sent (subst IsReplied (sym is) (λ l payload text next a. a))
@@ -187,8 +187,8 @@ pub flow_after_packet_by_request : {E : Type 0} (r : Result Flow E) (payload : L
     → IfOk r (λ x. x ≡ flow_after (ends_request (request_of payload))) → IfOk r (λ x. x ≡ flow_after (ends_by (item_found f payload)))
 flow_after_packet_by_request r payload f is p = subst (λ (y : Found). IfOk r (λ x. x ≡ flow_after (ends_by (item_found y payload)))) (sym is) p
 
-pub flow_goes_on_if_not_ended : {E : Type 0} (r : Result Flow E) (b : Bool) → b ≡ false → IfOk r (λ x. x ≡ flow_after false) → IfOk r (λ x. x ≡ flow_after b)
-flow_goes_on_if_not_ended r b is p = subst (λ (c : Bool). IfOk r (λ x. x ≡ flow_after c)) (sym is) p
+pub flow_is_by_end_test_if_test_is_false : {E : Type 0} (r : Result Flow E) (b : Bool) → b ≡ false → IfOk r (λ x. x ≡ flow_after false) → IfOk r (λ x. x ≡ flow_after b)
+flow_is_by_end_test_if_test_is_false r b is p = subst (λ (c : Bool). IfOk r (λ x. x ≡ flow_after c)) (sym is) p
 
 -- ---- copies
 
@@ -232,23 +232,23 @@ item_without_packet_ends_nothing stream.Interrupt e = refl
 item_without_packet_ends_nothing stream.Acknowledged e = refl
 item_without_packet_ends_nothing stream.Refused e = refl
 
-new_item_ends_by_itself : (b : Bool) (item : Item) → (b && is_packet item) ≡ false → (not b && ends_by item) ≡ ends_by item
-new_item_ends_by_itself true item new = sym (item_without_packet_ends_nothing item new)
-new_item_ends_by_itself false item new = refl
+ends_of_new_item_is_ends_by : (b : Bool) (item : Item) → (b && is_packet item) ≡ false → (not b && ends_by item) ≡ ends_by item
+ends_of_new_item_is_ends_by true item new = sym (item_without_packet_ends_nothing item new)
+ends_of_new_item_is_ends_by false item new = refl
 
 pub flow_after_new_item : {E : Type 0} (r : Result Flow E) (l : Link) (item : Item) → (is_copy l && is_packet item) ≡ false
     → IfOk r (λ x. x ≡ flow_after (ends_by item)) → IfOk r (λ x. x ≡ flow_after (ends l item))
-flow_after_new_item r l item new p = subst (λ (b : Bool). IfOk r (λ x. x ≡ flow_after b)) (sym (new_item_ends_by_itself (is_copy l) item new)) p
+flow_after_new_item r l item new p = subst (λ (b : Bool). IfOk r (λ x. x ≡ flow_after b)) (sym (ends_of_new_item_is_ends_by (is_copy l) item new)) p
 
 -- ---- packets, whose request is read first
 
-pub sent_answer_to_read_packet : (l : Link) (payload : List ℕ) (asked : Request) (next : Link) (w w1 w2 : Option (List ℕ)) → asked ≡ request_of payload
+pub sent_answer_to_packet_by_request : (l : Link) (payload : List ℕ) (asked : Request) (next : Link) (w w1 w2 : Option (List ℕ)) → asked ≡ request_of payload
     → Appends w w1 (sign l (codes "+")) → Sent (AnswersRequest l payload asked) next w1 w2 → Sent (AnswersPacket l payload) next w w2
-sent_answer_to_read_packet l payload asked next w w1 w2 is first rest = sent_answer_to_packet l payload next w w1 w2 first
+sent_answer_to_packet_by_request l payload asked next w w1 w2 is first rest = sent_answer_to_packet l payload next w w1 w2 first
     (subst (λ (r : Request). Sent (AnswersRequest l payload r) next w1 w2) is rest)
 
-pub sent_part_to_read_packet : (l : Link) (payload : List ℕ) (asked : Request) (w w1 w2 : Option (List ℕ)) → asked ≡ request_of payload
+pub sent_part_of_answer_to_packet_by_request : (l : Link) (payload : List ℕ) (asked : Request) (w w1 w2 : Option (List ℕ)) → asked ≡ request_of payload
     → Appends w w1 (sign l (codes "+")) → SentInPart (AnswersRequest l payload asked) [] w1 w2
     → SentInPart (AnswersPacket l payload) (sign l (codes "+")) w w2
-sent_part_to_read_packet l payload asked w w1 w2 is first rest = sent_part_of_answer_to_packet l payload w w1 w2 first
+sent_part_of_answer_to_packet_by_request l payload asked w w1 w2 is first rest = sent_part_of_answer_to_packet l payload w w1 w2 first
     (subst (λ (r : Request). SentInPart (AnswersRequest l payload r) [] w1 w2) is rest)

@@ -2,34 +2,33 @@
 use Rattle.std.proofs.Common.{◌≤◌, ◌<◌, ◌-◌, ℕ, Bool, true, false, List, length, Option, Some, None, arith}
 use Rattle.std.specs.Prelude.{nat_lt, if◌then◌else◌}
 use Rattle.ir_fit.specs.Fit.{FittedTrace, HasRun}
-use Rattle.ir_cut.specs.Positions.{EachRun}
+use Rattle.ir_cut.specs.Positions.{EachRun, threads_of, last_of}
 use Rattle.ir_command.specs.declared.command.Direction.TheVariants.{Forwards, Backwards}
 use Rattle.ir_command.specs.declared.hit.Hit.{Hit}
-use Rattle.ir_hits.specs.Hits.{Numbered}
-use Rattle.ir_timeline.specs.Positions.{threads_of, last_of, Finds}
+use Rattle.ir_hits.specs.Hits.{Numbered, Finds}
 use Rattle.ir_debug.proofs.CallerLemmas.{found_hit_at_most_last_position}
 use Rattle.ir_packet.specs.declared.reply.Reason.{Reason}
 use Rattle.ir_gdb.specs.declared.point.Breakpoint.{Breakpoint}
 use Rattle.ir_gdb.specs.declared.point.Watched.{Watched}
 use Rattle.ir_gdb.specs.Stops.{stopped, stop_above, stop_below, end_above, end_below, watch_reason, break_reason}
 
-choice_of_stops_above_within : (b : Bool) (k last : ℕ) (why other : Reason) → k ≤ last → (if b then stopped (k - 1) why else stopped k other).position ≤ last
-choice_of_stops_above_within true k last why other le = omega (arith, le)
-choice_of_stops_above_within false k last why other le = le
+choice_of_stops_above_within_last : (b : Bool) (k last : ℕ) (why other : Reason) → k ≤ last → (if b then stopped (k - 1) why else stopped k other).position ≤ last
+choice_of_stops_above_within_last true k last why other le = omega (arith, le)
+choice_of_stops_above_within_last false k last why other le = le
 
 pub stop_above_within_last : (watches : List Watched) (breaks : List Breakpoint) (h : Hit) (last : ℕ) → h.position ≤ last
     → (stop_above watches breaks h).position ≤ last
 stop_above_within_last watches breaks h last le =
-    choice_of_stops_above_within (nat_lt h.number (length watches)) h.position last (watch_reason watches h.number) (break_reason breaks (h.number - length watches)) le
+    choice_of_stops_above_within_last (nat_lt h.number (length watches)) h.position last (watch_reason watches h.number) (break_reason breaks (h.number - length watches)) le
 
-choice_of_stops_below_within : (b : Bool) (k last : ℕ) (why other : Reason) → k ≤ last → (if b then stopped k why else stopped k other).position ≤ last
-choice_of_stops_below_within true k last why other le = le
-choice_of_stops_below_within false k last why other le = le
+choice_of_stops_below_within_last : (b : Bool) (k last : ℕ) (why other : Reason) → k ≤ last → (if b then stopped k why else stopped k other).position ≤ last
+choice_of_stops_below_within_last true k last why other le = le
+choice_of_stops_below_within_last false k last why other le = le
 
 pub stop_below_within_last : (watches : List Watched) (breaks : List Breakpoint) (h : Hit) (last : ℕ) → h.position ≤ last
     → (stop_below watches breaks h).position ≤ last
 stop_below_within_last watches breaks h last le =
-    choice_of_stops_below_within (nat_lt h.number (length breaks)) h.position last (break_reason breaks h.number) (watch_reason watches (h.number - length breaks)) le
+    choice_of_stops_below_within_last (nat_lt h.number (length breaks)) h.position last (break_reason breaks h.number) (watch_reason watches (h.number - length breaks)) le
 
 -- where a search ends is at one of the thread's positions
 pub end_above_within_last : (f : FittedTrace) (points : List Numbered) (t p : ℕ) (watches : List Watched) (breaks : List Breakpoint) (hit : Option Hit)

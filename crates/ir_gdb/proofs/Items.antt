@@ -11,7 +11,7 @@ use Rattle.ir_packet.specs.Stream as stream
 use Rattle.ir_packet.specs.Reading.{kept, items_found, item_found}
 use Rattle.ir_packet.specs.declared.found.Found.{Found}
 use Rattle.ir_packet.specs.declared.found.Found.TheVariants as found
-use Rattle.ir_packet.proofs.CallerLemmas.{ends_of_kept, kept_step_of_kept, items_from_of_append}
+use Rattle.ir_packet.proofs.CallerLemmas.{ends_ignores_kept, kept_step_ignores_kept, items_from_of_append}
 use Rattle.ir_gdb.specs.Connection.{Link, AnswersItem, Rest, Answers, ends, Wrote, Sent, SentInPart, before_reply, WroteInPart, LeadsTo}
 
 -- ---- the payload of a packet that is found
@@ -152,9 +152,9 @@ after_no_bytes l input w0 place begins = record {
   stands = begins;
 }
 
-items_from_single_byte : (p : Place) (b : ℕ) → items_from p (b ∷ []) ≡ stream.ends p b
+items_from_single_byte_are_ends : (p : Place) (b : ℕ) → items_from p (b ∷ []) ≡ stream.ends p b
 unfolding items_from
-items_from_single_byte p b = append-nil (stream.ends p b)
+items_from_single_byte_are_ends p b = append-nil (stream.ends p b)
 
 place_after_pushed_byte : (p : Place) (bytes : List ℕ) (b : ℕ) → place_after p (bytes ++ b ∷ []) ≡ step (place_after p bytes) b
 unfolding place_after
@@ -165,12 +165,12 @@ place_after_pushed_byte p (x ∷ bytes) b = place_after_pushed_byte (step p x) b
 items_of_pushed_byte : (bytes : List ℕ) (b : ℕ) (place : Place) (ended : List Item) → place ≡ kept (place_after Between bytes) → ended ≡ stream.ends place b
     → items (bytes ++ b ∷ []) ≡ items bytes ++ ended
 items_of_pushed_byte bytes b place ended is finds = items_from_of_append Between bytes (b ∷ [])
-    ∙ ap (λ (xs : List Item). items bytes ++ xs) (items_from_single_byte (place_after Between bytes) b ∙ sym (ends_of_kept (place_after Between bytes) b)
+    ∙ ap (λ (xs : List Item). items bytes ++ xs) (items_from_single_byte_are_ends (place_after Between bytes) b ∙ sym (ends_ignores_kept (place_after Between bytes) b)
     ∙ ap (λ (p : Place). stream.ends p b) (sym is) ∙ sym finds)
 
 kept_place_after_pushed_byte : (bytes : List ℕ) (b : ℕ) (place next : Place) → place ≡ kept (place_after Between bytes) → next ≡ kept (step place b)
     → next ≡ kept (place_after Between (bytes ++ b ∷ []))
-kept_place_after_pushed_byte bytes b place next is steps = steps ∙ ap (λ (p : Place). kept (step p b)) is ∙ kept_step_of_kept (place_after Between bytes) b
+kept_place_after_pushed_byte bytes b place next is steps = steps ∙ ap (λ (p : Place). kept (step p b)) is ∙ kept_step_ignores_kept (place_after Between bytes) b
     ∙ ap kept (sym (place_after_pushed_byte Between bytes b))
 
 take_of_append_is_first_part : (xs rest : List ℕ) (n : ℕ) → length xs ≡ n → take n (xs ++ rest) ≡ xs
@@ -192,11 +192,11 @@ take_of_append_beyond_first_part (x ∷ xs) rest (suc limit) h =
     ap (λ (ys : List ℕ). x ∷ ys) (take_of_append_beyond_first_part xs rest limit (omega (arith, h))) ∙ ap (λ (k : ℕ). x ∷ (xs ++ take k rest)) less
 
 -- whatever comes behind
-property_of_all_consumed : (input left : Option (List ℕ)) (bytes : List ℕ) (P : List ℕ → Type 0) → Consumes input left bytes
+input_has_property_if_consumed_with_any_rest : (input left : Option (List ℕ)) (bytes : List ℕ) (P : List ℕ → Type 0) → Consumes input left bytes
     → ((rest : List ℕ) → P (bytes ++ rest)) → IfSome input P
-property_of_all_consumed None left bytes P took go = tt
-property_of_all_consumed (Some xs) None bytes P took go = absurd took
-property_of_all_consumed (Some xs) (Some ys) bytes P took go = subst P (sym took) (go ys)
+input_has_property_if_consumed_with_any_rest None left bytes P took go = tt
+input_has_property_if_consumed_with_any_rest (Some xs) None bytes P took go = absurd took
+input_has_property_if_consumed_with_any_rest (Some xs) (Some ys) bytes P took go = subst P (sym took) (go ys)
 
 module _ (l0 : Link) (input w0 left left' written : Option (List ℕ)) (l : Link) (place : Place) (n : ℕ)
     (at : AfterBytes l0 input w0 left written l place n) where
@@ -278,7 +278,7 @@ module _ (l0 : Link) (input w0 left left' written : Option (List ℕ)) (l : Link
 
       pub quit_known : (next : Link) (written' : Option (List ℕ)) → ends l (item_found f payload) ≡ true
           → Sent (AnswersItem l (item_found f payload)) next written written' → IfSome input (LeadsTo l0 limit (Ok Quit) w0 written')
-      quit_known next written' quits s = property_of_all_consumed input left' (at.bytes ++ b ∷ []) (LeadsTo l0 limit (Ok Quit) w0 written') all_taken
+      quit_known next written' quits s = input_has_property_if_consumed_with_any_rest input left' (at.bytes ++ b ∷ []) (LeadsTo l0 limit (Ok Quit) w0 written') all_taken
           (λ rest. quit_leads next written' rest quits s)
 
       -- the writer failed in the answer to the item
@@ -364,4 +364,4 @@ module _ (l0 : Link) (input w0 left written : Option (List ℕ)) (l : Link) (pla
   }
 
   pub long_known : IfSome input (LeadsTo l0 limit (Err fault.TooLong) w0 written)
-  long_known = property_of_all_consumed input left at.bytes (LeadsTo l0 limit (Err fault.TooLong) w0 written) at.parts long_leads
+  long_known = input_has_property_if_consumed_with_any_rest input left at.bytes (LeadsTo l0 limit (Err fault.TooLong) w0 written) at.parts long_leads

@@ -44,9 +44,9 @@ pub line_goes_on_if_text_does : (line text : List ℕ) (b : Bool) → b ≡ quit
 line_goes_on_if_text_does line text b is same q = sym (ap quits same) ∙ sym is ∙ q
 
 -- what a session answers, kept from nothing on
-pub responds_as_consulted : (s s0 : Stub) (text line : List ℕ) (next : Stub) (old new : List ℕ) → s ≡ s0 → text ≡ line → old ≡ []
+pub responds_kept_text_if_kept_from_empty : (s s0 : Stub) (text line : List ℕ) (next : Stub) (old new : List ℕ) → s ≡ s0 → text ≡ line → old ≡ []
     → Responds s text next (λ answer. new ≡ old ++ answer) → Responds s0 line next (λ answer. new ≡ answer)
-responds_as_consulted s s0 text line next old new same is none r = (
+responds_kept_text_if_kept_from_empty s s0 text line next old new same is none r = (
   r.0,
   r.1,
   subst (λ (x : Stub). Replies x.desk line r.0 r.1) same (subst (λ (x : List ℕ). Replies s.desk x r.0 r.1) is r.2),

@@ -5,10 +5,9 @@ use Rattle.std.proofs.Math.Seq.{get_or-append_seam}
 use Rattle.std.specs.Prelude.{◌&&◌, ◌||◌, ◌==◌, IfSome}
 use Rattle.ir_fit.specs.Fit.{HasRun}
 use Rattle.ir_runs.specs.Run.{Step}
-use Rattle.ir_cut.specs.Positions.{EachRun}
+use Rattle.ir_cut.specs.Positions.{EachRun, threads_of, last_of}
 use Rattle.ir_command.specs.declared.command.Direction.{Direction}
 use Rattle.ir_command.specs.declared.command.Direction.TheVariants.{Forwards, Backwards}
-use Rattle.ir_timeline.specs.Positions.{threads_of, last_of}
 use Rattle.ir_packet.specs.declared.reply.Reason.{Reason}
 use Rattle.ir_packet.specs.declared.reply.Reason.TheVariants as reason
 use Rattle.ir_packet.specs.declared.request.Motion.{Motion}
@@ -19,7 +18,7 @@ use Rattle.ir_gdb.specs.Stops.{stopped, GoesTo, MovesTo, direction_of, end_of}
 use Rattle.ir_gdb.specs.Together.{Halt, halt, Comes, OwnStop, stop_among, AreStops, AreWithin, passes, is_free, moves, moves_other, IsMet, IsNotMet, FirstMet, first_met, or_else, MetBy, StepsAmong, StopsAmong, NoneStops, FirstStop, furthest, ContinuesAmong, MovesAlone}
 use Rattle.ir_gdb.specs.Moves.{settled, after_told, interrupted_at, told_text, Moves, MovesBy}
 use Rattle.ir_gdb.specs.Replies.{RepliesToMove}
-use Rattle.ir_gdb.proofs.Together.{below_next_cases, holds_below_next_but_one}
+use Rattle.ir_gdb.proofs.Together.{below_next_cases, holds_below_next_number_except_one}
 
 -- ---- of a stub that has spoken
 
@@ -158,9 +157,9 @@ met_by_first_and_settles s u v d t cut why each met h same stops first is settle
       settled_ignores_spoken s u v h same settles,
     )
 
-moves_other_by_test : (s : Stub) (t : ℕ) (cut : List ℕ) (b : Bool) → b ≡ moves_other (spoken s) cut t (threads_of s.desk.fitted)
+moves_other_is_test_on_spoken_stub : (s : Stub) (t : ℕ) (cut : List ℕ) (b : Bool) → b ≡ moves_other (spoken s) cut t (threads_of s.desk.fitted)
     → moves_other s cut t (threads_of s.desk.fitted) ≡ b
-moves_other_by_test s t cut b is = sym (is ∙ moves_other_ignores_spoken s cut t (threads_of s.desk.fitted))
+moves_other_is_test_on_spoken_stub s t cut b is = sym (is ∙ moves_other_ignores_spoken s cut t (threads_of s.desk.fitted))
 
 pub steps_among_if_others_move : (s u v : Stub) (t : ℕ) (m : Motion) (d : Direction) (to : Stopped) (cut : List ℕ) → u ≡ spoken s → d ≡ direction_of m
     → EachRun s.desk.fitted (λ run. MovesTo run s t m to) → EachRun u.desk.fitted (λ run. Comes run u d t to.position cut)
@@ -171,7 +170,7 @@ steps_among_if_others_move s u v t m d to cut same way moves comes other (h, met
     let said = comes_ignores_spoken s u t m d to cut same way comes in
     let found = subst (λ (x : Stub). EachRun x.desk.fitted (λ run. MetBy true run x d cut (halt t cut to.reason) h)) same met in
     let mets = subst (λ (e : Direction). EachRun s.desk.fitted (λ run. MetBy true run (spoken s) e cut (halt t cut to.reason) h)) way found in
-    let one = moves_other_by_test s t cut true (subst (λ (x : Stub). true ≡ moves_other x cut t (threads_of x.desk.fitted)) same other) in (
+    let one = moves_other_is_test_on_spoken_stub s t cut true (subst (λ (x : Stub). true ≡ moves_other x cut t (threads_of x.desk.fitted)) same other) in (
       h,
       λ run whole. (
         to,
@@ -192,7 +191,7 @@ pub steps_among_if_no_other_moves : (s u v : Stub) (t : ℕ) (m : Motion) (d : D
     → (h : Halt) × EachRun s.desk.fitted (λ run. StepsAmong run s t m h) × (v ≡ settled s h)
 steps_among_if_no_other_moves s u v t m d to cut same way moves comes none settles =
     let said = comes_ignores_spoken s u t m d to cut same way comes in
-    let no = moves_other_by_test s t cut false (subst (λ (x : Stub). false ≡ moves_other x cut t (threads_of x.desk.fitted)) same none) in (
+    let no = moves_other_is_test_on_spoken_stub s t cut false (subst (λ (x : Stub). false ≡ moves_other x cut t (threads_of x.desk.fitted)) same none) in (
       halt t cut to.reason,
       λ run whole. (
         to,
@@ -221,7 +220,7 @@ pub none_stops_step : (s : Stub) (d : Direction) (each : List Stopped) (t n : �
     → EachRun s.desk.fitted (λ run. StopsAmong run s d each n (first_met each stop)) → EachRun s.desk.fitted (λ run. NoneStops run s d each t n)
     → EachRun s.desk.fitted (λ run. NoneStops run s d each t (n + 1))
 none_stops_step s d each t n stop is at none run whole =
-    holds_below_next_but_one (λ u. StopsAmong run s d each u None) t n (none run whole)
+    holds_below_next_number_except_one (λ u. StopsAmong run s d each u None) t n (none run whole)
     (λ other. subst (λ (x : Option (ℕ × List ℕ)). StopsAmong run s d each n (first_met each x)) is (at run whole))
 
 pub first_stop_of_other_thread : (s : Stub) (d : Direction) (each : List Stopped) (t n : ℕ) (own stop : Option (ℕ × List ℕ)) (m : ℕ × List ℕ) → own ≡ None
@@ -252,10 +251,10 @@ stop_among_ignores_default (y ∷ ys) zero x below = refl
 stop_among_ignores_default (y ∷ ys) (suc u) x below = stop_among_ignores_default ys u x (omega (arith, below))
 
 -- the stop of a thread that is met
-pub stop_of_met_thread : (s u : Stub) (each ys : List Stopped) (stop : Option (ℕ × List ℕ)) (other : ℕ) (cut : List ℕ) (x : Stopped) → u ≡ spoken s
+pub stop_of_met_thread_ignores_default : (s u : Stub) (each ys : List Stopped) (stop : Option (ℕ × List ℕ)) (other : ℕ) (cut : List ℕ) (x : Stopped) → u ≡ spoken s
     → each ≡ ys → AreWithin s ys → stop ≡ Some (other, cut) → IfSome stop (λ m. m.0 < threads_of u.desk.fitted)
     → slice_index_or each other x ≡ stop_among each other
-stop_of_met_thread s u each ys stop other cut x same are all is below =
+stop_of_met_thread_ignores_default s u each ys stop other cut x same are all is below =
     let less = subst (λ (m : Option (ℕ × List ℕ)). IfSome m (λ p. p.0 < threads_of u.desk.fitted)) is below in
     let count : threads_of u.desk.fitted ≡ threads_of s.desk.fitted = ap (λ (y : Stub). threads_of y.desk.fitted) same in
     let len : length each ≡ threads_of s.desk.fitted = ap (λ (l : List Stopped). length l) are ∙ all.count in

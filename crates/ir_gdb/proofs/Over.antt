@@ -2,12 +2,11 @@
 use Rattle.std.proofs.Common.{◌≡◌, ◌≢◌, ◌≤◌, ◌<◌, ◌+◌, ◌∙◌, ℕ, Bool, true, false, List, [], ◌++◌, Option, Some, None, is_some, refl, sym, ap, subst, arith}
 use Rattle.ir_fit.specs.Fit.{FittedTrace, HasRun}
 use Rattle.ir_runs.specs.Run.{Step}
-use Rattle.ir_cut.specs.Positions.{EachRun, cut_of}
+use Rattle.ir_cut.specs.Positions.{EachRun, cut_of, threads_of, last_of}
 use Rattle.ir_command.specs.declared.command.Direction.TheVariants.{Forwards}
 use Rattle.ir_command.specs.declared.hit.Hit.{Hit}
 use Rattle.ir_hits.specs.Hits.{Numbered, thread_at}
 use Rattle.ir_hits.specs.Searching.{IsNextHit}
-use Rattle.ir_timeline.specs.Positions.{threads_of, last_of}
 use Rattle.ir_timeline.specs.Hand.{IsCutOf}
 use Rattle.ir_packet.specs.declared.request.Motion.{Motion}
 use Rattle.ir_packet.specs.declared.request.Motion.TheVariants as motion
@@ -21,7 +20,7 @@ use Rattle.ir_gdb.specs.Stops.{position_of, MovesTo}
 use Rattle.ir_gdb.specs.Together.{Halt, Comes, MovesAlone}
 use Rattle.ir_gdb.specs.Over.{pc_of, points_over, OnWay, HasHit, NoneHasHit, OtherHasHit, PassesHit, over, StepsOver, is_step, waits, no_more, LeadsBy, LeadsAlone}
 use Rattle.ir_gdb.specs.Moves.{settled, told_text, Leads, Moves, MovesBy, together_after, with_together}
-use Rattle.ir_gdb.proofs.Together.{holds_below_next_but_one}
+use Rattle.ir_gdb.proofs.Together.{holds_below_next_number_except_one}
 
 -- ---- hits of a thread on its way
 
@@ -31,10 +30,10 @@ cut_position_within_last f cut t has is l = subst (λ (n : ℕ). cut_of cut t �
 pub own_position_at_most_target : (to p t : ℕ) (here at : List ℕ) → p < to → here ≡ at → p ≡ cut_of at t → cut_of here t ≤ to
 own_position_at_most_target to p t here at far is from = let same = ap (λ (x : List ℕ). cut_of x t) is in omega (arith, far, same, from)
 
-has_hit_by_found : (run : List Step) (s : Stub) (pc u : ℕ) (cut : List ℕ) (hit : Option Hit) → OnWay run s pc cut u hit
+has_hit_by_hit_on_way : (run : List Step) (s : Stub) (pc u : ℕ) (cut : List ℕ) (hit : Option Hit) → OnWay run s pc cut u hit
     → HasHit (is_some hit) run s pc cut u
-has_hit_by_found run s pc u cut None way = way
-has_hit_by_found run s pc u cut (Some h) way = (h, way)
+has_hit_by_hit_on_way run s pc u cut None way = way
+has_hit_by_hit_on_way run s pc u cut (Some h) way = (h, way)
 
 pub search_points_are_points_over : (s v : Stub) (pc u : ℕ) (points : List Numbered) (ws : List Watched) (bs : List Breakpoint) (own : List Numbered) → v ≡ spoken s
     → points ≡ with_point (points_upwards u ws bs own) u pc → ws ≡ [] → bs ≡ v.breaks → own ≡ v.desk.points → points ≡ points_over s pc u
@@ -52,7 +51,7 @@ has_hit_by_search_on_way s f pc u to cut here points hit is same at ends are fin
     let by_points = subst (λ (ps : List Numbered). IsNextHit s.desk.fitted run ps u (cut_of here u) to hit) are one in
     let by_here = subst (λ (xs : List ℕ). IsNextHit s.desk.fitted run (points_over s pc u) u (cut_of xs u) to hit) at by_points in
     let by_end = subst (λ (n : ℕ). IsNextHit s.desk.fitted run (points_over s pc u) u (position_of s u) n hit) ends by_here in
-    subst (λ (b : Bool). HasHit b run s pc cut u) (sym found) (has_hit_by_found run s pc u cut hit by_end)
+    subst (λ (b : Bool). HasHit b run s pc cut u) (sym found) (has_hit_by_hit_on_way run s pc u cut hit by_end)
 
 -- ---- hits of the others
 
@@ -60,9 +59,9 @@ has_hit_ignores_spoken : (is : Bool) (run : List Step) (s : Stub) (pc u : ℕ) (
 has_hit_ignores_spoken true run s pc u cut has = has
 has_hit_ignores_spoken false run s pc u cut has = has
 
-has_hit_before_spoken : (s v : Stub) (is : Bool) (pc u : ℕ) (cut : List ℕ) → v ≡ spoken s → EachRun v.desk.fitted (λ run. HasHit is run v pc cut u)
+has_hit_in_each_run_ignores_spoken : (s v : Stub) (is : Bool) (pc u : ℕ) (cut : List ℕ) → v ≡ spoken s → EachRun v.desk.fitted (λ run. HasHit is run v pc cut u)
     → EachRun s.desk.fitted (λ run. HasHit is run s pc cut u)
-has_hit_before_spoken s v is pc u cut same has run whole =
+has_hit_in_each_run_ignores_spoken s v is pc u cut same has run whole =
     has_hit_ignores_spoken is run s pc u cut (subst (λ (x : Stub). EachRun x.desk.fitted (λ r. HasHit is r x pc cut u)) same has run whole)
 
 pub none_has_hit_at_start : (s : Stub) (pc t : ℕ) (cut : List ℕ) → EachRun s.desk.fitted (λ run. NoneHasHit run s pc cut t 0)
@@ -72,24 +71,24 @@ none_has_hit_at_start s pc t cut run whole = λ u below other. absurd (omega (ar
 pub none_has_hit_step_for_mover : (s : Stub) (pc t n : ℕ) (cut : List ℕ) → n ≡ t → EachRun s.desk.fitted (λ run. NoneHasHit run s pc cut t n)
     → EachRun s.desk.fitted (λ run. NoneHasHit run s pc cut t (n + 1))
 none_has_hit_step_for_mover s pc t n cut same none run whole =
-    holds_below_next_but_one (λ u. HasHit false run s pc cut u) t n (none run whole) (λ other. absurd (other same))
+    holds_below_next_number_except_one (λ u. HasHit false run s pc cut u) t n (none run whole) (λ other. absurd (other same))
 
 pub none_has_hit_step : (s v : Stub) (is : Bool) (pc t n : ℕ) (cut : List ℕ) → v ≡ spoken s → is ≡ false
     → EachRun v.desk.fitted (λ run. HasHit is run v pc cut n) → EachRun s.desk.fitted (λ run. NoneHasHit run s pc cut t n)
     → EachRun s.desk.fitted (λ run. NoneHasHit run s pc cut t (n + 1))
 none_has_hit_step s v is pc t n cut same lacks has none run whole =
-    holds_below_next_but_one (λ u. HasHit false run s pc cut u) t n (none run whole)
-    (λ other. subst (λ (b : Bool). HasHit b run s pc cut n) lacks (has_hit_before_spoken s v is pc n cut same has run whole))
+    holds_below_next_number_except_one (λ u. HasHit false run s pc cut u) t n (none run whole)
+    (λ other. subst (λ (b : Bool). HasHit b run s pc cut n) lacks (has_hit_in_each_run_ignores_spoken s v is pc n cut same has run whole))
 
-pub pc_at_read_position : (s : Stub) (t p pc : ℕ) → p ≡ position_of s t → EachRun s.desk.fitted (λ run. pc ≡ (thread_at s.desk.fitted run t p).core.pc)
+pub pc_is_pc_of_at_own_position : (s : Stub) (t p pc : ℕ) → p ≡ position_of s t → EachRun s.desk.fitted (λ run. pc ≡ (thread_at s.desk.fitted run t p).core.pc)
     → EachRun s.desk.fitted (λ run. pc ≡ pc_of run s t)
-pc_at_read_position s t p pc at is run whole = is run whole ∙ ap (λ (n : ℕ). (thread_at s.desk.fitted run t n).core.pc) at
+pc_is_pc_of_at_own_position s t p pc at is run whole = is run whole ∙ ap (λ (n : ℕ). (thread_at s.desk.fitted run t n).core.pc) at
 
 pub other_has_hit_if_found : (s v : Stub) (is : Bool) (pc t n : ℕ) (cut : List ℕ) → v ≡ spoken s → is ≡ true → n ≢ t → n < threads_of s.desk.fitted
     → EachRun s.desk.fitted (λ run. pc ≡ pc_of run s t) → EachRun v.desk.fitted (λ run. HasHit is run v pc cut n)
     → EachRun s.desk.fitted (λ run. OtherHasHit true run s (pc_of run s t) cut t)
 other_has_hit_if_found s v is pc t n cut same hits other below at has run whole =
-    let said = subst (λ (b : Bool). HasHit b run s pc cut n) hits (has_hit_before_spoken s v is pc n cut same has run whole) in
+    let said = subst (λ (b : Bool). HasHit b run s pc cut n) hits (has_hit_in_each_run_ignores_spoken s v is pc n cut same has run whole) in
     (n, below, other, subst (λ (a : ℕ). HasHit true run s a cut n) (at run whole) said)
 
 pub no_other_hit_if_none_found : (s : Stub) (pc t n : ℕ) (cut : List ℕ) → threads_of s.desk.fitted ≤ n → EachRun s.desk.fitted (λ run. pc ≡ pc_of run s t)
@@ -100,9 +99,9 @@ no_other_hit_if_none_found s pc t n cut all at none run whole =
 
 -- ---- whether one is passed
 
-pub passes_hit_if_together : (s : Stub) (is : Bool) (t : ℕ) (cut : List ℕ) → s.together ≡ true
+pub passes_hit_as_other_has_hit_if_together : (s : Stub) (is : Bool) (t : ℕ) (cut : List ℕ) → s.together ≡ true
     → EachRun s.desk.fitted (λ run. OtherHasHit is run s (pc_of run s t) cut t) → EachRun s.desk.fitted (λ run. PassesHit s.together is run s cut t)
-passes_hit_if_together s is t cut so has run whole = subst (λ (b : Bool). PassesHit b is run s cut t) (sym so) (has run whole)
+passes_hit_as_other_has_hit_if_together s is t cut so has run whole = subst (λ (b : Bool). PassesHit b is run s cut t) (sym so) (has run whole)
 
 pub passes_no_hit_unless_together : (s : Stub) (t : ℕ) (cut : List ℕ) → s.together ≡ false → EachRun s.desk.fitted (λ run. PassesHit s.together false run s cut t)
 passes_no_hit_unless_together s t cut so run whole = subst (λ (b : Bool). PassesHit b false run s cut t) (sym so) refl
@@ -158,11 +157,11 @@ leads_alone_by_move s v t m free step (h, moves, settles) = (
 
 -- ---- a move, and its reply
 
-pub moves_and_replies : (s u v x : Stub) (who : Moving) (m : Motion) (together : Bool) (old new : List ℕ) → s.interrupted ≡ false
+pub moves_and_replies_unless_interrupted : (s u v x : Stub) (who : Moving) (m : Motion) (together : Bool) (old new : List ℕ) → s.interrupted ≡ false
     → ((h : Halt) × EachRun s.desk.fitted (λ run. Leads run s who.among who.thread m h) × (u ≡ settled s h))
     → together ≡ together_after s who m → v ≡ with_together u together → EachRun v.desk.fitted (λ run. new ≡ old ++ told_text run v) → x ≡ spoken v
     → (after : Stub) × EachRun s.desk.fitted (λ run. Moves run s who m after × (new ≡ old ++ told_text run after)) × (x ≡ spoken after)
-moves_and_replies s u v x who m together old new goes (h, leads, settles) says is told last =
+moves_and_replies_unless_interrupted s u v x who m together old new goes (h, leads, settles) says is told last =
     let after : Stub = with_together (settled s h) (together_after s who m) in
     let same : v ≡ after = is ∙ ap (λ (y : Stub). with_together y together) settles ∙ ap (λ (b : Bool). with_together (settled s h) b) says in
     let text = subst (λ (y : Stub). EachRun y.desk.fitted (λ run. new ≡ old ++ told_text run y)) same told in (

@@ -1,11 +1,10 @@
 -- Where a thread stops that steps in a range of addresses.
 use Rattle.std.proofs.Common.{◌≡◌, ◌≤◌, ◌∙◌, ℕ, Bool, true, false, List, Option, Some, None, refl, ap, subst, arith}
 use Rattle.ir_fit.specs.Fit.{FittedTrace, HasRun}
-use Rattle.ir_cut.specs.Positions.{EachRun, cut_of}
+use Rattle.ir_cut.specs.Positions.{EachRun, cut_of, last_of}
 use Rattle.ir_command.specs.declared.hit.Hit.{Hit}
 use Rattle.ir_hits.specs.Hits.{Numbered}
 use Rattle.ir_hits.specs.Searching.{IsNextHit}
-use Rattle.ir_timeline.specs.Positions.{last_of}
 use Rattle.ir_gdb.specs.declared.stopped.Stopped.{Stopped}
 use Rattle.ir_gdb.specs.Stub.{Stub, spoken}
 use Rattle.ir_gdb.specs.Stops.{Leaves, RangesTo, position_of, upwards_of, after_range, end_of_range, ranged}
@@ -14,9 +13,9 @@ upwards_of_ignores_spoken : (s : Stub) (t : ℕ) (w : Bool) → upwards_of (spok
 upwards_of_ignores_spoken s t true = refl
 upwards_of_ignores_spoken s t false = refl
 
-position_of_after_range : (last : ℕ) (left : Option ℕ) → (after_range last left).position ≡ end_of_range last left
-position_of_after_range last None = refl
-position_of_after_range last (Some k) = refl
+position_of_after_range_is_end_of_range : (last : ℕ) (left : Option ℕ) → (after_range last left).position ≡ end_of_range last left
+position_of_after_range_is_end_of_range last None = refl
+position_of_after_range_is_end_of_range last (Some k) = refl
 
 end_of_range_within_thread : (s : Stub) (t low high : ℕ) (left : Option ℕ) → HasRun s.desk.fitted → position_of s t ≤ last_of s.desk.fitted t
     → EachRun s.desk.fitted (λ run. Leaves run s t low high left)
@@ -24,9 +23,9 @@ end_of_range_within_thread : (s : Stub) (t low high : ℕ) (left : Option ℕ) �
 end_of_range_within_thread s t low high None has le leaves = (le, omega arith)
 end_of_range_within_thread s t low high (Some k) has le leaves = let all = leaves has.run has.whole in (omega (arith, all.0), all.1)
 
-pub after_range_of_spoken_stub : (s u : Stub) (t last : ℕ) (left : Option ℕ) (e : Stopped) → u ≡ spoken s → last ≡ last_of u.desk.fitted t → e ≡ after_range last left
+pub after_range_ignores_spoken : (s u : Stub) (t last : ℕ) (left : Option ℕ) (e : Stopped) → u ≡ spoken s → last ≡ last_of u.desk.fitted t → e ≡ after_range last left
     → e ≡ after_range (last_of s.desk.fitted t) left
-after_range_of_spoken_stub s u t last left e same at is =
+after_range_ignores_spoken s u t last left e same at is =
     is ∙ ap (λ (n : ℕ). after_range n left) (at ∙ ap (λ (x : Stub). last_of x.desk.fitted t) same)
 
 pub range_end_between_own_and_last : (s u : Stub) (t low high : ℕ) (left : Option ℕ) (here : List ℕ) (e : Stopped) → u ≡ spoken s → HasRun u.desk.fitted
@@ -36,7 +35,7 @@ range_end_between_own_and_last s u t low high left here e same has le leaves at 
     let has_run = subst (λ (x : Stub). HasRun x.desk.fitted) same has in
     let low_end = subst (λ (x : Stub). position_of x t ≤ last_of x.desk.fitted t) same le in
     let both = end_of_range_within_thread s t low high left has_run low_end leaves in
-    let ends = ap (λ (x : Stopped). x.position) is ∙ position_of_after_range (last_of s.desk.fitted t) left in
+    let ends = ap (λ (x : Stopped). x.position) is ∙ position_of_after_range_is_end_of_range (last_of s.desk.fitted t) left in
     let first = ap (λ (x : List ℕ). cut_of x t) at ∙ ap (λ (x : Stub). position_of x t) same in
     let last = ap (λ (x : Stub). last_of x.desk.fitted t) same in
     let up : cut_of here t ≤ e.position = omega (arith, first, ends, both.0) in
@@ -52,7 +51,7 @@ ranges_to_found_stop s u v t low high w left here e to points hit same other lea
     let p = cut_of here t in
     let mine = are ∙ ap (λ (x : Stub). upwards_of x t w) other ∙ upwards_of_ignores_spoken s t w in
     let first = ap (λ (x : List ℕ). cut_of x t) at ∙ ap (λ (x : Stub). position_of x t) same in
-    let last = ap (λ (x : Stopped). x.position) is ∙ position_of_after_range (last_of s.desk.fitted t) left in
+    let last = ap (λ (x : Stopped). x.position) is ∙ position_of_after_range_is_end_of_range (last_of s.desk.fitted t) left in
     let found = subst (λ (x : Stub). EachRun x.desk.fitted (λ r. IsNextHit x.desk.fitted r points t p e.position hit)) same finds run whole in
     let by_points = subst (λ (ps : List Numbered). IsNextHit s.desk.fitted run ps t p e.position hit) mine found in
     let by_first = subst (λ (n : ℕ). IsNextHit s.desk.fitted run (upwards_of s t w) t n e.position hit) first by_points in

@@ -57,37 +57,37 @@ carries_out_plain_reply run s request.Malformed r next e same = says_plain_reply
 carries_out_plain_reply run s request.Unknown r next e same = says_plain_reply (plain_reply s request.Unknown) r (after_plain s request.Unknown) next e same
 
 -- a request that has no such reply changes nothing before it is carried out
-pub after_plain_unless_plain_reply : (s : Stub) (asked : Request) → plain_reply s asked ≡ None → after_plain s asked ≡ s
-after_plain_unless_plain_reply s request.Supported e = refl
-after_plain_unless_plain_reply s request.NoAcknowledgements e = absurd cc
-after_plain_unless_plain_reply s request.Reason e = refl
-after_plain_unless_plain_reply s (request.General who) e = absurd cc
-after_plain_unless_plain_reply s (request.Choose who) e = absurd cc
-after_plain_unless_plain_reply s (request.Alive id) e = absurd cc
-after_plain_unless_plain_reply s (request.Description from most) e = refl
-after_plain_unless_plain_reply s (request.Threads from most) e = refl
-after_plain_unless_plain_reply s request.Attached e = absurd cc
-after_plain_unless_plain_reply s request.Offsets e = absurd cc
-after_plain_unless_plain_reply s request.Symbols e = absurd cc
-after_plain_unless_plain_reply s request.Motions e = absurd cc
-after_plain_unless_plain_reply s request.Registers e = refl
-after_plain_unless_plain_reply s (request.Register i) e = refl
-after_plain_unless_plain_reply s (request.Memory a size) e = refl
-after_plain_unless_plain_reply s request.Change e = absurd cc
-after_plain_unless_plain_reply s (request.SetBreak a hardware) e = absurd cc
-after_plain_unless_plain_reply s (request.ClearBreak a hardware) e = absurd cc
-after_plain_unless_plain_reply s (request.SetWatch a size) e = absurd cc
-after_plain_unless_plain_reply s (request.ClearWatch a size) e = absurd cc
-after_plain_unless_plain_reply s (request.Move motion who) e = refl
-after_plain_unless_plain_reply s request.Console e = refl
-after_plain_unless_plain_reply s request.Extended e = absurd cc
-after_plain_unless_plain_reply s request.Restart e = refl
-after_plain_unless_plain_reply s (request.RestartAt i) e = refl
-after_plain_unless_plain_reply s request.EndProcess e = absurd cc
-after_plain_unless_plain_reply s request.Detach e = absurd cc
-after_plain_unless_plain_reply s request.Kill e = refl
-after_plain_unless_plain_reply s request.Malformed e = absurd cc
-after_plain_unless_plain_reply s request.Unknown e = absurd cc
+pub after_plain_keeps_stub_without_plain_reply : (s : Stub) (asked : Request) → plain_reply s asked ≡ None → after_plain s asked ≡ s
+after_plain_keeps_stub_without_plain_reply s request.Supported e = refl
+after_plain_keeps_stub_without_plain_reply s request.NoAcknowledgements e = absurd cc
+after_plain_keeps_stub_without_plain_reply s request.Reason e = refl
+after_plain_keeps_stub_without_plain_reply s (request.General who) e = absurd cc
+after_plain_keeps_stub_without_plain_reply s (request.Choose who) e = absurd cc
+after_plain_keeps_stub_without_plain_reply s (request.Alive id) e = absurd cc
+after_plain_keeps_stub_without_plain_reply s (request.Description from most) e = refl
+after_plain_keeps_stub_without_plain_reply s (request.Threads from most) e = refl
+after_plain_keeps_stub_without_plain_reply s request.Attached e = absurd cc
+after_plain_keeps_stub_without_plain_reply s request.Offsets e = absurd cc
+after_plain_keeps_stub_without_plain_reply s request.Symbols e = absurd cc
+after_plain_keeps_stub_without_plain_reply s request.Motions e = absurd cc
+after_plain_keeps_stub_without_plain_reply s request.Registers e = refl
+after_plain_keeps_stub_without_plain_reply s (request.Register i) e = refl
+after_plain_keeps_stub_without_plain_reply s (request.Memory a size) e = refl
+after_plain_keeps_stub_without_plain_reply s request.Change e = absurd cc
+after_plain_keeps_stub_without_plain_reply s (request.SetBreak a hardware) e = absurd cc
+after_plain_keeps_stub_without_plain_reply s (request.ClearBreak a hardware) e = absurd cc
+after_plain_keeps_stub_without_plain_reply s (request.SetWatch a size) e = absurd cc
+after_plain_keeps_stub_without_plain_reply s (request.ClearWatch a size) e = absurd cc
+after_plain_keeps_stub_without_plain_reply s (request.Move motion who) e = refl
+after_plain_keeps_stub_without_plain_reply s request.Console e = refl
+after_plain_keeps_stub_without_plain_reply s request.Extended e = absurd cc
+after_plain_keeps_stub_without_plain_reply s request.Restart e = refl
+after_plain_keeps_stub_without_plain_reply s (request.RestartAt i) e = refl
+after_plain_keeps_stub_without_plain_reply s request.EndProcess e = absurd cc
+after_plain_keeps_stub_without_plain_reply s request.Detach e = absurd cc
+after_plain_keeps_stub_without_plain_reply s request.Kill e = refl
+after_plain_keeps_stub_without_plain_reply s request.Malformed e = absurd cc
+after_plain_keeps_stub_without_plain_reply s request.Unknown e = absurd cc
 
 -- ---- requests that read the run or move it
 

@@ -13,15 +13,15 @@ use Rattle.ir_packet.specs.declared.request.Motion.{Motion}
 abbrev pub HasKnownRegister : Request → Type 0
 HasKnownRegister r = (n : ℕ) → r ≡ request.Register n → n < 33
 
-abbrev pub MayHaveKnownRegister : Option Request → Type 0
-MayHaveKnownRegister None = ⊤
-MayHaveKnownRegister (Some r) = HasKnownRegister r
+abbrev pub HasKnownRegisterIfSome : Option Request → Type 0
+HasKnownRegisterIfSome None = ⊤
+HasKnownRegisterIfSome (Some r) = HasKnownRegister r
 
 -- ---- what is made of the bytes behind a name
 
-known_register_in_either : (b : Bool) (x y : Request) → HasKnownRegister x → HasKnownRegister y → HasKnownRegister (if b then x else y)
-known_register_in_either true x y p q = p
-known_register_in_either false x y p q = q
+choice_of_requests_has_known_register : (b : Bool) (x y : Request) → HasKnownRegister x → HasKnownRegister y → HasKnownRegister (if b then x else y)
+choice_of_requests_has_known_register true x y p q = p
+choice_of_requests_has_known_register false x y p q = q
 
 malformed_has_known_register : HasKnownRegister request.Malformed
 malformed_has_known_register = λ n e. absurd cc
@@ -30,44 +30,44 @@ plain_request_has_known_register : (r : Request) → HasKnownRegister r → (res
 plain_request_has_known_register r p [] = p
 plain_request_has_known_register r p (b ∷ rest) = malformed_has_known_register
 
-known_register_by_number : (makes : ℕ → Request) → ((n : ℕ) → HasKnownRegister (makes n)) → (m : Option ℕ) → HasKnownRegister (of_number makes m)
-known_register_by_number makes p None = malformed_has_known_register
-known_register_by_number makes p (Some n) = p n
+request_of_number_has_known_register : (makes : ℕ → Request) → ((n : ℕ) → HasKnownRegister (makes n)) → (m : Option ℕ) → HasKnownRegister (of_number makes m)
+request_of_number_has_known_register makes p None = malformed_has_known_register
+request_of_number_has_known_register makes p (Some n) = p n
 
-known_register_by_two_numbers : (makes : ℕ → ℕ → Request) → ((m n : ℕ) → HasKnownRegister (makes m n)) → (m n : Option ℕ) → HasKnownRegister (of_numbers makes m n)
-known_register_by_two_numbers makes p None n = malformed_has_known_register
-known_register_by_two_numbers makes p (Some m) None = malformed_has_known_register
-known_register_by_two_numbers makes p (Some m) (Some n) = p m n
+request_of_numbers_has_known_register : (makes : ℕ → ℕ → Request) → ((m n : ℕ) → HasKnownRegister (makes m n)) → (m n : Option ℕ) → HasKnownRegister (of_numbers makes m n)
+request_of_numbers_has_known_register makes p None n = malformed_has_known_register
+request_of_numbers_has_known_register makes p (Some m) None = malformed_has_known_register
+request_of_numbers_has_known_register makes p (Some m) (Some n) = p m n
 
-known_register_by_who : (makes : Who → Request) → ((w : Who) → HasKnownRegister (makes w)) → (w : Option Who) → HasKnownRegister (of_who makes w)
-known_register_by_who makes p None = malformed_has_known_register
-known_register_by_who makes p (Some w) = p w
+request_of_who_has_known_register : (makes : Who → Request) → ((w : Who) → HasKnownRegister (makes w)) → (w : Option Who) → HasKnownRegister (of_who makes w)
+request_of_who_has_known_register makes p None = malformed_has_known_register
+request_of_who_has_known_register makes p (Some w) = p w
 
-known_register_of_one_number : (makes : ℕ → Request) → ((n : ℕ) → HasKnownRegister (makes n)) → (rest : List ℕ) → HasKnownRegister (one makes rest)
+one_number_request_has_known_register : (makes : ℕ → Request) → ((n : ℕ) → HasKnownRegister (makes n)) → (rest : List ℕ) → HasKnownRegister (one makes rest)
 unfolding one
-known_register_of_one_number makes p rest = known_register_by_number makes p (number rest)
+one_number_request_has_known_register makes p rest = request_of_number_has_known_register makes p (number rest)
 
-known_register_of_two_numbers : (makes : ℕ → ℕ → Request) → ((m n : ℕ) → HasKnownRegister (makes m n)) → (rest : List ℕ) → HasKnownRegister (two makes rest)
+two_number_request_has_known_register : (makes : ℕ → ℕ → Request) → ((m n : ℕ) → HasKnownRegister (makes m n)) → (rest : List ℕ) → HasKnownRegister (two makes rest)
 unfolding two
-known_register_of_two_numbers makes p rest = known_register_by_two_numbers makes p (number (before 44 rest)) (number (behind 44 rest))
+two_number_request_has_known_register makes p rest = request_of_numbers_has_known_register makes p (number (before 44 rest)) (number (behind 44 rest))
 
-known_register_of_thread_request : (makes : Who → Request) → ((w : Who) → HasKnownRegister (makes w)) → (rest : List ℕ) → HasKnownRegister (thread makes rest)
+thread_request_has_known_register : (makes : Who → Request) → ((w : Who) → HasKnownRegister (makes w)) → (rest : List ℕ) → HasKnownRegister (thread makes rest)
 unfolding thread
-known_register_of_thread_request makes p rest = known_register_by_who makes p (who_of rest)
+thread_request_has_known_register makes p rest = request_of_who_has_known_register makes p (who_of rest)
 
-known_register_by_number_test : (n : ℕ) (b : Bool) → leb n 32 ≡ b → HasKnownRegister (if b then request.Register n else request.Malformed)
-known_register_by_number_test n true h = λ m e.
+tested_register_request_has_known_register : (n : ℕ) (b : Bool) → leb n 32 ≡ b → HasKnownRegister (if b then request.Register n else request.Malformed)
+tested_register_request_has_known_register n true h = λ m e.
     let few : n ≤ 32 = leb-true n 32 h in
     let same : n ≡ m = cc in
     omega (arith, few, same)
-known_register_by_number_test n false h = malformed_has_known_register
+tested_register_request_has_known_register n false h = malformed_has_known_register
 
 register_request_has_known_register : (n : ℕ) → HasKnownRegister (register n)
-register_request_has_known_register n = known_register_by_number_test n (leb n 32) refl
+register_request_has_known_register n = tested_register_request_has_known_register n (leb n 32) refl
 
 console_request_has_known_register : (rest : List ℕ) → HasKnownRegister (console rest)
 unfolding console
-console_request_has_known_register rest = known_register_in_either (are_pairs rest) request.Console request.Malformed (λ n e. absurd cc) malformed_has_known_register
+console_request_has_known_register rest = choice_of_requests_has_known_register (are_pairs rest) request.Console request.Malformed (λ n e. absurd cc) malformed_has_known_register
 
 move_request_has_known_register : (m : Option Motion) (w : Option Who) (others : Option Bool) → HasKnownRegister (move_of m w others)
 move_request_has_known_register None w others = malformed_has_known_register
@@ -82,7 +82,7 @@ actions_have_known_register rest = move_request_has_known_register (motion_of (b
 
 restart_argument_has_known_register : (argument : List ℕ) → HasKnownRegister (restart_with argument)
 restart_argument_has_known_register [] = λ n e. absurd cc
-restart_argument_has_known_register (b ∷ argument) = known_register_by_number request.RestartAt (λ m n e. absurd cc) (decimal_number argument)
+restart_argument_has_known_register (b ∷ argument) = request_of_number_has_known_register request.RestartAt (λ m n e. absurd cc) (decimal_number argument)
 
 restart_has_known_register : (rest : List ℕ) → HasKnownRegister (restart rest)
 unfolding restart
@@ -97,69 +97,69 @@ AllMakeKnownRegisters (r ∷ rows) = ((rest : List ℕ) → HasKnownRegister (r.
 pair_of_facts : {P Q : Type 0} → P → Q → P × Q
 pair_of_facts p q = (p, q)
 
-known_register_by_row : (r : Row) (rest : Option (List ℕ)) (next : Option Request) → ((rest : List ℕ) → HasKnownRegister (r.makes rest)) → MayHaveKnownRegister next
-    → MayHaveKnownRegister (made_by r rest next)
-known_register_by_row r None next p q = q
-known_register_by_row r (Some rest) next p q = p rest
+request_made_by_row_has_known_register : (r : Row) (rest : Option (List ℕ)) (next : Option Request) → ((rest : List ℕ) → HasKnownRegister (r.makes rest)) → HasKnownRegisterIfSome next
+    → HasKnownRegisterIfSome (made_by r rest next)
+request_made_by_row_has_known_register r None next p q = q
+request_made_by_row_has_known_register r (Some rest) next p q = p rest
 
-known_register_by_rows : (rows : List Row) (payload : List ℕ) → AllMakeKnownRegisters rows → MayHaveKnownRegister (asked_in rows payload)
-known_register_by_rows [] payload all = tt
-known_register_by_rows (r ∷ rows) payload all = known_register_by_row r (after_name r.name payload) (asked_in rows payload) all.0 (known_register_by_rows rows payload all.1)
+request_asked_in_rows_has_known_register : (rows : List Row) (payload : List ℕ) → AllMakeKnownRegisters rows → HasKnownRegisterIfSome (asked_in rows payload)
+request_asked_in_rows_has_known_register [] payload all = tt
+request_asked_in_rows_has_known_register (r ∷ rows) payload all = request_made_by_row_has_known_register r (after_name r.name payload) (asked_in rows payload) all.0 (request_asked_in_rows_has_known_register rows payload all.1)
 
-known_register_of_either_request : (a b : Option Request) → MayHaveKnownRegister a → MayHaveKnownRegister b → MayHaveKnownRegister (or_else a b)
-known_register_of_either_request None b p q = q
-known_register_of_either_request (Some r) b p q = p
+request_or_else_other_has_known_register : (a b : Option Request) → HasKnownRegisterIfSome a → HasKnownRegisterIfSome b → HasKnownRegisterIfSome (or_else a b)
+request_or_else_other_has_known_register None b p q = q
+request_or_else_other_has_known_register (Some r) b p q = p
 
-known_register_or_unknown_request : (a : Option Request) → MayHaveKnownRegister a → HasKnownRegister (or_unknown a)
-known_register_or_unknown_request None p = λ n e. absurd cc
-known_register_or_unknown_request (Some r) p = p
+request_or_unknown_has_known_register : (a : Option Request) → HasKnownRegisterIfSome a → HasKnownRegister (or_unknown a)
+request_or_unknown_has_known_register None p = λ n e. absurd cc
+request_or_unknown_has_known_register (Some r) p = p
 
-queries_make_known_registers : AllMakeKnownRegisters queries
-queries_make_known_registers =
+requests_of_queries_table_have_known_registers : AllMakeKnownRegisters queries
+requests_of_queries_table_have_known_registers =
     pair_of_facts (λ rest n e. absurd cc)
     (pair_of_facts (plain_request_has_known_register request.NoAcknowledgements (λ n e. absurd cc))
     (pair_of_facts (λ rest n e. absurd cc)
     (pair_of_facts (plain_request_has_known_register request.Offsets (λ n e. absurd cc))
     (pair_of_facts (plain_request_has_known_register request.Symbols (λ n e. absurd cc)) tt))))
 
-texts_make_known_registers : AllMakeKnownRegisters texts
-texts_make_known_registers =
-    pair_of_facts (known_register_of_two_numbers request.Description (λ a b n e. absurd cc))
-    (pair_of_facts (known_register_of_two_numbers request.Threads (λ a b n e. absurd cc)) tt)
+requests_of_texts_table_have_known_registers : AllMakeKnownRegisters texts
+requests_of_texts_table_have_known_registers =
+    pair_of_facts (two_number_request_has_known_register request.Description (λ a b n e. absurd cc))
+    (pair_of_facts (two_number_request_has_known_register request.Threads (λ a b n e. absurd cc)) tt)
 
-restarts_make_known_registers : AllMakeKnownRegisters restarts
-restarts_make_known_registers =
+requests_of_restarts_table_have_known_registers : AllMakeKnownRegisters restarts
+requests_of_restarts_table_have_known_registers =
     pair_of_facts (plain_request_has_known_register request.Extended (λ n e. absurd cc))
     (pair_of_facts restart_has_known_register
     (pair_of_facts (λ rest n e. absurd cc) tt))
 
-commands_make_known_registers : AllMakeKnownRegisters commands
-commands_make_known_registers =
+requests_of_commands_table_have_known_registers : AllMakeKnownRegisters commands
+requests_of_commands_table_have_known_registers =
     pair_of_facts console_request_has_known_register
     (pair_of_facts (plain_request_has_known_register request.Motions (λ n e. absurd cc))
     (pair_of_facts actions_have_known_register tt))
 
-points_make_known_registers : AllMakeKnownRegisters points
-points_make_known_registers =
-    pair_of_facts (known_register_of_two_numbers (λ a kind. request.SetBreak a false) (λ a b n e. absurd cc))
-    (pair_of_facts (known_register_of_two_numbers (λ a kind. request.SetBreak a true) (λ a b n e. absurd cc))
-    (pair_of_facts (known_register_of_two_numbers request.SetWatch (λ a b n e. absurd cc))
-    (pair_of_facts (known_register_of_two_numbers (λ a kind. request.ClearBreak a false) (λ a b n e. absurd cc))
-    (pair_of_facts (known_register_of_two_numbers (λ a kind. request.ClearBreak a true) (λ a b n e. absurd cc))
-    (pair_of_facts (known_register_of_two_numbers request.ClearWatch (λ a b n e. absurd cc)) tt)))))
+requests_of_points_table_have_known_registers : AllMakeKnownRegisters points
+requests_of_points_table_have_known_registers =
+    pair_of_facts (two_number_request_has_known_register (λ a kind. request.SetBreak a false) (λ a b n e. absurd cc))
+    (pair_of_facts (two_number_request_has_known_register (λ a kind. request.SetBreak a true) (λ a b n e. absurd cc))
+    (pair_of_facts (two_number_request_has_known_register request.SetWatch (λ a b n e. absurd cc))
+    (pair_of_facts (two_number_request_has_known_register (λ a kind. request.ClearBreak a false) (λ a b n e. absurd cc))
+    (pair_of_facts (two_number_request_has_known_register (λ a kind. request.ClearBreak a true) (λ a b n e. absurd cc))
+    (pair_of_facts (two_number_request_has_known_register request.ClearWatch (λ a b n e. absurd cc)) tt)))))
 
-letters_make_known_registers : AllMakeKnownRegisters letters
-letters_make_known_registers =
+requests_of_letters_table_have_known_registers : AllMakeKnownRegisters letters
+requests_of_letters_table_have_known_registers =
     pair_of_facts (plain_request_has_known_register request.Reason (λ n e. absurd cc))
-    (pair_of_facts (known_register_of_thread_request request.General (λ w n e. absurd cc))
-    (pair_of_facts (known_register_of_thread_request request.Choose (λ w n e. absurd cc))
-    (pair_of_facts (known_register_of_one_number request.Alive (λ a n e. absurd cc))
+    (pair_of_facts (thread_request_has_known_register request.General (λ w n e. absurd cc))
+    (pair_of_facts (thread_request_has_known_register request.Choose (λ w n e. absurd cc))
+    (pair_of_facts (one_number_request_has_known_register request.Alive (λ a n e. absurd cc))
     (pair_of_facts (plain_request_has_known_register request.Registers (λ n e. absurd cc))
-    (pair_of_facts (known_register_of_one_number register register_request_has_known_register)
-    (pair_of_facts (known_register_of_two_numbers request.Memory (λ a b n e. absurd cc)) tt))))))
+    (pair_of_facts (one_number_request_has_known_register register register_request_has_known_register)
+    (pair_of_facts (two_number_request_has_known_register request.Memory (λ a b n e. absurd cc)) tt))))))
 
-ends_make_known_registers : AllMakeKnownRegisters requests.ends
-ends_make_known_registers =
+requests_of_ends_table_have_known_registers : AllMakeKnownRegisters requests.ends
+requests_of_ends_table_have_known_registers =
     pair_of_facts (λ rest n e. absurd cc)
     (pair_of_facts (λ rest n e. absurd cc)
     (pair_of_facts (λ rest n e. absurd cc)
@@ -170,27 +170,27 @@ ends_make_known_registers =
     (pair_of_facts (λ rest n e. absurd cc)
     (pair_of_facts (λ rest n e. absurd cc) tt))))))))
 
-named_request_has_known_register : (payload : List ℕ) → MayHaveKnownRegister (asked_named payload)
+named_request_has_known_register : (payload : List ℕ) → HasKnownRegisterIfSome (asked_named payload)
 unfolding asked_named asked_queries asked_texts asked_restarts asked_commands
-named_request_has_known_register payload = known_register_of_either_request (asked_in queries payload) _ (known_register_by_rows queries payload queries_make_known_registers)
-    (known_register_of_either_request (asked_in texts payload) _ (known_register_by_rows texts payload texts_make_known_registers)
-    (known_register_of_either_request (asked_in restarts payload) (asked_in commands payload) (known_register_by_rows restarts payload restarts_make_known_registers)
-    (known_register_by_rows commands payload commands_make_known_registers)))
+named_request_has_known_register payload = request_or_else_other_has_known_register (asked_in queries payload) _ (request_asked_in_rows_has_known_register queries payload requests_of_queries_table_have_known_registers)
+    (request_or_else_other_has_known_register (asked_in texts payload) _ (request_asked_in_rows_has_known_register texts payload requests_of_texts_table_have_known_registers)
+    (request_or_else_other_has_known_register (asked_in restarts payload) (asked_in commands payload) (request_asked_in_rows_has_known_register restarts payload requests_of_restarts_table_have_known_registers)
+    (request_asked_in_rows_has_known_register commands payload requests_of_commands_table_have_known_registers)))
 
-points_request_has_known_register : (payload : List ℕ) → MayHaveKnownRegister (asked_points payload)
+points_request_has_known_register : (payload : List ℕ) → HasKnownRegisterIfSome (asked_points payload)
 unfolding asked_points
-points_request_has_known_register payload = known_register_by_rows points payload points_make_known_registers
+points_request_has_known_register payload = request_asked_in_rows_has_known_register points payload requests_of_points_table_have_known_registers
 
-letters_request_has_known_register : (payload : List ℕ) → MayHaveKnownRegister (asked_letters payload)
+letters_request_has_known_register : (payload : List ℕ) → HasKnownRegisterIfSome (asked_letters payload)
 unfolding asked_letters asked_ends
-letters_request_has_known_register payload = known_register_of_either_request (asked_in letters payload) (asked_in requests.ends payload) (known_register_by_rows letters payload letters_make_known_registers)
-    (known_register_by_rows requests.ends payload ends_make_known_registers)
+letters_request_has_known_register payload = request_or_else_other_has_known_register (asked_in letters payload) (asked_in requests.ends payload) (request_asked_in_rows_has_known_register letters payload requests_of_letters_table_have_known_registers)
+    (request_asked_in_rows_has_known_register requests.ends payload requests_of_ends_table_have_known_registers)
 
 pub request_has_known_register : (payload : List ℕ) → HasKnownRegister (request_of payload)
 unfolding request_of
-request_has_known_register payload = known_register_or_unknown_request (or_else (asked_named payload) (or_else (asked_points payload) (asked_letters payload)))
-    (known_register_of_either_request (asked_named payload) _ (named_request_has_known_register payload)
-    (known_register_of_either_request (asked_points payload) (asked_letters payload) (points_request_has_known_register payload) (letters_request_has_known_register payload)))
+request_has_known_register payload = request_or_unknown_has_known_register (or_else (asked_named payload) (or_else (asked_points payload) (asked_letters payload)))
+    (request_or_else_other_has_known_register (asked_named payload) _ (named_request_has_known_register payload)
+    (request_or_else_other_has_known_register (asked_points payload) (asked_letters payload) (points_request_has_known_register payload) (letters_request_has_known_register payload)))
 
 pub asked_register_below_33 : (payload : List ℕ) (r : Request) (n : ℕ) → r ≡ request_of payload → r ≡ request.Register n → n < 33
 asked_register_below_33 payload r n is e = subst HasKnownRegister (sym is) (request_has_known_register payload) n e

@@ -12,17 +12,17 @@ use Rattle.ir_gdb.specs.Points.{word_points, words_in, watch_points, break_point
 
 -- ---- words, one by one
 
-pub word_points_step : (t number n address : ℕ) → (n ≡ 0 → ⊥)
+pub word_points_of_nonzero_count_is_first_and_rest : (t number n address : ℕ) → (n ≡ 0 → ⊥)
     → word_points t number n address ≡ record { number = number; point = Watch t address } ∷ word_points t number (n - 1) (address + 4)
 unfolding word_points
-word_points_step t number zero address some = absurd (some refl)
-word_points_step t number (suc n) address some =
+word_points_of_nonzero_count_is_first_and_rest t number zero address some = absurd (some refl)
+word_points_of_nonzero_count_is_first_and_rest t number (suc n) address some =
     let less : n ≡ suc n - 1 = omega arith in
     ap (λ k. record { number = number; point = Watch t address } ∷ word_points t number k (address + 4)) less
 
-pub append_after_pushed_point : (old items new tail whole : List Numbered) (x : Numbered) → items ≡ old ++ x ∷ [] → whole ≡ x ∷ tail → new ≡ items ++ tail
+pub append_of_push_is_append_of_cons : (old items new tail whole : List Numbered) (x : Numbered) → items ≡ old ++ x ∷ [] → whole ≡ x ∷ tail → new ≡ items ++ tail
     → new ≡ old ++ whole
-append_after_pushed_point old items new tail whole x pushed is put =
+append_of_push_is_append_of_cons old items new tail whole x pushed is put =
     put ∙ ap (λ xs. xs ++ tail) pushed ∙ append_assoc old (x ∷ []) tail ∙ ap (λ xs. old ++ xs) (sym is)
 
 -- ---- watched words are words of private memory

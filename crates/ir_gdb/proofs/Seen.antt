@@ -15,9 +15,9 @@ pub object_is_in_hand : (s : Serving) (n : ℕ) → IsThere s → n < object_cou
 object_is_in_hand s n there below = let count = there.at.objects in omega (arith, count, below)
 
 -- the words of an object in hand are those at the cut
-words_of_object_in_hand : (s : Serving) (run : List Step) (o : ℕ) → IsThere s → EachRun s.stub.desk.fitted (λ run. slice_index (slice_index_or s.state.objects o empty).words
+words_of_object_in_hand_are_those_at_cut : (s : Serving) (run : List Step) (o : ℕ) → IsThere s → EachRun s.stub.desk.fitted (λ run. slice_index (slice_index_or s.state.objects o empty).words
     ≡ (object_at (machine_of s.stub.desk.fitted) (start_of s.stub.desk.fitted) run (cut_of s.stub.desk.at) o).words)
-words_of_object_in_hand s run o there = λ run is. ap (λ (b : Object). b.words) ((there.at.each run is).objects o)
+words_of_object_in_hand_are_those_at_cut s run o there = λ run is. ap (λ (b : Object). b.words) ((there.at.each run is).objects o)
 
 -- behind the objects there is none
 pub no_object_byte_behind_objects : (s : Serving) (offset : ℕ) → object_count s.stub.desk.fitted.guest ≤ offset / object_size
@@ -27,14 +27,14 @@ no_object_byte_behind_objects s offset past = λ run is. sym (ap (λ (t : Bool).
     (le-ltb (offset / object_size) (object_count s.stub.desk.fitted.guest) past))
 
 -- a byte of one in hand
-pub object_byte_is_seen : (s : Serving) (offset byte : ℕ) (cell : Cell) → IsThere s → offset / object_size < object_count s.stub.desk.fitted.guest
+pub object_byte_is_byte_of_object_in_hand : (s : Serving) (offset byte : ℕ) (cell : Cell) → IsThere s → offset / object_size < object_count s.stub.desk.fitted.guest
     → slice_index_or s.state.objects (offset / object_size) empty ≡ cell
     → byte ≡ word_byte (object_words s.stub.desk.fitted.guest) (slice_index cell.words) (offset % object_size)
     → EachRun s.stub.desk.fitted (λ run. Some byte ≡ object_byte run s.stub offset)
-object_byte_is_seen s offset byte cell there below is same = λ run of.
+object_byte_is_byte_of_object_in_hand s offset byte cell there below is same = λ run of.
     let seen : Object = object_at (machine_of s.stub.desk.fitted) (start_of s.stub.desk.fitted) run (cut_of s.stub.desk.at) (offset / object_size) in
     let words : slice_index cell.words ≡ seen.words = ap (λ (c : Cell). slice_index c.words) (sym is)
-    ∙ words_of_object_in_hand s run (offset / object_size) there run of in
+    ∙ words_of_object_in_hand_are_those_at_cut s run (offset / object_size) there run of in
     ap Some (same ∙ ap (λ (w : ℕ → ℕ). word_byte (object_words s.stub.desk.fitted.guest) w (offset % object_size)) words)
     ∙ sym (ap (λ (t : Bool). cond t (Some (word_byte (object_words s.stub.desk.fitted.guest) seen.words (offset % object_size))) None)
     (lt-ltb (offset / object_size) (object_count s.stub.desk.fitted.guest) below))

@@ -52,9 +52,9 @@ serves_by_known_input d l result r a w w' ended is p =
     subst (λ (x : Result Ended SessionErr). IfServed x (IfSome a (Serves d x w w'))) (sym ended)
     (if_served_by_implied_end r _ _ (if_some_of_implied a _ _ (λ input leads. serves_if_leads_to d l r w w' input is leads)) p)
 
-pub if_served_by_end : (result : Result Ended SessionErr) (r : Result Served Fault) (P : Type 0) → result ≡ ended_by r → IfEnded r P
+pub if_served_from_if_ended : (result : Result Ended SessionErr) (r : Result Served Fault) (P : Type 0) → result ≡ ended_by r → IfEnded r P
     → IfServed result P
-if_served_by_end result r P ended p = subst (λ (x : Result Ended SessionErr). IfServed x P) (sym ended) (if_served_by_implied_end r P P (λ q. q) p)
+if_served_from_if_ended result r P ended p = subst (λ (x : Result Ended SessionErr). IfServed x P) (sym ended) (if_served_by_implied_end r P P (λ q. q) p)
 
 ended_by_is_not_refused : (r : Result Served Fault) → IfRefused (ended_by r) ⊥
 ended_by_is_not_refused (Ok served.Quit) = tt

@@ -2,17 +2,15 @@
 use Rattle.std.proofs.Common.{◌≡◌, ◌≤◌, ◌<◌, ◌+◌, ℕ, suc, Bool, true, false, cond, not, ltb, leb, List, [], ◌∷◌, ◌++◌, length, refl, arith, length-append, ltb-true, leb-true}
 use Rattle.std.specs.Prelude.{◌&&◌}
 use Rattle.std.specs.List.{filter, AllByRecursion}
+use Rattle.ir_lemmas.proofs.CallerLemmas.{all_by_recursion_after_push, length_of_append_item}
 use Rattle.ir_mach.specs.Core.{memory_start, memory_size}
-use Rattle.ir_debug.proofs.CallerLemmas.{all_more, all_without, fewer}
+use Rattle.ir_debug.proofs.CallerLemmas.{all_of_filter, filter_is_not_longer}
 use Rattle.ir_gdb.specs.declared.point.Breakpoint.{Breakpoint}
 use Rattle.ir_gdb.specs.declared.point.Watched.{Watched}
 use Rattle.ir_gdb.specs.Stub.{Stub, IsStub, IsWatched, most_points, most_watched}
 use Rattle.ir_gdb.specs.Setting.{can_watch, is_same_break, is_same_watch, breaks_without, watches_without}
 
 -- ---- a point more
-
-length_of_append_item : {A : Type 0} (xs : List A) (x : A) → length (xs ++ x ∷ []) ≡ length xs + 1
-length_of_append_item xs x = length-append xs (x ∷ [])
 
 pub stub_with_break_is_stub : (s : Stub) (b : Breakpoint) → IsStub s → length s.breaks + length s.watches < most_points
     → IsStub (record s { breaks = s.breaks ++ b ∷ [] })
@@ -25,16 +23,16 @@ stub_with_break_is_stub s b is room = record {
   few = let more = length_of_append_item s.breaks b in omega (arith, more, room);
 }
 
-parts_of_four_true : (a b c d : Bool) → (a && (b && (c && d))) ≡ true → (a ≡ true) × (b ≡ true) × (c ≡ true) × (d ≡ true)
-parts_of_four_true true true true true e = (refl, refl, refl, refl)
-parts_of_four_true true true true false e = absurd cc
-parts_of_four_true true true false d e = absurd cc
-parts_of_four_true true false c d e = absurd cc
-parts_of_four_true false b c d e = absurd cc
+each_of_four_is_true_if_conjunction_is_true : (a b c d : Bool) → (a && (b && (c && d))) ≡ true → (a ≡ true) × (b ≡ true) × (c ≡ true) × (d ≡ true)
+each_of_four_is_true_if_conjunction_is_true true true true true e = (refl, refl, refl, refl)
+each_of_four_is_true_if_conjunction_is_true true true true false e = absurd cc
+each_of_four_is_true_if_conjunction_is_true true true false d e = absurd cc
+each_of_four_is_true_if_conjunction_is_true true false c d e = absurd cc
+each_of_four_is_true_if_conjunction_is_true false b c d e = absurd cc
 
 pub watched_if_can_watch : (w : Watched) → can_watch w ≡ true → IsWatched w
 watched_if_can_watch w can =
-    let each = parts_of_four_true (ltb 0 w.size) (leb w.size most_watched) (leb memory_start w.address) (leb (w.address + w.size) (memory_start + memory_size)) can in
+    let each = each_of_four_is_true_if_conjunction_is_true (ltb 0 w.size) (leb w.size most_watched) (leb memory_start w.address) (leb (w.address + w.size) (memory_start + memory_size)) can in
     record {
       some = ltb-true 0 w.size each.0;
       few = leb-true w.size most_watched each.1;
@@ -49,7 +47,7 @@ stub_with_watch_is_stub s w is can room = record {
   chosen = is.chosen;
   current = is.current;
   told = is.told;
-  watches = all_more IsWatched s.watches w is.watches (watched_if_can_watch w can);
+  watches = all_by_recursion_after_push IsWatched s.watches w is.watches (watched_if_can_watch w can);
   few = let more = length_of_append_item s.watches w in omega (arith, more, room);
 }
 
@@ -62,7 +60,7 @@ stub_without_break_is_stub s b is = record {
   current = is.current;
   told = is.told;
   watches = is.watches;
-  few = let less = fewer (λ x. not (is_same_break x b)) s.breaks in let all = is.few in omega (arith, less, all);
+  few = let less = filter_is_not_longer (λ x. not (is_same_break x b)) s.breaks in let all = is.few in omega (arith, less, all);
 }
 
 pub stub_without_watch_is_stub : (s : Stub) (w : Watched) → IsStub s → IsStub (record s { watches = watches_without s.watches w })
@@ -71,6 +69,6 @@ stub_without_watch_is_stub s w is = record {
   chosen = is.chosen;
   current = is.current;
   told = is.told;
-  watches = all_without IsWatched (λ x. not (is_same_watch x w)) s.watches is.watches;
-  few = let less = fewer (λ x. not (is_same_watch x w)) s.watches in let all = is.few in omega (arith, less, all);
+  watches = all_of_filter IsWatched (λ x. not (is_same_watch x w)) s.watches is.watches;
+  few = let less = filter_is_not_longer (λ x. not (is_same_watch x w)) s.watches in let all = is.few in omega (arith, less, all);
 }

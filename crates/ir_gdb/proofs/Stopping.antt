@@ -4,13 +4,12 @@ use Rattle.std.proofs.lemmas.Bool.Decides.{nat_tests}
 use Rattle.std.specs.Prelude.{nat_lt, ◌==◌, ⊤, option_map}
 use Rattle.ir_fit.specs.Fit.{FittedTrace, HasRun}
 use Rattle.ir_runs.specs.Run.{Step}
-use Rattle.ir_cut.specs.Positions.{EachRun}
+use Rattle.ir_cut.specs.Positions.{EachRun, threads_of, last_of}
 use Rattle.ir_command.specs.declared.command.Direction.TheVariants.{Forwards}
 use Rattle.ir_command.specs.declared.hit.Hit.{Hit}
-use Rattle.ir_hits.specs.Hits.{Numbered, IsFirstHit, IsLastHit}
+use Rattle.ir_hits.specs.Hits.{Numbered, IsFirstHit, IsLastHit, Finds}
 use Rattle.ir_hits.specs.Searching.{IsNextHit}
 use Rattle.ir_debug.specs.Machine.{Desk}
-use Rattle.ir_timeline.specs.Positions.{threads_of, last_of, Finds}
 use Rattle.ir_packet.specs.declared.reply.Reason.{Reason}
 use Rattle.ir_gdb.specs.declared.point.Breakpoint.{Breakpoint}
 use Rattle.ir_gdb.specs.declared.point.Watched.{Watched}
@@ -31,8 +30,8 @@ watches_if_ignores_desk : (u : Stub) (e : Desk) (w : Bool) → watches_if (recor
 watches_if_ignores_desk u e true = refl
 watches_if_ignores_desk u e false = refl
 
-pub watches_if_after_spoken_desk : (s u : Stub) (e : Desk) (w : Bool) → u ≡ spoken s → watches_if (record u { desk = e }) w ≡ watches_if s w
-watches_if_after_spoken_desk s u e w same =
+pub watches_if_ignores_spoken_and_desk : (s u : Stub) (e : Desk) (w : Bool) → u ≡ spoken s → watches_if (record u { desk = e }) w ≡ watches_if s w
+watches_if_ignores_spoken_and_desk s u e w same =
     watches_if_ignores_desk u e w ∙ ap (λ (x : Stub). watches_if x w) same ∙ watches_if_ignores_desk s (spoken s).desk w
 
 pub watches_if_ignores_spoken : (s u : Stub) (w : Bool) → u ≡ spoken s → watches_if u w ≡ watches_if s w
@@ -50,12 +49,12 @@ watch_next_by_search f s t p to w points hit first reason same are mine is finds
     let by_to = subst (λ (n : ℕ). IsNextHit s.desk.fitted run (watch_points t 0 (watches_if s w)) t p n hit) is by_points in
     (hit, by_to, subst (λ (ws : List Watched). reason ≡ option_map (λ (h : Hit). watch_reason ws h.number) hit) mine why)
 
-abbrev is_none : Option Numbered → Type 0
-is_none None = ⊤
-is_none (Some p) = ⊥
+abbrev IsNoPoint : Option Numbered → Type 0
+IsNoPoint None = ⊤
+IsNoPoint (Some p) = ⊥
 
 no_next_hit_without_points : (f : FittedTrace) (run : List Step) (t p to : ℕ) → IsNextHit f run [] t p to None
-no_next_hit_without_points f run t p to j n low high hit = let (i, q, at, number, hits) = hit in subst is_none at tt
+no_next_hit_without_points f run t p to j n low high hit = let (i, q, at, number, hits) = hit in subst IsNoPoint at tt
 
 no_next_hit_without_watches : (f : FittedTrace) (run : List Step) (t p to : ℕ) (ws : List Watched) → length ws ≡ 0 → IsNextHit f run (watch_points t 0 ws) t p to None
 unfolding watch_points
@@ -78,9 +77,9 @@ watch_next_ignores_spoken : (run : List Step) (s : Stub) (t p : ℕ) (w : Bool) 
 watch_next_ignores_spoken run s t p true why next = next
 watch_next_ignores_spoken run s t p false why next = next
 
-pub watch_next_before_spoken : (s u : Stub) (t p : ℕ) (w : Bool) (why : Option Reason) → u ≡ spoken s
+pub watch_next_in_each_run_ignores_spoken : (s u : Stub) (t p : ℕ) (w : Bool) (why : Option Reason) → u ≡ spoken s
     → EachRun u.desk.fitted (λ run. WatchNext run u t w p why) → EachRun s.desk.fitted (λ run. WatchNext run s t w p why)
-watch_next_before_spoken s u t p w why same next run whole =
+watch_next_in_each_run_ignores_spoken s u t p w why same next run whole =
     watch_next_ignores_spoken run s t p w why (subst (λ (x : Stub). EachRun x.desk.fitted (λ r. WatchNext r x t w p why)) same next run whole)
 
 -- ---- steps
@@ -93,7 +92,7 @@ pub steps_to_by_watch_next : (s u : Stub) (t p : ℕ) (w : Bool) (why : Option R
     → EachRun s.desk.fitted (λ run. StepsTo run s t w to)
 steps_to_by_watch_next s u t p w why to same here below next is run whole =
     let less : nat_lt (position_of s t) (last_of s.desk.fitted t) ≡ true = grind (arith, nat_tests, below) in
-    let found = subst (λ (n : ℕ). WatchNext run s t w n why) here (watch_next_before_spoken s u t p w why same next run whole) in
+    let found = subst (λ (n : ℕ). WatchNext run s t w n why) here (watch_next_in_each_run_ignores_spoken s u t p w why same next run whole) in
     let at = subst (λ (n : ℕ). to ≡ after_step n why) here is in
     subst (λ (b : Bool). StepsBy b run s t w (position_of s t) to) (sym less) (why, found, at)
 
@@ -138,10 +137,10 @@ stops_below_by_search s u e t w points hit ws bs to same are finds watches break
     (hit, subst (λ (ps : List Numbered). IsLastHit u.desk.fitted r ps t (position_of u t) hit) are (finds r all), end) in
     stops_below_ignores_spoken run s t w to (subst (λ (x : Stub). EachRun x.desk.fitted (λ r. StopsBelow r x t w to)) same stops run whole)
 
-continues_back_by_watch_next : (run : List Step) (s : Stub) (t n : ℕ) (w : Bool) (why : Option Reason) (to : Stopped) → 0 < n → WatchNext run s t w (n - 1) why
+continues_back_by_stop_below : (run : List Step) (s : Stub) (t n : ℕ) (w : Bool) (why : Option Reason) (to : Stopped) → 0 < n → WatchNext run s t w (n - 1) why
     → why ≡ None → StopsBelow run s t w to → ContinuesBackBy run s t w n to
-continues_back_by_watch_next run s t zero w why to above next none stops = absurd (omega (arith, above))
-continues_back_by_watch_next run s t (suc n) w why to above next none stops =
+continues_back_by_stop_below run s t zero w why to above next none stops = absurd (omega (arith, above))
+continues_back_by_stop_below run s t (suc n) w why to above next none stops =
     let less : suc n - 1 ≡ n = omega arith in
     (why, subst (λ (k : ℕ). WatchNext run s t w k why) less next, subst (λ (x : Option Reason). BackBy run s t w (suc n) x to) (sym none) stops)
 
@@ -149,7 +148,7 @@ pub continues_back_to_stop_below : (s u : Stub) (t : ℕ) (w : Bool) (why : Opti
     → EachRun s.desk.fitted (λ run. WatchNext run s t w (position_of s t - 1) why) → why ≡ None
     → EachRun u.desk.fitted (λ run. StopsBelow run u t w to) → EachRun s.desk.fitted (λ run. ContinuesBackTo run s t w to)
 continues_back_to_stop_below s u t w why to same above next none stops run whole =
-    continues_back_by_watch_next run s t (position_of s t) w why to above (next run whole) none
+    continues_back_by_stop_below run s t (position_of s t) w why to above (next run whole) none
     (stops_below_ignores_spoken run s t w to (subst (λ (x : Stub). EachRun x.desk.fitted (λ r. StopsBelow r x t w to)) same stops run whole))
 
 upwards_of_ignores_spoken : (s : Stub) (t : ℕ) (w : Bool) → upwards_of (spoken s) t w ≡ upwards_of s t w

@@ -1,7 +1,7 @@
 -- What the stub always holds, over another answer of the small machine.
 use Rattle.std.proofs.Common.{◌≡◌, ◌<◌, sym, subst}
 use Rattle.ir_fit.specs.Fit.{FittedTrace}
-use Rattle.ir_timeline.specs.Positions.{threads_of}
+use Rattle.ir_cut.specs.Positions.{threads_of}
 use Rattle.ir_debug.specs.Machine.{Desk}
 use Rattle.ir_gdb.specs.Stub.{Stub, IsStub, IsChoice}
 

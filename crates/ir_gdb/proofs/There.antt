@@ -4,11 +4,10 @@ use Rattle.std.specs.Prelude.{Result, Ok, Err, IfOk}
 use Rattle.ir_flat.specs.Flat.{idle}
 use Rattle.ir_fit.specs.Fit.{FittedTrace, HasRun}
 use Rattle.ir_cut.specs.Laws.{LeastExact, GreatestExact}
-use Rattle.ir_cut.specs.Positions.{EachRun, IsConsistentCut, cut_of}
+use Rattle.ir_cut.specs.Positions.{EachRun, IsConsistentCut, cut_of, threads_of, last_of}
 use Rattle.ir_hits.specs.Hits.{thread_at}
 use Rattle.ir_weave.specs.Standing.{StandsAt}
 use Rattle.ir_debug.specs.Debugging.{ToLeast, ToGreatest}
-use Rattle.ir_timeline.specs.Positions.{threads_of, last_of}
 use Rattle.ir_gdb.specs.Serving.{Serving}
 
 pub thread_is_in_hand : (s : Serving) (cut : List ℕ) (t : ℕ) → StandsAt s.stub.desk.fitted (cut_of cut) s.state → t < threads_of s.stub.desk.fitted

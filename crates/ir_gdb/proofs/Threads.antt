@@ -3,7 +3,7 @@ use Rattle.std.proofs.Common.{◌≡◌, ◌∙◌, ◌+◌, ℕ, suc, Bool, tru
 use Rattle.std.proofs.lemmas.Bool.{eqb-true, eqb-false}
 use Rattle.ir_gdb.specs.Stub.{Stub}
 use Rattle.ir_packet.specs.Replies.{number_text}
-use Rattle.ir_timeline.specs.Positions.{last_of}
+use Rattle.ir_cut.specs.Positions.{last_of}
 use Rattle.ir_gdb.specs.Stops.{position_of}
 use Rattle.ir_gdb.specs.Texts.{place_text, thread_text, first_threads_text}
 
@@ -11,27 +11,27 @@ first_threads_text_step : (s : Stub) (n : ℕ) → first_threads_text s (n + 1) 
 unfolding first_threads_text
 first_threads_text_step s n = let more : n + 1 ≡ suc n = omega arith in ap (λ (k : ℕ). first_threads_text s k) more
 
-pub first_threads_text_put_of_none : (s : Stub) (old new head : List ℕ) → old ≡ [] → new ≡ old ++ head → new ≡ head ++ first_threads_text s 0
+pub first_threads_text_put_at_start : (s : Stub) (old new head : List ℕ) → old ≡ [] → new ≡ old ++ head → new ≡ head ++ first_threads_text s 0
 unfolding first_threads_text
-first_threads_text_put_of_none s old new head none put = put ∙ ap (λ (xs : List ℕ). xs ++ head) none ∙ sym (append-nil head)
+first_threads_text_put_at_start s old new head none put = put ∙ ap (λ (xs : List ℕ). xs ++ head) none ∙ sym (append-nil head)
 
 pub first_threads_text_put_step : (s : Stub) (n : ℕ) (old new head : List ℕ) → old ≡ head ++ first_threads_text s n → new ≡ old ++ thread_text s n
     → new ≡ head ++ first_threads_text s (n + 1)
 first_threads_text_put_step s n old new head is put = put ∙ ap (λ (xs : List ℕ). xs ++ thread_text s n) is ∙ append_assoc head (first_threads_text s n) (thread_text s n)
     ∙ ap (λ (xs : List ℕ). head ++ xs) (sym (first_threads_text_step s n))
 
-pub text_put_after_threads : (old new head threads tail : List ℕ) → old ≡ head ++ threads → new ≡ old ++ tail → new ≡ head ++ (threads ++ tail)
-text_put_after_threads old new head threads tail is put = put ∙ ap (λ (xs : List ℕ). xs ++ tail) is ∙ append_assoc head threads tail
+pub append_of_three_put_texts : (old new head threads tail : List ℕ) → old ≡ head ++ threads → new ≡ old ++ tail → new ≡ head ++ (threads ++ tail)
+append_of_three_put_texts old new head threads tail is put = put ∙ ap (λ (xs : List ℕ). xs ++ tail) is ∙ append_assoc head threads tail
 
 -- ---- a thread's element
 
-done_at_last_position : (b : Bool) (p last : ℕ) → eqb p last ≡ b → p ≡ last → (if b then codes " done" else []) ≡ codes " done"
-done_at_last_position true p last test e = refl
-done_at_last_position false p last test e = absurd (eqb-false p last test e)
+done_text_at_last_position : (b : Bool) (p last : ℕ) → eqb p last ≡ b → p ≡ last → (if b then codes " done" else []) ≡ codes " done"
+done_text_at_last_position true p last test e = refl
+done_text_at_last_position false p last test e = absurd (eqb-false p last test e)
 
-not_done_before_last_position : (b : Bool) (p last : ℕ) → eqb p last ≡ b → (p ≡ last → ⊥) → (if b then codes " done" else []) ≡ []
-not_done_before_last_position true p last test going = absurd (going (eqb-true p last test))
-not_done_before_last_position false p last test going = refl
+no_done_text_before_last_position : (b : Bool) (p last : ℕ) → eqb p last ≡ b → (p ≡ last → ⊥) → (if b then codes " done" else []) ≡ []
+no_done_text_before_last_position true p last test going = absurd (going (eqb-true p last test))
+no_done_text_before_last_position false p last test going = refl
 
 append_of_seven_texts : (a b c d e f more : List ℕ) → (((a ++ b) ++ (c ++ d)) ++ (e ++ f)) ++ more ≡ a ++ b ++ c ++ d ++ e ++ f ++ more
 append_of_seven_texts a b c d e f more = simp append_assoc
@@ -52,14 +52,14 @@ module _ (s : Stub) (t p last : ℕ) (at : p ≡ position_of s t) (end : last �
 
   pub place_done : (text out new : List ℕ) → p ≡ last → text ≡ t3 ++ codes " done" → new ≡ out ++ text → new ≡ out ++ place_text s t
   place_done text out new e done put = put ∙ ap (λ (xs : List ℕ). out ++ xs) (done
-      ∙ ap (λ (xs : List ℕ). t3 ++ xs) (sym (done_at_last_position (eqb p last) p last refl e))
+      ∙ ap (λ (xs : List ℕ). t3 ++ xs) (sym (done_text_at_last_position (eqb p last) p last refl e))
       ∙ ap (λ (n : ℕ). t3 ++ (if eqb n last then codes " done" else [])) at
       ∙ ap (λ (n : ℕ). t3 ++ (if eqb (position_of s t) n then codes " done" else [])) end
       ∙ before_done (if eqb (position_of s t) (last_of s.desk.fitted t) then codes " done" else []))
 
   pub place_going : (text out new : List ℕ) → (p ≡ last → ⊥) → text ≡ t3 → new ≡ out ++ text → new ≡ out ++ place_text s t
   place_going text out new going same put = put ∙ ap (λ (xs : List ℕ). out ++ xs) (same ∙ sym (append-nil t3)
-      ∙ ap (λ (xs : List ℕ). t3 ++ xs) (sym (not_done_before_last_position (eqb p last) p last refl going))
+      ∙ ap (λ (xs : List ℕ). t3 ++ xs) (sym (no_done_text_before_last_position (eqb p last) p last refl going))
       ∙ ap (λ (n : ℕ). t3 ++ (if eqb n last then codes " done" else [])) at
       ∙ ap (λ (n : ℕ). t3 ++ (if eqb (position_of s t) n then codes " done" else [])) end
       ∙ before_done (if eqb (position_of s t) (last_of s.desk.fitted t) then codes " done" else []))

@@ -1,6 +1,7 @@
 -- Threads that a move meets on its way, one by one.
 use Rattle.std.proofs.Common.{◌≡◌, ◌≢◌, ◌<◌, ◌+◌, ◌-◌, ◌∙◌, ◌⊎◌, ℕ, zero, suc, Bool, true, false, List, inl, inr, refl, sym, ap, subst, arith}
 use Rattle.std.specs.Prelude.{◌&&◌, ◌||◌}
+use Rattle.ir_lemmas.proofs.CallerLemmas.{conjunction_with_false}
 use Rattle.ir_command.specs.declared.command.Direction.{Direction}
 use Rattle.ir_gdb.specs.declared.stopped.Stopped.{Stopped}
 use Rattle.ir_gdb.specs.Stub.{Stub}
@@ -22,10 +23,6 @@ pub is_free_if_next_passes : (s : Stub) (d : Direction) (each : List Stopped) (c
 is_free_if_next_passes s d each cut t u so next =
     is_free_step s d each cut t u ∙ ap (λ (b : Bool). b && passes s d each cut t u) so ∙ next
 
-conjunction_with_false : (b : Bool) → (b && false) ≡ false
-conjunction_with_false true = refl
-conjunction_with_false false = refl
-
 not_free_some_threads_later : (s : Stub) (d : Direction) (each : List Stopped) (cut : List ℕ) (t u more : ℕ) → passes s d each cut t u ≡ false
     → is_free s d each cut t (more + (u + 1)) ≡ false
 not_free_some_threads_later s d each cut t u zero hit =
@@ -36,9 +33,9 @@ not_free_some_threads_later s d each cut t u (suc more) hit =
     ap (λ (n : ℕ). is_free s d each cut t n) same ∙ is_free_step s d each cut t (more + (u + 1))
     ∙ ap (λ (b : Bool). b && passes s d each cut t (more + (u + 1))) (not_free_some_threads_later s d each cut t u more hit)
 
-pub not_free_if_thread_fails : (s : Stub) (d : Direction) (each : List Stopped) (cut : List ℕ) (t u n : ℕ) → passes s d each cut t u ≡ false → u < n
+pub not_free_if_thread_does_not_pass : (s : Stub) (d : Direction) (each : List Stopped) (cut : List ℕ) (t u n : ℕ) → passes s d each cut t u ≡ false → u < n
     → is_free s d each cut t n ≡ false
-not_free_if_thread_fails s d each cut t u n hit below =
+not_free_if_thread_does_not_pass s d each cut t u n hit below =
     let same : n ≡ n - (u + 1) + (u + 1) = omega (arith, below) in
     ap (λ (k : ℕ). is_free s d each cut t k) same ∙ not_free_some_threads_later s d each cut t u (n - (u + 1)) hit
 
@@ -86,8 +83,8 @@ below_next_cases (suc u) (suc n) below = next (below_next_cases u n (omega (arit
     next (inr same) = inr (ap suc same)
 
 -- a fact of all threads below n but t, and of thread n if it isn't t
-pub holds_below_next_but_one : (P : ℕ → Type 0) (t n : ℕ) → ((u : ℕ) → u < n → u ≢ t → P u) → (n ≢ t → P n) → (u : ℕ) → u < n + 1 → u ≢ t → P u
-holds_below_next_but_one P t n all next u below other = by (below_next_cases u n below)
+pub holds_below_next_number_except_one : (P : ℕ → Type 0) (t n : ℕ) → ((u : ℕ) → u < n → u ≢ t → P u) → (n ≢ t → P n) → (u : ℕ) → u < n + 1 → u ≢ t → P u
+holds_below_next_number_except_one P t n all next u below other = by (below_next_cases u n below)
   where
     by : (u < n) ⊎ (u ≡ n) → P u
     by (inl less) = all u less other

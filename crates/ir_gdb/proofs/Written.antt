@@ -11,21 +11,21 @@ unfolding answer_packets
 answer_text_of_no_bytes bytes e =
     let none : (length bytes + 499) / most_piece ≡ 0 = omega (arith, e) in ap (λ (n : ℕ). answer_packets n bytes) none
 
-answer_text_of_first_piece : (bytes : List ℕ) → 0 < length bytes
+answer_text_is_first_packet_and_rest : (bytes : List ℕ) → 0 < length bytes
     → answer_text bytes ≡ packet_of (output_text (take most_piece bytes)) ++ answer_text (drop most_piece bytes)
 unfolding answer_packets
-answer_text_of_first_piece bytes some =
+answer_text_is_first_packet_and_rest bytes some =
     let more : (length bytes + 499) / most_piece ≡ suc ((length (drop most_piece bytes) + 499) / most_piece) =
     omega (arith, some, length-drop most_piece bytes) in
     ap (λ (n : ℕ). answer_packets n bytes) more
 
-take_and_drop_of_short_piece : (bytes : List ℕ) (t : Bool) → leb most_piece (length bytes) ≡ t
+take_and_drop_ignore_min_with_length : (bytes : List ℕ) (t : Bool) → leb most_piece (length bytes) ≡ t
     → (take (min most_piece (length bytes)) bytes ≡ take most_piece bytes) × (drop (min most_piece (length bytes)) bytes ≡ drop most_piece bytes)
-take_and_drop_of_short_piece bytes true long =
+take_and_drop_ignore_min_with_length bytes true long =
     let h : most_piece ≤ length bytes = leb-true most_piece (length bytes) long in
     let e : min most_piece (length bytes) ≡ most_piece = omega (arith, h) in
     (ap (λ (n : ℕ). take n bytes) e, ap (λ (n : ℕ). drop n bytes) e)
-take_and_drop_of_short_piece bytes false short =
+take_and_drop_ignore_min_with_length bytes false short =
     let h : length bytes < most_piece = leb-false most_piece (length bytes) short in
     let most : length bytes ≤ most_piece = omega (arith, h) in
     let e : min most_piece (length bytes) ≡ length bytes = omega (arith, h) in
@@ -35,26 +35,26 @@ take_and_drop_of_short_piece bytes false short =
     )
 
 -- by a piece that is no longer than the rest
-pub answer_text_of_piece : (bytes piece more : List ℕ) (n : ℕ) → 0 < length bytes → n ≡ min most_piece (length bytes) → piece ≡ take n bytes
+pub answer_text_is_packet_of_piece_and_rest : (bytes piece more : List ℕ) (n : ℕ) → 0 < length bytes → n ≡ min most_piece (length bytes) → piece ≡ take n bytes
     → more ≡ drop n bytes → answer_text bytes ≡ packet_of (output_text piece) ++ answer_text more
-answer_text_of_piece bytes piece more n some least is-n rest-n =
+answer_text_is_packet_of_piece_and_rest bytes piece more n some least is-n rest-n =
     let is : piece ≡ take (min most_piece (length bytes)) bytes = is-n ∙ ap (λ (k : ℕ). take k bytes) least in
     let rest : more ≡ drop (min most_piece (length bytes)) bytes = rest-n ∙ ap (λ (k : ℕ). drop k bytes) least in
-    let e = take_and_drop_of_short_piece bytes (leb most_piece (length bytes)) refl in
-    answer_text_of_first_piece bytes some
+    let e = take_and_drop_ignore_min_with_length bytes (leb most_piece (length bytes)) refl in
+    answer_text_is_first_packet_and_rest bytes some
     ∙ ap (λ (x : List ℕ). packet_of (output_text x) ++ answer_text (drop most_piece bytes)) (sym e.0 ∙ sym is)
     ∙ ap (λ (x : List ℕ). packet_of (output_text piece) ++ answer_text x) (sym e.1 ∙ sym rest)
 
 -- replies that are always the same are short
-pub reply_text_is_short : (r : Reply) → length (reply_text r) ≤ 19
+pub reply_text_has_at_most_19_bytes : (r : Reply) → length (reply_text r) ≤ 19
 unfolding reply_text
-reply_text_is_short reply.Done = omega arith
-reply_text_is_short reply.Nothing = omega arith
-reply_text_is_short reply.NotPermitted = omega arith
-reply_text_is_short reply.NoMemory = omega arith
-reply_text_is_short reply.BadAddress = omega arith
-reply_text_is_short reply.NoSpace = omega arith
-reply_text_is_short reply.ReadOnly = omega arith
-reply_text_is_short reply.Attached = omega arith
-reply_text_is_short reply.Offsets = omega arith
-reply_text_is_short reply.Motions = omega arith
+reply_text_has_at_most_19_bytes reply.Done = omega arith
+reply_text_has_at_most_19_bytes reply.Nothing = omega arith
+reply_text_has_at_most_19_bytes reply.NotPermitted = omega arith
+reply_text_has_at_most_19_bytes reply.NoMemory = omega arith
+reply_text_has_at_most_19_bytes reply.BadAddress = omega arith
+reply_text_has_at_most_19_bytes reply.NoSpace = omega arith
+reply_text_has_at_most_19_bytes reply.ReadOnly = omega arith
+reply_text_has_at_most_19_bytes reply.Attached = omega arith
+reply_text_has_at_most_19_bytes reply.Offsets = omega arith
+reply_text_has_at_most_19_bytes reply.Motions = omega arith

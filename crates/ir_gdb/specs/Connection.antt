@@ -2,6 +2,7 @@
 use Rattle.std.specs.Prelude.{◌≡◌, ◌⊎◌, ◌&&◌, ◌/◌, ◌+◌, ℕ, zero, suc, Bool, true, false, List, [], ◌∷◌, ◌++◌, codes, take, drop, length, not, nat_lt, ⊤, if◌then◌else◌, Option, Some, None, Result, Ok, Err}
 use Rattle.std.specs.Io.KnownBytes.{Appends}
 use Rattle.ir_stream.specs.Answers.{AppendsPrefix}
+use Rattle.ir_stream.specs.Writing.{WritesOrFails}
 use Rattle.ir_stream.specs.declared.serving.Served.{Served}
 use Rattle.ir_stream.specs.declared.serving.Served.TheVariants.{Quit, InputEnd}
 use Rattle.ir_stream.specs.declared.serving.Fault.{Fault}
@@ -175,6 +176,11 @@ pub record SentInPart (May : List ℕ → Link → Type 0) (before : List ℕ) (
   pub text : List ℕ
   pub is : ((next : Link) × May text next) ⊎ (text ≡ before)
   pub grown : AppendsPrefix old new text
+
+-- a call that writes what may be written: the writer took all of it, or has failed in a prefix
+abbrev pub SendsOrFails : {D A E : Type 0} → (D → Option (List ℕ)) → (D → Bool) → (List ℕ → Link → Type 0) → List ℕ → Link → D → D → Result A E → Type 0
+SendsOrFails written broken May before next old new result =
+    WritesOrFails broken old new (Sent May next (written old) (written new)) (SentInPart May before (written old) (written new)) result
 
 -- what is written for an item before the reply is known
 abbrev pub before_reply : Link → Item → List ℕ

@@ -2,7 +2,7 @@
 use Rattle.std.specs.Prelude.{◌≡◌, ℕ, Bool, true, false, List, [], Option, Some, None}
 use Rattle.ir_runs.specs.Run.{Step}
 use Rattle.ir_debug.specs.Machine.{kept_cut}
-use Rattle.ir_timeline.specs.Positions.{first_cut}
+use Rattle.ir_cut.specs.Positions.{first_cut}
 use Rattle.ir_packet.specs.Replies.{reply_text}
 use Rattle.ir_packet.specs.declared.reply.Reason.TheVariants as reason
 use Rattle.ir_packet.specs.declared.reply.Reply.{Reply}

@@ -3,7 +3,7 @@ use Rattle.std.specs.Prelude.{◌<◌, ◌≤◌, ◌+◌, ⊤, None, Some, true
 use Rattle.std.specs.List.{AllByRecursion}
 use Rattle.ir_mach.specs.Core.{memory_start, memory_size}
 use Rattle.ir_fit.specs.Fit.{FittedTrace}
-use Rattle.ir_timeline.specs.Positions.{threads_of}
+use Rattle.ir_cut.specs.Positions.{threads_of}
 use Rattle.ir_debug.specs.Machine as desk
 use Rattle.ir_debug.specs.Machine.{Desk}
 use Rattle.ir_packet.specs.declared.reply.Reason.TheVariants.{Step}

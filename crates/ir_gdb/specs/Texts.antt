@@ -1,6 +1,6 @@
 -- Texts that gdb reads of the target.
 use Rattle.std.specs.Prelude.{ℕ, zero, suc, ◌+◌, ◌==◌, List, [], ◌++◌, codes, decimal, if◌then◌else◌}
-use Rattle.ir_timeline.specs.Positions.{threads_of, last_of}
+use Rattle.ir_cut.specs.Positions.{threads_of, last_of}
 use Rattle.ir_packet.specs.Replies.{number_text}
 use Rattle.ir_gdb.specs.Stub.{Stub}
 use Rattle.ir_gdb.specs.Stops.{position_of}

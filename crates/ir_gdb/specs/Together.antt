@@ -2,11 +2,10 @@
 use Rattle.std.specs.Prelude.{◌≡◌, ◌≢◌, ◌<◌, ◌≤◌, ◌⊎◌, ◌==◌, ◌&&◌, ◌||◌, not, nat_le, ℕ, zero, suc, Bool, true, false, List, length, Option, Some, None, option_map}
 use Rattle.std.specs.List.{slice_index_or}
 use Rattle.ir_runs.specs.Run.{Step}
-use Rattle.ir_cut.specs.Positions.{cut_of}
+use Rattle.ir_cut.specs.Positions.{cut_of, threads_of, last_of, first_cut, last_cut}
 use Rattle.ir_command.specs.declared.command.Direction.{Direction}
 use Rattle.ir_command.specs.declared.command.Direction.TheVariants.{Forwards, Backwards}
 use Rattle.ir_debug.specs.Machine.{StopsAt}
-use Rattle.ir_timeline.specs.Positions.{threads_of, last_of, first_cut, last_cut}
 use Rattle.ir_packet.specs.declared.reply.Reason.{Reason}
 use Rattle.ir_packet.specs.declared.reply.Reason.TheVariants as reason
 use Rattle.ir_packet.specs.declared.request.Motion.{Motion}

@@ -2,7 +2,7 @@
 
 ghost use Rattle.std.specs.Prelude.{◌≡◌, ◌<◌};
 ghost use Rattle.ir_fit.specs.Fit.{HasRun};
-ghost use Rattle.ir_timeline.specs.Positions.{threads_of};
+ghost use Rattle.ir_cut.specs.Positions.{threads_of};
 ghost use Rattle.ir_gdb.specs.Serving.{Serving};
 ghost use Rattle.ir_gdb.specs.Stub.{IsStub};
 ghost use Rattle.ir_gdb.specs.Reads.{thread_of_id};

@@ -15,9 +15,9 @@ use Rattle.ir_graph.specs.Nodes.{LookAlike, AllRest, AreNodes, Stay, LeadsFrom}
 use Rattle.ir_graph.specs.Plain.{IsLike, MayGo, result_by}
 use Rattle.ir_graph.specs.Reached.{IsReached}
 use Rattle.ir_graph.proofs.Alike.{look_alike_by_threads_and_words}
-use Rattle.ir_graph.proofs.Found.{reached_like, reached_rests, reached_leads}
+use Rattle.ir_graph.proofs.Found.{reached_like, reached_rests, leads_to_node_if_reached_state_looks_alike}
 use Rattle.ir_graph.proofs.Leads.{no_seen_step_if_done}
-use Rattle.ir_graph.proofs.LoneSteps.{IsLoneTurn, lone_turn_in_flat, beginning_may_go}
+use Rattle.ir_graph.proofs.LoneSteps.{IsLoneTurn, lone_turn_if_takes_turn, ask_may_go_if_it_begins_turn}
 use Rattle.ir_graph.proofs.Over.{ask_of_over_thread_is_done}
 use Rattle.ir_graph.proofs.Plain.{TakesStep}
 use Rattle.ir_graph.proofs.Reached.{step_of_reached_is_reached}
@@ -39,7 +39,7 @@ module _ (states : List SourcedFlat) (shared : Shared) (s : SourcedFlat) (t : �
   after_turn = with_turn s t (slice_index_or shared.threads turn.to idle_beside) turn.object (cell_in shared.words turn.after)
 
   goes : (u : SourcedFlat) × IsLoneTurn s t refused u after_turn
-  goes = lone_turn_in_flat s t turn.object refused (slice_index_or shared.threads turn.from idle_beside) (slice_index_or shared.threads turn.to idle_beside)
+  goes = lone_turn_if_takes_turn s t turn.object refused (slice_index_or shared.threads turn.from idle_beside) (slice_index_or shared.threads turn.to idle_beside)
       (cell_in shared.words turn.spot) (cell_in shared.words turn.after) sourced less is.object (sym is.here) (sym is.there)
       (subst (λ z. TakesTurn s.flat.code turn.object z (slice_index_or shared.threads turn.from idle_beside) (cell_in shared.words turn.spot)
       (slice_index_or shared.threads turn.to idle_beside) (cell_in shared.words turn.after)) is.way is.is.takes)
@@ -73,6 +73,6 @@ module _ (states : List SourcedFlat) (shared : Shared) (s : SourcedFlat) (t : �
       let begins = subst (λ z. MayBegin z turn.object (cell_in shared.words turn.spot).fields
       (ask_of s.flat.code (slice_index_or shared.threads turn.from idle_beside).0)) is.way is.is.takes.begins in
       let may = subst (λ z. MayGo refused (ask_of s.flat.code z.0)) is.here
-      (beginning_may_go turn.object refused (cell_in shared.words turn.spot).fields
+      (ask_may_go_if_it_begins_turn turn.object refused (cell_in shared.words turn.spot).fields
       (ask_of s.flat.code (slice_index_or shared.threads turn.from idle_beside).0) begins) in
-      reached_leads states s goes.0 after_turn t refused v nodes at less may step goes.1.goes.goes
+      leads_to_node_if_reached_state_looks_alike states s goes.0 after_turn t refused v nodes at less may step goes.1.goes.goes

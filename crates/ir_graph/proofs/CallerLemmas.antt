@@ -1,12 +1,12 @@
 -- What callers may cite of a guest's graph.
 -- threads beside their sources, and runs of them
-pub use Rattle.ir_graph.proofs.Full.{tables_at_end, answered_run_append, end_of_live_run_seen}
+pub use Rattle.ir_graph.proofs.Full.{tables_at_end_if_full_state_at_end, answered_run_append, end_of_live_run_seen}
 -- runs of steps that concern no other thread
-pub use Rattle.ir_graph.proofs.Plain.{TakesStep, goes_plain_reflexive, goes_plain_transitive, goes_plain_by_fair_step, goes_plain_by_private_steps, step_at_rest, resting_thread_is_live, like_reflexive, like_transitive, like_symmetric, like_after_plain_steps, like_after_step}
+pub use Rattle.ir_graph.proofs.Plain.{TakesStep, goes_plain_reflexive, goes_plain_transitive, goes_plain_by_fair_step, goes_plain_by_private_steps, takes_step_at_rest, resting_thread_is_live, like_reflexive, like_transitive, like_symmetric, like_after_plain_steps, like_after_step}
 -- where threads lead
-pub use Rattle.ir_graph.proofs.Leads.{seen_at_rest, no_seen_step_if_no_step, no_seen_step_if_done, way_leads_to_alike_node, begins_by_plain_steps}
+pub use Rattle.ir_graph.proofs.Leads.{seen_state_is_at_rest_if_all_rest, no_seen_step_if_no_step, no_seen_step_if_done, way_leads_to_alike_node, begins_by_plain_steps}
 -- a thread that goes on alone
-pub use Rattle.ir_graph.proofs.Turn.{goes_alone_no_steps, goes_alone_append, goes_alone_by_entry, like_after_going_alone, alone_run_in_turns, goes_alone_in_turns, in_turns_of_plain}
+pub use Rattle.ir_graph.proofs.Turn.{ways_taken-append, threads_of_ways_taken, goes_alone_no_steps, goes_alone_append, goes_alone_by_entry, like_after_going_alone, alone_run_in_turns, goes_alone_in_turns, plain_in_turns_if_sourced_in_turns}
 -- runs of a guest from its start
 pub use Rattle.ir_graph.proofs.Reached.{answered_run_is_run, done_answered_run_is_counted, tables_of_reached}
 -- hangs

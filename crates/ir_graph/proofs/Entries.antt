@@ -7,38 +7,38 @@ use Rattle.std.proofs.lemmas.Bool.{cases_eq, cases_lt}
 use Rattle.ir_explore.specs.Following.{Keeps}
 use Rattle.ir_graph.specs.Notes.{noted_in}
 
-abbrev pub Entry : Type 0
-Entry = Option (Option ℕ)
+abbrev pub NotedLead : Type 0
+NotedLead = Option (Option ℕ)
 
-entry_of_replicated_none : (n v : ℕ) → slice_index_or {A = Entry} (replicate n None) v None ≡ None
-entry_of_replicated_none zero v = refl
-entry_of_replicated_none (suc n) zero = refl
-entry_of_replicated_none (suc n) (suc v) = entry_of_replicated_none n v
+index_of_replicated_none_is_none : (n v : ℕ) → slice_index_or {A = NotedLead} (replicate n None) v None ≡ None
+index_of_replicated_none_is_none zero v = refl
+index_of_replicated_none_is_none (suc n) zero = refl
+index_of_replicated_none_is_none (suc n) (suc v) = index_of_replicated_none_is_none n v
 
-pub entry_with_nones_appended : (xs : List Entry) (n v : ℕ) → slice_index_or (xs ++ replicate n None) v None ≡ slice_index_or xs v None
-entry_with_nones_appended [] n v = entry_of_replicated_none n v
-entry_with_nones_appended (x ∷ xs) n zero = refl
-entry_with_nones_appended (x ∷ xs) n (suc v) = entry_with_nones_appended xs n v
+pub index_ignores_appended_nones : (xs : List NotedLead) (n v : ℕ) → slice_index_or (xs ++ replicate n None) v None ≡ slice_index_or xs v None
+index_ignores_appended_nones [] n v = index_of_replicated_none_is_none n v
+index_ignores_appended_nones (x ∷ xs) n zero = refl
+index_ignores_appended_nones (x ∷ xs) n (suc v) = index_ignores_appended_nones xs n v
 
-pub entry_set_at_own_place : (xs : List Entry) (i : ℕ) (x : Entry) → i < length xs → slice_index_or (slice_set xs i x) i None ≡ x
-entry_set_at_own_place [] i x l = absurd (omega (arith, l))
-entry_set_at_own_place (y ∷ xs) zero x l = refl
-entry_set_at_own_place (y ∷ xs) (suc i) x l = entry_set_at_own_place xs i x (omega (arith, l))
+pub index_of_set_at_own_place : (xs : List NotedLead) (i : ℕ) (x : NotedLead) → i < length xs → slice_index_or (slice_set xs i x) i None ≡ x
+index_of_set_at_own_place [] i x l = absurd (omega (arith, l))
+index_of_set_at_own_place (y ∷ xs) zero x l = refl
+index_of_set_at_own_place (y ∷ xs) (suc i) x l = index_of_set_at_own_place xs i x (omega (arith, l))
 
-pub entry_set_at_other_place : (xs : List Entry) (i v : ℕ) (x : Entry) → (v ≡ i → ⊥) → slice_index_or (slice_set xs i x) v None ≡ slice_index_or xs v None
-entry_set_at_other_place [] i v x other = refl
-entry_set_at_other_place (y ∷ xs) zero zero x other = absurd (other refl)
-entry_set_at_other_place (y ∷ xs) zero (suc v) x other = refl
-entry_set_at_other_place (y ∷ xs) (suc i) zero x other = refl
-entry_set_at_other_place (y ∷ xs) (suc i) (suc v) x other = entry_set_at_other_place xs i v x (λ e. other (ap suc e))
+pub index_of_set_at_other_place : (xs : List NotedLead) (i v : ℕ) (x : NotedLead) → (v ≡ i → ⊥) → slice_index_or (slice_set xs i x) v None ≡ slice_index_or xs v None
+index_of_set_at_other_place [] i v x other = refl
+index_of_set_at_other_place (y ∷ xs) zero zero x other = absurd (other refl)
+index_of_set_at_other_place (y ∷ xs) zero (suc v) x other = refl
+index_of_set_at_other_place (y ∷ xs) (suc i) zero x other = refl
+index_of_set_at_other_place (y ∷ xs) (suc i) (suc v) x other = index_of_set_at_other_place xs i v x (λ e. other (ap suc e))
 
-pub noted_in_is_row_entry : (rows : List (Vec Entry)) (t v : ℕ) (d : Vec Entry) → t < length rows
+pub noted_in_is_row_element : (rows : List (Vec NotedLead)) (t v : ℕ) (d : Vec NotedLead) → t < length rows
     → noted_in rows t v ≡ slice_index_or (slice_index_or rows t d).items v None
-noted_in_is_row_entry [] t v d l = absurd (omega (arith, l))
-noted_in_is_row_entry (row ∷ rows) zero v d l = refl
-noted_in_is_row_entry (row ∷ rows) (suc t) v d l = noted_in_is_row_entry rows t v d (omega (arith, l))
+noted_in_is_row_element [] t v d l = absurd (omega (arith, l))
+noted_in_is_row_element (row ∷ rows) zero v d l = refl
+noted_in_is_row_element (row ∷ rows) (suc t) v d l = noted_in_is_row_element rows t v d (omega (arith, l))
 
-pub noted_in_after_row_set : (rows : List (Vec Entry)) (i : ℕ) (w : Vec Entry) → i < length rows → (t v : ℕ)
+pub noted_in_after_row_set : (rows : List (Vec NotedLead)) (i : ℕ) (w : Vec NotedLead) → i < length rows → (t v : ℕ)
     → ((t ≡ i) × (noted_in (slice_set rows i w) t v ≡ slice_index_or w.items v None))
     ⊎ ((t ≡ i → ⊥) × (noted_in (slice_set rows i w) t v ≡ noted_in rows t v))
 noted_in_after_row_set [] i w l t v = absurd (omega (arith, l))
@@ -51,14 +51,14 @@ noted_in_after_row_set (row ∷ rows) (suc i) w l (suc t) v = elim (noted_in_aft
 ]
 
 -- a row in which one node's place was written, at most
-pub noted_in_after_place_written : (rows : List (Vec Entry)) (i : ℕ) (w d : Vec Entry) (node : ℕ) (next : Option ℕ) → i < length rows
+pub noted_in_after_place_set_cases : (rows : List (Vec NotedLead)) (i : ℕ) (w d : Vec NotedLead) (node : ℕ) (next : Option ℕ) → i < length rows
     → ((v : ℕ) → (v ≡ node → ⊥) → slice_index_or w.items v None ≡ slice_index_or (slice_index_or rows i d).items v None)
     → (slice_index_or w.items node None ≡ Some next) ⊎ (w.items ≡ (slice_index_or rows i d).items) → (t v : ℕ)
     → (noted_in (slice_set rows i w) t v ≡ noted_in rows t v) ⊎ ((t ≡ i) × (v ≡ node) × (noted_in (slice_set rows i w) t v ≡ Some next))
-noted_in_after_place_written rows i w d node next l others here t v = elim (noted_in_after_row_set rows i w l t v) [
+noted_in_after_place_set_cases rows i w d node next l others here t v = elim (noted_in_after_row_set rows i w l t v) [
   | inl p ↦
       let was : noted_in rows t v ≡ slice_index_or (slice_index_or rows i d).items v None =
-      ap (λ z. noted_in rows z v) p.0 ∙ noted_in_is_row_entry rows i v d l in
+      ap (λ z. noted_in rows z v) p.0 ∙ noted_in_is_row_element rows i v d l in
       elim (cases_eq v node) [
         | inl same ↦ elim here [
           | inl is ↦ inr (p.0, same, p.1 ∙ ap (λ z. slice_index_or w.items z None) same ∙ is)
@@ -70,7 +70,7 @@ noted_in_after_place_written rows i w d node next l others here t v = elim (note
 ]
 
 -- what was noted stays, if the place was free
-pub notes_kept_if_place_free : (old new : ℕ → ℕ → Entry) (i node : ℕ) (next : Option ℕ) → old i node ≡ None
+pub notes_kept_if_place_free : (old new : ℕ → ℕ → NotedLead) (i node : ℕ) (next : Option ℕ) → old i node ≡ None
     → ((t v : ℕ) → (new t v ≡ old t v) ⊎ ((t ≡ i) × (v ≡ node) × (new t v ≡ Some next))) → (t : ℕ) → Keeps (old t) (new t)
 notes_kept_if_place_free old new i node next fresh only t v to is = elim (only t v) [
   | inl same ↦ same ∙ is
@@ -78,26 +78,26 @@ notes_kept_if_place_free old new i node next fresh only t v to is = elim (only t
 ]
 
 -- an element within does not hang on what stands for one that isn't
-pub index_within_ignores_default : (xs : List Entry) (i : ℕ) (d d' : Entry) → i < length xs → slice_index_or xs i d ≡ slice_index_or xs i d'
+pub index_within_ignores_default : (xs : List NotedLead) (i : ℕ) (d d' : NotedLead) → i < length xs → slice_index_or xs i d ≡ slice_index_or xs i d'
 index_within_ignores_default [] i d d' l = absurd (omega (arith, l))
 index_within_ignores_default (x ∷ xs) zero d d' l = refl
 index_within_ignores_default (x ∷ xs) (suc i) d d' l = index_within_ignores_default xs i d d' (omega (arith, l))
 
-pub noted_in_written_row : (rows : List (Vec Entry)) (i : ℕ) (w : Vec Entry) (node : ℕ) (x : Entry) → i < length rows
+pub noted_in_set_row_is_its_element : (rows : List (Vec NotedLead)) (i : ℕ) (w : Vec NotedLead) (node : ℕ) (x : NotedLead) → i < length rows
     → slice_index_or w.items node None ≡ x → noted_in (slice_set rows i w) i node ≡ x
-noted_in_written_row rows i w node x l is = elim (noted_in_after_row_set rows i w l i node) [ inl p ↦ p.1 ∙ is | inr n ↦ absurd (n.0 refl) ]
+noted_in_set_row_is_its_element rows i w node x l is = elim (noted_in_after_row_set rows i w l i node) [ inl p ↦ p.1 ∙ is | inr n ↦ absurd (n.0 refl) ]
 
-noted_in_earlier_row : (rows : List (Vec Entry)) (w : Vec Entry) (t v : ℕ) → t < length rows → noted_in (rows ++ w ∷ []) t v ≡ noted_in rows t v
+noted_in_earlier_row : (rows : List (Vec NotedLead)) (w : Vec NotedLead) (t v : ℕ) → t < length rows → noted_in (rows ++ w ∷ []) t v ≡ noted_in rows t v
 noted_in_earlier_row [] w t v l = absurd (omega (arith, l))
 noted_in_earlier_row (row ∷ rows) w zero v l = refl
 noted_in_earlier_row (row ∷ rows) w (suc t) v l = noted_in_earlier_row rows w t v (omega (arith, l))
 
-noted_in_appended_row : (rows : List (Vec Entry)) (w : Vec Entry) (v : ℕ) → noted_in (rows ++ w ∷ []) (length rows) v ≡ slice_index_or w.items v None
+noted_in_appended_row : (rows : List (Vec NotedLead)) (w : Vec NotedLead) (v : ℕ) → noted_in (rows ++ w ∷ []) (length rows) v ≡ slice_index_or w.items v None
 noted_in_appended_row [] w v = refl
 noted_in_appended_row (row ∷ rows) w v = noted_in_appended_row rows w v
 
 -- a row more, which is empty
-pub none_noted_after_empty_row : (rows : List (Vec Entry)) (w : Vec Entry) (n : ℕ) → length rows ≡ n → w.items ≡ []
+pub none_noted_after_empty_row : (rows : List (Vec NotedLead)) (w : Vec NotedLead) (n : ℕ) → length rows ≡ n → w.items ≡ []
     → ((t v : ℕ) → t < n → noted_in rows t v ≡ None) → (t v : ℕ) → t < n + 1 → noted_in (rows ++ w ∷ []) t v ≡ None
 none_noted_after_empty_row rows w n many none free t v less = elim (cases_lt t n) [
   | inl l ↦ noted_in_earlier_row rows w t v (omega (arith, l, many)) ∙ free t v l

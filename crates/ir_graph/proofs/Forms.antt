@@ -1,6 +1,7 @@
 -- The form of the image that threads are of.
-use Rattle.std.proofs.Common.{◌≡◌, ◌<◌, ◌+◌, ℕ, zero, suc, List, [], ◌∷◌, length, get_or, map, refl, sym, ap, ◌∙◌, subst, arith}
+use Rattle.std.proofs.Common.{◌≡◌, ◌<◌, ◌+◌, ℕ, zero, suc, List, [], ◌∷◌, length, get_or, refl, sym, ap, ◌∙◌, subst, arith}
 use Rattle.std.specs.List.{AllByRecursion, range_with_len}
+use Rattle.ir_lemmas.proofs.CallerLemmas.{element_of_all_by_recursion, length_of_map}
 use Rattle.ir_image.specs.Guest.{Guest}
 use Rattle.ir_image.specs.declared.form.ImageForm.{ImageForm}
 use Rattle.ir_thread.specs.State.{ThreadState, most_budget}
@@ -11,11 +12,6 @@ use Rattle.ir_thread.specs.declared.profile.Profile.{Profile}
 use Rattle.ir_flat.specs.Flat.{Flat, idle, start_threads}
 use Rattle.ir_store.specs.Table.{HaveForm}
 use Rattle.ir_graph.specs.Plain.{IsLike}
-
-element_of_all_by_recursion : {X : Type 0} (P : X → Type 0) (xs : List X) (n : ℕ) (d : X) → AllByRecursion P xs → n < length xs → P (get_or xs n d)
-element_of_all_by_recursion P [] n d all lt = absurd (omega (arith, lt))
-element_of_all_by_recursion P (x ∷ xs) zero d all lt = all.0
-element_of_all_by_recursion P (x ∷ xs) (suc n) d all lt = element_of_all_by_recursion P xs n d all.1 (omega (arith, lt))
 
 all_by_recursion_of_elements : {X : Type 0} (P : X → Type 0) (xs : List X) (d : X) → ((n : ℕ) → n < length xs → P (get_or xs n d)) → AllByRecursion P xs
 all_by_recursion_of_elements P [] d each = tt
@@ -31,17 +27,13 @@ pub start_threads_have_form : (guest : Guest) (budget : ℕ) (profile : Profile)
 start_threads_have_form guest budget profile from zero = tt
 start_threads_have_form guest budget profile from (suc n) = (refl, start_threads_have_form guest budget profile (suc from) n)
 
-length_of_map : {X Y : Type 0} (f : X → Y) (xs : List X) → length (map f xs) ≡ length xs
-length_of_map f [] = refl
-length_of_map f (x ∷ xs) = ap suc (length_of_map f xs)
-
 length_of_range : (a n : ℕ) → length (range_with_len a n) ≡ n
 length_of_range a zero = refl
 length_of_range a (suc n) = ap suc (length_of_range (a + 1) n)
 
 -- at the start each thread has a source
-pub start_has_sources : (x : Setup) → length (start_of x).sources ≡ length (start_of x).flat.threads
-start_has_sources x =
+pub start_has_source_for_each_thread : (x : Setup) → length (start_of x).sources ≡ length (start_of x).flat.threads
+start_has_source_for_each_thread x =
     length_of_map (λ t. source (seed_of x.random t) x.input) (range_with_len 0 (length x.guest.entries))
     ∙ length_of_range 0 (length x.guest.entries)
     ∙ sym (length_of_start_threads x.guest most_budget x.profile 0 (length x.guest.entries))

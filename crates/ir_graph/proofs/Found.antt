@@ -10,7 +10,7 @@ use Rattle.ir_thread.specs.State.{ask_of}
 use Rattle.ir_flat.specs.Flat.{tables, machine, thread_of}
 use Rattle.ir_store.specs.Nodes.{SourcedFlat}
 use Rattle.ir_graph.specs.Nodes.{Alike, seen_by, answered_by, seen_of, LookAlike, AllRest, AreNodes, Stay, LeadsFrom, IsStepBy, HasStepBy}
-use Rattle.ir_graph.specs.Plain.{GoesPlain, IsLike, IsNoTry, MayGo, OthersStay, Rests, result_by}
+use Rattle.ir_graph.specs.Plain.{GoesPlain, IsLike, MayGo, OthersStay, Rests, result_by}
 use Rattle.ir_graph.proofs.Leads.{look_alike_reflexive, no_seen_step_if_no_step, no_seen_refusal_unless_try, way_leads_to_alike_node}
 use Rattle.ir_graph.proofs.Plain.{TakesStep, like_reflexive, like_transitive, like_symmetric, like_after_plain_steps, like_after_step, others_stay_after_step}
 
@@ -55,7 +55,7 @@ leads_nowhere_if_no_step states s t refused v nodes at less never u is e same =
 -- only a thread that tries is refused
 pub refused_leads_nowhere_unless_try : (states : List SourcedFlat) (t v : ℕ) → AreNodes states
     → ((s : SourcedFlat) → slice_get states v ≡ Some s
-    → Rests (ask_of s.flat.code (thread_of s.flat t)) × IsNoTry (ask_of s.flat.code (thread_of s.flat t)))
+    → Rests (ask_of s.flat.code (thread_of s.flat t)) × (MayGo true (ask_of s.flat.code (thread_of s.flat t)) → ⊥))
     → LeadsFrom states t true v None
 refused_leads_nowhere_unless_try states t v nodes none s is e same by can =
     let here = none s is in no_seen_refusal_unless_try s t here.0 here.1 e same by
@@ -84,11 +84,11 @@ module _ (states : List SourcedFlat) (s u w : SourcedFlat) (t r v : ℕ) (nodes 
         (subst (λ z. Rests (ask_of s.flat.code z)) (sym stays) (nodes.rest v s at p (omega (arith, few, size, threads))))
   ]
 
-pub reached_leads : (states : List SourcedFlat) (s u w : SourcedFlat) (t : ℕ) (refused : Bool) (v : ℕ) → AreNodes states → slice_get states v ≡ Some s
+pub leads_to_node_if_reached_state_looks_alike : (states : List SourcedFlat) (s u w : SourcedFlat) (t : ℕ) (refused : Bool) (v : ℕ) → AreNodes states → slice_get states v ≡ Some s
     → t < length s.flat.threads → MayGo refused (ask_of s.flat.code (thread_of s.flat t)) → TakesStep s u t (result_by refused) → GoesPlain u w
     → (new : List SourcedFlat) (p : ℕ) → Stay states new → ((k : SourcedFlat) → slice_get new p ≡ Some k → LookAlike w k)
     → LeadsFrom new t refused v (Some p)
-reached_leads states s u w t refused v nodes at less may step goes new p stay alike s' k here there =
+leads_to_node_if_reached_state_looks_alike states s u w t refused v nodes at less may step goes new p stay alike s' k here there =
     subst (λ z. HasStepBy z t refused
     × ((e : Step) → e.0 ≡ t → IsStepBy z refused e → Can (seen_by z.flat.code) (seen_of z) e
     → LeadsTo (seen_by z.flat.code) (answered_by z.flat.code) (Alike z.flat.code) (seen_of z) e (seen_of k)))

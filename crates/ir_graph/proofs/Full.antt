@@ -52,9 +52,9 @@ after_step_beside_same_sources m giving s sources e same =
     ∙ ap (beside (after m s e)) (upd_with_old_value sources e.0 (left_of giving (asked m s e.0) (sources e.0)) (sym same))
 
 -- the sources, once one of them is another
-pub source_of_set : (sources : List Source) (t : ℕ) (a : Source) → t < length sources
+pub lookup_after_source_set_is_upd : (sources : List Source) (t : ℕ) (a : Source) → t < length sources
     → (λ v. get_or (set sources t a) v no_source) ≡ upd (λ v. get_or sources v no_source) t a
-source_of_set sources t a less = λ i v. at v i
+lookup_after_source_set_is_upd sources t a less = λ i v. at v i
   where
     at : (v : ℕ) → get_or (set sources t a) v no_source ≡ upd (λ v. get_or sources v no_source) t a v
     at v = elim (cases_eq v t) [
@@ -64,13 +64,13 @@ source_of_set sources t a less = λ i v. at v i
     ]
 
 -- the threads and objects alone
-pub tables_at_end : (s u : SourcedFlat) (run : List Step) → full_of u ≡ end (full_by s.flat.code) (full_of s) run
+pub tables_at_end_if_full_state_at_end : (s u : SourcedFlat) (run : List Step) → full_of u ≡ end (full_by s.flat.code) (full_of s) run
     → tables u.flat ≡ end (machine s.flat) (tables s.flat) run
-tables_at_end s u run is = ap plain is ∙ plain_end (machine s.flat) given (full_of s) run
+tables_at_end_if_full_state_at_end s u run is = ap plain is ∙ plain_end (machine s.flat) given (full_of s) run
 
 -- the threads as a search sees them are a view of them, beside their sources
-pub full_view : (code : List ℕ) → IsView (full_by code) (seen_by code) (λ x. (view x.0, x.1)) (λ x. IsLive code x.0)
-full_view code = sourced_view_is_view (thread_machine code) (seen_machine code) view (IsLive code) given (seen_machine_is_view code)
+pub seen_by_is_view_of_full_by : (code : List ℕ) → IsView (full_by code) (seen_by code) (λ x. (view x.0, x.1)) (λ x. IsLive code x.0)
+seen_by_is_view_of_full_by code = sourced_view_is_view (thread_machine code) (seen_machine code) view (IsLive code) given (seen_machine_is_view code)
 
 abbrev pub seen_state : State (ThreadState × Source) → State (ThreadState × Source)
 seen_state s = viewed (λ x. (view x.0, x.1)) s
@@ -80,24 +80,24 @@ module _ (code : List ℕ) where
   pub end_of_live_run_seen : (s : State (ThreadState × Source)) (run : List Step) → AreLive code s run
       → end (seen_by code) (seen_state s) run ≡ seen_state (end (full_by code) s run)
   end_of_live_run_seen s run live =
-      viewed_end (full_by code) (seen_by code) (λ x. (view x.0, x.1)) (λ x. IsLive code x.0) (full_view code) s run live
+      viewed_end (full_by code) (seen_by code) (λ x. (view x.0, x.1)) (λ x. IsLive code x.0) (seen_by_is_view_of_full_by code) s run live
 
   pub entering_of_live_run_seen : (s : State (ThreadState × Source)) (run : List Step) → AreLive code s run
       → entering (seen_by code) (seen_state s) run ≡ entering (full_by code) s run
   entering_of_live_run_seen s run live =
-      viewed_entering (full_by code) (seen_by code) (λ x. (view x.0, x.1)) (λ x. IsLive code x.0) (full_view code) s run live
+      viewed_entering (full_by code) (seen_by code) (λ x. (view x.0, x.1)) (λ x. IsLive code x.0) (seen_by_is_view_of_full_by code) s run live
 
   -- and counts where that does
   pub counts_of_live_run_seen : (s : State (ThreadState × Source)) (run : List Step) → AreLive code s run
       → Counts (full_by code) (sources_by code) s run → Counts (seen_by code) (answered_by code) (seen_state s) run
   counts_of_live_run_seen s run live =
-      (viewed_counts (full_by code) (seen_by code) (λ x. (view x.0, x.1)) (λ x. IsLive code x.0) (full_view code) (sources_by code)
+      (viewed_counts (full_by code) (seen_by code) (λ x. (view x.0, x.1)) (λ x. IsLive code x.0) (seen_by_is_view_of_full_by code) (sources_by code)
       (answered_by code) (λ t x l. ap (λ q. answer_of given q x.1) ((seen_machine_is_view code).asks x.0 l)) s run live).0
 
   pub counts_if_seen : (s : State (ThreadState × Source)) (run : List Step) → AreLive code s run
       → Counts (seen_by code) (answered_by code) (seen_state s) run → Counts (full_by code) (sources_by code) s run
   counts_if_seen s run live =
-      (viewed_counts (full_by code) (seen_by code) (λ x. (view x.0, x.1)) (λ x. IsLive code x.0) (full_view code) (sources_by code)
+      (viewed_counts (full_by code) (seen_by code) (λ x. (view x.0, x.1)) (λ x. IsLive code x.0) (seen_by_is_view_of_full_by code) (sources_by code)
       (answered_by code) (λ t x l. ap (λ q. answer_of given q x.1) ((seen_machine_is_view code).asks x.0 l)) s run live).1
 
   -- a run ahead is one as seen

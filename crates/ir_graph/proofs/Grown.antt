@@ -5,6 +5,7 @@ use Rattle.std.specs.List.{slice_index_or}
 use Rattle.std.specs.Global.{Vec}
 use Rattle.std.proofs.lemmas.Bool.{cases_lt}
 use Rattle.std.proofs.lemmas.Option.{same_Some}
+use Rattle.ir_lemmas.proofs.CallerLemmas.{element_below_length_exists}
 use Rattle.ir_image.specs.Guest.{Guest}
 use Rattle.ir_explore.specs.Following.{BothWays}
 use Rattle.ir_states.specs.Outcomes.{Begins}
@@ -25,16 +26,11 @@ use Rattle.ir_graph.specs.Graph.{IsGraph}
 use Rattle.ir_graph.specs.Nodes.{seen_by, answered_by, Alike, seen_of, AllRest, AreNodes, Stay, LeadsFrom}
 use Rattle.ir_graph.specs.Notes.{noted_by, noted_in}
 use Rattle.ir_graph.specs.Reached.{IsReached, AllReached}
-use Rattle.ir_graph.specs.Plain.{GoesPlain, IsLike, IsNoTry}
+use Rattle.ir_graph.specs.Plain.{GoesPlain, IsLike, MayGo}
 use Rattle.ir_graph.proofs.Found.{refused_leads_nowhere_unless_try}
 use Rattle.ir_graph.proofs.Leads.{begins_by_plain_steps, every_number_rests_if_all_rest}
 use Rattle.ir_graph.proofs.Plain.{like_reflexive}
 use Rattle.ir_graph.proofs.Reached.{plain_start_is_reached}
-
-pub element_below_length_exists : {A : Type 0} (xs : List A) (v : ℕ) → v < length xs → (x : A) × (slice_get xs v ≡ Some x)
-element_below_length_exists [] v l = absurd (omega (arith, l))
-element_below_length_exists (x ∷ xs) zero l = (x, refl)
-element_below_length_exists (x ∷ xs) (suc v) l = element_below_length_exists xs v (omega (arith, l))
 
 -- a node that was there before is what it was
 old_node_is_unchanged : (flats new : List SourcedFlat) (v : ℕ) (f : SourcedFlat) → Stay flats new → v < length flats → slice_get new v ≡ Some f → slice_get flats v ≡ Some f
@@ -49,36 +45,37 @@ leads_from_after_nodes_added flats new t refused v (Some w) stay l within h = λ
     h f g (old_node_is_unchanged flats new v f stay l is) (old_node_is_unchanged flats new w g stay (within w refl) there)
 
 -- the threads of a start have its profile
-profiles_of_start : (guest : Guest) (from n t : ℕ) → (slice_index_or (start_threads guest most_budget One from n) t idle).profile ≡ One
-profiles_of_start guest from zero t = refl
-profiles_of_start guest from (suc n) zero = refl
-profiles_of_start guest from (suc n) (suc t) = profiles_of_start guest (suc from) n t
+start_thread_has_first_profile : (guest : Guest) (from n t : ℕ) → (slice_index_or (start_threads guest most_budget One from n) t idle).profile ≡ One
+start_thread_has_first_profile guest from zero t = refl
+start_thread_has_first_profile guest from (suc n) zero = refl
+start_thread_has_first_profile guest from (suc n) (suc t) = start_thread_has_first_profile guest (suc from) n t
 
 -- a thread of the first profile doesn't try
-no_try_in_first_profile : (x : Setup) (s : SourcedFlat) (t : ℕ) → x.profile ≡ One → IsReached x s → IsNoTry (ask_of s.flat.code (thread_of s.flat t))
+no_try_in_first_profile : (x : Setup) (s : SourcedFlat) (t : ℕ) → x.profile ≡ One → IsReached x s
+    → MayGo true (ask_of s.flat.code (thread_of s.flat t)) → ⊥
 no_try_in_first_profile x s t one reached = by (ask_of s.flat.code (thread_of s.flat t)) (ask_of_permitted s.flat.code (thread_of s.flat t))
   where
     first : (thread_of s.flat t).profile ≡ One
     first = sym (reached.like.twins t).profile
         ∙ ap (λ z. (slice_index_or (start_threads x.guest most_budget z 0 (length x.guest.entries)) t idle).profile) one
-        ∙ profiles_of_start x.guest 0 (length x.guest.entries) t
+        ∙ start_thread_has_first_profile x.guest 0 (length x.guest.entries) t
 
-    by : (q : Ask) → Permits (thread_of s.flat t) q → IsNoTry q
-    by ask.Private p = tt
-    by (ask.Env k) p = tt
-    by (ask.Enter o a) p = tt
-    by (ask.Try o) p = absurd (cc (sym first ∙ p.4))
-    by (ask.Leave o a) p = tt
-    by (ask.Get o i) p = tt
-    by (ask.Put o i v) p = tt
-    by ask.Print p = tt
-    by (ask.End e) p = tt
-    by ask.Done p = tt
+    by : (q : Ask) → Permits (thread_of s.flat t) q → MayGo true q → ⊥
+    by ask.Private p may = may
+    by (ask.Env k) p may = may
+    by (ask.Enter o a) p may = may
+    by (ask.Try o) p may = absurd (cc (sym first ∙ p.4))
+    by (ask.Leave o a) p may = may
+    by (ask.Get o i) p may = may
+    by (ask.Put o i v) p may = may
+    by ask.Print p may = may
+    by (ask.End e) p may = may
+    by ask.Done p may = may
 
 -- so none is refused there
-untried_leads_nowhere : (x : Setup) (flats : List SourcedFlat) (t v : ℕ) → x.profile ≡ One → AreNodes flats
+refused_leads_nowhere_in_first_profile : (x : Setup) (flats : List SourcedFlat) (t v : ℕ) → x.profile ≡ One → AreNodes flats
     → AllReached x flats → LeadsFrom flats t true v None
-untried_leads_nowhere x flats t v one nodes reached = refused_leads_nowhere_unless_try flats t v nodes (λ f is. (
+refused_leads_nowhere_in_first_profile x flats t v one nodes reached = refused_leads_nowhere_unless_try flats t v nodes (λ f is. (
   every_number_rests_if_all_rest f.flat (nodes.rest v f is) t,
   no_try_in_first_profile x f t one (reached v f is),
 ))
@@ -110,7 +107,7 @@ is_graph_after_nodes_added x flats new noted threads g stay nodes reached more =
         let none : None ≡ next =
         same_Some None next (sym (g.untried first.0 t v) ∙ subst (λ z. noted t z v ≡ Some next) first.1 is) in
         subst (LeadsFrom new t refused v) none
-        (subst (λ z. LeadsFrom new t z v None) (sym first.1) (untried_leads_nowhere x new t v first.0 nodes reached))
+        (subst (λ z. LeadsFrom new t z v None) (sym first.1) (refused_leads_nowhere_in_first_profile x new t v first.0 nodes reached))
   ];
 }
 
@@ -158,17 +155,17 @@ is_graph_after_note x flats old new threads thread way node to g only fresh insi
     was t refused v a b c = (λ i. old (a i) (b i) (c i)) ∙ fresh
 
 -- so is a graph that has grown, once more is noted of the rows of its ways
-pub is_graph_after_way_noted : (x : Setup) (old flats : List SourcedFlat) (rows refusals new tries : List (Vec (Option (Option ℕ))))
-    (thread : ℕ) (way : Bool) (node : ℕ) (to : Option ℕ) → IsGraph x old (noted_by rows refusals) (length rows) → Stay old flats
+pub is_graph_after_way_noted : (x : Setup) (old flats : List SourcedFlat) (rows refused_rows new tries : List (Vec (Option (Option ℕ))))
+    (thread : ℕ) (way : Bool) (node : ℕ) (to : Option ℕ) → IsGraph x old (noted_by rows refused_rows) (length rows) → Stay old flats
     → AreNodes flats → AllReached x flats → length old ≤ length flats
-    → ((t : ℕ) (refused : Bool) (v : ℕ) → (noted_by new tries t refused v ≡ noted_by rows refusals t refused v)
+    → ((t : ℕ) (refused : Bool) (v : ℕ) → (noted_by new tries t refused v ≡ noted_by rows refused_rows t refused v)
     ⊎ ((t ≡ thread) × (refused ≡ way) × (v ≡ node) × (noted_by new tries t refused v ≡ Some to)))
-    → length new ≡ length rows → noted_by rows refusals thread way node ≡ None → node < length old → ((w : ℕ) → to ≡ Some w → w < length flats)
+    → length new ≡ length rows → noted_by rows refused_rows thread way node ≡ None → node < length old → ((w : ℕ) → to ≡ Some w → w < length flats)
     → LeadsFrom flats thread way node to → IsGraph x flats (noted_by new tries) (length new)
-is_graph_after_way_noted x old flats rows refusals new tries thread way node to g stay nodes reached grown only same fresh inside within leads =
+is_graph_after_way_noted x old flats rows refused_rows new tries thread way node to g stay nodes reached grown only same fresh inside within leads =
     subst (IsGraph x flats (noted_by new tries)) (sym same)
-    (is_graph_after_note x flats (noted_by rows refusals) (noted_by new tries) (length rows) thread way node to
-    (is_graph_after_nodes_added x old flats (noted_by rows refusals) (length rows) g stay nodes reached grown) only fresh
+    (is_graph_after_note x flats (noted_by rows refused_rows) (noted_by new tries) (length rows) thread way node to
+    (is_graph_after_nodes_added x old flats (noted_by rows refused_rows) (length rows) g stay nodes reached grown) only fresh
     (omega (arith, inside, grown)) within leads)
 
 -- each node has all threads
@@ -179,19 +176,19 @@ thread_count_of_node x flats noted threads v f g is =
     (g.nodes.like 0 v first.0 f first.1 is).threads ∙ g.many first.0 first.1
 
 -- where nothing is noted of it, a number is a thread's
-pub thread_is_below_if_free : (x : Setup) (flats : List SourcedFlat) (noted : ℕ → BothWays) (threads t : ℕ) (refused : Bool)
+pub thread_exists_if_nothing_is_noted : (x : Setup) (flats : List SourcedFlat) (noted : ℕ → BothWays) (threads t : ℕ) (refused : Bool)
     (v w : ℕ) (f : SourcedFlat) → IsGraph x flats noted threads → noted t refused v ≡ None → slice_get flats w ≡ Some f → t < length f.flat.threads
-thread_is_below_if_free x flats noted threads t refused v w f g free is = elim (cases_lt t threads) [
+thread_exists_if_nothing_is_noted x flats noted threads t refused v w f g free is = elim (cases_lt t threads) [
   | inl l ↦ subst (λ n. t < n) (sym (thread_count_of_node x flats noted threads w f g is)) l
   | inr l ↦ absurd (cc (sym free ∙ g.past t refused v l))
 ]
 
 -- what is so of rows is so of equal ones
 pub is_graph_of_equal_rows : (x : Setup) (flats : List SourcedFlat) (new tries : List (Vec (Option (Option ℕ))))
-    {rows refusals : List (Vec (Option (Option ℕ)))} → rows ≡ new → refusals ≡ tries
-    → IsGraph x flats (noted_by new tries) (length new) → IsGraph x flats (noted_by rows refusals) (length rows)
-is_graph_of_equal_rows x flats new tries {rows} {refusals} same also g =
-    subst (λ z. IsGraph x flats (noted_by z refusals) (length z)) (sym same)
+    {rows refused_rows : List (Vec (Option (Option ℕ)))} → rows ≡ new → refused_rows ≡ tries
+    → IsGraph x flats (noted_by new tries) (length new) → IsGraph x flats (noted_by rows refused_rows) (length rows)
+is_graph_of_equal_rows x flats new tries {rows} {refused_rows} same also g =
+    subst (λ z. IsGraph x flats (noted_by z refused_rows) (length z)) (sym same)
     (subst (λ z. IsGraph x flats (noted_by new z) (length new)) (sym also) g)
 
 -- each node has the guest's code
@@ -202,16 +199,16 @@ code_of_node x flats noted threads v f g is =
     (g.nodes.like 0 v first.0 f first.1 is).code ∙ g.code first.0 first.1
 
 -- a number that is no thread's leads nowhere, as far as it is noted
-pub noted_in_past_threads : (rows : List (Vec (Option (Option ℕ)))) (t v : ℕ) → length rows ≤ t → noted_in rows t v ≡ Some None
-noted_in_past_threads [] t v l = refl
-noted_in_past_threads (row ∷ rows) zero v l = absurd (omega (arith, l))
-noted_in_past_threads (row ∷ rows) (suc t) v l = noted_in_past_threads rows t v (omega (arith, l))
+pub noted_in_past_threads_leads_nowhere : (rows : List (Vec (Option (Option ℕ)))) (t v : ℕ) → length rows ≤ t → noted_in rows t v ≡ Some None
+noted_in_past_threads_leads_nowhere [] t v l = refl
+noted_in_past_threads_leads_nowhere (row ∷ rows) zero v l = absurd (omega (arith, l))
+noted_in_past_threads_leads_nowhere (row ∷ rows) (suc t) v l = noted_in_past_threads_leads_nowhere rows t v (omega (arith, l))
 
 -- so where nothing is noted it is a thread's
-pub noted_row_exists_if_free : (rows : List (Vec (Option (Option ℕ)))) (t v : ℕ) → noted_in rows t v ≡ None → t < length rows
-noted_row_exists_if_free rows t v free = elim (cases_lt t (length rows)) [
+pub noted_row_exists_if_nothing_is_noted : (rows : List (Vec (Option (Option ℕ)))) (t v : ℕ) → noted_in rows t v ≡ None → t < length rows
+noted_row_exists_if_nothing_is_noted rows t v free = elim (cases_lt t (length rows)) [
   | inl l ↦ l
-  | inr l ↦ absurd (cc (sym free ∙ noted_in_past_threads rows t v l))
+  | inr l ↦ absurd (cc (sym free ∙ noted_in_past_threads_leads_nowhere rows t v l))
 ]
 
 -- nothing is noted of the refused way: in the first profile that it leads nowhere, and in the second it is free
@@ -219,15 +216,15 @@ pub data FreeToTry (profile : Profile) (threads : ℕ) (noted : ℕ → BothWays
   Untried : profile ≡ One → ((t v : ℕ) → noted t true v ≡ Some None) → FreeToTry profile threads noted
   Tried : (profile ≡ One → ⊥) → ((t v : ℕ) → t < threads → noted t true v ≡ None) → FreeToTry profile threads noted
 
-pub free_to_try : (profile : Profile) (threads : ℕ) (rows refusals : List (Vec (Option (Option ℕ)))) → (profile ≡ One → refusals ≡ [])
-    → (profile ≡ Two → (t v : ℕ) → t < threads → noted_in refusals t v ≡ None) → FreeToTry profile threads (noted_by rows refusals)
-free_to_try One threads rows refusals none free = Untried refl (λ t v. ap (λ z. noted_in z t v) (none refl))
-free_to_try Two threads rows refusals none free = Tried (λ e. absurd (cc e)) (free refl)
+pub free_to_try_if_no_refusals_noted : (profile : Profile) (threads : ℕ) (rows refused_rows : List (Vec (Option (Option ℕ)))) → (profile ≡ One → refused_rows ≡ [])
+    → (profile ≡ Two → (t v : ℕ) → t < threads → noted_in refused_rows t v ≡ None) → FreeToTry profile threads (noted_by rows refused_rows)
+free_to_try_if_no_refusals_noted One threads rows refused_rows none free = Untried refl (λ t v. ap (λ z. noted_in z t v) (none refl))
+free_to_try_if_no_refusals_noted Two threads rows refused_rows none free = Tried (λ e. absurd (cc e)) (free refl)
 
-pub noted_by_past_threads : (rows refusals : List (Vec (Option (Option ℕ)))) → length refusals ≤ length rows → (t : ℕ) (refused : Bool) (v : ℕ)
-    → length rows ≤ t → noted_by rows refusals t refused v ≡ Some None
-noted_by_past_threads rows refusals less t true v l = noted_in_past_threads refusals t v (omega (arith, less, l))
-noted_by_past_threads rows refusals less t false v l = noted_in_past_threads rows t v l
+pub noted_by_past_threads_leads_nowhere : (rows refused_rows : List (Vec (Option (Option ℕ)))) → length refused_rows ≤ length rows → (t : ℕ) (refused : Bool) (v : ℕ)
+    → length rows ≤ t → noted_by rows refused_rows t refused v ≡ Some None
+noted_by_past_threads_leads_nowhere rows refused_rows less t true v l = noted_in_past_threads_leads_nowhere refused_rows t v (omega (arith, less, l))
+noted_by_past_threads_leads_nowhere rows refused_rows less t false v l = noted_in_past_threads_leads_nowhere rows t v l
 
 -- the graph at first
 pub start_is_graph : (x : Setup) (h : SourcedFlat) (noted : ℕ → BothWays) (threads : ℕ)
@@ -257,7 +254,7 @@ start_is_graph x h noted threads goes rest sourced many number free tries past =
           let one = first tries t refused v next few is in
           subst (LeadsFrom (h ∷ []) t refused v)
           (same_Some None next (sym (untried tries one.0 t v) ∙ subst (λ z. noted t z v ≡ Some next) one.1 is))
-          (subst (λ z. LeadsFrom (h ∷ []) t z v None) (sym one.1) (untried_leads_nowhere x (h ∷ []) t v one.0 nodes each));
+          (subst (λ z. LeadsFrom (h ∷ []) t z v None) (sym one.1) (refused_leads_nowhere_in_first_profile x (h ∷ []) t v one.0 nodes each));
     }
   where
     only : (v : ℕ) (s : SourcedFlat) → slice_get (h ∷ []) v ≡ Some s → h ≡ s

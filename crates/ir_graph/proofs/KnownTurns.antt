@@ -1,6 +1,6 @@
 -- Turns of threads that are known, while the tables grow.
-use Rattle.std.proofs.Common.{◌≡◌, ◌⊎◌, ℕ, ◌<◌, Bool, false, Option, Some, None, List, [], ◌∷◌, ◌++◌, length, sym, ap, ◌∙◌, subst, inl, inr}
-use Rattle.std.specs.Prelude.{slice_get, IfSome, IfOk, IfErr, Result, Ok, Err}
+use Rattle.std.proofs.Common.{◌≡◌, ◌⊎◌, ℕ, ◌<◌, Bool, true, false, Option, Some, None, List, [], ◌∷◌, ◌++◌, length, sym, ap, ◌∙◌, subst, inl, inr}
+use Rattle.std.specs.Prelude.{slice_get, IfSome, IfErr, Result, Ok, Err}
 use Rattle.std.specs.List.{slice_index_or}
 use Rattle.ir_object.specs.Cell.{Cell}
 use Rattle.ir_sources.specs.Sources.{Source}
@@ -12,7 +12,7 @@ use Rattle.ir_store.proofs.CallerLemmas.{all_by_recursion_weaker, found_element_
 use Rattle.ir_graph.specs.declared.known.Turn.{Turn}
 use Rattle.ir_graph.specs.Ahead.{IsTurn, AreTurns, IsTurnOf}
 use Rattle.ir_graph.specs.Lone.{TakesTurn}
-use Rattle.ir_graph.specs.Plain.{IsNoTry}
+use Rattle.ir_graph.specs.Plain.{MayGo}
 
 module _ (code : List ℕ) (old new : Shared) (grows : Grows old new) where
   pub turn_grown : (turn : Turn) → IsTurn code old turn → IsTurn code new turn
@@ -28,7 +28,7 @@ module _ (code : List ℕ) (old new : Shared) (grows : Grows old new) where
         to = place_below_length_kept old.threads new.threads idle_beside grows.threads turn.to is.to;
         spot = place_below_length_kept old.words new.words [] grows.words turn.spot.words is.spot;
         after = place_below_length_kept old.words new.words [] grows.words turn.after.words is.after;
-        tries = λ no. subst (λ z. IsNoTry (ask_of code z)) (ap (λ (x : ThreadState × Source). x.0) (sym from)) (is.tries no);
+        tries = λ no. subst (λ z. MayGo true (ask_of code z) → ⊥) (ap (λ (x : ThreadState × Source). x.0) (sym from)) (is.tries no);
         takes =
             subst (λ z. TakesTurn code turn.object turn.refused z (cell_in new.words turn.spot) (slice_index_or new.threads turn.to idle_beside)
             (cell_in new.words turn.after)) (sym from)
@@ -62,10 +62,6 @@ pub if_some_both : {A : Type 0} (P Q : A → Type 0) (result : Option A) → IfS
 if_some_both P Q None h k = tt
 if_some_both P Q (Some x) h k = (h, k)
 
-pub if_ok_weaker : {A E : Type 0} (P Q : A → Type 0) (result : Result A E) → ((x : A) → P x → Q x) → IfOk result P → IfOk result Q
-if_ok_weaker P Q (Ok x) each h = each x h
-if_ok_weaker P Q (Err e) each h = tt
-
 pub if_err_weaker : {A E : Type 0} (P Q : E → Type 0) (result : Result A E) → ((e : E) → P e → Q e) → IfErr result P → IfErr result Q
 if_err_weaker P Q (Ok x) each h = tt
 if_err_weaker P Q (Err e) each h = each e h
@@ -76,7 +72,7 @@ pub found_turn_is_turn_of_thread : (code : List ℕ) (old mid new : Shared) → 
     → turn.from < length old.threads → x ≡ slice_index_or old.threads turn.from idle_beside → slice_index_or old.threads turn.from idle_beside ≡ sourced_thread f t
     → turn.spot.words < length old.words → c ≡ cell_in old.words turn.spot → turn.object < length f.flat.objects
     → cell_in old.words turn.spot ≡ cell_of f.flat turn.object → turn.to < length mid.threads → slice_index_or mid.threads turn.to idle_beside ≡ y
-    → turn.after.words < length new.words → cell_in new.words turn.after ≡ d → (turn.tries ≡ false → IsNoTry (ask_of code x.0)) → TakesTurn code turn.object turn.refused x c y d
+    → turn.after.words < length new.words → cell_in new.words turn.after ≡ d → (turn.tries ≡ false → MayGo true (ask_of code x.0) → ⊥) → TakesTurn code turn.object turn.refused x c y d
     → IsTurnOf code new f t refused turn
 found_turn_is_turn_of_thread code old mid new first more f t refused turn way x y c d from x_is here spot c_is object there to y_is after d_is tries takes =
     let threads : Keeps old.threads new.threads = λ n s e. more.threads n s (first.threads n s e) in
@@ -91,7 +87,7 @@ found_turn_is_turn_of_thread code old mid new first more f t refused turn way x 
         to = place_below_length_kept mid.threads new.threads idle_beside more.threads turn.to to;
         spot = place_below_length_kept old.words new.words [] words turn.spot.words spot;
         after = after;
-        tries = λ no. subst (λ z. IsNoTry (ask_of code z)) (ap (λ (x : ThreadState × Source). x.0) (x_is ∙ sym from_is)) (tries no);
+        tries = λ no. subst (λ z. MayGo true (ask_of code z) → ⊥) (ap (λ (x : ThreadState × Source). x.0) (x_is ∙ sym from_is)) (tries no);
         takes =
             subst (λ z. TakesTurn code turn.object turn.refused z (cell_in new.words turn.spot) (slice_index_or new.threads turn.to idle_beside)
             (cell_in new.words turn.after)) (x_is ∙ sym from_is)

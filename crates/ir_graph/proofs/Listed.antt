@@ -30,7 +30,7 @@ use Rattle.ir_graph.specs.Nodes.{seen_by, answered_by, Alike, seen_of, HasStepBy
 use Rattle.ir_graph.specs.Outcomes.{outcome_of, AllListed, WithinListed, AllShown}
 use Rattle.ir_graph.proofs.Grown.{thread_count_of_node}
 use Rattle.ir_graph.proofs.Reached.{done_answered_run_is_counted, tables_of_reached}
-use Rattle.ir_graph.proofs.Leads.{ask_past_threads_is_done, seen_at_rest, no_seen_step_if_done}
+use Rattle.ir_graph.proofs.Leads.{ask_past_threads_is_done, seen_state_is_at_rest_if_all_rest, no_seen_step_if_done}
 
 abbrev pub empty_state : SourcedFlat
 empty_state = record { flat = record { code = []; threads = []; objects = [] }; sources = [] }
@@ -82,7 +82,7 @@ module _ (x : Setup) (flats : List SourcedFlat) (noted : ℕ → BothWays) (thre
   graph_means = record {
     begins = g.begins (flat_of 0) (at 0 g.some);
     at_rest = λ v l. subst (λ z. IsAtRest (seen_by z) (state_of v)) (code_at v l)
-        (seen_at_rest (flat_of v) (g.nodes.rest v (flat_of v) (at v l)));
+        (seen_state_is_at_rest_if_all_rest (flat_of v) (g.nodes.rest v (flat_of v) (at v l)));
     idle = λ v l e many. never v e.0 l many e refl;
     stays = λ t refused v l is e same. elim (cases_lt t threads) [
       | inl few ↦

@@ -28,7 +28,7 @@ use Rattle.ir_store.specs.Nodes.{SourcedFlat, source_of, sourced_thread, with_tu
 use Rattle.ir_store.specs.Table.{no_source}
 use Rattle.ir_graph.specs.Lone.{IsAbout, IsGiven, answer_from, cell_after, lone_thread, lone_cell, GoesLone, MayBegin, TakesTurn, AreBeside, MayTake}
 use Rattle.ir_graph.specs.Plain.{full_by, full_of, IsFair, GoesPlain, MayGo, OthersStay, Rests, result_by, result_of}
-use Rattle.ir_graph.proofs.Full.{after_step_beside_sources, source_of_set}
+use Rattle.ir_graph.proofs.Full.{after_step_beside_sources, lookup_after_source_set_is_upd}
 use Rattle.ir_graph.proofs.Plain.{goes_plain_reflexive, goes_plain_transitive, goes_plain_by_fair_step, others_stay_after_step, others_stay_transitive, twins_after_ask}
 
 -- the flat with another thread and another object
@@ -65,27 +65,27 @@ next_changes_thread_and_object f t o refused source ask.Print h = with_thread_ke
 next_changes_thread_and_object f t o refused source (ask.End e) h = with_thread_keeps_object f t o (after_ask f.code (thread_of f t) (ask.End e) Go)
 next_changes_thread_and_object f t o refused source ask.Done h = absurd h
 
-with_own_turn : (s : SourcedFlat) (t o : ℕ) → with_turn s t (sourced_thread s t) o (cell_of s.flat o) ≡ s
-with_own_turn s t o i = record {
+with_own_turn_changes_nothing : (s : SourcedFlat) (t o : ℕ) → with_turn s t (sourced_thread s t) o (cell_of s.flat o) ≡ s
+with_own_turn_changes_nothing s t o i = record {
   flat = record { code = s.flat.code; threads = set-get_or s.flat.threads t idle i; objects = set-get_or s.flat.objects o empty i };
   sources = set-get_or s.sources t no_source i;
 }
 
-with_turn_twice : (s : SourcedFlat) (t : ℕ) (x y : ThreadState × Source) (o : ℕ) (c d : Cell)
+with_turn_twice_is_later_turn : (s : SourcedFlat) (t : ℕ) (x y : ThreadState × Source) (o : ℕ) (c d : Cell)
     → with_turn (with_turn s t x o c) t y o d ≡ with_turn s t y o d
-with_turn_twice s t x y o c d i = record {
+with_turn_twice_is_later_turn s t x y o c d i = record {
   flat = record { code = s.flat.code; threads = set-set s.flat.threads t x.0 y.0 i; objects = set-set s.flat.objects o c d i };
   sources = set-set s.sources t x.1 y.1 i;
 }
 
 -- a state of which the flat part is as after the step, and the source of its thread too, is that after the step
-pub full_of_step : (s u : SourcedFlat) (t r : ℕ) → t < length s.sources → tables u.flat ≡ after (machine s.flat) (tables s.flat) (t, r)
+pub full_after_step_if_source_is_set : (s u : SourcedFlat) (t r : ℕ) → t < length s.sources → tables u.flat ≡ after (machine s.flat) (tables s.flat) (t, r)
     → u.sources ≡ set s.sources t (left_of given (shared_ask (ask_of s.flat.code (thread_of s.flat t))) (source_of s t))
     → full_of u ≡ after (full_by s.flat.code) (full_of s) (t, r)
-full_of_step s u t r less flat sources =
+full_after_step_if_source_is_set s u t r less flat sources =
     let source : Source = left_of given (shared_ask (ask_of s.flat.code (thread_of s.flat t))) (source_of s t) in
     (λ i. beside (flat i) (λ v. get_or (sources i) v no_source))
-    ∙ (λ i. beside (after (machine s.flat) (tables s.flat) (t, r)) (source_of_set s.sources t source less i))
+    ∙ (λ i. beside (after (machine s.flat) (tables s.flat) (t, r)) (lookup_after_source_set_is_upd s.sources t source less i))
     ∙ sym (after_step_beside_sources (thread_machine s.flat.code) given (tables s.flat) (source_of s) (t, r))
 
 -- ---- one step
@@ -152,7 +152,7 @@ module _ (s : SourcedFlat) (t o : ℕ) (refused : Bool) (state : IsSourced s) (l
               ∙ sym (length-set f.threads t (after_ask f.code (thread_of f t) q (answer_from refused (cell_of f o) (source_of s t) q)));
         };
         can = (may_step_is_can_for_ask f t r q state.flat less refl).0 may;
-        is = full_of_step s after_lone_step t r each (ap tables (sym made) ∙ tables_of_next_are_after f t r q state.flat less refl may) refl;
+        is = full_after_step_if_source_is_set s after_lone_step t r each (ap tables (sym made) ∙ tables_of_next_are_after f t r q state.flat less refl may) refl;
         code = refl;
         threads = length-set f.threads t (after_ask f.code (thread_of f t) q (answer_from refused (cell_of f o) (source_of s t) q));
         objects = length-set f.objects o (cell_after refused (cell_of f o) q);
@@ -176,16 +176,16 @@ lone_run_by_fair_step s t o state less fair about suits =
       others = others_stay_after_step s u t r one.is;
     }
 
-pub lone_run_in_flat : (k : ℕ) (s : SourcedFlat) (t o : ℕ) (x y : ThreadState × Source) (c d : Cell) → IsSourced s → t < length s.flat.threads
+pub lone_run_if_goes_lone : (k : ℕ) (s : SourcedFlat) (t o : ℕ) (x y : ThreadState × Source) (c d : Cell) → IsSourced s → t < length s.flat.threads
     → o < length s.flat.objects → sourced_thread s t ≡ x → cell_of s.flat o ≡ c → GoesLone s.flat.code o k x c y d → IsLoneRun s t (with_turn s t y o d)
-lone_run_in_flat zero s t o x y c d state less few here there (same, too) =
-    subst (IsLoneRun s t) (sym (with_own_turn s t o) ∙ (λ i. with_turn s t ((here ∙ same) i) o ((there ∙ too) i)))
+lone_run_if_goes_lone zero s t o x y c d state less few here there (same, too) =
+    subst (IsLoneRun s t) (sym (with_own_turn_changes_nothing s t o) ∙ (λ i. with_turn s t ((here ∙ same) i) o ((there ∙ too) i)))
     (record {
       state = state;
       goes = goes_plain_reflexive s;
       others = record { threads = λ v ne. refl; sources = λ v ne. refl };
     })
-lone_run_in_flat (suc k) s t o x y c d state less few here there (fair, about, suits, more) =
+lone_run_if_goes_lone (suc k) s t o x y c d state less few here there (fair, about, suits, more) =
     let code = s.flat.code in
     let u = with_turn s t (lone_thread code false x c) o (lone_cell code false x c) in
     let first : IsLoneRun s t u =
@@ -201,9 +201,9 @@ lone_run_in_flat (suc k) s t o x y c d state less few here there (fair, about, s
       get_or-set_same s.sources t (lone_thread code false x c).1 no_source each i,
     ) in
     let rest : IsLoneRun u t (with_turn u t y o d) =
-    lone_run_in_flat k u t o (lone_thread code false x c) y (lone_cell code false x c) d first.state less_u few_u here_u
+    lone_run_if_goes_lone k u t o (lone_thread code false x c) y (lone_cell code false x c) d first.state less_u few_u here_u
     (get_or-set_same s.flat.objects o (lone_cell code false x c) empty few) more in
-    subst (IsLoneRun s t) (with_turn_twice s t (lone_thread code false x c) y o (lone_cell code false x c) d) (record {
+    subst (IsLoneRun s t) (with_turn_twice_is_later_turn s t (lone_thread code false x c) y o (lone_cell code false x c) d) (record {
       state = rest.state;
       goes = goes_plain_transitive s u (with_turn u t y o d) first.goes rest.goes;
       others = others_stay_transitive s u (with_turn u t y o d) t first.others rest.others;
@@ -216,77 +216,77 @@ pub record IsLoneTurn (s : SourcedFlat) (t : ℕ) (refused : Bool) (u w : Source
   pub rests : Rests (ask_of w.flat.code (thread_of w.flat t))
 
 -- what begins a turn is about its object
-beginning_is_about : (o : ℕ) (refused : Bool) (fields : Fields) (q : Ask) → MayBegin refused o fields q → IsAbout o q
-beginning_is_about o refused fields ask.Private h = absurd h
-beginning_is_about o refused fields (ask.Env k) h = absurd h
-beginning_is_about o refused fields (ask.Enter p a) h = h.1
-beginning_is_about o refused fields (ask.Try p) h = h.0
-beginning_is_about o refused fields (ask.Leave p a) h = absurd h
-beginning_is_about o refused fields (ask.Get p i) h = absurd h
-beginning_is_about o refused fields (ask.Put p i v) h = absurd h
-beginning_is_about o refused fields ask.Print h = absurd h
-beginning_is_about o refused fields (ask.End e) h = absurd h
-beginning_is_about o refused fields ask.Done h = absurd h
+ask_is_about_object_if_it_begins_turn : (o : ℕ) (refused : Bool) (fields : Fields) (q : Ask) → MayBegin refused o fields q → IsAbout o q
+ask_is_about_object_if_it_begins_turn o refused fields ask.Private h = absurd h
+ask_is_about_object_if_it_begins_turn o refused fields (ask.Env k) h = absurd h
+ask_is_about_object_if_it_begins_turn o refused fields (ask.Enter p a) h = h.1
+ask_is_about_object_if_it_begins_turn o refused fields (ask.Try p) h = h.0
+ask_is_about_object_if_it_begins_turn o refused fields (ask.Leave p a) h = absurd h
+ask_is_about_object_if_it_begins_turn o refused fields (ask.Get p i) h = absurd h
+ask_is_about_object_if_it_begins_turn o refused fields (ask.Put p i v) h = absurd h
+ask_is_about_object_if_it_begins_turn o refused fields ask.Print h = absurd h
+ask_is_about_object_if_it_begins_turn o refused fields (ask.End e) h = absurd h
+ask_is_about_object_if_it_begins_turn o refused fields ask.Done h = absurd h
 
 -- and there is such a step
-beginning_may_step : (f : Flat) (o : ℕ) (refused : Bool) (q : Ask) → MayBegin refused o (cell_of f o).fields q → MayStep f (result_by refused) q
-beginning_may_step f o refused ask.Private h = absurd h
-beginning_may_step f o refused (ask.Env k) h = absurd h
-beginning_may_step f o refused (ask.Enter p a) h = subst (λ z. Admitted a (cell_of f z).fields) (sym h.1) h.2
-beginning_may_step f o refused (ask.Try p) h = subst (λ z. MayTry (cell_of f z).fields (result_by refused)) (sym h.0) h.1
-beginning_may_step f o refused (ask.Leave p a) h = absurd h
-beginning_may_step f o refused (ask.Get p i) h = absurd h
-beginning_may_step f o refused (ask.Put p i v) h = absurd h
-beginning_may_step f o refused ask.Print h = absurd h
-beginning_may_step f o refused (ask.End e) h = absurd h
-beginning_may_step f o refused ask.Done h = absurd h
+ask_may_step_if_it_begins_turn : (f : Flat) (o : ℕ) (refused : Bool) (q : Ask) → MayBegin refused o (cell_of f o).fields q → MayStep f (result_by refused) q
+ask_may_step_if_it_begins_turn f o refused ask.Private h = absurd h
+ask_may_step_if_it_begins_turn f o refused (ask.Env k) h = absurd h
+ask_may_step_if_it_begins_turn f o refused (ask.Enter p a) h = subst (λ z. Admitted a (cell_of f z).fields) (sym h.1) h.2
+ask_may_step_if_it_begins_turn f o refused (ask.Try p) h = subst (λ z. MayTry (cell_of f z).fields (result_by refused)) (sym h.0) h.1
+ask_may_step_if_it_begins_turn f o refused (ask.Leave p a) h = absurd h
+ask_may_step_if_it_begins_turn f o refused (ask.Get p i) h = absurd h
+ask_may_step_if_it_begins_turn f o refused (ask.Put p i v) h = absurd h
+ask_may_step_if_it_begins_turn f o refused ask.Print h = absurd h
+ask_may_step_if_it_begins_turn f o refused (ask.End e) h = absurd h
+ask_may_step_if_it_begins_turn f o refused ask.Done h = absurd h
 
 -- a turn is by its way
-pub beginning_may_go : (o : ℕ) (refused : Bool) (fields : Fields) (q : Ask) → MayBegin refused o fields q → MayGo refused q
-beginning_may_go o refused fields ask.Private h = absurd h
-beginning_may_go o refused fields (ask.Env k) h = absurd h
-beginning_may_go o refused fields (ask.Enter p a) h = subst (λ z. MayGo z (ask.Enter p a)) (sym h.0) tt
-beginning_may_go o true fields (ask.Try p) h = tt
-beginning_may_go o false fields (ask.Try p) h = tt
-beginning_may_go o refused fields (ask.Leave p a) h = absurd h
-beginning_may_go o refused fields (ask.Get p i) h = absurd h
-beginning_may_go o refused fields (ask.Put p i v) h = absurd h
-beginning_may_go o refused fields ask.Print h = absurd h
-beginning_may_go o refused fields (ask.End e) h = absurd h
-beginning_may_go o refused fields ask.Done h = absurd h
+pub ask_may_go_if_it_begins_turn : (o : ℕ) (refused : Bool) (fields : Fields) (q : Ask) → MayBegin refused o fields q → MayGo refused q
+ask_may_go_if_it_begins_turn o refused fields ask.Private h = absurd h
+ask_may_go_if_it_begins_turn o refused fields (ask.Env k) h = absurd h
+ask_may_go_if_it_begins_turn o refused fields (ask.Enter p a) h = subst (λ z. MayGo z (ask.Enter p a)) (sym h.0) tt
+ask_may_go_if_it_begins_turn o true fields (ask.Try p) h = tt
+ask_may_go_if_it_begins_turn o false fields (ask.Try p) h = tt
+ask_may_go_if_it_begins_turn o refused fields (ask.Leave p a) h = absurd h
+ask_may_go_if_it_begins_turn o refused fields (ask.Get p i) h = absurd h
+ask_may_go_if_it_begins_turn o refused fields (ask.Put p i v) h = absurd h
+ask_may_go_if_it_begins_turn o refused fields ask.Print h = absurd h
+ask_may_go_if_it_begins_turn o refused fields (ask.End e) h = absurd h
+ask_may_go_if_it_begins_turn o refused fields ask.Done h = absurd h
 
 -- the result of such a step
-beginning_has_result_by_way : (o : ℕ) (refused : Bool) (fields : Fields) (source : Source) (q : Ask) → MayBegin refused o fields q
+result_is_by_way_if_ask_begins_turn : (o : ℕ) (refused : Bool) (fields : Fields) (source : Source) (q : Ask) → MayBegin refused o fields q
     → result_of refused q source ≡ result_by refused
-beginning_has_result_by_way o refused fields source ask.Private h = absurd h
-beginning_has_result_by_way o refused fields source (ask.Env k) h = absurd h
-beginning_has_result_by_way o refused fields source (ask.Enter p a) h = refl
-beginning_has_result_by_way o refused fields source (ask.Try p) h = refl
-beginning_has_result_by_way o refused fields source (ask.Leave p a) h = absurd h
-beginning_has_result_by_way o refused fields source (ask.Get p i) h = absurd h
-beginning_has_result_by_way o refused fields source (ask.Put p i v) h = absurd h
-beginning_has_result_by_way o refused fields source ask.Print h = absurd h
-beginning_has_result_by_way o refused fields source (ask.End e) h = absurd h
-beginning_has_result_by_way o refused fields source ask.Done h = absurd h
+result_is_by_way_if_ask_begins_turn o refused fields source ask.Private h = absurd h
+result_is_by_way_if_ask_begins_turn o refused fields source (ask.Env k) h = absurd h
+result_is_by_way_if_ask_begins_turn o refused fields source (ask.Enter p a) h = refl
+result_is_by_way_if_ask_begins_turn o refused fields source (ask.Try p) h = refl
+result_is_by_way_if_ask_begins_turn o refused fields source (ask.Leave p a) h = absurd h
+result_is_by_way_if_ask_begins_turn o refused fields source (ask.Get p i) h = absurd h
+result_is_by_way_if_ask_begins_turn o refused fields source (ask.Put p i v) h = absurd h
+result_is_by_way_if_ask_begins_turn o refused fields source ask.Print h = absurd h
+result_is_by_way_if_ask_begins_turn o refused fields source (ask.End e) h = absurd h
+result_is_by_way_if_ask_begins_turn o refused fields source ask.Done h = absurd h
 
-pub lone_turn_in_flat : (s : SourcedFlat) (t o : ℕ) (refused : Bool) (x y : ThreadState × Source) (c d : Cell) → IsSourced s → t < length s.flat.threads
+pub lone_turn_if_takes_turn : (s : SourcedFlat) (t o : ℕ) (refused : Bool) (x y : ThreadState × Source) (c d : Cell) → IsSourced s → t < length s.flat.threads
     → o < length s.flat.objects → sourced_thread s t ≡ x → cell_of s.flat o ≡ c → TakesTurn s.flat.code o refused x c y d
     → (u : SourcedFlat) × IsLoneTurn s t refused u (with_turn s t y o d)
-lone_turn_in_flat s t o refused x y c d state less few here there turn =
+lone_turn_if_takes_turn s t o refused x y c d state less few here there turn =
     let code = s.flat.code in
     let q = ask_of code (thread_of s.flat t) in
     let begins : MayBegin refused o (cell_of s.flat o).fields q =
     subst (λ (z : Cell). MayBegin refused o z.fields q) (sym there)
     (subst (λ (z : ThreadState × Source). MayBegin refused o c.fields (ask_of code z.0)) (sym here) turn.begins) in
     let result : result_of refused q (source_of s t) ≡ result_by refused =
-    beginning_has_result_by_way o refused (cell_of s.flat o).fields (source_of s t) q begins in
+    result_is_by_way_if_ask_begins_turn o refused (cell_of s.flat o).fields (source_of s t) q begins in
     let u = with_turn s t (lone_thread code refused x c) o (lone_cell code refused x c) in
     let one : IsLoneStep s t (result_by refused) u =
     subst (IsLoneStep s t (result_by refused))
     (λ i. with_turn s t (lone_thread code refused (here i) (there i)) o (lone_cell code refused (here i) (there i)))
     (subst (λ r. IsLoneStep s t r (after_lone_step s t o refused state less)) result
-    (lone_step s t o refused state less (beginning_is_about o refused (cell_of s.flat o).fields q begins)
-    (subst (λ r. MayStep s.flat r q) (sym result) (beginning_may_step s.flat o refused q begins)))) in
+    (lone_step s t o refused state less (ask_is_about_object_if_it_begins_turn o refused (cell_of s.flat o).fields q begins)
+    (subst (λ r. MayStep s.flat r q) (sym result) (ask_may_step_if_it_begins_turn s.flat o refused q begins)))) in
     let each : t < length s.sources = (let a = state.each in omega (arith, a, less)) in
     let less_u : t < length u.flat.threads = (let a = one.threads in omega (arith, a, less)) in
     let few_u : o < length u.flat.objects = (let a = one.objects in omega (arith, a, few)) in
@@ -295,12 +295,12 @@ lone_turn_in_flat s t o refused x y c d state less few here there turn =
       get_or-set_same s.sources t (lone_thread code refused x c).1 no_source each i,
     ) in
     let rest : IsLoneRun u t (with_turn u t y o d) =
-    lone_run_in_flat turn.steps u t o (lone_thread code refused x c) y (lone_cell code refused x c) d one.state less_u few_u here_u
+    lone_run_if_goes_lone turn.steps u t o (lone_thread code refused x c) y (lone_cell code refused x c) d one.state less_u few_u here_u
     (get_or-set_same s.flat.objects o (lone_cell code refused x c) empty few) turn.goes in (
       u,
       record {
         enters = one;
-        goes = subst (IsLoneRun u t) (with_turn_twice s t (lone_thread code refused x c) y o (lone_cell code refused x c) d) rest;
+        goes = subst (IsLoneRun u t) (with_turn_twice_is_later_turn s t (lone_thread code refused x c) y o (lone_cell code refused x c) d) rest;
         rests = subst (λ z. Rests (ask_of code z)) (sym (get_or-set_same s.flat.threads t y.0 idle less)) turn.rests;
       },
     )
@@ -397,9 +397,9 @@ may_take_fair_ask code o x c q b is fair about = by q (subst (Permits x) is (ask
     by ask.Done p fair about = absurd fair
 
 -- so it may where a turn begins
-pub may_take_beginning : (code : List ℕ) (o : ℕ) (refused : Bool) (x : ThreadState) (c : Cell) (q : Ask) → AreBeside code o x c
+pub may_take_ask_if_it_begins_turn : (code : List ℕ) (o : ℕ) (refused : Bool) (x : ThreadState) (c : Cell) (q : Ask) → AreBeside code o x c
     → MayBegin refused o c.fields q → MayTake refused c q
-may_take_beginning code o refused x c q b begins = by refused q begins
+may_take_ask_if_it_begins_turn code o refused x c q b begins = by refused q begins
   where
     fits : (a : Access) → IsFields (entered a c.fields)
     fits a = subst (λ (z : Cell). IsFields (entered a z.fields)) b.there (entered_fields_fit b.flat o a b.is b.has_object)
@@ -458,15 +458,15 @@ takes_turn_by_beginning_and_run code o refused x z source left y c e d q asks be
 }
 
 -- beside the object the thread is after that too
-pub are_beside_after_beginning : (code : List ℕ) (o : ℕ) (refused : Bool) (x z : ThreadState) (source : Source) (c e : Cell) (q : Ask)
+pub are_beside_after_turn_begins : (code : List ℕ) (o : ℕ) (refused : Bool) (x z : ThreadState) (source : Source) (c e : Cell) (q : Ask)
     → AreBeside code o x c → ask_of code x ≡ q → MayBegin refused o c.fields q → z ≡ after_ask code x q (answer_from refused c source q)
     → e ≡ cell_after refused c q → AreBeside code o z e
-are_beside_after_beginning code o refused x z source c e q b asks begins is too =
+are_beside_after_turn_begins code o refused x z source c e q b asks begins is too =
     subst (λ s. AreBeside code o s e) (sym is)
     (subst (AreBeside code o (after_ask code x q (answer_from refused c source q))) (sym too)
-    (are_beside_after_ask code o refused x source c q b asks (beginning_is_about o refused c.fields q begins)
-    (λ f there. subst (λ r. MayStep f r q) (sym (beginning_has_result_by_way o refused c.fields source q begins))
-    (beginning_may_step f o refused q (subst (λ (s : Cell). MayBegin refused o s.fields q) (sym there) begins)))))
+    (are_beside_after_ask code o refused x source c q b asks (ask_is_about_object_if_it_begins_turn o refused c.fields q begins)
+    (λ f there. subst (λ r. MayStep f r q) (sym (result_is_by_way_if_ask_begins_turn o refused c.fields source q begins))
+    (ask_may_step_if_it_begins_turn f o refused q (subst (λ (s : Cell). MayBegin refused o s.fields q) (sym there) begins)))))
 
 -- the form of the image stays
 form_kept_by_lone_run : (code : List ℕ) (o k : ℕ) (x y : ThreadState × Source) (c d : Cell) → GoesLone code o k x c y d → x.0.form ≡ y.0.form

@@ -46,16 +46,16 @@ ask_done_if_shared_ask_done ask.Print h = absurd (cc h)
 ask_done_if_shared_ask_done (ask.End e) h = absurd (cc h)
 ask_done_if_shared_ask_done ask.Done h = refl
 
-all_over_step : (s : ThreadState) (threads : List ThreadState) (t : ℕ) (d : ThreadState) (b : Bool) → is_over s ≡ b → (b && all_over threads) ≡ true
+thread_is_over_if_all_over_step : (s : ThreadState) (threads : List ThreadState) (t : ℕ) (d : ThreadState) (b : Bool) → is_over s ≡ b → (b && all_over threads) ≡ true
     → t < suc (length threads) → ((u : ℕ) → all_over threads ≡ true → u < length threads → is_over (get_or threads u d) ≡ true)
     → is_over (get_or (s ∷ threads) t d) ≡ true
-all_over_step s threads zero d true is all lt rest = is
-all_over_step s threads (suc t) d true is all lt rest = rest t all (omega (arith, lt))
-all_over_step s threads t d false is all lt rest = absurd (cc all)
+thread_is_over_if_all_over_step s threads zero d true is all lt rest = is
+thread_is_over_if_all_over_step s threads (suc t) d true is all lt rest = rest t all (omega (arith, lt))
+thread_is_over_if_all_over_step s threads t d false is all lt rest = absurd (cc all)
 
-thread_over_of_all_over : (threads : List ThreadState) (t : ℕ) (d : ThreadState) → all_over threads ≡ true → t < length threads → is_over (get_or threads t d) ≡ true
-thread_over_of_all_over [] t d all lt = absurd (omega (arith, lt))
-thread_over_of_all_over (s ∷ threads) t d all lt = all_over_step s threads t d (is_over s) refl all lt (λ u. thread_over_of_all_over threads u d)
+thread_is_over_if_all_over : (threads : List ThreadState) (t : ℕ) (d : ThreadState) → all_over threads ≡ true → t < length threads → is_over (get_or threads t d) ≡ true
+thread_is_over_if_all_over [] t d all lt = absurd (omega (arith, lt))
+thread_is_over_if_all_over (s ∷ threads) t d all lt = thread_is_over_if_all_over_step s threads t d (is_over s) refl all lt (λ u. thread_is_over_if_all_over threads u d)
 
 all_over_if_each_thread_over : (threads : List ThreadState) (d : ThreadState) → ((t : ℕ) → t < length threads → is_over (get_or threads t d) ≡ true) → all_over threads ≡ true
 all_over_if_each_thread_over [] d each = refl
@@ -64,7 +64,7 @@ all_over_if_each_thread_over (s ∷ threads) d each =
 
 pub is_done_if_all_over : (f : Flat) → all_over f.threads ≡ true → IsDone (machine f) (tables f)
 is_done_if_all_over f all t = elim (cases_lt t (length f.threads)) [
-  | inl l ↦ ap shared_ask (ask_of_over_thread_is_done f.code (thread_of f t) (thread_over_of_all_over f.threads t idle all l))
+  | inl l ↦ ap shared_ask (ask_of_over_thread_is_done f.code (thread_of f t) (thread_is_over_if_all_over f.threads t idle all l))
   | inr l ↦ ap shared_ask (ask_past_threads_is_done f t l)
 ]
 

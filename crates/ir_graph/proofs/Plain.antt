@@ -23,7 +23,7 @@ use Rattle.ir_flat.specs.Alone.{WentAlone}
 use Rattle.ir_flat.specs.Flat.{Flat, tables, machine, thread_of}
 use Rattle.ir_store.specs.Nodes.{SourcedFlat, source_of}
 use Rattle.ir_graph.specs.Plain.{full_by, full_of, sourced_flat, IsAnsweredRun, IsPlainRun, GoesPlain, OthersStay, IsLike, Rests, IsFair}
-use Rattle.ir_graph.proofs.Full.{after_step_beside_sources, after_step_beside_same_sources, source_of_set, tables_at_end, plain_run_append}
+use Rattle.ir_graph.proofs.Full.{after_step_beside_sources, after_step_beside_same_sources, lookup_after_source_set_is_upd, tables_at_end_if_full_state_at_end, plain_run_append}
 
 -- what a step of a thread makes of a guest's state
 pub record TakesStep (s u : SourcedFlat) (t r : ℕ) : Type 0 where
@@ -74,15 +74,15 @@ fair_ask_is_own (ask.End e) h = refl
 fair_ask_is_own ask.Done h = absurd h
 
 -- the answer of the source answers each ask
-pub answer_is_answered : (q : machine.Ask) (source : Source) (r : ℕ) → r ≡ answer_of given q source → IsAnswered q (answer_of given q source) r
-answer_is_answered machine.Private source r is = tt
-answer_is_answered (machine.Env k) source r is = is
-answer_is_answered (machine.Enter o a) source r is = tt
-answer_is_answered (machine.Try o) source r is = tt
-answer_is_answered (machine.Leave o a) source r is = tt
-answer_is_answered (machine.Get o i) source r is = tt
-answer_is_answered (machine.Put o i v) source r is = tt
-answer_is_answered machine.Done source r is = tt
+pub ask_is_answered_by_its_source : (q : machine.Ask) (source : Source) (r : ℕ) → r ≡ answer_of given q source → IsAnswered q (answer_of given q source) r
+ask_is_answered_by_its_source machine.Private source r is = tt
+ask_is_answered_by_its_source (machine.Env k) source r is = is
+ask_is_answered_by_its_source (machine.Enter o a) source r is = tt
+ask_is_answered_by_its_source (machine.Try o) source r is = tt
+ask_is_answered_by_its_source (machine.Leave o a) source r is = tt
+ask_is_answered_by_its_source (machine.Get o i) source r is = tt
+ask_is_answered_by_its_source (machine.Put o i v) source r is = tt
+ask_is_answered_by_its_source machine.Done source r is = tt
 
 -- what a thread that rests asks of others
 pub rest_ask_is_not_own : (q : Ask) → Rests q → is_own (shared_ask q) ≡ false
@@ -97,17 +97,17 @@ rest_ask_is_not_own ask.Print h = absurd h
 rest_ask_is_not_own (ask.End e) h = absurd h
 rest_ask_is_not_own ask.Done h = refl
 
-source_left_by_rest_ask : (q : Ask) (source : Source) → Rests q → left_of given (shared_ask q) source ≡ source
-source_left_by_rest_ask ask.Private source h = absurd h
-source_left_by_rest_ask (ask.Env k) source h = absurd h
-source_left_by_rest_ask (ask.Enter o a) source h = refl
-source_left_by_rest_ask (ask.Try o) source h = refl
-source_left_by_rest_ask (ask.Leave o a) source h = absurd h
-source_left_by_rest_ask (ask.Get o i) source h = absurd h
-source_left_by_rest_ask (ask.Put o i v) source h = absurd h
-source_left_by_rest_ask ask.Print source h = absurd h
-source_left_by_rest_ask (ask.End e) source h = absurd h
-source_left_by_rest_ask ask.Done source h = refl
+rest_ask_keeps_source : (q : Ask) (source : Source) → Rests q → left_of given (shared_ask q) source ≡ source
+rest_ask_keeps_source ask.Private source h = absurd h
+rest_ask_keeps_source (ask.Env k) source h = absurd h
+rest_ask_keeps_source (ask.Enter o a) source h = refl
+rest_ask_keeps_source (ask.Try o) source h = refl
+rest_ask_keeps_source (ask.Leave o a) source h = absurd h
+rest_ask_keeps_source (ask.Get o i) source h = absurd h
+rest_ask_keeps_source (ask.Put o i v) source h = absurd h
+rest_ask_keeps_source ask.Print source h = absurd h
+rest_ask_keeps_source (ask.End e) source h = absurd h
+rest_ask_keeps_source ask.Done source h = refl
 
 pub rest_ask_is_answered : (q : Ask) (answer r : ℕ) → Rests q → IsAnswered (shared_ask q) answer r
 rest_ask_is_answered ask.Private answer r h = absurd h
@@ -124,15 +124,15 @@ rest_ask_is_answered ask.Done answer r h = tt
 -- ---- steps of a guest's state
 
 -- a thread that rests takes a step, which leaves the sources
-pub step_at_rest : (f g : Flat) (sources : List Source) (t r : ℕ) → Rests (ask_of f.code (thread_of f t)) → Can (machine f) (tables f) (t, r)
+pub takes_step_at_rest : (f g : Flat) (sources : List Source) (t r : ℕ) → Rests (ask_of f.code (thread_of f t)) → Can (machine f) (tables f) (t, r)
     → tables g ≡ after (machine f) (tables f) (t, r) → g.code ≡ f.code → length g.threads ≡ length f.threads
     → length g.objects ≡ length f.objects → TakesStep (sourced_flat f sources) (sourced_flat g sources) t r
-step_at_rest f g sources t r rests can is code threads objects = record {
+takes_step_at_rest f g sources t r rests can is code threads objects = record {
   can = can;
   is = full_after_step (sourced_flat f sources) (sourced_flat g sources) t r is
       (sym (upd_with_old_value (source_of (sourced_flat f sources)) t
       (left_of given (shared_ask (ask_of f.code (thread_of f t))) (source_of (sourced_flat f sources) t))
-      (sym (source_left_by_rest_ask (ask_of f.code (thread_of f t)) (source_of (sourced_flat f sources) t) rests))));
+      (sym (rest_ask_keeps_source (ask_of f.code (thread_of f t)) (source_of (sourced_flat f sources) t) rests))));
   code = code;
   threads = threads;
   objects = objects;
@@ -140,15 +140,15 @@ step_at_rest f g sources t r rests can is code threads objects = record {
 }
 
 -- a thread takes a step, which leaves this of its source
-pub step_beside_source : (f g : Flat) (sources : List Source) (a : Source) (t r : ℕ) → t < length sources → Can (machine f) (tables f) (t, r)
+pub takes_step_beside_source : (f g : Flat) (sources : List Source) (a : Source) (t r : ℕ) → t < length sources → Can (machine f) (tables f) (t, r)
     → tables g ≡ after (machine f) (tables f) (t, r)
     → a ≡ left_of given (shared_ask (ask_of f.code (thread_of f t))) (source_of (sourced_flat f sources) t)
     → g.code ≡ f.code → length g.threads ≡ length f.threads → length g.objects ≡ length f.objects
     → TakesStep (sourced_flat f sources) (sourced_flat g (set sources t a)) t r
-step_beside_source f g sources a t r less can is left code threads objects = record {
+takes_step_beside_source f g sources a t r less can is left code threads objects = record {
   can = can;
   is = full_after_step (sourced_flat f sources) (sourced_flat g (set sources t a)) t r is
-      (source_of_set sources t a less ∙ ap (upd (source_of (sourced_flat f sources)) t) left);
+      (lookup_after_source_set_is_upd sources t a less ∙ ap (upd (source_of (sourced_flat f sources)) t) left);
   code = code;
   threads = threads;
   objects = objects;
@@ -336,7 +336,7 @@ like_after_run s u run ends code threads objects = record {
   code = code;
   threads = threads;
   objects = objects;
-  twins = λ v. subst (AreTwins (thread_of s.flat v)) (ap (λ z. z.now v) (sym (tables_at_end s u run ends)))
+  twins = λ v. subst (AreTwins (thread_of s.flat v)) (ap (λ z. z.now v) (sym (tables_at_end_if_full_state_at_end s u run ends)))
       (twins_after_run s.flat.code (tables s.flat) run v);
 }
 

@@ -14,7 +14,7 @@ use Rattle.ir_store.specs.Nodes.{SourcedFlat}
 use Rattle.ir_graph.specs.Setup.{Setup, start_of, IsCountedOf}
 use Rattle.ir_graph.specs.Plain.{full_by, full_of, IsAnsweredRun, GoesPlain, Rests}
 use Rattle.ir_graph.specs.Reached.{beginning, IsReached, AllReached}
-use Rattle.ir_graph.proofs.Full.{tables_at_end, answered_run_append, plain_run_is_answered, live_run_of_threads}
+use Rattle.ir_graph.proofs.Full.{tables_at_end_if_full_state_at_end, answered_run_append, plain_run_is_answered, live_run_of_threads}
 use Rattle.ir_graph.proofs.Plain.{TakesStep, step_at_rest_is_answered_run, like_transitive, like_after_plain_steps, like_after_step}
 
 pub answered_run_is_run : (code : List ℕ) (s : State (ThreadState × Source)) (run : List Step) → IsAnsweredRun code s run
@@ -34,7 +34,7 @@ done_answered_run_is_counted x steps a done = record {
 -- the threads and objects alone, where a run leads
 pub tables_of_reached : (x : Setup) (s : SourcedFlat) → (r : IsReached x s)
     → tables s.flat ≡ end (thread_machine x.guest.code) (tables (start_of x).flat) r.steps
-tables_of_reached x s r = tables_at_end (start_of x) s r.steps r.ends
+tables_of_reached x s r = tables_at_end_if_full_state_at_end (start_of x) s r.steps r.ends
 
 -- the start, once the threads went on alone
 pub plain_start_is_reached : (x : Setup) (s : SourcedFlat) → GoesPlain (start_of x) s → IsReached x s

@@ -1,7 +1,7 @@
 -- A search over the graph of a guest, level by level.
 use Rattle.std.proofs.Common.{◌≡◌, ℕ, Bool, Option, List, length, subst}
 use Rattle.std.specs.Global.{Vec}
-use Rattle.std.specs.Prelude.{Result, Ok, Err, OnOk, IfOk, IfErr}
+use Rattle.std.specs.Prelude.{Result, Ok, Err, IfOk, IfErr}
 use Rattle.ir_explore.specs.declared.origin.Origin.{Origin}
 use Rattle.ir_explore.specs.declared.origin.Refusal.{Refusal}
 use Rattle.ir_explore.specs.Levels.{AreAsked, AreGoneOver, Covered}
@@ -48,17 +48,12 @@ module _ (x : Setup) (flats : List SourcedFlat) (rows tries : List (Vec (Option 
     marked_by marks ways =
         are_marked x flats (noted_by rows tries) (length rows) graph origins refusals has.reached all asked_each marks ways
 
--- what follows from what is so on success
-pub on_ok : {A E P Q : Type 0} (r : Result A E) → (P → Q) → OnOk r P → OnOk r Q
-on_ok (Ok x) f p = f p
-on_ok (Err e) f p = tt
-
 -- what follows from what is so of an error
-pub if_err : {A E : Type 0} {P Q : E → Type 0} (r : Result A E) → ((e : E) → P e → Q e) → IfErr r P → IfErr r Q
-if_err (Ok x) f p = tt
-if_err (Err e) f p = f e p
+pub if_err_of_implied : {A E : Type 0} {P Q : E → Type 0} (r : Result A E) → ((e : E) → P e → Q e) → IfErr r P → IfErr r Q
+if_err_of_implied (Ok x) f p = tt
+if_err_of_implied (Err e) f p = f e p
 
 -- what follows from what is so of a value
-pub if_ok : {A E : Type 0} {P Q : A → Type 0} (r : Result A E) → ((x : A) → P x → Q x) → IfOk r P → IfOk r Q
-if_ok (Ok x) f p = f x p
-if_ok (Err e) f p = tt
+pub if_ok_of_implied : {A E : Type 0} {P Q : A → Type 0} (r : Result A E) → ((x : A) → P x → Q x) → IfOk r P → IfOk r Q
+if_ok_of_implied (Ok x) f p = f x p
+if_ok_of_implied (Err e) f p = tt

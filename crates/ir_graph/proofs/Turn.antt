@@ -1,28 +1,29 @@
 -- One thread that goes on alone.
-use Rattle.std.proofs.Common.{◌≡◌, ℕ, zero, suc, ◌+◌, Bool, true, false, cond, List, [], ◌∷◌, ◌++◌, length, length-append, inl, inr, refl, sym, ap, ◌∙◌, subst, arith}
+use Rattle.std.proofs.Common.{◌≡◌, ℕ, zero, suc, ◌+◌, Bool, true, false, cond, List, [], ◌∷◌, ◌++◌, map, length, length-append, inl, inr, refl, sym, ap, ◌∙◌, subst, arith}
 use Rattle.std.specs.Prelude.{replicate}
 use Rattle.std.proofs.lemmas.List.{length-replicate}
 use Rattle.ir_record.specs.Refusing.{Turn, Tries, InTurns}
 use Rattle.ir_runs.specs.Machine as machines
 use Rattle.ir_runs.specs.Machine.{Machine, Admits, target, act_of}
-use Rattle.ir_runs.specs.Run.{State, Step, asked, Can, after, end, IsRun}
+use Rattle.ir_runs.specs.Run.{State, Step, asked, act, Can, after, end, IsRun}
 use Rattle.ir_runs.proofs.CallerLemmas.{end_append}
-use Rattle.ir_states.specs.Counting.{IsAnswered, is_own, GoesAhead, entering}
+use Rattle.ir_states.specs.Counting.{Answers, IsAnswered, is_own, GoesAhead, entering}
 use Rattle.ir_states.specs.Views.{beside}
-use Rattle.ir_states.specs.Orders.{IsAlone}
+use Rattle.ir_states.specs.Orders.{IsAlone, is_refusal}
 use Rattle.ir_states.specs.Sources.{Giving, answer_of, sourced, plain}
-use Rattle.ir_states.proofs.CallerLemmas.{counting_run_is_run, entering_append, goes_ahead_enters_nothing, plain_end}
+use Rattle.ir_states.proofs.CallerLemmas.{counting_run_is_run, plain_end}
 use Rattle.ir_thread.specs.State.{ask_of, shared_ask}
 use Rattle.ir_sources.specs.Sources.{Source, given}
 use Rattle.ir_flat.specs.Alone.{WentAlone}
 use Rattle.ir_flat.specs.Flat.{Flat, tables, machine, thread_of}
 use Rattle.ir_store.specs.Nodes.{SourcedFlat, source_of}
-use Rattle.ir_graph.specs.Plain.{full_by, sources_by, full_of, sourced_flat, IsAnsweredRun, IsPlainRun, IsFair, Rests, IsLike, result_by}
-use Rattle.ir_graph.specs.Turn.{EachTries, GoesAlone}
+use Rattle.ir_graph.specs.Plain.{full_by, sources_by, full_of, sourced_flat, IsAnsweredRun, IsPlainRun, IsFair, MayGo, Rests, IsLike, result_by}
+use Rattle.ir_graph.specs.Turn.{EachTries, GoesAlone, ways_taken}
 use Rattle.ir_graph.proofs.Full.{answered_run_append, plain_run_is_answered}
-use Rattle.ir_graph.proofs.Plain.{step_at_rest, step_at_rest_is_answered_run, rest_ask_is_not_own, TakesStep, fair_step_is_plain_run, private_steps_are_plain_run, like_after_run}
+use Rattle.ir_graph.proofs.Leads.{is_refusal_of_act_equals_its_way}
+use Rattle.ir_graph.proofs.Plain.{takes_step_at_rest, step_at_rest_is_answered_run, rest_ask_is_not_own, TakesStep, fair_step_is_plain_run, private_steps_are_plain_run, like_after_run}
 
-pub replicate_of_sum : {A : Type 0} (x : A) (n k : ℕ) → replicate (n + k) x ≡ replicate n x ++ replicate k x
+replicate_of_sum : {A : Type 0} (x : A) (n k : ℕ) → replicate (n + k) x ≡ replicate n x ++ replicate k x
 replicate_of_sum x zero k = let e : zero + k ≡ k = omega arith in ap (λ z. replicate z x) e
 replicate_of_sum x (suc n) k =
     let e : suc n + k ≡ suc (n + k) = omega arith in
@@ -37,6 +38,45 @@ tries_append : {T : Type 0} (m : Machine T) (refused : Bool) (s : State T) (run 
 tries_append m refused s [] more a b = b
 tries_append m refused s (e ∷ run) more a b = (a.0, tries_append m refused (after m s e) run more a.1 b)
 
+-- ---- the ways of a run
+
+pub ways_taken-append : {T : Type 0} (m : Machine T) (s : State T) (run more : List Step)
+    → ways_taken m s (run ++ more) ≡ ways_taken m s run ++ ways_taken m (end m s run) more
+ways_taken-append m s [] more = refl
+ways_taken-append {T} m s (e ∷ run) more =
+    ap (λ z. cond (is_own (asked m s e.0)) z ((e.0, is_refusal (act m s e)) ∷ z)) (ways_taken-append m (after m s e) run more)
+    ∙ join (is_own (asked m s e.0)) (ways_taken m (after m s e) run)
+  where
+    later : List (ℕ × Bool)
+    later = ways_taken m (end m (after m s e) run) more
+
+    join : (b : Bool) (ways : List (ℕ × Bool)) → cond b (ways ++ later) ((e.0, is_refusal (act m s e)) ∷ (ways ++ later))
+        ≡ cond b ways ((e.0, is_refusal (act m s e)) ∷ ways) ++ later
+    join true ways = refl
+    join false ways = refl
+
+-- steps that concern no other thread go no way
+ways_taken_is_empty_if_goes_ahead : {T : Type 0} (m : Machine T) (answers : Answers T) (s : State T) (run : List Step) → GoesAhead m answers s run
+    → ways_taken m s run ≡ []
+ways_taken_is_empty_if_goes_ahead m answers s [] ok = refl
+ways_taken_is_empty_if_goes_ahead m answers s (e ∷ run) ok =
+    ap (λ b. cond b (ways_taken m (after m s e) run) ((e.0, is_refusal (act m s e)) ∷ ways_taken m (after m s e) run)) ok.0
+    ∙ ways_taken_is_empty_if_goes_ahead m answers (after m s e) run ok.2
+
+-- their threads are those that enter
+pub threads_of_ways_taken : {T : Type 0} (m : Machine T) (s : State T) (run : List Step)
+    → map (λ (w : ℕ × Bool). w.0) (ways_taken m s run) ≡ entering m s run
+threads_of_ways_taken m s [] = refl
+threads_of_ways_taken m s (e ∷ run) = by (is_own (asked m s e.0)) (threads_of_ways_taken m (after m s e) run)
+  where
+    by : (b : Bool) → map (λ (w : ℕ × Bool). w.0) (ways_taken m (after m s e) run) ≡ entering m (after m s e) run
+        → map (λ (w : ℕ × Bool). w.0) (cond b (ways_taken m (after m s e) run) ((e.0, is_refusal (act m s e)) ∷ ways_taken m (after m s e) run))
+        ≡ cond b (entering m (after m s e) run) (e.0 ∷ entering m (after m s e) run)
+    by true rest = rest
+    by false rest = ap (λ z. e.0 ∷ z) rest
+
+-- ---- a thread alone
+
 pub goes_alone_no_steps : (s : SourcedFlat) (t : ℕ) (refused : Bool) → GoesAlone s s t refused 0 0
 goes_alone_no_steps s t refused = record {
   run = [];
@@ -45,7 +85,7 @@ goes_alone_no_steps s t refused = record {
   answered = (tt, tt);
   tries = tt;
   ends = refl;
-  enters = refl;
+  ways = refl;
   code = refl;
   threads = refl;
   objects = refl;
@@ -69,10 +109,10 @@ goes_alone_append s u w t refused n k e d a b =
       tries = tries_append (full_by s.flat.code) refused (full_of s) a.run b.run a.tries tries;
       ends = b.ends ∙ ap (λ z. end (full_by z) (full_of u) b.run) a.code ∙ ap (λ z. end (full_by s.flat.code) z b.run) a.ends
           ∙ sym (end_append (full_by s.flat.code) (full_of s) a.run b.run);
-      enters = entering_append (full_by s.flat.code) (full_of s) a.run b.run
-          ∙ (λ i. a.enters i ++ (ap (λ z. entering (full_by s.flat.code) z b.run) (sym a.ends)
-          ∙ ap (λ z. entering (full_by z) (full_of u) b.run) (sym a.code) ∙ b.enters) i)
-          ∙ sym (replicate_of_sum t e d);
+      ways = ways_taken-append (full_by s.flat.code) (full_of s) a.run b.run
+          ∙ (λ i. a.ways i ++ (ap (λ z. ways_taken (full_by s.flat.code) z b.run) (sym a.ends)
+          ∙ ap (λ z. ways_taken (full_by z) (full_of u) b.run) (sym a.code) ∙ b.ways) i)
+          ∙ sym (replicate_of_sum (t, refused) e d);
       code = b.code ∙ a.code;
       threads = b.threads ∙ a.threads;
       objects = b.objects ∙ a.objects;
@@ -99,7 +139,7 @@ goes_alone_by_plain_run s u t refused run plain alone ends code threads objects 
   answered = plain_run_is_answered s.flat.code (full_of s) run plain;
   tries = plain_run_tries_nothing s.flat.code refused (full_of s) run plain.0;
   ends = ends;
-  enters = goes_ahead_enters_nothing (full_by s.flat.code) (sources_by s.flat.code) (full_of s) run plain.0;
+  ways = ways_taken_is_empty_if_goes_ahead (full_by s.flat.code) (sources_by s.flat.code) (full_of s) run plain.0;
   code = code;
   threads = threads;
   objects = objects;
@@ -128,22 +168,25 @@ goes_alone_by_private_steps f g sources t refused n w =
     (goes_alone_by_plain_run (sourced_flat f sources) (sourced_flat g sources) t refused (replicate n (t, 0)) p.0 (repeated_steps_are_alone t 0 n)
     (ap (λ z. beside z (source_of (sourced_flat f sources))) w.ends ∙ sym p.1) w.code w.threads w.objects refl)
 
--- one step of a thread that rests
+-- one step of a thread that rests, by a way that it has
 pub goes_alone_by_entry : (f g : Flat) (sources : List Source) (t : ℕ) (refused : Bool) → Rests (ask_of f.code (thread_of f t))
+    → MayGo refused (ask_of f.code (thread_of f t))
     → Can (machine f) (tables f) (t, result_by refused) → tables g ≡ after (machine f) (tables f) (t, result_by refused) → g.code ≡ f.code
     → length g.threads ≡ length f.threads → length g.objects ≡ length f.objects
     → GoesAlone (sourced_flat f sources) (sourced_flat g sources) t refused 1 1
-goes_alone_by_entry f g sources t refused rests can is code threads objects =
+goes_alone_by_entry f g sources t refused rests may can is code threads objects =
     let s = sourced_flat f sources in
     let u = sourced_flat g sources in
-    let step = step_at_rest f g sources t (result_by refused) rests can is code threads objects in record {
+    let step = takes_step_at_rest f g sources t (result_by refused) rests can is code threads objects in record {
       run = (t, result_by refused) ∷ [];
       many = refl;
       alone = (refl, tt);
       answered = step_at_rest_is_answered_run (sourced_flat f sources) (sourced_flat g sources) t (result_by refused) rests step;
       tries = (λ o tries. refl, tt);
       ends = step.is;
-      enters = ap (λ b. cond b [] (t ∷ [])) (rest_ask_is_not_own (ask_of f.code (thread_of f t)) rests);
+      ways = let q = ask_of f.code (thread_of f t) in
+          ap (λ b. cond b [] ((t, is_refusal (act_of (shared_ask q) (result_by refused))) ∷ [])) (rest_ask_is_not_own q rests)
+          ∙ ap (λ b. (t, b) ∷ []) (is_refusal_of_act_equals_its_way q refused rests may);
       code = code;
       threads = threads;
       objects = objects;
@@ -156,10 +199,10 @@ like_after_going_alone s u t refused n e a = like_after_run s u a.run a.ends a.c
 
 -- ---- turns
 
-tries_of_turn : {T : Type 0} (m : Machine T) (s : State T) (refused : Bool) (e : Step)
+tries_if_result_is_by_way : {T : Type 0} (m : Machine T) (s : State T) (refused : Bool) (e : Step)
     → ((o : ℕ) → asked m s e.0 ≡ machines.Try o → e.1 ≡ result_by refused) → Tries m s refused e
-tries_of_turn m s true e tries = tries
-tries_of_turn m s false e tries = λ o is enters. tries o is
+tries_if_result_is_by_way m s true e tries = tries
+tries_if_result_is_by_way m s false e tries = λ o is enters. tries o is
 
 -- a run of one thread goes by its turns
 pub alone_run_in_turns : {T : Type 0} (m : Machine T) (s : State T) (t : ℕ) (refused : Bool) (run : List Step) → IsRun m s run → IsAlone t run
@@ -170,7 +213,7 @@ alone_run_in_turns m s t refused ((u, r) ∷ run) ok alone tries = inr (
   run,
   (λ i. (sym alone.0 i, r) ∷ run),
   subst (λ z. Can m s (z, r)) (sym alone.0) ok.0,
-  tries_of_turn m s refused (t, r) (subst (λ z. (o : ℕ) → asked m s z ≡ machines.Try o → r ≡ result_by refused) (sym alone.0) tries.0),
+  tries_if_result_is_by_way m s refused (t, r) (subst (λ z. (o : ℕ) → asked m s z ≡ machines.Try o → r ≡ result_by refused) (sym alone.0) tries.0),
   subst (λ z. InTurns m (after m s (z, r)) (replicate (length run) (t, refused)) run) (sym alone.0)
       (alone_run_in_turns m (after m s (u, r)) t refused run ok.1 alone.1 tries.1),
 )
@@ -182,22 +225,22 @@ goes_alone_in_turns s u t refused n e a =
     (alone_run_in_turns (full_by s.flat.code) (full_of s) t refused a.run
     (counting_run_is_run (full_by s.flat.code) (sources_by s.flat.code) (full_of s) a.run a.answered.0) a.alone a.tries)
 
-tries_of_plain : {T S : Type 0} (m : Machine T) (giving : Giving S) (s : State (T × S)) (refused : Bool) (e : Step)
+plain_tries_if_sourced_tries : {T S : Type 0} (m : Machine T) (giving : Giving S) (s : State (T × S)) (refused : Bool) (e : Step)
     → Tries (sourced m giving) s refused e → Tries m (plain s) refused e
-tries_of_plain m giving s true e h = h
-tries_of_plain m giving s false e h = h
+plain_tries_if_sourced_tries m giving s true e h = h
+plain_tries_if_sourced_tries m giving s false e h = h
 
 -- turns of threads beside their sources are turns of the threads
-pub in_turns_of_plain : {T S : Type 0} (m : Machine T) (giving : Giving S) (s : State (T × S)) (turns : List Turn) (run : List Step)
+pub plain_in_turns_if_sourced_in_turns : {T S : Type 0} (m : Machine T) (giving : Giving S) (s : State (T × S)) (turns : List Turn) (run : List Step)
     → InTurns (sourced m giving) s turns run → InTurns m (plain s) turns run
-in_turns_of_plain m giving s [] run is = is
-in_turns_of_plain m giving s ((t, refused) ∷ turns) run (inl none) = inl (none.0, in_turns_of_plain m giving s turns run none.1)
-in_turns_of_plain m giving s ((t, refused) ∷ turns) run (inr some) = inr (
+plain_in_turns_if_sourced_in_turns m giving s [] run is = is
+plain_in_turns_if_sourced_in_turns m giving s ((t, refused) ∷ turns) run (inl none) = inl (none.0, plain_in_turns_if_sourced_in_turns m giving s turns run none.1)
+plain_in_turns_if_sourced_in_turns m giving s ((t, refused) ∷ turns) run (inr some) = inr (
   some.0,
   some.1,
   some.2,
   some.3,
-  tries_of_plain m giving s refused (t, some.0) some.4,
+  plain_tries_if_sourced_tries m giving s refused (t, some.0) some.4,
   subst (λ z. InTurns m z turns some.1) (plain_end m giving s ((t, some.0) ∷ []))
-      (in_turns_of_plain m giving (after (sourced m giving) s (t, some.0)) turns some.1 some.5),
+      (plain_in_turns_if_sourced_in_turns m giving (after (sourced m giving) s (t, some.0)) turns some.1 some.5),
 )

@@ -1,12 +1,12 @@
 -- Turns of threads that are known.
-use Rattle.std.specs.Prelude.{◌≡◌, ℕ, ◌<◌, Bool, false, List, length}
+use Rattle.std.specs.Prelude.{◌≡◌, ℕ, ◌<◌, Bool, true, false, List, length}
 use Rattle.std.specs.List.{slice_index_or, AllByRecursion}
 use Rattle.ir_thread.specs.State.{ask_of}
 use Rattle.ir_flat.specs.Flat.{cell_of}
 use Rattle.ir_store.specs.Nodes.{Shared, SourcedFlat, cell_in, sourced_thread}
 use Rattle.ir_store.specs.Table.{idle_beside}
 use Rattle.ir_graph.specs.Lone.{TakesTurn}
-use Rattle.ir_graph.specs.Plain.{IsNoTry}
+use Rattle.ir_graph.specs.Plain.{MayGo}
 use Rattle.ir_graph.specs.declared.known.Turn.{Turn}
 
 -- the thread and the object of these numbers become those of the others by a turn of the thread
@@ -15,7 +15,7 @@ pub record IsTurn (code : List ℕ) (shared : Shared) (turn : Turn) : Type 0 whe
   pub to : turn.to < length shared.threads
   pub spot : turn.spot.words < length shared.words
   pub after : turn.after.words < length shared.words
-  pub tries : turn.tries ≡ false → IsNoTry (ask_of code (slice_index_or shared.threads turn.from idle_beside).0)
+  pub tries : turn.tries ≡ false → MayGo true (ask_of code (slice_index_or shared.threads turn.from idle_beside).0) → ⊥
   pub takes : TakesTurn code turn.object turn.refused (slice_index_or shared.threads turn.from idle_beside) (cell_in shared.words turn.spot)
       (slice_index_or shared.threads turn.to idle_beside) (cell_in shared.words turn.after)
 

@@ -28,5 +28,5 @@ noted_in (row ∷ rows) (suc t) v = noted_in rows t v
 
 -- the same, by whether its try is refused: each way has its own rows
 abbrev pub noted_by : List (Vec (Option (Option ℕ))) → List (Vec (Option (Option ℕ))) → ℕ → Bool → ℕ → Option (Option ℕ)
-noted_by rows refusals t false = noted_in rows t
-noted_by rows refusals t true = noted_in refusals t
+noted_by rows refused_rows t false = noted_in rows t
+noted_by rows refused_rows t true = noted_in refused_rows t

@@ -95,11 +95,6 @@ abbrev pub result_of : Bool → Ask → Source → ℕ
 result_of refused (ask.Env kind) source = (given kind source).0
 result_of refused _ source = result_by refused
 
--- a thread that asks so doesn't try to enter
-abbrev pub IsNoTry : Ask → Type 0
-IsNoTry (ask.Try object) = ⊥
-IsNoTry _ = Unit {0}
-
 -- a thread that asks so may have a step by this way: only one that tries is refused
 abbrev pub MayGo : Bool → Ask → Type 0
 MayGo true (ask.Try object) = Unit {0}

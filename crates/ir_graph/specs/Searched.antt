@@ -27,18 +27,18 @@ pub record AreSearched (x : Setup) (flats : List SourcedFlat) (origins : List Or
 
 -- a search over the graph of a guest
 pub record IsSearch (s : States) : Type 0 where
-  pub graph : IsGraph s.graph.setup s.graph.flats.items (noted_by s.graph.rows.items s.graph.refusals.items) (length s.graph.rows.items)
+  pub graph : IsGraph s.graph.setup s.graph.flats.items (noted_by s.graph.rows.items s.graph.refused_rows.items) (length s.graph.rows.items)
   pub turns : AreTurns s.graph.setup.guest.code s.graph.flats.shared s.graph.ahead
   pub room : length s.graph.flats.items ≤ s.graph.bounds.nodes
   pub threads : length (rows s.search.opened.items) ≡ length s.graph.rows.items
 
 -- it stands between two levels
 abbrev pub StandsBetween : States → Type 0
-StandsBetween s = IsBetween (noted_by s.graph.rows.items s.graph.refusals.items) (length s.graph.flats.items) s.search.found.nodes.items s.search.found.refusals.items (rows s.search.opened.items) s.search.level
+StandsBetween s = IsBetween (noted_by s.graph.rows.items s.graph.refused_rows.items) (length s.graph.flats.items) s.search.found.nodes.items s.search.found.refusals.items (rows s.search.opened.items) s.search.level
 
 -- so many levels are gone over
 abbrev pub HasLevels : States → ℕ → Type 0
-HasLevels s n = HasGone (noted_by s.graph.rows.items s.graph.refusals.items) (length (rows s.search.opened.items)) (length s.graph.flats.items) s.search.found.nodes.items s.search.found.refusals.items n
+HasLevels s n = HasGone (noted_by s.graph.rows.items s.graph.refused_rows.items) (length (rows s.search.opened.items)) (length s.graph.flats.items) s.search.found.nodes.items s.search.found.refusals.items n
 
 -- each outcome of the guest is that of a listed state; its runs that count stand at listed states
 pub record IsWhole (s : States) : Type 0 where

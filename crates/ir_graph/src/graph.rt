@@ -27,7 +27,7 @@ pub struct Graph<'a> {
     pub bounds: Bounds,
     pub(crate) ahead: Ahead,
     pub(crate) rows: Vec<Row>,
-    pub(crate) refusals: Vec<Row>,
+    pub(crate) refused_rows: Vec<Row>,
 }
 
 impl<'a> Successors for Graph<'a> {
@@ -45,13 +45,13 @@ impl<'a> Successors for Graph<'a> {
 
     ghost nodes = { λ g. g.flats.items };
 
-    ghost noted = { λ g. noted_by g.rows.items g.refusals.items };
+    ghost noted = { λ g. noted_by g.rows.items g.refused_rows.items };
 
-    ghost is_sound = { λ g. IsGraph g.setup g.flats.items (noted_by g.rows.items g.refusals.items) (length g.rows.items) × AreTurns g.setup.guest.code g.flats.shared g.ahead };
+    ghost is_sound = { λ g. IsGraph g.setup g.flats.items (noted_by g.rows.items g.refused_rows.items) (length g.rows.items) × AreTurns g.setup.guest.code g.flats.shared g.ahead };
 
     fn known(&self, thread: usize, refused: bool, node: usize) -> Option<Option<usize>> {
         if refused {
-            known(&self.refusals, thread, node)
+            known(&self.refused_rows, thread, node)
         } else {
             known(&self.rows, thread, node)
         }
@@ -69,7 +69,7 @@ impl<'a> Successors for Graph<'a> {
         let code = self.setup.code();
         let next = successor(&mut self.flats, &mut self.ahead, code, way, self.bounds)?;
         let nodes = self.flats.len();
-        note_way(&mut self.rows, &mut self.refusals, nodes, way, next)?;
+        note_way(&mut self.rows, &mut self.refused_rows, nodes, way, next)?;
         Ok(next)
     }
 }

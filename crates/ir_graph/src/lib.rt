@@ -27,3 +27,4 @@ pub use outcomes::has_new_outcome;
 pub use rest::run_to_rest;
 pub use setup::Setup;
 pub use states::States;
+pub use way::way_result;

@@ -31,7 +31,7 @@ fn done_states(alloc: Global, flats: &Store<'_>) -> Result<Vec<bool>, AllocError
 /// # Errors
 /// Out of memory.
 pub fn mark_states(alloc: Global, graph: &Graph<'_>) -> Result<Vec<bool>, AllocError>
-    ensures { IfOk result (λ marks. AreWays (noted_by graph.now.rows.items graph.now.refusals.items) (length graph.now.rows.items) graph.now.flats.items marks.items) }
+    ensures { IfOk result (λ marks. AreWays (noted_by graph.now.rows.items graph.now.refused_rows.items) (length graph.now.rows.items) graph.now.flats.items marks.items) }
 {
     let mut marks = done_states(alloc, &graph.flats)?;
     mark_ways(graph, graph.rows.len(), &mut marks);

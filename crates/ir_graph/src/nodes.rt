@@ -4,7 +4,7 @@ ghost use Rattle.std.specs.Prelude.{◌≡◌, ◌⊎◌, ℕ, suc, ◌<◌, ◌
 ghost use Rattle.ir_explore.specs.declared.stop.Stop.TheVariants.{Nodes, Memory};
 ghost use Rattle.ir_graph.specs.Ahead.{AreTurns, IsTurnOf};
 ghost use Rattle.ir_graph.specs.Nodes.{LookAlike, AllRest, AreNodes, Stay, LeadsFrom};
-ghost use Rattle.ir_graph.specs.Plain.{IsLike, IsNoTry, MayGo, result_by};
+ghost use Rattle.ir_graph.specs.Plain.{IsLike};
 ghost use Rattle.ir_graph.specs.Reached.{IsReached, AllReached};
 ghost use Rattle.ir_graph.specs.Stops.{MayStop};
 ghost use Rattle.ir_graph.specs.Setup.{Setup};
@@ -14,18 +14,17 @@ use crate::ahead::Ahead;
 use crate::known::Turn;
 use crate::rest::run_to_rest;
 use crate::turns::{tries, turn_of};
-use crate::way::Way;
+use crate::way::{Way, way_result};
 use ir_explore::Stop;
 use ir_image::Code;
 use ir_store::{Node, Store};
-use ir_thread::Ask;
 
 /// How far a search may go.
 #[derive(Clone, Copy, Debug, PartialEq, Eq)]
 pub struct Bounds {
     /// How many nodes there may be.
     pub nodes: usize,
-    /// How many steps a thread may take from one entry to the next.
+    /// How many steps a thread may take from one entry or try to the next.
     pub private: u64,
 }
 
@@ -81,19 +80,6 @@ fn node_by<'a>(flats: &mut Store<'a>, way: Way, turn: Turn, most: usize) -> Resu
     flats.thread_number(way.node, way.thread);
     let new = flats.with_both(way.node, way.thread, turn.to, turn.object, turn.after)?;
     node_of(flats, new, most)
-}
-
-// The result of a step by this way, if a thread that asks so has one: only one that tries is refused.
-fn way_result(refused: bool, asked: Ask) -> Option<u32>
-    ensures result { IfSome result (λ r. r ≡ result_by refused) }
-    ensures has { IfSome result (λ r. MayGo refused asked) }
-    ensures none { result ≡ None → (refused ≡ true) × IsNoTry asked }
-{
-    match asked {
-        Ask::Try(_) if refused => Some(0),
-        _ if refused => None,
-        _ => Some(1),
-    }
 }
 
 // The node where a thread leads by its steps, one by one.

@@ -123,22 +123,22 @@ fn note(
 /// Out of memory, or the node's number is too large for a lead; nothing is noted.
 pub fn note_way(
     rows: &mut [Row],
-    refusals: &mut [Row],
+    refused_rows: &mut [Row],
     nodes: usize,
     way: Way,
     next: Option<usize>,
 ) -> Result<(), AllocError>
     requires node { way.node < nodes }
-    requires fresh { noted_by rows.old refusals.old way.thread way.refused way.node ≡ None }
-    ensures found { OnOk result (noted_by rows.new refusals.new way.thread way.refused way.node ≡ Some next) }
-    ensures kept { (t : ℕ) (refused : Bool) → Keeps (noted_by rows.old refusals.old t refused) (noted_by rows.new refusals.new t refused) }
-    ensures only { (t : ℕ) (refused : Bool) (v : ℕ) → (noted_by rows.new refusals.new t refused v ≡ noted_by rows.old refusals.old t refused v)
-        ⊎ ((t ≡ way.thread) × (refused ≡ way.refused) × (v ≡ way.node) × (noted_by rows.new refusals.new t refused v ≡ Some next)) }
+    requires fresh { noted_by rows.old refused_rows.old way.thread way.refused way.node ≡ None }
+    ensures found { OnOk result (noted_by rows.new refused_rows.new way.thread way.refused way.node ≡ Some next) }
+    ensures kept { (t : ℕ) (refused : Bool) → Keeps (noted_by rows.old refused_rows.old t refused) (noted_by rows.new refused_rows.new t refused) }
+    ensures only { (t : ℕ) (refused : Bool) (v : ℕ) → (noted_by rows.new refused_rows.new t refused v ≡ noted_by rows.old refused_rows.old t refused v)
+        ⊎ ((t ≡ way.thread) × (refused ≡ way.refused) × (v ≡ way.node) × (noted_by rows.new refused_rows.new t refused v ≡ Some next)) }
     ensures threads { length rows.new ≡ length rows.old }
-    ensures refusals { length refusals.new ≡ length refusals.old }
+    ensures refused_rows { length refused_rows.new ≡ length refused_rows.old }
 {
     if way.refused {
-        note(refusals, nodes, way.thread, way.node, next)
+        note(refused_rows, nodes, way.thread, way.node, next)
     } else {
         note(rows, nodes, way.thread, way.node, next)
     }

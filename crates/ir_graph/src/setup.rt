@@ -9,12 +9,9 @@ use ir_flat::Flat;
 use ir_image::{Code, Image};
 use ir_sources::Sources;
 use ir_store::SourcedFlat;
-use ir_thread::Profile;
+use ir_thread::{MOST_BUDGET, Profile};
 use std::alloc::{AllocError, Global};
 use std::marker::Model;
-
-// As many steps as a thread may take.
-const MOST_BUDGET: u64 = 1_000_000_000_000;
 
 /// A guest, which calls its threads make, and what answers them.
 #[derive(Drop)]

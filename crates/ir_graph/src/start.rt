@@ -57,7 +57,7 @@ fn no_notes(alloc: Global, threads: usize) -> Result<Vec<Row>, AllocError>
 }
 
 // An empty row for each thread that may try: none in the first profile.
-fn no_refusals(alloc: Global, threads: usize, profile: Profile) -> Result<Vec<Row>, AllocError>
+fn no_refused_rows(alloc: Global, threads: usize, profile: Profile) -> Result<Vec<Row>, AllocError>
     ensures one { IfOk result (λ rows. profile ≡ One → rows.items ≡ []) }
     ensures two { IfOk result (λ rows. profile ≡ Two → (t v : ℕ) → t < threads → noted_in rows.items t v ≡ None) }
     ensures threads { IfOk result (λ rows. length rows.items ≤ threads) }
@@ -88,14 +88,14 @@ pub fn start_graph<'a>(alloc: Global, setup: &Setup<'a>, bounds: Bounds) -> Resu
     ensures one { IfOk result (λ graph. length graph.flats.items ≡ 1) }
     ensures bounds { IfOk result (λ graph. graph.bounds ≡ bounds) }
     ensures threads { IfOk result (λ graph. length graph.rows.items ≡ length setup.now.guest.entries) }
-    ensures sound { IfOk result (λ graph. IsGraph setup.now graph.flats.items (noted_by graph.rows.items graph.refusals.items) (length graph.rows.items)) }
+    ensures sound { IfOk result (λ graph. IsGraph setup.now graph.flats.items (noted_by graph.rows.items graph.refused_rows.items) (length graph.rows.items)) }
     ensures none { IfOk result (λ graph. graph.ahead ≡ []) }
 {
     let mut state = setup.start(alloc)?;
     rest_all(&mut state, bounds.private)?;
     let threads = state.flat.threads().len();
     let rows = no_notes(alloc, threads)?;
-    let refusals = no_refusals(alloc, threads, setup.profile())?;
+    let refused_rows = no_refused_rows(alloc, threads, setup.profile())?;
     let image = setup.image();
     let start = first_memory(alloc, image)?;
     let mut flats = Store::new(alloc, image.form(), start.as_slice())?;
@@ -107,6 +107,6 @@ pub fn start_graph<'a>(alloc: Global, setup: &Setup<'a>, bounds: Bounds) -> Resu
         bounds,
         ahead: Ahead::new(alloc),
         rows,
-        refusals,
+        refused_rows,
     })
 }

@@ -1,10 +1,10 @@
 //! The turn of a thread at a node.
 
-ghost use Rattle.std.specs.Prelude.{◌≡◌, ℕ, ◌<◌, false, Some, length, slice_get, IfOk, IfSome};
+ghost use Rattle.std.specs.Prelude.{◌≡◌, ℕ, ◌<◌, true, false, Some, length, slice_get, IfOk, IfSome};
 ghost use Rattle.std.specs.List.{slice_index_or};
 ghost use Rattle.ir_flat.specs.Flat.{cell_of};
 ghost use Rattle.ir_graph.specs.Ahead.{AreTurns, IsTurnOf};
-ghost use Rattle.ir_graph.specs.Plain.{IsNoTry};
+ghost use Rattle.ir_graph.specs.Plain.{MayGo};
 ghost use Rattle.ir_store.specs.Nodes.{Grows, SourcedFlat, cell_in, sourced_thread};
 ghost use Rattle.ir_store.specs.Table.{idle_beside};
 ghost use Rattle.ir_thread.specs.State.{ask_of};
@@ -36,7 +36,7 @@ fn known_turn(flats: &Store<'_>, ahead: &Ahead, way: Way) -> Option<Turn>
 
 // The object that a thread enters or tries to, and whether it tries, if it asks one of these.
 fn object_of(asked: Ask) -> Option<(u8, bool)>
-    ensures { IfSome result (λ found. found.1 ≡ false → IsNoTry asked) }
+    ensures { IfSome result (λ found. found.1 ≡ false → MayGo true asked → ⊥) }
 {
     match asked {
         Ask::Enter(object, _) => Some((object, false)),
@@ -127,7 +127,7 @@ pub fn tries(
 ) -> Result<bool, AllocError>
     requires within { number < length flats.now.shared.threads }
     requires turns { AreTurns code.now flats.now.shared ahead.now }
-    ensures { IfOk result (λ tries. tries ≡ false → IsNoTry (ask_of code.now (slice_index_or flats.now.shared.threads number idle_beside).0)) }
+    ensures { IfOk result (λ tries. tries ≡ false → MayGo true (ask_of code.now (slice_index_or flats.now.shared.threads number idle_beside).0) → ⊥) }
 {
     if let Some(turn) = ahead.first(number) {
         return Ok(turn.tries);

@@ -12,7 +12,7 @@ use Rattle.ir_runs.proofs.CallerLemmas.{upd_at_own_place, upd_at_other_place}
 use Rattle.ir_thread.specs.State as thread
 use Rattle.ir_thread.specs.State.{held_at}
 use Rattle.ir_fit.specs.Fit.{FittedTrace, IsRunOf}
-use Rattle.ir_fit.proofs.CallerLemmas.{at_place_of_get_or, get_or_of_at}
+use Rattle.ir_fit.proofs.CallerLemmas.{get_or_is_at_index_if_below_length, get_or_is_item_if_at_index}
 use Rattle.ir_cut.specs.Positions.{machine_of, start_of}
 use Rattle.ir_weave.proofs.CallerLemmas.{StepOf, emitting_step_is_step_of, guest_machine_is_lawful}
 use Rattle.ir_hits.specs.Hits.{thread_at}
@@ -29,18 +29,18 @@ leave_ask_of_label (Refused o) = machine.Private
 leave_ask_of_label (Out o a v) = machine.Leave o a
 
 -- what leaves an object asked to
-write_leave_was_asked : (q : Ask) (r o v : ℕ) (b : Object) → emitted (act_of q r) b ≡ Out o Writing v → q ≡ machine.Leave o Writing
-write_leave_was_asked machine.Private r o v b e = absurd (cc e)
-write_leave_was_asked (machine.Env k) r o v b e = absurd (cc e)
-write_leave_was_asked (machine.Enter p Reading) r o v b e = absurd (cc e)
-write_leave_was_asked (machine.Enter p Writing) r o v b e = absurd (cc e)
-write_leave_was_asked (machine.Try p) zero o v b e = absurd (cc e)
-write_leave_was_asked (machine.Try p) (suc zero) o v b e = absurd (cc e)
-write_leave_was_asked (machine.Try p) (suc (suc r)) o v b e = absurd (cc e)
-write_leave_was_asked (machine.Leave p a) r o v b e = ap leave_ask_of_label e
-write_leave_was_asked (machine.Get p i) r o v b e = absurd (cc e)
-write_leave_was_asked (machine.Put p i w) r o v b e = absurd (cc e)
-write_leave_was_asked machine.Done r o v b e = absurd (cc e)
+ask_is_leave_if_write_leave_emitted : (q : Ask) (r o v : ℕ) (b : Object) → emitted (act_of q r) b ≡ Out o Writing v → q ≡ machine.Leave o Writing
+ask_is_leave_if_write_leave_emitted machine.Private r o v b e = absurd (cc e)
+ask_is_leave_if_write_leave_emitted (machine.Env k) r o v b e = absurd (cc e)
+ask_is_leave_if_write_leave_emitted (machine.Enter p Reading) r o v b e = absurd (cc e)
+ask_is_leave_if_write_leave_emitted (machine.Enter p Writing) r o v b e = absurd (cc e)
+ask_is_leave_if_write_leave_emitted (machine.Try p) zero o v b e = absurd (cc e)
+ask_is_leave_if_write_leave_emitted (machine.Try p) (suc zero) o v b e = absurd (cc e)
+ask_is_leave_if_write_leave_emitted (machine.Try p) (suc (suc r)) o v b e = absurd (cc e)
+ask_is_leave_if_write_leave_emitted (machine.Leave p a) r o v b e = ap leave_ask_of_label e
+ask_is_leave_if_write_leave_emitted (machine.Get p i) r o v b e = absurd (cc e)
+ask_is_leave_if_write_leave_emitted (machine.Put p i w) r o v b e = absurd (cc e)
+ask_is_leave_if_write_leave_emitted machine.Done r o v b e = absurd (cc e)
 
 -- what isn't held isn't held for writing
 none_is_not_writing : (h : Option Access) → h ≡ None → h ≡ Some Writing → ⊥
@@ -55,21 +55,21 @@ held_for_writing_after_other_entry h p o a none w = elim (cases_eq o p) [
 ]
 
 -- what was held for writing and isn't any more is left
-write_hold_lost_by_leave : (q : Ask) (r o : ℕ) (h : ℕ → Option Access) → Holds q h → h o ≡ Some Writing → held_after (act_of q r) h o ≢ Some Writing
+ask_is_leave_if_write_hold_lost : (q : Ask) (r o : ℕ) (h : ℕ → Option Access) → Holds q h → h o ≡ Some Writing → held_after (act_of q r) h o ≢ Some Writing
     → q ≡ machine.Leave o Writing
-write_hold_lost_by_leave machine.Private r o h k w n = absurd (n w)
-write_hold_lost_by_leave (machine.Env kind) r o h k w n = absurd (n w)
-write_hold_lost_by_leave (machine.Enter p a) r o h k w n = absurd (n (held_for_writing_after_other_entry h p o a k w))
-write_hold_lost_by_leave (machine.Try p) zero o h k w n = absurd (n w)
-write_hold_lost_by_leave (machine.Try p) (suc zero) o h k w n = absurd (n (held_for_writing_after_other_entry h p o Writing k w))
-write_hold_lost_by_leave (machine.Try p) (suc (suc r)) o h k w n = absurd (n w)
-write_hold_lost_by_leave (machine.Leave p a) r o h k w n = elim (cases_eq o p) [
+ask_is_leave_if_write_hold_lost machine.Private r o h k w n = absurd (n w)
+ask_is_leave_if_write_hold_lost (machine.Env kind) r o h k w n = absurd (n w)
+ask_is_leave_if_write_hold_lost (machine.Enter p a) r o h k w n = absurd (n (held_for_writing_after_other_entry h p o a k w))
+ask_is_leave_if_write_hold_lost (machine.Try p) zero o h k w n = absurd (n w)
+ask_is_leave_if_write_hold_lost (machine.Try p) (suc zero) o h k w n = absurd (n (held_for_writing_after_other_entry h p o Writing k w))
+ask_is_leave_if_write_hold_lost (machine.Try p) (suc (suc r)) o h k w n = absurd (n w)
+ask_is_leave_if_write_hold_lost (machine.Leave p a) r o h k w n = elim (cases_eq o p) [
   | inl same ↦ let e : a ≡ Writing = same_Some a Writing (sym k ∙ ap h (sym same) ∙ w) in λ i. machine.Leave (sym same i) (e i)
   | inr ne ↦ absurd (n (upd_at_other_place h p o None ne ∙ w))
 ]
-write_hold_lost_by_leave (machine.Get p i) r o h k w n = absurd (n w)
-write_hold_lost_by_leave (machine.Put p i v) r o h k w n = absurd (n w)
-write_hold_lost_by_leave machine.Done r o h k w n = absurd (n w)
+ask_is_leave_if_write_hold_lost (machine.Get p i) r o h k w n = absurd (n w)
+ask_is_leave_if_write_hold_lost (machine.Put p i v) r o h k w n = absurd (n w)
+ask_is_leave_if_write_hold_lost machine.Done r o h k w n = absurd (n w)
 
 -- ---- the steps of a run
 
@@ -79,12 +79,12 @@ pub step_of_thread_emits_label : (f : FittedTrace) (run : List Step) (t j : ℕ)
 step_of_thread_emits_label f run t j less =
     let xs : List (thread.ThreadState × Label) = trail (machine_of f) (start_of f) run t in
     let d : thread.ThreadState × Label = ((start_of f).now t, Quiet) in
-    ((get_or xs j d).1, ((get_or xs j d).0, at_place_of_get_or xs j d less))
+    ((get_or xs j d).1, ((get_or xs j d).0, get_or_is_at_index_if_below_length xs j d less))
 
 -- only its steps do
 pub emitting_step_below_steps : (f : FittedTrace) (run : List Step) (t j : ℕ) (a : Label) → Emits (machine_of f) (start_of f) run t j a
     → j < steps_of f run t
-emitting_step_below_steps f run t j a h = (get_or_of_at (trail (machine_of f) (start_of f) run t) j (h.0, a) h.1).0
+emitting_step_below_steps f run t j a h = (get_or_is_item_if_at_index (trail (machine_of f) (start_of f) run t) j (h.0, a) h.1).0
 
 -- the thread doesn't change after its last step
 thread_in_past_length_is_last : {T : Type 0} (xs : List (T × Label)) (k : ℕ) (last : T) → length xs ≤ k → thread_in xs k last ≡ last
@@ -118,7 +118,7 @@ held_for_writing_before_leave f run whole t j o h =
     let x : thread.ThreadState = thread_at f run t j in
     let s = emitting_step_is_step_of (machine_of f) (start_of f) run whole.1.runs t j (Out o Writing h.0) h.1 in
     let asks : (machine_of f).ask x ≡ machine.Leave o Writing =
-    write_leave_was_asked ((machine_of f).ask x) s.result o h.0 s.object (sym s.emits) in
+    ask_is_leave_if_write_leave_emitted ((machine_of f).ask x) s.result o h.0 s.object (sym s.emits) in
     let r : ℕ = reply (act_of ((machine_of f).ask x) s.result) s.object in
     let gone : held_after (act_of ((machine_of f).ask x) r) (held_at x.held) o ≡ None =
     subst (λ q. held_after (act_of q r) (held_at x.held) o ≡ None) (sym asks) (upd_at_own_place (held_at x.held) o None) in (
@@ -136,7 +136,7 @@ leaves_written_if_write_hold_lost f run whole t j o less inside out =
     let s = emitting_step_is_step_of (machine_of f) (start_of f) run whole.1.runs t j some.0 some.1 in
     let r : ℕ = reply (act_of ((machine_of f).ask x) s.result) s.object in
     let asks : (machine_of f).ask x ≡ machine.Leave o Writing =
-    write_hold_lost_by_leave ((machine_of f).ask x) r o (held_at x.held) ((guest_machine_is_lawful f).holds x) inside
+    ask_is_leave_if_write_hold_lost ((machine_of f).ask x) r o (held_at x.held) ((guest_machine_is_lawful f).holds x) inside
     (λ w. out (held_after_step_by_act f run t j some.0 s o ∙ w)) in
     let emits : some.0 ≡ Out o Writing s.object.version =
     s.emits ∙ ap (λ q. emitted (act_of q s.result) s.object) asks in

@@ -19,7 +19,7 @@ use Rattle.ir_hits.proofs.Hitting.{AreHitsSeen, AreNothingNoted, hits_seen_after
 use Rattle.ir_hits.proofs.Standing.{thread_of_standing_is_run_thread, last_position_is_steps_of_thread}
 use Rattle.ir_hits.proofs.Passing.{IsStretch, notes_within_stretch, no_hit_within_stretch}
 use Rattle.ir_hits.proofs.Windows.{no_hit_in_empty_window, no_hit_in_longer_window, start_hit_is_last_at_start, no_last_hit_at_start}
-use Rattle.ir_hits.proofs.CallerLemmas.{none_both}
+use Rattle.ir_hits.proofs.CallerLemmas.{no_hit_in_joined_windows}
 
 -- thread t has passed on, at least by a step; before that the points noted so much, and what they may hit at is marked
 pub record IsPassage (f : FittedTrace) (last : List ℕ) (code : Marked) (points : List Numbered) (notes : List Before) (t to : ℕ)
@@ -32,12 +32,12 @@ pub record IsPassage (f : FittedTrace) (last : List ℕ) (code : Marked) (points
   pub passed : HasPassed code t to (flat_in f old) (flat_in f new)
   pub all : AllNoted t (slice_index_or old.threads t idle) points notes
 
-pub passage_of_thread : (f : FittedTrace) (last : List ℕ) (code : Marked) (points : List Numbered) (notes : List Before) (t to : ℕ)
+pub is_passage_if_thread_has_passed : (f : FittedTrace) (last : List ℕ) (code : Marked) (points : List Numbered) (notes : List Before) (t to : ℕ)
     (old new : Standing) (x : ThreadState) → x ≡ slice_index_or old.threads t idle → AreLast f last → code.words ≡ f.guest.code
     → AreCovered code t points → StandsAt f (positions (flat_in f old)) old → StandsAt f (positions (flat_in f new)) new
     → HasPassed code t to (flat_in f old) (flat_in f new) → AllNoted t x points notes
     → IsPassage f last code points notes t to old new
-passage_of_thread f last code points notes t to old new x is ends words covered before after passed all = record {
+is_passage_if_thread_has_passed f last code points notes t to old new x is ends words covered before after passed all = record {
   ends = ends;
   words = words;
   covered = covered;
@@ -104,10 +104,10 @@ pub record IsAfterPassage (f : FittedTrace) (run : List Step) (points : List Num
   pub seen : AreHitsSeen f run points notes t (positions (flat_in f new) t) end (slice_index_or new.threads t idle)
   pub none : NoneWithin f run points t (suc (positions (flat_in f old) t)) (positions (flat_in f new) t)
 
-standing_after_passage_to_position : (f : FittedTrace) (last : List ℕ) (code : Marked) (points : List Numbered) (notes : List Before) (t to : ℕ) (old new : Standing)
+is_after_passage_to_position : (f : FittedTrace) (last : List ℕ) (code : Marked) (points : List Numbered) (notes : List Before) (t to : ℕ) (old new : Standing)
     (end k : ℕ) → IsPassage f last code points notes t to old new → end ≡ cut_of last t → (run : List Step)
     → IsRunOf f.guest f.recorded run → positions (flat_in f new) t ≡ suc k → IsAfterPassage f run points notes t end old new
-standing_after_passage_to_position f last code points notes t to old new end k s is run whole next =
+is_after_passage_to_position f last code points notes t to old new end k s is run whole next =
     let comes = passage_comes_to_position f last code points notes t to old new s run whole k next in
     let within = (s.after.at.each run whole).cut t in
     record {
@@ -118,11 +118,11 @@ standing_after_passage_to_position f last code points notes t to old new end k s
       none = subst (NoneWithin f run points t (suc (positions (flat_in f old) t))) (sym next) comes.none;
     }
 
-standing_after_passage : (f : FittedTrace) (last : List ℕ) (code : Marked) (points : List Numbered) (notes : List Before) (t to : ℕ) (old new : Standing)
+is_after_passage : (f : FittedTrace) (last : List ℕ) (code : Marked) (points : List Numbered) (notes : List Before) (t to : ℕ) (old new : Standing)
     (end : ℕ) → IsPassage f last code points notes t to old new → end ≡ cut_of last t → (run : List Step)
     → IsRunOf f.guest f.recorded run → IsAfterPassage f run points notes t end old new
-standing_after_passage f last code points notes t to old new end s is run whole =
-    standing_after_passage_to_position f last code points notes t to old new end (positions (flat_in f new) t - 1) s is run whole
+is_after_passage f last code points notes t to old new end s is run whole =
+    is_after_passage_to_position f last code points notes t to old new end (positions (flat_in f new) t - 1) s is run whole
     (omega (arith, s.passed.taken, s.passed.some))
 
 -- a point hits there
@@ -134,12 +134,12 @@ pub next_hit_after_passage : (f : FittedTrace) (last : List ℕ) (code : Marked)
     → (found : Option ℕ) → found ≡ Some h.number → IsLowestOf t end y notes points (length points) found
     → h.position ≡ positions (flat_in f new) t → EachRun f (λ run. IsNextHit f run points t p to (Some h))
 next_hit_after_passage f last code points notes t to old new end p y h y_is s is low none found some all at run whole =
-    let seen = standing_after_passage f last code points notes t to old new end s is run whole in
+    let seen = is_after_passage f last code points notes t to old new end s is run whole in
     let lowest : IsLowestOf t end (slice_index_or new.threads t idle) notes points (length points) (Some h.number) =
     subst (λ (z : ThreadState × Option ℕ). IsLowestOf t end z.0 notes points (length points) z.1) (λ i. (y_is i, some i)) all in (
       omega (arith, at, low, s.passed.taken, s.passed.some),
       omega (arith, at, s.passed.within),
-      subst (NoneWithin f run points t (suc p)) (sym at) (none_both f run points t (suc p) (suc (positions (flat_in f old) t))
+      subst (NoneWithin f run points t (suc p)) (sym at) (no_hit_in_joined_windows f run points t (suc p) (suc (positions (flat_in f old) t))
           (positions (flat_in f new) t) (none run whole) seen.none),
       subst (λ k. IsLowest f run points t k h.number) (sym at) (lowest_seen_number_is_lowest_hit f run points notes t (positions (flat_in f new) t) end
           (slice_index_or new.threads t idle) h.number seen.seen lowest),
@@ -153,9 +153,9 @@ pub no_hit_after_passage : (f : FittedTrace) (last : List ℕ) (code : Marked) (
     → (found : Option ℕ) → found ≡ None → IsLowestOf t end y notes points (length points) found
     → EachRun f (λ run. NoneWithin f run points t (suc p) (suc (positions (flat_in f new) t)))
 no_hit_after_passage f last code points notes t to old new end p y y_is s is none found none_is all run whole =
-    let seen = standing_after_passage f last code points notes t to old new end s is run whole in
+    let seen = is_after_passage f last code points notes t to old new end s is run whole in
     no_hit_in_longer_window f run points t (suc p) (positions (flat_in f new) t)
-    (none_both f run points t (suc p) (suc (positions (flat_in f old) t)) (positions (flat_in f new) t) (none run whole) seen.none)
+    (no_hit_in_joined_windows f run points t (suc p) (suc (positions (flat_in f old) t)) (positions (flat_in f new) t) (none run whole) seen.none)
     (no_hit_if_none_seen f run points notes t (positions (flat_in f new) t) end (slice_index_or new.threads t idle) seen.seen
     (subst (λ (z : ThreadState × Option ℕ). IsLowestOf t end z.0 notes points (length points) z.1) (λ i. (y_is i, none_is i)) all))
 
@@ -194,26 +194,26 @@ last_hit_is_last_from_start f run points t p None last = last
 
 -- ---- where a window begins
 
-last_window_hit_at_position : (f : FittedTrace) (last : List ℕ) (points : List Numbered) (notes : List Before) (t : ℕ) (s : Standing) (end : ℕ)
+start_hit_is_last_from_window_start_at_position : (f : FittedTrace) (last : List ℕ) (points : List Numbered) (notes : List Before) (t : ℕ) (s : Standing) (end : ℕ)
     (y : ThreadState) → y ≡ slice_index_or s.threads t idle → AreLast f last → StandsAt f (positions (flat_in f s)) s → end ≡ cut_of last t
     → length notes ≡ length points → AreNothingNoted notes → (found : Option Hit) → (y.steps ≡ 0 → IsStartHit t end y notes points found)
     → (0 < y.steps → found ≡ None) → (p : ℕ) → positions (flat_in f s) t ≡ p
     → EachRun f (λ run. IsLastFrom f run points t (window_start p) (p + 1) found)
-last_window_hit_at_position f last points notes t s end y y_is are stands is size none found start later zero at run whole =
+start_hit_is_last_from_window_start_at_position f last points notes t s end y y_is are stands is size none found start later zero at run whole =
     let first : y.steps ≡ 0 = ap (λ (z : ThreadState). z.steps) y_is ∙ at in
     last_hit_is_last_from_start f run points t 1 found
     (subst (λ k. IsLastHit f run points t (k + 1) found) at
     (start_hit_is_last_hit f last points notes t s end y y_is are (stands, at) is size none found (start first) run whole))
-last_window_hit_at_position f last points notes t s end y y_is are stands is size none found start later (suc p) at run whole =
+start_hit_is_last_from_window_start_at_position f last points notes t s end y y_is are stands is size none found start later (suc p) at run whole =
     let above : y.steps ≡ suc p = ap (λ (z : ThreadState). z.steps) y_is ∙ at in
     subst (IsLastFrom f run points t (suc (suc p)) (suc p + 1)) (sym (later (omega (arith, above))))
     (no_hit_in_empty_window f run points t (suc (suc p)) (suc p + 1) (omega arith))
 
 -- the hit at the start, if the thread is there and there is one, is the last so far
-pub last_window_hit : (f : FittedTrace) (last : List ℕ) (points : List Numbered) (notes : List Before) (t : ℕ) (s : Standing) (end : ℕ)
+pub start_hit_is_last_from_window_start : (f : FittedTrace) (last : List ℕ) (points : List Numbered) (notes : List Before) (t : ℕ) (s : Standing) (end : ℕ)
     (y : ThreadState) → y ≡ slice_index_or s.threads t idle → AreLast f last → StandsAt f (positions (flat_in f s)) s → end ≡ cut_of last t
     → length notes ≡ length points → AreNothingNoted notes → (found : Option Hit) → (y.steps ≡ 0 → IsStartHit t end y notes points found)
     → (0 < y.steps → found ≡ None)
     → EachRun f (λ run. IsLastFrom f run points t (window_start (positions (flat_in f s) t)) (positions (flat_in f s) t + 1) found)
-last_window_hit f last points notes t s end y y_is are stands is size none found start later =
-    last_window_hit_at_position f last points notes t s end y y_is are stands is size none found start later (positions (flat_in f s) t) refl
+start_hit_is_last_from_window_start f last points notes t s end y y_is are stands is size none found start later =
+    start_hit_is_last_from_window_start_at_position f last points notes t s end y y_is are stands is size none found start later (positions (flat_in f s) t) refl

@@ -1,5 +1,6 @@
 -- What a thread passes over at instructions that aren't marked.
 use Rattle.std.proofs.Common.{◌≡◌, ℕ, suc, zero, ◌+◌, ◌-◌, ◌<◌, ◌≤◌, Bool, true, false, List, refl, sym, ap, ◌∙◌, subst, add-zero, add-suc, inl, inr, arith}
+use Rattle.ir_lemmas.proofs.CallerLemmas.{true_is_not_false}
 use Rattle.ir_mach.specs.Marks.{Marked, is_marked}
 use Rattle.ir_mach.specs.Execution.{memory_word}
 use Rattle.ir_runs.specs.Machine.{act_of, reply}
@@ -79,9 +80,6 @@ memory_within_stretch f run code points t j n k x y (Watch u address) s le c w =
 memory_within_stretch f run code points t j n k x y (WatchObject object) s le c w = absurd w
 
 -- ---- no point hits between
-
-true_is_not_false : (b : Bool) → b ≡ true → b ≡ false → ⊥
-true_is_not_false b is isnt = cc (is, isnt)
 
 covered_point_not_hit_within_stretch : (f : FittedTrace) (run : List Step) (code : Marked) (points : List Numbered) (t j n k : ℕ) (x y : ThreadState) (p : Point)
     → IsStretch f run code points t j n x y → suc k < n → IsCovered code t p → HitBy f run t (suc (j + k)) p → ⊥

@@ -9,7 +9,7 @@ use Rattle.ir_flat.specs.Flat.{idle}
 use Rattle.ir_flat.proofs.CallerLemmas.{guest_start_is_idle}
 use Rattle.ir_runs.specs.Run.{Step, trail, count, Cut, IsCut, Consistent}
 use Rattle.ir_fit.specs.Fit.{FittedTrace, IsRunOf}
-use Rattle.ir_fit.proofs.CallerLemmas.{idle_thread_has_empty_trail, get_or_of_at}
+use Rattle.ir_fit.proofs.CallerLemmas.{idle_thread_has_empty_trail, get_or_is_item_if_at_index}
 use Rattle.ir_cut.specs.Positions.{machine_of, start_of, cut_of, IsConsistentCut}
 use Rattle.ir_weave.specs.Standing.{Standing, StandsAt, flat_in, positions}
 use Rattle.ir_hits.specs.Hits.{thread_at}
@@ -32,7 +32,7 @@ pub last_positions_are_consistent : (f : FittedTrace) (last : List ℕ) → AreL
 last_positions_are_consistent f last are run whole = (
   λ t. let all = last_position_is_step_count f last are run whole t in omega (arith, all),
   λ t k u j a b emitted needed needs less. let all = last_position_is_step_count f last are run whole u in
-      let within = (get_or_of_at (trail (machine_of f) (start_of f) run u) j (needed.0, b) needed.1).0 in
+      let within = (get_or_is_item_if_at_index (trail (machine_of f) (start_of f) run u) j (needed.0, b) needed.1).0 in
       omega (arith, all, within),
 )
 
@@ -82,8 +82,8 @@ listed_steps_are_cut_of_standing f s at stands size here = record {
 }
 
 -- the cut that is read off these threads
-pub read_steps_are_cut_of_standing : (f : FittedTrace) (s : Standing) (at : List ℕ) (threads : List thread.ThreadState) → threads ≡ s.threads
+pub steps_of_equal_threads_are_cut_of_standing : (f : FittedTrace) (s : Standing) (at : List ℕ) (threads : List thread.ThreadState) → threads ≡ s.threads
     → StandsAt f (positions (flat_in f s)) s → length at ≡ length threads
     → ((t : ℕ) → t < length threads → cut_of at t ≡ (slice_index_or threads t idle).steps) → IsCutOfStanding f s at
-read_steps_are_cut_of_standing f s at threads same stands size here = listed_steps_are_cut_of_standing f s at stands (size ∙ ap length same)
+steps_of_equal_threads_are_cut_of_standing f s at threads same stands size here = listed_steps_are_cut_of_standing f s at stands (size ∙ ap length same)
     (subst (λ (xs : List thread.ThreadState). (t : ℕ) → t < length xs → cut_of at t ≡ (slice_index_or xs t idle).steps) same here)

@@ -6,7 +6,7 @@ use Rattle.ir_fit.specs.Fit.{FittedTrace}
 use Rattle.ir_hits.specs.Hits.{Numbered, HitByNumber, NoneWithin, IsLowest, IsLastHit}
 use Rattle.ir_hits.specs.Searching.{IsNextHit, IsLastFrom, reached, window_start}
 use Rattle.ir_command.specs.declared.hit.Hit.{Hit}
-use Rattle.ir_hits.proofs.CallerLemmas.{last_joined}
+use Rattle.ir_hits.proofs.CallerLemmas.{last_hit_stays_in_window_extended_above}
 
 -- an empty window
 pub no_hit_in_empty_window : (f : FittedTrace) (run : List Step) (points : List Numbered) (t from to : ℕ) → to ≤ from → NoneWithin f run points t from to
@@ -30,9 +30,9 @@ window_start_at_most_one_above zero = omega arith
 window_start_at_most_one_above (suc p) = omega arith
 
 -- a hit is the last up to its own position
-pub next_hit_is_last_hit : (f : FittedTrace) (run : List Step) (points : List Numbered) (t from p to q : ℕ) (h : Hit) → from ≤ p → q ≡ h.position
+pub next_hit_is_last_up_to_its_position : (f : FittedTrace) (run : List Step) (points : List Numbered) (t from p to q : ℕ) (h : Hit) → from ≤ p → q ≡ h.position
     → IsNextHit f run points t p to (Some h) → IsLastFrom f run points t (window_start from) (q + 1) (Some h)
-next_hit_is_last_hit f run points t from p to q h low at next = (
+next_hit_is_last_up_to_its_position f run points t from p to q h low at next = (
   (let near = window_start_at_most_one_above from in let above = next.0 in omega (arith, near, low, above)),
   omega (arith, at),
   no_hit_in_empty_window f run points t (suc h.position) (q + 1) (omega (arith, at)),
@@ -43,7 +43,7 @@ next_hit_is_last_hit f run points t from p to q h low at next = (
 pub last_hit_stays_without_next_hit : (f : FittedTrace) (run : List Step) (points : List Numbered) (t from p to : ℕ) → p ≤ to → (found : Option Hit)
     → IsLastFrom f run points t from (p + 1) found → IsNextHit f run points t p to None → IsLastFrom f run points t from (to + 1) found
 last_hit_stays_without_next_hit f run points t from p to within found last next =
-    last_joined f run points t from (p + 1) (to + 1) found (omega (arith, within)) last
+    last_hit_stays_in_window_extended_above f run points t from (p + 1) (to + 1) found (omega (arith, within)) last
     (λ j n low high. next j n (omega (arith, low)) (omega (arith, high)))
 
 -- the start is the last position so far

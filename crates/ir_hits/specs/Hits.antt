@@ -10,6 +10,8 @@ use Rattle.ir_cut.specs.Positions.{machine_of, start_of}
 use Rattle.ir_command.specs.declared.command.Point.{Point}
 use Rattle.ir_command.specs.declared.command.Point.TheVariants.{Break, Watch, WatchObject}
 use Rattle.ir_command.specs.declared.hit.Hit.{Hit}
+use Rattle.ir_command.specs.declared.command.Direction.{Direction}
+use Rattle.ir_command.specs.declared.command.Direction.TheVariants.{Forwards, Backwards}
 
 -- a point, and the number that it goes by
 pub record Numbered : Type 0 where
@@ -44,12 +46,15 @@ NoneWithin f run points t from to = (j n : ℕ) → from ≤ j → j < to → Hi
 
 -- the first position above p at which a point hits, and the lowest number of those that do; or no point hits above p
 abbrev pub IsFirstHit : FittedTrace → List Step → List Numbered → ℕ → ℕ → Option Hit → Type 0
-IsFirstHit f run points t p (Some h) = (p < h.position) × NoneWithin f run points t (suc p) h.position
-    × IsLowest f run points t h.position h.number
+IsFirstHit f run points t p (Some h) = (p < h.position) × NoneWithin f run points t (suc p) h.position × IsLowest f run points t h.position h.number
 IsFirstHit f run points t p None = (j n : ℕ) → p < j → HitByNumber f run points t j n → ⊥
 
 -- the last position below p at which a point hits, and the lowest number of those that do; or no point hits below p
 abbrev pub IsLastHit : FittedTrace → List Step → List Numbered → ℕ → ℕ → Option Hit → Type 0
-IsLastHit f run points t p (Some h) = (h.position < p) × NoneWithin f run points t (suc h.position) p
-    × IsLowest f run points t h.position h.number
+IsLastHit f run points t p (Some h) = (h.position < p) × NoneWithin f run points t (suc h.position) p × IsLowest f run points t h.position h.number
 IsLastHit f run points t p None = NoneWithin f run points t 0 p
+
+-- the hit that thread t finds from a position in this direction
+abbrev pub Finds : List Step → FittedTrace → List Numbered → ℕ → ℕ → Direction → Option Hit → Type 0
+Finds run f points t from Forwards hit = IsFirstHit f run points t from hit
+Finds run f points t from Backwards hit = IsLastHit f run points t from hit

@@ -5,7 +5,8 @@ use Rattle.std.specs.List.{list_all, AllByRecursion}
 use Rattle.ir_image.specs.Guest.{Guest}
 use Rattle.ir_flat.specs.Flat.{tables, machine}
 use Rattle.ir_flat.proofs.CallerLemmas.{length_of_start_threads}
-use Rattle.ir_runs.specs.Run.{Step, log, IsByOrder}
+use Rattle.ir_runs.specs.Run.{Step, log}
+use Rattle.ir_runs.specs.Orders.{IsByOrder}
 use Rattle.ir_trace.specs.Recorded.{Recorded}
 use Rattle.ir_record.specs.Worlds.{answers_at, Answered, answers_in}
 use Rattle.ir_record.specs.Recording.{order_of_turns}
@@ -14,7 +15,7 @@ use Rattle.ir_record_run.specs.Plan.{Plan}
 use Rattle.ir_record_run.specs.Recording.{IsRecordedOf}
 use Rattle.ir_order.specs.Recording.{IsPlanned}
 use Rattle.ir_order.specs.Spelling.{Spells}
-use Rattle.ir_order.proofs.CallerLemmas.{complete_runs_have_steps, recordings_are_of_the_run}
+use Rattle.ir_order.proofs.CallerLemmas.{complete_runs_have_steps, recordings_by_plain_list_are_of_the_run}
 use Rattle.ir_chaos.proofs.CallerLemmas.{schedules_are_orders, schedules_are_of_threads}
 use Rattle.ir_chaos.specs.Conditions.{Condition, fulfils, outcome_of}
 use Rattle.ir_chaos.specs.Moments.{Moment}
@@ -109,6 +110,6 @@ recording_of_found_is_finding image plan way seed conditions wanted list trace o
   guest = found.guest;
   is = found.is;
   found = found.found;
-  recorded = recordings_are_of_the_run image found.guest (by_list plan list) list found.found.order found.found.run trace outputs found.is refl
+  recorded = recordings_by_plain_list_are_of_the_run image found.guest (by_list plan list) list found.found.order found.found.run trace outputs found.is refl
       found.found.spelled found.found.planned r;
 }

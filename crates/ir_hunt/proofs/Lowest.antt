@@ -70,8 +70,8 @@ lowest_without_none xs (Some l) h = (
 )
 
 -- what is found from none on is the lowest
-pub found_from_none_is_lowest : (xs : List (Option ℕ)) (r : Option ℕ) → r ≡ lowest_from None xs → IsLowest xs r
-found_from_none_is_lowest xs r e = subst (IsLowest xs) (sym e) (lowest_without_none xs (lowest_from None xs) (lowest_from_is_lowest None xs))
+pub lowest_from_none_is_lowest : (xs : List (Option ℕ)) (r : Option ℕ) → r ≡ lowest_from None xs → IsLowest xs r
+lowest_from_none_is_lowest xs r e = subst (IsLowest xs) (sym e) (lowest_without_none xs (lowest_from None xs) (lowest_from_is_lowest None xs))
 
 -- ---- one after the other
 
@@ -86,4 +86,4 @@ lowest_from_step f ws i w seed next r l is n e =
 -- the lowest of all
 pub lowest_at_list_end : {W : Type 0} (f : W → Option ℕ) (ws : List W) (i : ℕ) (seed : Option ℕ) → length ws ≤ i
     → lowest_from seed (map f (drop i ws)) ≡ lowest_from None (map f ws) → IsLowest (map f ws) seed
-lowest_at_list_end f ws i seed past e = found_from_none_is_lowest (map f ws) seed (sym (at_drop_all (λ z. lowest_from seed (map f z)) ws i past) ∙ e)
+lowest_at_list_end f ws i seed past e = lowest_from_none_is_lowest (map f ws) seed (sym (at_drop_all (λ z. lowest_from seed (map f z)) ws i past) ∙ e)

@@ -3,12 +3,13 @@ use Rattle.std.proofs.Common.{◌≡◌, ◌<◌, ℕ, true, Bool, List, [], len
 use Rattle.std.specs.Prelude.{replicate, Result, Ok, Err, IfOk}
 use Rattle.ir_image.specs.Guest.{Guest}
 use Rattle.ir_flat.specs.Flat.{start_flat, tables, machine}
-use Rattle.ir_runs.specs.Run.{Step}
-use Rattle.ir_runs.specs.Verdicts.{IsWhole}
+use Rattle.ir_runs.specs.Run.{Step, IsWhole}
 use Rattle.ir_trace.specs.Recorded.{Recorded, trace_of}
 use Rattle.ir_fit.specs.Fit.{IsRunOf, FittedTrace, HasRun}
 use Rattle.ir_thread.specs.declared.profile.Profile.{Profile}
-use Rattle.ir_record.specs.Recording.{IsTraceOf, IsRecordingInOrder}
+use Rattle.ir_record.specs.Recording.{IsTraceOf}
+use Rattle.ir_record.specs.Recordings.{IsRecordingByTurns}
+use Rattle.ir_record.specs.Refusing.{plain_turns}
 use Rattle.ir_record.specs.Worlds.{Answered}
 use Rattle.ir_record_run.specs.Plan.{Plan}
 use Rattle.ir_sources.specs.Sources.{origin_of, IsAnswered}
@@ -29,21 +30,21 @@ trace_of_run_has_run guest budget profile run trace h = (
 
 -- and so does what is recorded in turns
 pub recording_has_run : (guest : Guest) (budget : ℕ) (profile : Profile) (order : List ℕ) (before : List (List Answered)) (trace : Recorded)
-    (outputs : List (List ℕ)) (answers : List (List Answered)) → IsRecordingInOrder guest budget profile order before trace outputs answers
+    (outputs : List (List ℕ)) (answers : List (List Answered)) → IsRecordingByTurns guest budget profile (plain_turns order) before trace outputs answers
     → (run : List Step) × IsRunOf guest trace run
-recording_has_run guest budget profile order before trace outputs answers r = (r.run, trace_of_run_has_run guest budget profile r.run trace r.of.emitted)
+recording_has_run guest budget profile order before trace outputs answers r = (r.0, trace_of_run_has_run guest budget profile r.0 trace r.2.emitted)
 
 -- what is recorded in turns, with fresh worlds, is the trace of each run by their order
 pub fresh_recording_is_trace_by_order : (guest : Guest) (plan : Plan) (entries order : List ℕ) (before : List (List Answered)) (trace : Recorded) (outputs : List (List ℕ))
     (answers : List (List Answered)) → entries ≡ guest.entries → before ≡ replicate (length entries) []
-    → IsRecordingInOrder guest plan.budget plan.profile order before trace outputs answers
+    → IsRecordingByTurns guest plan.budget plan.profile (plain_turns order) before trace outputs answers
     → ((t : ℕ) → t < length entries → IsAnswered (origin_of true plan.random plan.input t) (get_or answers t []))
     → IsTraceBy guest plan order trace
 fresh_recording_is_trace_by_order guest plan entries order before trace outputs answers same fresh r answered run planned =
     let long : length entries ≡ length guest.entries = ap (λ (z : List ℕ). length z) same in (
       outputs,
       recording_in_turns_is_of_run guest plan order run trace outputs answers planned
-          (subst (λ (z : List (List Answered)). IsRecordingInOrder guest plan.budget plan.profile order z trace outputs answers)
+          (subst (λ (z : List (List Answered)). IsRecordingByTurns guest plan.budget plan.profile (plain_turns order) z trace outputs answers)
           (fresh ∙ ap (λ (n : ℕ). replicate n []) long) r) (λ t l. answered t (subst (λ n. t < n) (sym long) l)),
     )
 
@@ -62,7 +63,7 @@ stale_by_order_if_trace_rests guest plan order trace f has by of_guest of_trace 
 }
 
 -- the same, where that was found out
-pub stale_result_by_trace : {E : Type 0} (guest : Guest) (plan : Plan) (order : List ℕ) (trace : Recorded) (f : FittedTrace) (r : Result Bool E)
+pub result_says_stale_by_order_if_trace_rests : {E : Type 0} (guest : Guest) (plan : Plan) (order : List ℕ) (trace : Recorded) (f : FittedTrace) (r : Result Bool E)
     → IsTraceBy guest plan order trace → f.guest ≡ guest → f.recorded ≡ trace → HasRun f → IfOk r (HasRests f) → IfOk r (HasStaleBy guest plan order)
-stale_result_by_trace guest plan order trace f (Ok has) by of_guest of_trace fits rests = stale_by_order_if_trace_rests guest plan order trace f has by of_guest of_trace fits rests
-stale_result_by_trace guest plan order trace f (Err e) by of_guest of_trace fits rests = tt
+result_says_stale_by_order_if_trace_rests guest plan order trace f (Ok has) by of_guest of_trace fits rests = stale_by_order_if_trace_rests guest plan order trace f has by of_guest of_trace fits rests
+result_says_stale_by_order_if_trace_rests guest plan order trace f (Err e) by of_guest of_trace fits rests = tt

@@ -2,10 +2,7 @@
 use Rattle.std.proofs.Common.{◌≡◌, ◌<◌, ◌+◌, ℕ, zero, suc, List, [], ◌∷◌, ◌++◌, length, map, take, set, refl, sym, ap, ◌∙◌, arith, add-one}
 use Rattle.std.specs.Prelude.{replicate}
 use Rattle.std.proofs.lemmas.List.{map-set, length-map, take_more_set}
-
-replicate_append_one : {A : Type 0} (n : ℕ) (x : A) → replicate n x ++ x ∷ [] ≡ replicate (suc n) x
-replicate_append_one zero x = refl
-replicate_append_one (suc n) x = ap (λ z. x ∷ z) (replicate_append_one n x)
+use Rattle.ir_lemmas.proofs.CallerLemmas.{replicate_append_one}
 
 -- one world more is as it was
 pub restarted_worlds_step : {W A : Type 0} (f : W → A) (worlds : List W) (place : ℕ) (new : W) (x : A) → place < length worlds

@@ -10,13 +10,13 @@ use Rattle.ir_hunt.specs.Finding.{IsFoundIn}
 use Rattle.ir_hunt.specs.Lines.{found_line, none_line}
 use Rattle.ir_hunt.specs.Stopping.{IsHuntLine}
 
-pub holds_if_is_err : {A E : Type 0} (r : Result A E) (P : Type 0) → OnErr r P → is_err r ≡ true → P
-holds_if_is_err (Ok x) P h e = absurd cc
-holds_if_is_err (Err x) P h e = h
+pub error_fact_if_is_err : {A E : Type 0} (r : Result A E) (P : Type 0) → OnErr r P → is_err r ≡ true → P
+error_fact_if_is_err (Ok x) P h e = absurd cc
+error_fact_if_is_err (Err x) P h e = h
 
-pub holds_unless_is_err : {A E : Type 0} (r : Result A E) (P : Type 0) → OnOk r P → is_err r ≡ false → P
-holds_unless_is_err (Ok x) P h e = h
-holds_unless_is_err (Err x) P h e = absurd cc
+pub ok_fact_unless_is_err : {A E : Type 0} (r : Result A E) (P : Type 0) → OnOk r P → is_err r ≡ false → P
+ok_fact_unless_is_err (Ok x) P h e = h
+ok_fact_unless_is_err (Err x) P h e = absurd cc
 
 -- the line of what was found, or of nothing
 pub line_is_hunt_line : {F : Type 0} (seed_of : F → ℕ) (list_of : F → List ℕ) (image : List ℕ) (plan : Plan) (way : Way) (seeds : Seeds)

@@ -7,7 +7,8 @@ use Rattle.ir_bytes.specs.Reading.{◌>>=◌, field_at}
 use Rattle.ir_bytes.proofs.CallerLemmas.{two_steps_succeed, ok_is_injective, IsBytes, Takes, number_at_takes_number, number_at_of_little_bytes, field_at_takes_field, field_at_of_little_bytes, test_true_if_no_fault}
 use Rattle.ir_image.specs.declared.image_err.ImageErr.{ImageErr}
 use Rattle.ir_image.specs.declared.image_err.ImageErr.TheVariants.{Short, Magic, Entry}
-use Rattle.ir_image.specs.Guest.{IsWord, code_start, most_code_words, image_magic, magic_number, form_of, IsPlace, form_at}
+use Rattle.ir_image.specs.Guest.{code_start, most_code_words, image_magic, magic_number, form_of, form_at}
+use Rattle.ir_image.specs.Bounds.{IsWord, IsPlace}
 use Rattle.ir_image.specs.Fields.{image_magic_field, entry_field, entry_at, is_place, word_at}
 use Rattle.ir_image.specs.declared.form.ImageForm.{ImageForm}
 use Rattle.ir_image.specs.declared.form.ImageForm.TheVariants.{Small, Large}

@@ -2,9 +2,11 @@
 use Rattle.std.proofs.Common.{◌≡◌, ℕ, ◌-◌, ◌*◌, ◌/◌, ◌%◌, ◌<◌, ◌≤◌, List, length, get_or, replicate, refl, sym, ◌∙◌, subst, inl, inr, arith}
 use Rattle.std.proofs.lemmas.Bool.{cases_lt}
 use Rattle.std.proofs.lemmas.List.{get_or_append_left, get_or-append_right, get_or-replicate, get_or_past, length-replicate}
+use Rattle.ir_lemmas.proofs.CallerLemmas.{element_of_zeros_is_zero}
 use Rattle.ir_image.specs.declared.form.ImageForm.{ImageForm}
 use Rattle.ir_image.specs.declared.form.ImageForm.TheVariants.{Small, Large}
-use Rattle.ir_image.specs.Guest.{limits_of, most_threads, most_objects, most_object_words, Guest, object_count, IsGuest}
+use Rattle.ir_image.specs.Guest.{limits_of, most_threads, most_objects, most_object_words, Guest, object_count}
+use Rattle.ir_image.specs.Bounds.{IsGuest}
 use Rattle.ir_image.specs.Padded.{padded}
 
 pub form_has_words : (form : ImageForm) → 0 < (limits_of form).words
@@ -58,12 +60,6 @@ pub guest_words_at_most_limit : (g : Guest) → IsGuest g → length g.words ≤
 guest_words_at_most_limit g fits = whole_words_at_most_limit g.form (length g.words) fits.whole_objects fits.few_objects
 
 -- ---- words, and 0 after them
-
-element_of_zeros_is_zero : (n i : ℕ) → get_or {A = ℕ} (replicate n 0) i 0 ≡ 0
-element_of_zeros_is_zero n i = elim (cases_lt i n) [
-  | inl l ↦ get_or-replicate n i 0 0 l
-  | inr g ↦ get_or_past (replicate n 0) i 0 (subst (λ k. k ≤ i) (sym (length-replicate n 0)) g)
-]
 
 pub element_of_padded : (xs : List ℕ) (i : ℕ) → get_or (padded xs) i 0 ≡ get_or xs i 0
 element_of_padded xs i =

@@ -9,7 +9,8 @@ use Rattle.ir_bytes.proofs.CallerLemmas.{two_steps_succeed, five_steps_succeed, 
 use Rattle.ir_image.specs.declared.counts.Counts.{Counts}
 use Rattle.ir_image.specs.declared.image_err.ImageErr.{ImageErr}
 use Rattle.ir_image.specs.declared.image_err.ImageErr.TheVariants.{Short, Count, Trailing}
-use Rattle.ir_image.specs.Guest.{Guest, IsWord, memory_size, most_code_words, object_count, limits_of, image_magic, IsGuest, IsPlace, form_at, counts_at, body_at, guest_at}
+use Rattle.ir_image.specs.Guest.{Guest, memory_size, most_code_words, object_count, limits_of, image_magic, form_at, counts_at, body_at, guest_at}
+use Rattle.ir_image.specs.Bounds.{IsWord, IsGuest, IsPlace}
 use Rattle.ir_image.specs.Fields.{image_threads_field, image_objects_field, words_field, bytes_field, entry_at, word_at}
 use Rattle.ir_image.specs.declared.form.ImageForm.{ImageForm}
 use Rattle.ir_image.specs.Encoding.{counts_of, counts_encoding, words_encoding, body_encoding, encoding}

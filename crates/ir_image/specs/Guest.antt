@@ -1,6 +1,5 @@
--- A guest: what an image holds, however the code keeps it; how it is read from bytes, and its limits.
-use Rattle.std.specs.Prelude.{ℕ, ◌+◌, ◌-◌, ◌*◌, ◌/◌, List, length, ◌++◌, take, drop, replicate, ◌==◌, [], ◌∷◌, if◌then◌else◌, slice_get, nat_le, Option, Some, None, ◌%◌, Result, Ok, Err, nat_lt, ◌&&◌, ◌≡◌, ◌<◌, ◌≤◌}
-pub use Rattle.ir_bytes.specs.Reading.{IsWord, IsByte}
+-- A guest: what an image holds, however the code keeps it, and how it is read from bytes.
+use Rattle.std.specs.Prelude.{ℕ, ◌+◌, ◌-◌, ◌*◌, ◌/◌, List, length, ◌++◌, take, drop, replicate, ◌==◌, [], ◌∷◌, if◌then◌else◌, slice_get, nat_le, Option, Some, None, ◌%◌, Result, Ok, Err, nat_lt, ◌&&◌}
 use Rattle.ir_image.specs.declared.form.ImageForm.{ImageForm}
 use Rattle.byteorder.specs.Endian.{little_number}
 use Rattle.ir_image.specs.declared.form.ImageForm.TheVariants.{Small, Large}
@@ -13,7 +12,6 @@ use Rattle.ir_bytes.specs.Reading.{◌>>=◌, Reader, tested, within, number_at,
 use Rattle.ir_image.specs.declared.counts.Counts.{Counts}
 use Rattle.ir_image.specs.declared.image_err.ImageErr.{ImageErr}
 use Rattle.ir_image.specs.declared.image_err.ImageErr.TheVariants.{Short, Magic, Count, Entry, Trailing, NoMem}
-use Rattle.std.specs.List.{AllByRecursion}
 
 pub record Guest : Type 0 where
   -- how many threads, objects and words of an object it may have
@@ -145,22 +143,3 @@ image_fault_number Count = Some 3
 image_fault_number Entry = Some 4
 image_fault_number Trailing = Some 5
 image_fault_number NoMem = None
-
--- the address of a word in code of `words` words
-pub record IsPlace (words place : ℕ) : Type 0 where
-  pub aligned : place % 4 ≡ 0
-  pub low : code_start ≤ place
-  pub high : place < code_start + 4 * words
-
--- the limits of a guest
-pub record IsGuest (g : Guest) : Type 0 where
-  pub some_thread : 1 ≤ length g.entries
-  pub few_threads : length g.entries ≤ (limits_of g.form).threads
-  pub short_code : length g.code ≤ most_code_words
-  pub short_data : length g.bytes ≤ memory_size
-  pub whole_objects : length g.words % object_words g ≡ 0
-  pub few_objects : object_count g ≤ (limits_of g.form).objects
-  pub entries_fit : AllByRecursion (IsPlace (length g.code)) g.entries
-  pub code_fits : AllByRecursion IsWord g.code
-  pub bytes_fit : AllByRecursion IsByte g.bytes
-  pub words_fit : AllByRecursion IsWord g.words

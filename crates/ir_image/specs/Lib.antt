@@ -1,4 +1,5 @@
 pub mod Guest
+pub mod Bounds
 pub mod Lowering
 pub mod Encoding
 pub mod Fields

@@ -1,7 +1,8 @@
 //! An image in memory.
 
 ghost use Rattle.std.specs.Prelude.{◌≡◌, ◌<◌, ◌≤◌, ◌*◌, length};
-ghost use Rattle.ir_image.specs.Guest.{Guest, object_words, object_count, most_objects, most_object_words, IsGuest};
+ghost use Rattle.ir_image.specs.Guest.{Guest, object_words, object_count, most_objects, most_object_words};
+ghost use Rattle.ir_image.specs.Bounds.{IsGuest};
 
 use crate::code::Code;
 use crate::form::ImageForm;

@@ -2,7 +2,8 @@
 
 ghost use Rattle.std.specs.Prelude.{◌≡◌, List, ℕ, Ok};
 ghost use Rattle.std.specs.List.{AllByRecursion};
-ghost use Rattle.ir_image.specs.Guest.{Guest, IsByte, IsGuest, guest_at};
+ghost use Rattle.ir_image.specs.Guest.{Guest, guest_at};
+ghost use Rattle.ir_image.specs.Bounds.{IsByte, IsGuest};
 ghost use Rattle.ir_image.specs.Encoding.{encoding};
 ghost use Rattle.ir_image.specs.Fields.{image_fault};
 ghost use Rattle.ir_bytes.specs.Format.{fault_of};

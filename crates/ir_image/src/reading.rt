@@ -1,7 +1,8 @@
 //! The reader of images.
 
 ghost use Rattle.std.specs.Prelude.{◌≡◌, List, ℕ, length, IfOk, Ok, ◌<◌, ◌≤◌};
-ghost use Rattle.ir_image.specs.Guest.{Guest, most_code_words, IsGuest, form_at, counts_at, body_at, guest_at};
+ghost use Rattle.ir_image.specs.Guest.{Guest, most_code_words, form_at, counts_at, body_at, guest_at};
+ghost use Rattle.ir_image.specs.Bounds.{IsGuest};
 ghost use Rattle.ir_image.specs.Fields.{entry_at, word_at};
 ghost use Rattle.ir_image.specs.Encoding.{encoding};
 ghost use Rattle.ir_bytes.specs.Reading.{bytes_at, fields_at};

@@ -4,6 +4,7 @@ use Rattle.std.specs.Prelude.{nat_le, nat_lt, slice_index}
 use Rattle.std.specs.List.{All, AllByRecursion, list_all}
 use Rattle.std.proofs.lemmas.List.Elements.{All-from_recursion}
 use Rattle.std.proofs.lemmas.Grind.{common_steps}
+use Rattle.ir_lemmas.proofs.CallerLemmas.{left_of_true_and, right_of_true_and, ok_is_injective, and_true_from_both, or_true_from_left}
 use Rattle.ir_image.specs.Guest.{limits_of, memory_size, most_code_words}
 use Rattle.ir_asm.specs.declared.cause.Cause.{Cause}
 use Rattle.ir_asm.specs.declared.cause.Cause.TheVariants.{BadByte, BadCount, BadLabel, BadSize, LabelTwice}
@@ -22,22 +23,6 @@ use Rattle.ir_symbols.specs.Symbols.{is_kind, is_mark, is_printable, symbol_of, 
 use Rattle.ir_image_run.specs.Mapping.{letter_of, IsNamed, label_symbol}
 
 -- ---- tests that pass
-
-left_of_true_and : (a b : Bool) → (a && b) ≡ true → a ≡ true
-left_of_true_and true b e = refl
-left_of_true_and false b e = e
-
-right_of_true_and : (a b : Bool) → (a && b) ≡ true → b ≡ true
-right_of_true_and true b e = e
-right_of_true_and false b e = absurd (true≢false (sym e))
-
-and_true_from_both : (a b : Bool) → a ≡ true → b ≡ true → (a && b) ≡ true
-and_true_from_both true b e f = f
-and_true_from_both false b e f = e
-
-or_true_from_left : (a b : Bool) → a ≡ true → (a || b) ≡ true
-or_true_from_left true b e = refl
-or_true_from_left false b e = absurd (true≢false (sym e))
 
 -- ---- a name
 
@@ -84,13 +69,6 @@ symbol_of_named_label label e =
     rw both refl
 
 -- ---- the labels of a source
-
-ok_is_injective : {A E : Type 0} (x y : A) → (let r : Result A E = Ok x in r) ≡ Ok y → x ≡ y
-ok_is_injective {A} {E} x y e = ap value e
-  where
-    value : Result A E → A
-    value (Ok z) = z
-    value (Err z) = x
 
 parts_of_ok_bind : {A B E : Type 0} (r : Result A E) (f : A → Result B E) (y : B) → (r >>= f) ≡ Ok y → (x : A) × (r ≡ Ok x) × (f x ≡ Ok y)
 parts_of_ok_bind (Ok x) f y e = (x, refl, e)

@@ -11,11 +11,11 @@ use Rattle.ir_image_run.specs.Assembling.{line_at, shown, after_cause}
 -- ---- std's lines, and the assembler's
 
 -- a list, or what comes before its element n where that is a carriage return
-abbrev cut_at_return : List ℕ → ℕ → List ℕ
-cut_at_return l n = if get_or l n 0 == 13 then take n l else l
+abbrev without_return_at : List ℕ → ℕ → List ℕ
+without_return_at l n = if get_or l n 0 == 13 then take n l else l
 
-cut_at_return_of_cons : (x : ℕ) (l : List ℕ) (n : ℕ) → cut_at_return (x ∷ l) (suc n) ≡ x ∷ cut_at_return l n
-cut_at_return_of_cons x l n = by_test (get_or l n 0 == 13)
+without_return_at_of_cons : (x : ℕ) (l : List ℕ) (n : ℕ) → without_return_at (x ∷ l) (suc n) ≡ x ∷ without_return_at l n
+without_return_at_of_cons x l n = by_test (get_or l n 0 == 13)
   where
     by_test : (t : Bool) → (if t then x ∷ take n l else x ∷ l) ≡ x ∷ (if t then take n l else l)
     by_test true = refl
@@ -27,7 +27,7 @@ strip_carriage_return_is_without_return [] = refl
 strip_carriage_return_is_without_return (x ∷ []) = refl
 strip_carriage_return_is_without_return (x ∷ y ∷ l) =
     let n : length (x ∷ y ∷ l) - 1 ≡ suc (length (y ∷ l) - 1) = omega arith in
-    ap (cut_at_return (x ∷ y ∷ l)) n ∙ cut_at_return_of_cons x (y ∷ l) (length (y ∷ l) - 1) ∙ ap (λ (r : List ℕ). x ∷ r) (strip_carriage_return_is_without_return (y ∷ l))
+    ap (without_return_at (x ∷ y ∷ l)) n ∙ without_return_at_of_cons x (y ∷ l) (length (y ∷ l) - 1) ∙ ap (λ (r : List ℕ). x ∷ r) (strip_carriage_return_is_without_return (y ∷ l))
 
 -- an empty last part is no line of std's
 std_lines_equal_lines_without_returns : (parts : List (List ℕ)) (n : ℕ) → get_or (lines_of_parts parts) n [] ≡ get_or (without_returns parts) n []
@@ -59,8 +59,8 @@ found_line_is_line_at_number read text number n found other line is at taken non
 -- ---- what is shown
 
 -- so much of a line, or all of a shorter one
-pub take_at_most_length : (n : ℕ) (line : List ℕ) → take (min n (length line)) line ≡ take n line
-take_at_most_length n line = take_min n line
+pub take_ignores_min_with_length : (n : ℕ) (line : List ℕ) → take (min n (length line)) line ≡ take n line
+take_ignores_min_with_length n line = take_min n line
 
 pub after_cause_of_empty_part : (part : List ℕ) → (length part == 0) ≡ true → after_cause (map shown part) ≡ []
 after_cause_of_empty_part part empty = ap (λ (l : List ℕ). after_cause (map shown l)) (nil_from_length part (eqb-true (length part) 0 empty))

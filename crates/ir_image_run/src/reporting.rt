@@ -51,7 +51,7 @@ fn line_at(text: &str, number: usize) -> &str
 }
 
 // As many bytes of a line as are shown.
-#[tactic(auto, using(crate::proofs::ShownLines::take_at_most_length))]
+#[tactic(auto, using(crate::proofs::ShownLines::take_ignores_min_with_length))]
 fn shown_part(line: &[u8]) -> &[u8]
     ensures { result.now ≡ take most_shown line.now }
 {

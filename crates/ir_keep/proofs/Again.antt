@@ -15,7 +15,7 @@ use Rattle.ir_keep.specs.Pages.{all_pages, next_sources, same_bytes}
 use Rattle.ir_keep.specs.Keeping.{most_states, first_kept, with_next}
 use Rattle.ir_keep.specs.Gathered.{HasMemory}
 use Rattle.ir_keep.specs.Store.{Page, Entry, blank, newer, laid, in_force, threads_of, all_kept, changed, entry_of, IsEntry, AreEntries, AreBelow, AreWhole, AreFull, AreZero, HasStart, IsStore, thread_count}
-use Rattle.ir_keep.proofs.Laid.{bytes_of_laid_changed_pages, sources_of_laid_changed_pages}
+use Rattle.ir_keep.proofs.Laid.{bytes_of_laid_changed_pages, sources_of_laid_changed_are_next_sources}
 use Rattle.ir_keep.proofs.Places.{length_of_all_pages}
 use Rattle.ir_keep.proofs.Whole.{length_of_in_force, in_force_pages_are_whole, drop_of_full_pages, first_full_pages_are_thread_pages, changed_pages_are_newer, changed_pages_over_none_are_newer}
 
@@ -61,7 +61,7 @@ all_kept_after_next_entry n m s entry older are full all same =
     let news = all_pages s.threads in
     let many : length old ≡ 16 * m = length_of_in_force m entry older are in
     let sources : map (λ (p : Page). p.source) (laid (changed n news old) old) ≡ next_sources n news (all_pages (threads_of entry.frames old)) (map (λ (p : Page). p.source) old) =
-    sources_of_laid_changed_pages n news old (omega (arith, length_of_all_pages s.threads, same, many))
+    sources_of_laid_changed_are_next_sources n news old (omega (arith, length_of_all_pages s.threads, same, many))
     ∙ ap (λ l. next_sources n news l (map (λ (p : Page). p.source) old)) (sym (all_pages_of_threads_of_pages entry.frames old full (omega (arith, many, are.0.frames)))) in
     let threads : threads_of (map frame_of s.threads) (laid (changed n news old) old) ≡ s.threads =
     threads_of_own_frames_and_pages s.threads (laid (changed n news old) old) all (bytes_of_laid_changed_pages n news old) in

@@ -28,11 +28,11 @@ kept_thread_count_is_store_count m last n (e ∷ older) store all =
     let first : length (threads_of e.frames (in_force (e ∷ older))) ≡ n = All-head (λ (k : Kept). length k.state.threads ≡ n) _ (all_kept older) all in
     sym first ∙ length_of_threads_of e.frames (in_force (e ∷ older)) ∙ store.each.0.frames
 
-pub thread_count_of_like_state : (m last : ℕ) (entries : List Entry) (s : Standing) (k : Keeping) → IsStore m last entries → keeping_of entries last ≡ k → IsLike s k → length s.threads ≡ m
-thread_count_of_like_state m last entries s k store view like = kept_thread_count_is_store_count m last (length s.threads) entries store (subst (IsLike s) (sym view) like)
+pub like_state_has_thread_count_of_store : (m last : ℕ) (entries : List Entry) (s : Standing) (k : Keeping) → IsStore m last entries → keeping_of entries last ≡ k → IsLike s k → length s.threads ≡ m
+like_state_has_thread_count_of_store m last entries s k store view like = kept_thread_count_is_store_count m last (length s.threads) entries store (subst (IsLike s) (sym view) like)
 
-pub length_of_cut_for_keeping : (m last : ℕ) (entries : List Entry) (cut : List ℕ) (k : Keeping) → IsStore m last entries → keeping_of entries last ≡ k → IsCutFor cut k → length cut ≡ m
-length_of_cut_for_keeping m last entries cut k store view like = kept_thread_count_is_store_count m last (length cut) entries store (subst (IsCutFor cut) (sym view) like)
+pub cut_for_keeping_has_thread_count_of_store : (m last : ℕ) (entries : List Entry) (cut : List ℕ) (k : Keeping) → IsStore m last entries → keeping_of entries last ≡ k → IsCutFor cut k → length cut ≡ m
+cut_for_keeping_has_thread_count_of_store m last entries cut k store view like = kept_thread_count_is_store_count m last (length cut) entries store (subst (IsCutFor cut) (sym view) like)
 
 pub length_of_all_kept : (entries : List Entry) → length (all_kept entries) ≡ length entries
 length_of_all_kept [] = refl
@@ -219,14 +219,14 @@ page_count_of_newer_entry n place [] d are lt = absurd (omega (arith, lt))
 page_count_of_newer_entry n zero (e ∷ entries) d are lt = are.0.pages
 page_count_of_newer_entry n (suc place) (e ∷ entries) d are lt = page_count_of_newer_entry n place entries d are.1 (omega (arith, lt))
 
-place_is_successor_of_place_before : (place : ℕ) → 0 < place → place ≡ suc (place - 1)
-place_is_successor_of_place_before place some = omega (arith, some)
+positive_number_is_successor_of_predecessor : (place : ℕ) → 0 < place → place ≡ suc (place - 1)
+positive_number_is_successor_of_predecessor place some = omega (arith, some)
 
 pub page_counts_of_neighbours_equal : (n place : ℕ) (entries left : List Entry) (newer gone : Entry) → AreEntries n entries → 0 < place → place < length entries → left ≡ remove entries place
     → newer ≡ get_or left (place - 1) newer → gone ≡ get_or entries place gone → length newer.pages ≡ length gone.pages
 page_counts_of_neighbours_equal n place entries left newer gone are some lt rest is was =
     let p = place - 1 in
-    let next : place ≡ suc p = place_is_successor_of_place_before place some in
+    let next : place ≡ suc p = positive_number_is_successor_of_predecessor place some in
     let mine : length newer.pages ≡ 16 * n =
     ap (λ (e : Entry). length e.pages) (is ∙ ap (λ l. get_or l p newer) (rest ∙ ap (remove entries) next)) ∙ page_count_of_newer_entry n p entries newer are (omega (arith, lt, next)) in
     let theirs : length gone.pages ≡ 16 * n = ap (λ (e : Entry). length e.pages) was ∙ (entry_at_place_is_entry n entries place gone are lt).pages in
@@ -237,7 +237,7 @@ pub taken_away_by_take_over : (place : ℕ) (entries left : List Entry) (newer g
     → set left (place - 1) after ≡ taken_away place entries
 taken_away_by_take_over place entries left newer gone after some lt rest is was made =
     let p = place - 1 in
-    let next : place ≡ suc p = place_is_successor_of_place_before place some in
+    let next : place ≡ suc p = positive_number_is_successor_of_predecessor place some in
     let place_of_kept_number_below_length : left ≡ remove entries (suc p) = rest ∙ ap (remove entries) next in
     let mine : newer ≡ get_or (remove entries (suc p)) p newer = is ∙ ap (λ l. get_or l p newer) place_of_kept_number_below_length in
     let theirs : gone ≡ get_or entries (suc p) gone = was ∙ ap (λ k. get_or entries k gone) next in

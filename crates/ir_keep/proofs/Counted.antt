@@ -4,6 +4,7 @@ use Rattle.std.proofs.lemmas.List.{length-map}
 use Rattle.std.proofs.lemmas.Bool.Decides.{nat_tests}
 use Rattle.std.proofs.lemmas.List.Sums.{sum_by-cons}
 use Rattle.std.specs.List.{All}
+use Rattle.ir_lemmas.proofs.CallerLemmas.{conjunction_with_false}
 use Rattle.ir_image.specs.Guest.{most_threads}
 use Rattle.ir_keep.specs.Pages.{Origin, is_origin, has_origin, different, origins}
 use Rattle.ir_keep.specs.Keeping.{Kept}
@@ -28,10 +29,6 @@ disjunction_associative false b c = refl
 has_origin_in_append : (a : Origin) (xs ys : List Origin) → has_origin a (xs ++ ys) ≡ (has_origin a xs || has_origin a ys)
 has_origin_in_append a [] ys = refl
 has_origin_in_append a (x ∷ xs) ys = ap (λ (b : Bool). is_origin a x || b) (has_origin_in_append a xs ys) ∙ disjunction_associative (is_origin a x) (has_origin a xs) (has_origin a ys)
-
-conjunction_with_false : (b : Bool) → (b && false) ≡ false
-conjunction_with_false true = refl
-conjunction_with_false false = refl
 
 -- a page at an earlier place
 earlier_origin_missing : (source place from : ℕ) (sources : List ℕ) → place < from → has_origin (origin_at source place) (origins from sources) ≡ false
@@ -119,47 +116,47 @@ different_origins_with_page_in_front source place sources rest b count is e =
     λ j. if there j then e j else suc (e j)
 
 -- the newest entry's pages beside those of older ones
-different_origins_of_laid_pages : (n from : ℕ) (own : List (Option Page)) (old : List Page) (rest : List Origin) → length own ≡ length old → AreNewer n own old
+different_origins_of_laid_pages_are_owned_and_rest : (n from : ℕ) (own : List (Option Page)) (old : List Page) (rest : List Origin) → length own ≡ length old → AreNewer n own old
     → ((i : ℕ) → i < length old → has_origin (origin_at (get_or (sources_of old) i 0) (from + i)) rest ≡ true)
     → ((i source : ℕ) → get_or (sources_of old) i 0 < source → has_origin (origin_at source (from + i)) rest ≡ false)
     → different (origins from (sources_of (laid own old)) ++ rest) ≡ owned own + different rest
-different_origins_of_laid_pages n from [] old rest same new there apart =
+different_origins_of_laid_pages_are_owned_and_rest n from [] old rest same new there apart =
     let none : different rest ≡ 0 + different rest = omega arith in none
-different_origins_of_laid_pages n from (x ∷ own) [] rest same new there apart = absurd (omega (arith, same))
-different_origins_of_laid_pages n from (None ∷ own) (q ∷ old) rest same new there apart =
+different_origins_of_laid_pages_are_owned_and_rest n from (x ∷ own) [] rest same new there apart = absurd (omega (arith, same))
+different_origins_of_laid_pages_are_owned_and_rest n from (None ∷ own) (q ∷ old) rest same new there apart =
     let here : from + 0 ≡ from = omega arith in
     different_origins_with_page_in_front q.source from (sources_of (laid own old)) rest true (owned own + different rest)
     (ap (λ p. has_origin (origin_at q.source p) rest) (sym here) ∙ there 0 (omega arith))
-    (different_origins_of_laid_pages n (suc from) own old rest (omega (arith, same)) new
+    (different_origins_of_laid_pages_are_owned_and_rest n (suc from) own old rest (omega (arith, same)) new
     (λ i lt. ap (λ p. has_origin (origin_at (get_or (sources_of old) i 0) p) rest) (omega arith) ∙ there (suc i) (omega (arith, lt)))
     (λ i source lt. ap (λ p. has_origin (origin_at source p) rest) (omega arith) ∙ apart (suc i) source lt))
-different_origins_of_laid_pages n from (Some page ∷ own) (q ∷ old) rest same new there apart =
+different_origins_of_laid_pages_are_owned_and_rest n from (Some page ∷ own) (q ∷ old) rest same new there apart =
     let here : from + 0 ≡ from = omega arith in
     let sum : suc (owned own + different rest) ≡ suc (owned own) + different rest = omega arith in
     different_origins_with_page_in_front page.source from (sources_of (laid own old)) rest false (owned own + different rest)
     (ap (λ p. has_origin (origin_at page.source p) rest) (sym here) ∙ apart 0 page.source new.0)
-    (different_origins_of_laid_pages n (suc from) own old rest (omega (arith, same)) new.2
+    (different_origins_of_laid_pages_are_owned_and_rest n (suc from) own old rest (omega (arith, same)) new.2
     (λ i lt. ap (λ p. has_origin (origin_at (get_or (sources_of old) i 0) p) rest) (omega arith) ∙ there (suc i) (omega (arith, lt)))
     (λ i source lt. ap (λ p. has_origin (origin_at source p) rest) (omega arith) ∙ apart (suc i) source lt))
     ∙ sum
 
 -- the oldest entry's
-different_origins_of_oldest_pages : (n from : ℕ) (own : List (Option Page)) → AreNewer n own [] → different (origins from (sources_of (laid own [])) ++ []) ≡ owned own + 0
-different_origins_of_oldest_pages n from [] new = refl
-different_origins_of_oldest_pages n from (None ∷ own) new = absurd new
-different_origins_of_oldest_pages n from (Some page ∷ own) new =
+different_origins_of_oldest_pages_are_owned : (n from : ℕ) (own : List (Option Page)) → AreNewer n own [] → different (origins from (sources_of (laid own [])) ++ []) ≡ owned own + 0
+different_origins_of_oldest_pages_are_owned n from [] new = refl
+different_origins_of_oldest_pages_are_owned n from (None ∷ own) new = absurd new
+different_origins_of_oldest_pages_are_owned n from (Some page ∷ own) new =
     let sum : suc (owned own + 0) ≡ suc (owned own) + 0 = omega arith in
-    different_origins_with_page_in_front page.source from (sources_of (laid own [])) [] false (owned own + 0) refl (different_origins_of_oldest_pages n (suc from) own new.1) ∙ sum
+    different_origins_with_page_in_front page.source from (sources_of (laid own [])) [] false (owned own + 0) refl (different_origins_of_oldest_pages_are_owned n (suc from) own new.1) ∙ sum
 
 -- all pages that are kept
 pub different_origins_are_stored_pages : (m : ℕ) (entries : List Entry) → AreEntries m entries → AreLaid entries → different (all_origins (all_kept entries)) ≡ stored entries
 different_origins_are_stored_pages m [] are lies = refl
 different_origins_are_stored_pages m (e ∷ []) are lies =
-    different_origins_of_oldest_pages e.number 0 e.pages lies.0 ∙ sym (sum_by-cons (λ (x : Entry). owned x.pages) e [])
+    different_origins_of_oldest_pages_are_owned e.number 0 e.pages lies.0 ∙ sym (sum_by-cons (λ (x : Entry). owned x.pages) e [])
 different_origins_are_stored_pages m (e ∷ next ∷ older) are lies =
     let old = in_force (next ∷ older) in
     let rest = all_origins (all_kept (next ∷ older)) in
-    different_origins_of_laid_pages e.number 0 e.pages old rest (are.0.pages ∙ sym (length_of_in_force m next older are.1)) lies.0
+    different_origins_of_laid_pages_are_owned_and_rest e.number 0 e.pages old rest (are.0.pages ∙ sym (length_of_in_force m next older are.1)) lies.0
     (λ i lt. ap (λ p. has_origin (origin_at (get_or (sources_of old) i 0) p) rest) (omega arith)
     ∙ has_origin_in_append (origin_at (get_or (sources_of old) i 0) i) (origins 0 (sources_of old)) (all_origins (all_kept older))
     ∙ (λ j. own_origin_found_from_zero i (sources_of old) (omega (arith, lt, length-map old (λ (p : Page). p.source))) j || has_origin (origin_at (get_or (sources_of old) i 0) i) (all_origins (all_kept older))))
@@ -180,5 +177,5 @@ stored_pages_bound m (e ∷ entries) are few =
     let sum : stored (e ∷ entries) ≡ owned e.pages + stored entries = sum_by-cons (λ (x : Entry). owned x.pages) e entries in
     omega (arith, sum, owned_at_most_page_count e.pages, are.0.pages, few, stored_pages_bound m entries are.1 few)
 
-pub page_counts_below_bound : (m : ℕ) (entries : List Entry) → AreEntries m entries → m ≤ most_threads → All (λ (e : Entry). length e.pages < 2 ^ 32) entries
-page_counts_below_bound m entries are few = λ k d lt. omega (arith, (entry_at_place_is_entry m entries k d are lt).pages, few)
+pub page_counts_below_two_to_32 : (m : ℕ) (entries : List Entry) → AreEntries m entries → m ≤ most_threads → All (λ (e : Entry). length e.pages < 2 ^ 32) entries
+page_counts_below_two_to_32 m entries are few = λ k d lt. omega (arith, (entry_at_place_is_entry m entries k d are lt).pages, few)

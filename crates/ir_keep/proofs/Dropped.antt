@@ -3,7 +3,7 @@ use Rattle.std.proofs.Common.{◌≡◌, ◌==◌, ◌+◌, ◌<◌, ◌≤◌, 
 use Rattle.std.proofs.lemmas.Bool.Decides.{nat_tests}
 use Rattle.ir_keep.specs.Keeping.{without}
 use Rattle.ir_keep.specs.Store.{Entry, laid, in_force, kept_of, all_kept, taken_away, place_of, AreEntries, AreBelow, AreFalling, AreNewer, AreLaid, HasStart, IsStore}
-use Rattle.ir_keep.proofs.Laid.{laid_of_handed_pages, length_of_handed}
+use Rattle.ir_keep.proofs.Laid.{laid_of_handed_is_laid_twice, length_of_handed}
 use Rattle.ir_keep.proofs.Whole.{handed_pages_are_newer}
 use Rattle.ir_keep.proofs.Again.{has_start_under_newer_entry}
 
@@ -11,7 +11,7 @@ use Rattle.ir_keep.proofs.Again.{has_start_under_newer_entry}
 pub in_force_after_taken_away : (n place : ℕ) (entries : List Entry) → AreEntries n entries → suc place < length entries → in_force (taken_away (suc place) entries) ≡ in_force entries
 in_force_after_taken_away n place [] are lt = absurd (omega (arith, lt))
 in_force_after_taken_away n zero (e ∷ []) are lt = absurd (omega (arith, lt))
-in_force_after_taken_away n zero (e ∷ gone ∷ older) are lt = laid_of_handed_pages e.pages gone.pages (in_force older) (are.0.pages ∙ sym are.1.0.pages)
+in_force_after_taken_away n zero (e ∷ gone ∷ older) are lt = laid_of_handed_is_laid_twice e.pages gone.pages (in_force older) (are.0.pages ∙ sym are.1.0.pages)
 in_force_after_taken_away n (suc place) (e ∷ older) are lt = ap (laid e.pages) (in_force_after_taken_away n place older are.1 (omega (arith, lt)))
 
 -- a list without the element at a place
@@ -31,13 +31,13 @@ all_kept_after_taken_away n (suc (suc place)) (e ∷ older) are lt =
 
 -- ---- by its number
 
-without_larger_number : (n m : ℕ) (entries : List Entry) → AreBelow m entries → m ≤ n → without n (all_kept entries) ≡ all_kept entries
-without_larger_number n m [] below le = refl
-without_larger_number n m (e ∷ entries) below le =
+without_number_above_all_keeps_all : (n m : ℕ) (entries : List Entry) → AreBelow m entries → m ≤ n → without n (all_kept entries) ≡ all_kept entries
+without_number_above_all_keeps_all n m [] below le = refl
+without_number_above_all_keeps_all n m (e ∷ entries) below le =
     let other : (e.number == n) ≡ false = grind (arith, nat_tests, below.0, le) in
     let k = kept_of e (in_force (e ∷ entries)) in
     ap (λ (b : Bool). if b then without n (all_kept entries) else k ∷ without n (all_kept entries)) other
-    ∙ ap (λ l. k ∷ l) (without_larger_number n m entries below.1 le)
+    ∙ ap (λ l. k ∷ l) (without_number_above_all_keeps_all n m entries below.1 le)
 
 without_place_is_without_number_step : (n : ℕ) (e : Entry) (entries : List Entry) (b : Bool) → (e.number == n) ≡ b → AreBelow e.number entries
     → list_without_place (place_of n entries) (all_kept entries) ≡ without n (all_kept entries)
@@ -45,7 +45,7 @@ without_place_is_without_number_step : (n : ℕ) (e : Entry) (entries : List Ent
     ≡ (if b then without n (all_kept entries) else kept_of e (in_force (e ∷ entries)) ∷ without n (all_kept entries))
 without_place_is_without_number_step n e entries true is below same =
     let mine : e.number ≡ n = grind (arith, nat_tests, is) in
-    sym (without_larger_number n e.number entries below (omega (arith, mine)))
+    sym (without_number_above_all_keeps_all n e.number entries below (omega (arith, mine)))
 without_place_is_without_number_step n e entries false is below same = ap (λ l. kept_of e (in_force (e ∷ entries)) ∷ l) same
 
 pub without_place_is_without_number : (n : ℕ) (entries : List Entry) → AreFalling entries → list_without_place (place_of n entries) (all_kept entries) ≡ without n (all_kept entries)
@@ -54,12 +54,12 @@ without_place_is_without_number n (e ∷ entries) falling = without_place_is_wit
 
 -- ---- and the store stays one
 
-length_of_taken_away : (place : ℕ) (entries : List Entry) → length (taken_away place entries) ≤ length entries
-length_of_taken_away place [] = omega arith
-length_of_taken_away zero (e ∷ older) = omega arith
-length_of_taken_away (suc zero) (e ∷ []) = omega arith
-length_of_taken_away (suc zero) (e ∷ gone ∷ older) = omega arith
-length_of_taken_away (suc (suc place)) (e ∷ older) = omega (arith, length_of_taken_away (suc place) older)
+taken_away_is_not_longer : (place : ℕ) (entries : List Entry) → length (taken_away place entries) ≤ length entries
+taken_away_is_not_longer place [] = omega arith
+taken_away_is_not_longer zero (e ∷ older) = omega arith
+taken_away_is_not_longer (suc zero) (e ∷ []) = omega arith
+taken_away_is_not_longer (suc zero) (e ∷ gone ∷ older) = omega arith
+taken_away_is_not_longer (suc (suc place)) (e ∷ older) = omega (arith, taken_away_is_not_longer (suc place) older)
 
 taken_away_are_entries : (n place : ℕ) (entries : List Entry) → AreEntries n entries → AreEntries n (taken_away place entries)
 taken_away_are_entries n place [] are = tt
@@ -106,9 +106,9 @@ taken_away_has_start (suc (suc place)) (e ∷ next ∷ older) lt start =
     has_start_under_newer_entry e (taken_away (suc place) (next ∷ older)) (taken_away_has_start (suc place) (next ∷ older) (omega (arith, lt)) start)
 
 -- the entry of a number other than 0 isn't the oldest
-nonzero_number_not_at_start : (n : ℕ) (b : Bool) (e : Entry) → (e.number == n) ≡ b → e.number ≡ 0 → (n ≡ 0 → ⊥) → (if b then 0 else 1) < 1 → (if b then 0 else 1) + 1 < 1
-nonzero_number_not_at_start n true e is zeroth later lt = absurd (later (grind (arith, nat_tests, is, zeroth)))
-nonzero_number_not_at_start n false e is zeroth later lt = absurd (omega (arith, lt))
+place_of_nonzero_number_before_start_base : (n : ℕ) (b : Bool) (e : Entry) → (e.number == n) ≡ b → e.number ≡ 0 → (n ≡ 0 → ⊥) → (if b then 0 else 1) < 1 → (if b then 0 else 1) + 1 < 1
+place_of_nonzero_number_before_start_base n true e is zeroth later lt = absurd (later (grind (arith, nat_tests, is, zeroth)))
+place_of_nonzero_number_before_start_base n false e is zeroth later lt = absurd (omega (arith, lt))
 
 place_of_number_before_start_step : (n p : ℕ) (b : Bool) (older : List Entry) → (p < length older → suc p < length older) → (if b then 0 else suc p) < suc (length older) → 0 < length older
     → suc (if b then 0 else suc p) < suc (length older)
@@ -117,7 +117,7 @@ place_of_number_before_start_step n p false older more lt some = omega (arith, m
 
 pub place_of_nonzero_number_before_start : (n : ℕ) (entries : List Entry) → HasStart entries → (n ≡ 0 → ⊥) → place_of n entries < length entries → suc (place_of n entries) < length entries
 place_of_nonzero_number_before_start n [] start later lt = absurd start
-place_of_nonzero_number_before_start n (e ∷ []) start later lt = omega (arith, nonzero_number_not_at_start n (e.number == n) e refl start.0 later lt)
+place_of_nonzero_number_before_start n (e ∷ []) start later lt = omega (arith, place_of_nonzero_number_before_start_base n (e.number == n) e refl start.0 later lt)
 place_of_nonzero_number_before_start n (e ∷ next ∷ older) start later lt =
     place_of_number_before_start_step n (place_of n (next ∷ older)) (e.number == n) (next ∷ older) (place_of_nonzero_number_before_start n (next ∷ older) start later) lt (omega arith)
 
@@ -126,7 +126,7 @@ pub store_after_taken_away : (m last n : ℕ) (entries : List Entry) → IsStore
 store_after_taken_away m last n entries store later lt =
     let place = place_of n entries in
     record {
-      few = omega (arith, store.few, length_of_taken_away place entries);
+      few = omega (arith, store.few, taken_away_is_not_longer place entries);
       threads = store.threads;
       each = taken_away_are_entries m place entries store.each;
       numbers = taken_away_numbers_fall place entries store.numbers;

@@ -2,21 +2,22 @@
 use Rattle.std.proofs.Common.{◌≡◌, ◌==◌, ◌&&◌, ◌+◌, ◌*◌, ◌<◌, ℕ, zero, suc, Bool, true, false, if◌then◌else◌, List, [], ◌∷◌, ◌++◌, length, map, take, drop, Option, Some, None, refl, sym, ap, ◌∙◌, arith, get_or, set}
 use Rattle.std.proofs.lemmas.List.{drop_more}
 use Rattle.std.proofs.lemmas.Bool.Decides.{nat_tests}
+use Rattle.ir_lemmas.proofs.CallerLemmas.{conjuncts_are_true}
 use Rattle.ir_keep.specs.Pages.{next_sources, same_bytes}
 use Rattle.ir_keep.specs.Store.{Page, Entry, blank, newer, laid, in_force, changed_page, changed, first_of, handed, AreEntries, IsEntry}
 
 -- ---- an entry is dropped, and hands its pages on
 
-newer_of_first_of : (own given : Option Page) (old : Page) → newer (first_of own given) old ≡ newer own (newer given old)
-newer_of_first_of None given old = refl
-newer_of_first_of (Some page) given old = refl
+newer_of_first_of_is_newer_twice : (own given : Option Page) (old : Page) → newer (first_of own given) old ≡ newer own (newer given old)
+newer_of_first_of_is_newer_twice None given old = refl
+newer_of_first_of_is_newer_twice (Some page) given old = refl
 
 -- the newer entry's pages stay what they are
-pub laid_of_handed_pages : (own given : List (Option Page)) (old : List Page) → length own ≡ length given → laid (handed own given) old ≡ laid own (laid given old)
-laid_of_handed_pages [] given old same = refl
-laid_of_handed_pages (x ∷ own) [] old same = absurd (omega (arith, same))
-laid_of_handed_pages (x ∷ own) (y ∷ given) [] same = λ i. newer_of_first_of x y blank i ∷ laid_of_handed_pages own given [] (omega (arith, same)) i
-laid_of_handed_pages (x ∷ own) (y ∷ given) (q ∷ old) same = λ i. newer_of_first_of x y q i ∷ laid_of_handed_pages own given old (omega (arith, same)) i
+pub laid_of_handed_is_laid_twice : (own given : List (Option Page)) (old : List Page) → length own ≡ length given → laid (handed own given) old ≡ laid own (laid given old)
+laid_of_handed_is_laid_twice [] given old same = refl
+laid_of_handed_is_laid_twice (x ∷ own) [] old same = absurd (omega (arith, same))
+laid_of_handed_is_laid_twice (x ∷ own) (y ∷ given) [] same = λ i. newer_of_first_of_is_newer_twice x y blank i ∷ laid_of_handed_is_laid_twice own given [] (omega (arith, same)) i
+laid_of_handed_is_laid_twice (x ∷ own) (y ∷ given) (q ∷ old) same = λ i. newer_of_first_of_is_newer_twice x y q i ∷ laid_of_handed_is_laid_twice own given old (omega (arith, same)) i
 
 pub length_of_laid : (pages : List (Option Page)) (old : List Page) → length (laid pages old) ≡ length pages
 length_of_laid [] old = refl
@@ -29,10 +30,6 @@ length_of_handed (x ∷ own) [] = refl
 length_of_handed (x ∷ own) (y ∷ given) = ap suc (length_of_handed own given)
 
 -- ---- an entry is made of what changed
-
-conjuncts_are_true : (a b : Bool) → (a && b) ≡ true → (a ≡ true) × (b ≡ true)
-conjuncts_are_true true b e = (refl, e)
-conjuncts_are_true false b e = cc e
 
 pub same_bytes_are_equal : (a b : List ℕ) → same_bytes a b ≡ true → a ≡ b
 same_bytes_are_equal [] [] e = refl
@@ -58,11 +55,11 @@ bytes_of_laid_changed_pages n (bytes ∷ news) [] = λ i. bytes_of_newer_changed
 bytes_of_laid_changed_pages n (bytes ∷ news) (q ∷ old) = λ i. bytes_of_newer_changed_page n bytes q (same_bytes bytes q.bytes) refl i ∷ bytes_of_laid_changed_pages n news old i
 
 -- and their sources are those of the rule
-pub sources_of_laid_changed_pages : (n : ℕ) (news : List (List ℕ)) (old : List Page) → length news ≡ length old
+pub sources_of_laid_changed_are_next_sources : (n : ℕ) (news : List (List ℕ)) (old : List Page) → length news ≡ length old
     → map (λ (p : Page). p.source) (laid (changed n news old) old) ≡ next_sources n news (map (λ (p : Page). p.bytes) old) (map (λ (p : Page). p.source) old)
-sources_of_laid_changed_pages n [] old same = refl
-sources_of_laid_changed_pages n (bytes ∷ news) [] same = absurd (omega (arith, same))
-sources_of_laid_changed_pages n (bytes ∷ news) (q ∷ old) same = λ i. source_of_newer_changed_page n bytes q (same_bytes bytes q.bytes) i ∷ sources_of_laid_changed_pages n news old (omega (arith, same)) i
+sources_of_laid_changed_are_next_sources n [] old same = refl
+sources_of_laid_changed_are_next_sources n (bytes ∷ news) [] same = absurd (omega (arith, same))
+sources_of_laid_changed_are_next_sources n (bytes ∷ news) (q ∷ old) same = λ i. source_of_newer_changed_page n bytes q (same_bytes bytes q.bytes) i ∷ sources_of_laid_changed_are_next_sources n news old (omega (arith, same)) i
 
 -- ---- pages at a place
 

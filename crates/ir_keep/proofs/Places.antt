@@ -2,6 +2,7 @@
 use Rattle.std.proofs.Common.{◌≡◌, ◌*◌, ◌+◌, ◌-◌, ◌/◌, ◌%◌, ◌<◌, ◌≤◌, ℕ, zero, suc, List, [], ◌∷◌, ◌++◌, length, drop, get_or, rules, Option, refl, sym, ap, ◌∙◌, arith, inl, inr}
 use Rattle.std.proofs.lemmas.Bool.{cases_lt}
 use Rattle.std.proofs.lemmas.List.{get_or-append-add, get_or_append_left, append_assoc, length-append}
+use Rattle.ir_lemmas.proofs.CallerLemmas.{drop_past_length_is_empty}
 use Rattle.ir_mach.specs.Pages.{page_of, pages_of}
 use Rattle.ir_mach.proofs.CallerLemmas.{page_at_place_of_pages_from}
 use Rattle.ir_thread.specs.State as thread
@@ -33,13 +34,6 @@ all_pages_at_place (t ∷ threads) place d lt = elim (cases_lt place 16) [
 pub length_of_all_pages : (threads : List thread.ThreadState) → length (all_pages threads) ≡ 16 * length threads
 length_of_all_pages [] = refl
 length_of_all_pages (t ∷ threads) = omega (arith, length-append (pages_of t.core.memory) (all_pages threads), length_of_all_pages threads)
-
--- what is left after the end
-drop_past_length_is_empty : {X : Type 0} (xs : List X) (i : ℕ) → length xs ≤ i → drop i xs ≡ []
-drop_past_length_is_empty [] zero le = refl
-drop_past_length_is_empty [] (suc i) le = refl
-drop_past_length_is_empty (x ∷ xs) zero le = absurd (omega (arith, le))
-drop_past_length_is_empty (x ∷ xs) (suc i) le = drop_past_length_is_empty xs i (omega (arith, le))
 
 -- one page more is compared
 pub compared_pages_step : (n : ℕ) (threads : List thread.ThreadState) (force : List Page) (place : ℕ) (d : thread.ThreadState) (pages new whole : List (Option Page)) (page : Option Page) (bytes old : List ℕ)

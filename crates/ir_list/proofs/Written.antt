@@ -61,11 +61,6 @@ written_whole_at_end lines a b n xs text none w =
     subst (Appends a b) (sym (append-nil w.part)
     ∙ ap (λ (l : List ℕ). w.part ++ l) (sym (at_drop_all (lines_from lines n) xs n none)) ∙ w.joined) w.grown
 
--- what holds, holds at an error
-pub on_err_if_holds : {A E P : Type 0} (result : Result A E) → P → OnErr result P
-on_err_if_holds (Ok x) h = tt
-on_err_if_holds (Err e) h = h
-
 -- the second text after the first, if there was an error in it
 pub appends_prefix_after_whole_text : {A E : Type 0} (result : Result A E) (a b c : Option (List ℕ)) (first rest : List ℕ) → Appends a b first
     → OnErr result (AppendsPrefix b c rest) → OnErr result (AppendsPrefix a c (first ++ rest))

@@ -2,7 +2,7 @@
 
 ghost use Rattle.std.specs.Prelude.{◌≡◌, ◌<◌, ◌≤◌, ℕ, List, Bool, length, slice_index, take, IfOk, Some, true};
 ghost use Rattle.ir_isa.specs.declared.inst.LoadOp.TheVariants.{Lw};
-ghost use Rattle.ir_image.specs.Guest.{IsByte, IsWord};
+ghost use Rattle.ir_image.specs.Bounds.{IsByte, IsWord};
 ghost use Rattle.ir_mach.specs.Core.{Core, memory_size, register, start_core};
 ghost use Rattle.ir_mach.specs.Within.{IsCore, IsMemoryWord, start_memory};
 ghost use Rattle.ir_mach.specs.Execution.{memory_word, loaded};

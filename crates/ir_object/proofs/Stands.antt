@@ -2,6 +2,7 @@
 use Rattle.std.proofs.Common.{◌≡◌, ◌≢◌, ℕ, zero, suc, ◌+◌, ◌<◌, ◌≤◌, Bool, true, false, length, Option, Some, None, refl, sym, ap, ◌∙◌, subst, arith, inl, inr, get_or-set_same, get_or-set_other}
 use Rattle.std.specs.Prelude.{◌||◌, slice_index, slice_set}
 use Rattle.std.proofs.lemmas.Bool.{cases_eq, cases_lt}
+use Rattle.ir_lemmas.proofs.CallerLemmas.{or_true_from_left, or_true_from_right}
 use Rattle.ir_image.specs.Guest.{most_object_words}
 use Rattle.ir_runs.specs.Machine.{upd, Entry, Exit, Store, Object, acted}
 use Rattle.ir_runs.specs.declared.access.Access.{Access}
@@ -15,14 +16,6 @@ use Rattle.ir_runs.proofs.CallerLemmas.{upd_at_own_place, upd_at_other_place, up
 disjuncts_are_false : (a b : Bool) → (a || b) ≡ false → (a ≡ false) × (b ≡ false)
 disjuncts_are_false false b e = (refl, e)
 disjuncts_are_false true b e = absurd (cc e)
-
-or_true_from_right : (a b : Bool) → b ≡ true → (a || b) ≡ true
-or_true_from_right true b e = refl
-or_true_from_right false b e = e
-
-or_true_from_left : (a b : Bool) → a ≡ true → (a || b) ≡ true
-or_true_from_left true b e = refl
-or_true_from_left false b e = absurd (cc e)
 
 disjunction_of_false : (a b : Bool) → a ≡ false → b ≡ false → (a || b) ≡ false
 disjunction_of_false false b e f = f

@@ -9,65 +9,65 @@ use Rattle.ir_record.specs.Worlds.{answers_in}
 use Rattle.ir_sources.specs.Sources.{Source, given, Gave}
 
 -- the act has the answer that comes next
-abbrev pub Takes : Act → Source → Type 0
-Takes Silent s = Unit {0}
-Takes (Result k v) s = v ≡ (given k s).0
-Takes (Entry o a v) s = Unit {0}
-Takes (Refusal o) s = Unit {0}
-Takes (Exit o a) s = Unit {0}
-Takes (Load o i) s = Unit {0}
-Takes (Store o i w) s = Unit {0}
-Takes Never s = Unit {0}
+abbrev pub TakesNextAnswer : Act → Source → Type 0
+TakesNextAnswer Silent s = Unit {0}
+TakesNextAnswer (Result k v) s = v ≡ (given k s).0
+TakesNextAnswer (Entry o a v) s = Unit {0}
+TakesNextAnswer (Refusal o) s = Unit {0}
+TakesNextAnswer (Exit o a) s = Unit {0}
+TakesNextAnswer (Load o i) s = Unit {0}
+TakesNextAnswer (Store o i w) s = Unit {0}
+TakesNextAnswer Never s = Unit {0}
 
 -- what is left after the act
-abbrev pub left_by : Act → Source → Source
-left_by Silent s = s
-left_by (Result k v) s = (given k s).1
-left_by (Entry o a v) s = s
-left_by (Refusal o) s = s
-left_by (Exit o a) s = s
-left_by (Load o i) s = s
-left_by (Store o i w) s = s
-left_by Never s = s
+abbrev pub source_left_by : Act → Source → Source
+source_left_by Silent s = s
+source_left_by (Result k v) s = (given k s).1
+source_left_by (Entry o a v) s = s
+source_left_by (Refusal o) s = s
+source_left_by (Exit o a) s = s
+source_left_by (Load o i) s = s
+source_left_by (Store o i w) s = s
+source_left_by Never s = s
 
 -- the answers in a log were given in turn from here on
 abbrev pub HasGiven : Source → List Label → Type 0
 HasGiven s es = (left : Source) × Gave s (answers_in es) left
 
-pub has_given_step : (q : Act) (b : Object) (es : List Label) (s : Source) → HasGiven s (logged (emitted q b) es)
-    → Takes q s × HasGiven (left_by q s) es
-has_given_step Silent b es s h = (tt, h)
-has_given_step (Result k v) b es s h = (h.1.0, (h.0, h.1.1))
-has_given_step (Entry o Reading v) b es s h = (tt, h)
-has_given_step (Entry o Writing v) b es s h = (tt, h)
-has_given_step (Refusal o) b es s h = (tt, h)
-has_given_step (Exit o a) b es s h = (tt, h)
-has_given_step (Load o i) b es s h = (tt, h)
-has_given_step (Store o i w) b es s h = (tt, h)
-has_given_step Never b es s h = (tt, h)
+pub has_given_splits_off_act : (q : Act) (b : Object) (es : List Label) (s : Source) → HasGiven s (logged (emitted q b) es)
+    → TakesNextAnswer q s × HasGiven (source_left_by q s) es
+has_given_splits_off_act Silent b es s h = (tt, h)
+has_given_splits_off_act (Result k v) b es s h = (h.1.0, (h.0, h.1.1))
+has_given_splits_off_act (Entry o Reading v) b es s h = (tt, h)
+has_given_splits_off_act (Entry o Writing v) b es s h = (tt, h)
+has_given_splits_off_act (Refusal o) b es s h = (tt, h)
+has_given_splits_off_act (Exit o a) b es s h = (tt, h)
+has_given_splits_off_act (Load o i) b es s h = (tt, h)
+has_given_splits_off_act (Store o i w) b es s h = (tt, h)
+has_given_splits_off_act Never b es s h = (tt, h)
 
 -- each of n threads was answered from what is left to it
 abbrev pub AreGiven : {T : Type 0} → Machine T → State T → ℕ → (ℕ → Source) → List Step → Type 0
 AreGiven m s n sources run = (t : ℕ) → t < n → HasGiven (sources t) (log m s run t)
 
-own_log_has_given_step : {T : Type 0} (m : Machine T) (s : State T) (e : Step) (run : List Step) (source : Source) → HasGiven source (log m s (e ∷ run) e.0)
-    → Takes (act m s e) source × HasGiven (left_by (act m s e) source) (log m (after m s e) run e.0)
-own_log_has_given_step m s e run source h =
-    has_given_step (act m s e) (s.objects (target (act m s e))) (log m (after m s e) run e.0) source
+own_log_has_given_splits_off_step : {T : Type 0} (m : Machine T) (s : State T) (e : Step) (run : List Step) (source : Source) → HasGiven source (log m s (e ∷ run) e.0)
+    → TakesNextAnswer (act m s e) source × HasGiven (source_left_by (act m s e) source) (log m (after m s e) run e.0)
+own_log_has_given_splits_off_step m s e run source h =
+    has_given_splits_off_act (act m s e) (s.objects (target (act m s e))) (log m (after m s e) run e.0) source
     (subst (HasGiven source) (ap events (trail_of_cons_own_thread m s e run)) h)
 
 -- a step's act has the answer that comes next
 pub step_takes_next_answer : {T : Type 0} (m : Machine T) (s : State T) (n : ℕ) (sources : ℕ → Source) (e : Step) (run : List Step)
-    → AreGiven m s n sources (e ∷ run) → e.0 < n → Takes (act m s e) (sources e.0)
-step_takes_next_answer m s n sources e run h l = (own_log_has_given_step m s e run (sources e.0) (h e.0 l)).0
+    → AreGiven m s n sources (e ∷ run) → e.0 < n → TakesNextAnswer (act m s e) (sources e.0)
+step_takes_next_answer m s n sources e run h l = (own_log_has_given_splits_off_step m s e run (sources e.0) (h e.0 l)).0
 
 -- and what is left after it answers the others
 pub given_after_step : {T : Type 0} (m : Machine T) (s : State T) (n : ℕ) (sources : ℕ → Source) (e : Step) (run : List Step)
-    → AreGiven m s n sources (e ∷ run) → AreGiven m (after m s e) n (upd sources e.0 (left_by (act m s e) (sources e.0))) run
+    → AreGiven m s n sources (e ∷ run) → AreGiven m (after m s e) n (upd sources e.0 (source_left_by (act m s e) (sources e.0))) run
 given_after_step m s n sources e run h t l =
-    upd_by_cases sources e.0 (left_by (act m s e) (sources e.0)) t (λ source. HasGiven source (log m (after m s e) run t))
-    (λ same. subst (λ u. HasGiven (left_by (act m s e) (sources e.0)) (log m (after m s e) run u)) (sym same)
-    (own_log_has_given_step m s e run (sources e.0) (h e.0 (subst (λ u. u < n) same l))).1)
+    upd_by_cases sources e.0 (source_left_by (act m s e) (sources e.0)) t (λ source. HasGiven source (log m (after m s e) run t))
+    (λ same. subst (λ u. HasGiven (source_left_by (act m s e) (sources e.0)) (log m (after m s e) run u)) (sym same)
+    (own_log_has_given_splits_off_step m s e run (sources e.0) (h e.0 (subst (λ u. u < n) same l))).1)
     (λ other. subst (HasGiven (sources t)) (ap events (trail_of_cons_other_thread m s e run t other)) (h t l))
 
 -- ---- there is one act of a thread
@@ -77,14 +77,14 @@ abbrev pub EntersIfItCan : {T : Type 0} → Machine T → (ℕ → Object) → B
 EntersIfItCan m objects true q r = (o : ℕ) → q ≡ Try o → r ≡ 0
 EntersIfItCan m objects false q r = (o : ℕ) → q ≡ Try o → Admits m (act_of q 1) (objects (target (act_of q 1))) → r ≡ 1
 
-pub tries_enters : {T : Type 0} (m : Machine T) (s : State T) (t r : ℕ) (refused : Bool) → Tries m s refused (t, r)
+pub enters_if_it_can_if_tries : {T : Type 0} (m : Machine T) (s : State T) (t r : ℕ) (refused : Bool) → Tries m s refused (t, r)
     → EntersIfItCan m s.objects refused (asked m s t) r
-tries_enters m s t r true h = h
-tries_enters m s t r false h = h
+enters_if_it_can_if_tries m s t r true h = h
+enters_if_it_can_if_tries m s t r false h = h
 
 pub act_taken_from_source_is_unique : {T : Type 0} (m : Machine T) (objects : ℕ → Object) (source : Source) (refused : Bool) (q : Ask) (r w : ℕ)
     → Admits m (act_of q r) (objects (target (act_of q r))) → Admits m (act_of q w) (objects (target (act_of q w)))
-    → EntersIfItCan m objects refused q r → EntersIfItCan m objects refused q w → Takes (act_of q r) source → Takes (act_of q w) source
+    → EntersIfItCan m objects refused q r → EntersIfItCan m objects refused q w → TakesNextAnswer (act_of q r) source → TakesNextAnswer (act_of q w) source
     → act_of q r ≡ act_of q w
 act_taken_from_source_is_unique m objects source refused Private r w can can' enters enters' takes takes' = refl
 act_taken_from_source_is_unique m objects source refused (Env k) r w can can' enters enters' takes takes' = ap (Result k) (takes ∙ sym takes')

@@ -32,31 +32,31 @@ number_within_of_decimal low high n small l h =
     ∙ ap (λ (m : ℕ). Some m) is
 
 -- no byte of a number that is printed is this mark
-mark_is_no_decimal_digit : (n mark : ℕ) → n < 2 ^ 64 → (mark < 48) ⊎ (57 < mark) → (k d : ℕ) → k < length (decimal n) → (get_or (decimal n) k d == mark) ≡ false
-mark_is_no_decimal_digit n mark small far k d l = ne_eqb (get_or (decimal n) k d) mark
+no_byte_of_decimal_is_mark : (n mark : ℕ) → n < 2 ^ 64 → (mark < 48) ⊎ (57 < mark) → (k d : ℕ) → k < length (decimal n) → (get_or (decimal n) k d == mark) ≡ false
+no_byte_of_decimal_is_mark n mark small far k d l = ne_eqb (get_or (decimal n) k d) mark
     (λ e. not_in_digits decimal_numeral_model (decimal n) mark (digits_decimal decimal_numeral_model n small) (λ r. elim far [
       | inl low ↦ omega (arith, r, low)
       | inr high ↦ omega (arith, r, high)
     ]) k l (get_or_default (decimal n) k 0 d l ∙ e))
 
 -- a byte more
-no_byte_more : (bs : List ℕ) (byte mark : ℕ) → ((k d : ℕ) → k < length bs → (get_or bs k d == mark) ≡ false) → byte ≢ mark
+no_byte_is_mark_with_byte_added : (bs : List ℕ) (byte mark : ℕ) → ((k d : ℕ) → k < length bs → (get_or bs k d == mark) ≡ false) → byte ≢ mark
     → (k d : ℕ) → k < length (bs ++ byte ∷ []) → (get_or (bs ++ byte ∷ []) k d == mark) ≡ false
-no_byte_more [] byte mark none ne zero d l = ne_eqb byte mark ne
-no_byte_more [] byte mark none ne (suc k) d l = absurd (omega (arith, l))
-no_byte_more (b ∷ bs) byte mark none ne zero d l = none 0 d (omega arith)
-no_byte_more (b ∷ bs) byte mark none ne (suc k) d l = no_byte_more bs byte mark (λ j c m. none (suc j) c (omega (arith, m))) ne k d (omega (arith, l))
+no_byte_is_mark_with_byte_added [] byte mark none ne zero d l = ne_eqb byte mark ne
+no_byte_is_mark_with_byte_added [] byte mark none ne (suc k) d l = absurd (omega (arith, l))
+no_byte_is_mark_with_byte_added (b ∷ bs) byte mark none ne zero d l = none 0 d (omega arith)
+no_byte_is_mark_with_byte_added (b ∷ bs) byte mark none ne (suc k) d l = no_byte_is_mark_with_byte_added bs byte mark (λ j c m. none (suc j) c (omega (arith, m))) ne k d (omega (arith, l))
 
 -- a number that is printed, as a turn
-plain_turn : (n thread : ℕ) → thread < n → thread < 2 ^ 64 → turn_of n (decimal thread) ≡ Some (thread, false)
-plain_turn n thread l small =
-    ap (turn_by n) (slice_split_none (λ b. b == 33) (decimal thread) (mark_is_no_decimal_digit thread 33 small (inl (omega arith))))
+turn_of_decimal_is_plain : (n thread : ℕ) → thread < n → thread < 2 ^ 64 → turn_of n (decimal thread) ≡ Some (thread, false)
+turn_of_decimal_is_plain n thread l small =
+    ap (turn_by n) (slice_split_none (λ b. b == 33) (decimal thread) (no_byte_of_decimal_is_mark thread 33 small (inl (omega arith))))
     ∙ ap (λ (z : Option ℕ). turn z false) (number_within_of_decimal 0 (n - 1) thread small (omega arith) (omega (arith, l)))
 
 -- and with a mark
-marked_turn : (n thread : ℕ) → thread < n → thread < 2 ^ 64 → turn_of n (decimal thread ++ 33 ∷ []) ≡ Some (thread, true)
-marked_turn n thread l small =
-    ap (turn_by n) (slice_split_at (λ b. b == 33) (decimal thread) 33 [] (mark_is_no_decimal_digit thread 33 small (inl (omega arith))) (eq-eqb 33 33 refl)
+turn_of_marked_decimal_is_refused : (n thread : ℕ) → thread < n → thread < 2 ^ 64 → turn_of n (decimal thread ++ 33 ∷ []) ≡ Some (thread, true)
+turn_of_marked_decimal_is_refused n thread l small =
+    ap (turn_by n) (slice_split_at (λ b. b == 33) (decimal thread) 33 [] (no_byte_of_decimal_is_mark thread 33 small (inl (omega arith))) (eq-eqb 33 33 refl)
     ∙ ap (λ (z : List (List ℕ)). decimal thread ∷ z) (slice_split_none (λ b. b == 33) [] (λ k d l. absurd (omega (arith, l)))))
     ∙ ap (λ (z : Option ℕ). turn z true) (number_within_of_decimal 0 (n - 1) thread small (omega arith) (omega (arith, l)))
 
@@ -66,50 +66,50 @@ turn_text thread false = decimal thread
 turn_text thread true = decimal thread ++ 33 ∷ []
 
 turn_of-turn_text : (n thread : ℕ) (refused : Bool) → thread < n → thread < 2 ^ 64 → turn_of n (turn_text thread refused) ≡ Some (thread, refused)
-turn_of-turn_text n thread false l small = plain_turn n thread l small
-turn_of-turn_text n thread true l small = marked_turn n thread l small
+turn_of-turn_text n thread false l small = turn_of_decimal_is_plain n thread l small
+turn_of-turn_text n thread true l small = turn_of_marked_decimal_is_refused n thread l small
 
 -- none of its bytes is such a mark
-no_mark : (thread : ℕ) (refused : Bool) (mark : ℕ) → thread < 2 ^ 64 → 57 < mark → (k d : ℕ) → k < length (turn_text thread refused)
+no_byte_of_turn_text_is_mark : (thread : ℕ) (refused : Bool) (mark : ℕ) → thread < 2 ^ 64 → 57 < mark → (k d : ℕ) → k < length (turn_text thread refused)
     → (get_or (turn_text thread refused) k d == mark) ≡ false
-no_mark thread false mark small far = mark_is_no_decimal_digit thread mark small (inr far)
-no_mark thread true mark small far = no_byte_more (decimal thread) 33 mark (mark_is_no_decimal_digit thread mark small (inr far)) (λ e. omega (arith, e, far))
+no_byte_of_turn_text_is_mark thread false mark small far = no_byte_of_decimal_is_mark thread mark small (inr far)
+no_byte_of_turn_text_is_mark thread true mark small far = no_byte_is_mark_with_byte_added (decimal thread) 33 mark (no_byte_of_decimal_is_mark thread mark small (inr far)) (λ e. omega (arith, e, far))
 
 item_of_single_turn : (n thread : ℕ) (refused : Bool) → thread < n → thread < 2 ^ 64
     → item_of n (turn_text thread refused) ≡ Some (replicate 1 (thread, refused))
 item_of_single_turn n thread refused l small =
-    ap (item_by n) (slice_split_none (λ b. b == 120) (turn_text thread refused) (no_mark thread refused 120 small (omega arith)))
+    ap (item_by n) (slice_split_none (λ b. b == 120) (turn_text thread refused) (no_byte_of_turn_text_is_mark thread refused 120 small (omega arith)))
     ∙ ap (λ (z : Option Turn). turns z (Some 1)) (turn_of-turn_text n thread refused l small)
 
 item_of_counted_turns : (n thread : ℕ) (refused : Bool) (count : ℕ) → thread < n → thread < 2 ^ 64 → 1 ≤ count → count ≤ most_turns
     → item_of n (turn_text thread refused ++ 120 ∷ decimal count) ≡ Some (replicate count (thread, refused))
 item_of_counted_turns n thread refused count l small some few =
-    ap (item_by n) (slice_split_at (λ b. b == 120) (turn_text thread refused) 120 (decimal count) (no_mark thread refused 120 small (omega arith))
+    ap (item_by n) (slice_split_at (λ b. b == 120) (turn_text thread refused) 120 (decimal count) (no_byte_of_turn_text_is_mark thread refused 120 small (omega arith))
     (eq-eqb 120 120 refl)
     ∙ ap (λ (z : List (List ℕ)). turn_text thread refused ∷ z)
-    (slice_split_none (λ b. b == 120) (decimal count) (mark_is_no_decimal_digit count 120 (omega (arith, few)) (inr (omega arith)))))
+    (slice_split_none (λ b. b == 120) (decimal count) (no_byte_of_decimal_is_mark count 120 (omega (arith, few)) (inr (omega arith)))))
     ∙ ap (λ (z : Option Turn). turns z (number_within 1 most_turns (decimal count))) (turn_of-turn_text n thread refused l small)
     ∙ ap (turns (Some (thread, refused))) (number_within_of_decimal 1 most_turns count (omega (arith, few)) some few)
 
 -- an item's text, by that of its turn
-abbrev by_text : ℕ → Bool → ℕ → Bool → List ℕ
-by_text thread refused count true = turn_text thread refused
-by_text thread refused count false = turn_text thread refused ++ 120 ∷ decimal count
+abbrev item_text_by_turn : ℕ → Bool → ℕ → Bool → List ℕ
+item_text_by_turn thread refused count true = turn_text thread refused
+item_text_by_turn thread refused count false = turn_text thread refused ++ 120 ∷ decimal count
 
-by_turn_text : (thread : ℕ) (refused : Bool) (count : ℕ) (one : Bool) → (count == 1) ≡ one
-    → item_text thread refused count ≡ by_text thread refused count one
-by_turn_text thread false count true e = rw e refl
-by_turn_text thread false count false e = rw e refl
-by_turn_text thread true count true e = rw e refl
-by_turn_text thread true count false e = rw e (sym (append_assoc (decimal thread) (33 ∷ []) (120 ∷ decimal count)))
+item_text_equals_item_text_by_turn : (thread : ℕ) (refused : Bool) (count : ℕ) (one : Bool) → (count == 1) ≡ one
+    → item_text thread refused count ≡ item_text_by_turn thread refused count one
+item_text_equals_item_text_by_turn thread false count true e = rw e refl
+item_text_equals_item_text_by_turn thread false count false e = rw e refl
+item_text_equals_item_text_by_turn thread true count true e = rw e refl
+item_text_equals_item_text_by_turn thread true count false e = rw e (sym (append_assoc (decimal thread) (33 ∷ []) (120 ∷ decimal count)))
 
 -- an item spells its turns
 pub item_of_item_text : (n thread : ℕ) (refused : Bool) (count : ℕ) → thread < n → thread < 2 ^ 8 → 1 ≤ count → count ≤ most_turns
     → item_of n (item_text thread refused count) ≡ Some (replicate count (thread, refused))
 item_of_item_text n thread refused count l small some few = elim (cases_eq count 1) [
-  | inl one ↦ ap (item_of n) (by_turn_text thread refused count true (eq-eqb count 1 one)) ∙ item_of_single_turn n thread refused l (omega (arith, small))
+  | inl one ↦ ap (item_of n) (item_text_equals_item_text_by_turn thread refused count true (eq-eqb count 1 one)) ∙ item_of_single_turn n thread refused l (omega (arith, small))
       ∙ ap (λ k. Some (replicate k (thread, refused))) (sym one)
-  | inr more ↦ ap (item_of n) (by_turn_text thread refused count false (ne_eqb count 1 more))
+  | inr more ↦ ap (item_of n) (item_text_equals_item_text_by_turn thread refused count false (ne_eqb count 1 more))
       ∙ item_of_counted_turns n thread refused count l (omega (arith, small)) some few
 ]
 
@@ -120,11 +120,11 @@ abbrev pub HasNoComma : List ℕ → Type 0
 HasNoComma bs = (k d : ℕ) → k < length bs → (get_or bs k d == 44) ≡ false
 
 decimal_has_no_comma : (n : ℕ) → n < 2 ^ 64 → HasNoComma (decimal n)
-decimal_has_no_comma n small = mark_is_no_decimal_digit n 44 small (inl (omega arith))
+decimal_has_no_comma n small = no_byte_of_decimal_is_mark n 44 small (inl (omega arith))
 
-no_comma_in_turn : (thread : ℕ) (refused : Bool) → thread < 2 ^ 64 → HasNoComma (turn_text thread refused)
-no_comma_in_turn thread false small = decimal_has_no_comma thread small
-no_comma_in_turn thread true small = no_byte_more (decimal thread) 33 44 (decimal_has_no_comma thread small) (λ e. omega (arith, e))
+turn_text_has_no_comma : (thread : ℕ) (refused : Bool) → thread < 2 ^ 64 → HasNoComma (turn_text thread refused)
+turn_text_has_no_comma thread false small = decimal_has_no_comma thread small
+turn_text_has_no_comma thread true small = no_byte_is_mark_with_byte_added (decimal thread) 33 44 (decimal_has_no_comma thread small) (λ e. omega (arith, e))
 
 counted_item_has_no_comma : (xs ys : List ℕ) → HasNoComma xs → HasNoComma ys → HasNoComma (xs ++ 120 ∷ ys)
 counted_item_has_no_comma [] ys a b zero d l = refl
@@ -132,23 +132,23 @@ counted_item_has_no_comma [] ys a b (suc k) d l = b k d (omega (arith, l))
 counted_item_has_no_comma (x ∷ xs) ys a b zero d l = a 0 d (omega arith)
 counted_item_has_no_comma (x ∷ xs) ys a b (suc k) d l = counted_item_has_no_comma xs ys (λ j c m. a (suc j) c (omega (arith, m))) b k d (omega (arith, l))
 
-item_has_no_comma : (thread : ℕ) (refused : Bool) (count : ℕ) → thread < 2 ^ 64 → count < 2 ^ 64 → (one : Bool)
-    → HasNoComma (by_text thread refused count one)
-item_has_no_comma thread refused count small few true = no_comma_in_turn thread refused small
-item_has_no_comma thread refused count small few false = counted_item_has_no_comma (turn_text thread refused) (decimal count) (no_comma_in_turn thread refused small)
+item_text_by_turn_has_no_comma : (thread : ℕ) (refused : Bool) (count : ℕ) → thread < 2 ^ 64 → count < 2 ^ 64 → (one : Bool)
+    → HasNoComma (item_text_by_turn thread refused count one)
+item_text_by_turn_has_no_comma thread refused count small few true = turn_text_has_no_comma thread refused small
+item_text_by_turn_has_no_comma thread refused count small few false = counted_item_has_no_comma (turn_text thread refused) (decimal count) (turn_text_has_no_comma thread refused small)
     (decimal_has_no_comma count few)
 
 pub split_of_item_text_is_itself : (thread : ℕ) (refused : Bool) (count : ℕ) → thread < 2 ^ 8 → count ≤ most_turns
     → slice_split (λ b. b == 44) (item_text thread refused count) ≡ item_text thread refused count ∷ []
 split_of_item_text_is_itself thread refused count small few = slice_split_none (λ b. b == 44) (item_text thread refused count)
-    (subst HasNoComma (sym (by_turn_text thread refused count (count == 1) refl))
-    (item_has_no_comma thread refused count (omega (arith, small)) (omega (arith, few)) (count == 1)))
+    (subst HasNoComma (sym (item_text_equals_item_text_by_turn thread refused count (count == 1) refl))
+    (item_text_by_turn_has_no_comma thread refused count (omega (arith, small)) (omega (arith, few)) (count == 1)))
 
-item_bytes_not_empty : (thread : ℕ) (refused : Bool) (count : ℕ) → thread < 2 ^ 64 → (one : Bool) → 0 < length (by_text thread refused count one)
-item_bytes_not_empty thread false count small true = decimal_nonempty thread small
-item_bytes_not_empty thread true count small true = omega (arith, length-append (decimal thread) (33 ∷ []))
-item_bytes_not_empty thread refused count small false = omega (arith, length-append (turn_text thread refused) (120 ∷ decimal count))
+item_text_by_turn_is_not_empty : (thread : ℕ) (refused : Bool) (count : ℕ) → thread < 2 ^ 64 → (one : Bool) → 0 < length (item_text_by_turn thread refused count one)
+item_text_by_turn_is_not_empty thread false count small true = decimal_nonempty thread small
+item_text_by_turn_is_not_empty thread true count small true = omega (arith, length-append (decimal thread) (33 ∷ []))
+item_text_by_turn_is_not_empty thread refused count small false = omega (arith, length-append (turn_text thread refused) (120 ∷ decimal count))
 
 pub item_text_is_not_empty : (thread : ℕ) (refused : Bool) (count : ℕ) → thread < 2 ^ 8 → 0 < length (item_text thread refused count)
-item_text_is_not_empty thread refused count small = subst (λ z. 0 < length z) (sym (by_turn_text thread refused count (count == 1) refl))
-    (item_bytes_not_empty thread refused count (omega (arith, small)) (count == 1))
+item_text_is_not_empty thread refused count small = subst (λ z. 0 < length z) (sym (item_text_equals_item_text_by_turn thread refused count (count == 1) refl))
+    (item_text_by_turn_is_not_empty thread refused count (omega (arith, small)) (count == 1))

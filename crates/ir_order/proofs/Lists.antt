@@ -58,9 +58,9 @@ all_by_recursion_of_append_parts : {X : Type 0} (P : X → Type 0) (xs ys : List
 all_by_recursion_of_append_parts P [] ys h = (tt, h)
 all_by_recursion_of_append_parts P (x ∷ xs) ys h = let rest = all_by_recursion_of_append_parts P xs ys h.1 in ((h.0, rest.0), rest.1)
 
-element_of_all_replicated : {X : Type 0} (P : X → Type 0) (count : ℕ) (x : X) → 1 ≤ count → AllByRecursion P (replicate count x) → P x
-element_of_all_replicated P zero x some h = absurd (omega (arith, some))
-element_of_all_replicated P (suc count) x some h = h.0
+replicated_element_has_property : {X : Type 0} (P : X → Type 0) (count : ℕ) (x : X) → 1 ≤ count → AllByRecursion P (replicate count x) → P x
+replicated_element_has_property P zero x some h = absurd (omega (arith, some))
+replicated_element_has_property P (suc count) x some h = h.0
 
 -- ---- a list with one item more
 
@@ -91,7 +91,7 @@ is_list_of_after_item [] turns thread refused count small some few none =
     is_list_of_if_spelled (item_text thread refused count) (turns ++ replicate count (thread, refused)) (item_text_is_not_empty thread refused count small)
     (order_with_turns_is_not_empty turns (thread, refused) count some)
     (subst (λ (z : List Turn). SpellsTurns (item_text thread refused count) (z ++ replicate count (thread, refused))) (sym none)
-    (λ n all. order_of_item_text n thread refused count (element_of_all_replicated (λ t. t.0 < n) count (thread, refused) some all) small some few))
+    (λ n all. order_of_item_text n thread refused count (replicated_element_has_property (λ t. t.0 < n) count (thread, refused) some all) small some few))
 is_list_of_after_item (b ∷ list) turns thread refused count small some few h = (
   order_with_turns_is_not_empty turns (thread, refused) count some,
   λ n all.
@@ -99,7 +99,7 @@ is_list_of_after_item (b ∷ list) turns thread refused count small some few h =
       order_of_list_with_item n (b ∷ list) (item_text thread refused count)
       ∙ ap (λ (z : Option (List Turn)). joined z (order_of n (item_text thread refused count))) (h.1 n parts.0)
       ∙ ap (joined (Some turns))
-      (order_of_item_text n thread refused count (element_of_all_replicated (λ t. t.0 < n) count (thread, refused) some parts.1) small some few),
+      (order_of_item_text n thread refused count (replicated_element_has_property (λ t. t.0 < n) count (thread, refused) some parts.1) small some few),
 )
 
 -- a list isn't empty where there are turns
@@ -113,19 +113,19 @@ list_empty_if_order_empty [] turns none e = refl
 list_empty_if_order_empty (b ∷ list) turns h e = absurd (h.0 e)
 
 -- the same of turns in which no try is refused that may enter
-plain_some : (order : List ℕ) → order ≢ [] → plain_turns order ≢ []
-plain_some [] some e = some refl
-plain_some (t ∷ order) some e = absurd (cc e)
+plain_turns_not_empty_if_order_not_empty : (order : List ℕ) → order ≢ [] → plain_turns order ≢ []
+plain_turns_not_empty_if_order_not_empty [] some e = some refl
+plain_turns_not_empty_if_order_not_empty (t ∷ order) some e = absurd (cc e)
 
-plain_below : (n : ℕ) (order : List ℕ) → AllByRecursion (λ t. t < n) order → AllByRecursion (λ (t : Turn). t.0 < n) (plain_turns order)
-plain_below n [] all = tt
-plain_below n (t ∷ order) all = (all.0, plain_below n order all.1)
+plain_turns_have_threads_below_count : (n : ℕ) (order : List ℕ) → AllByRecursion (λ t. t < n) order → AllByRecursion (λ (t : Turn). t.0 < n) (plain_turns order)
+plain_turns_have_threads_below_count n [] all = tt
+plain_turns_have_threads_below_count n (t ∷ order) all = (all.0, plain_turns_have_threads_below_count n order all.1)
 
-pub plain_spells : (list order : List ℕ) → IsListOf list (plain_turns order) → order ≢ [] → Spells list order
-plain_spells list order h some n all = list_spells_if_order_not_empty list (plain_turns order) h (plain_some order some) n (plain_below n order all)
+pub list_of_plain_turns_spells_order : (list order : List ℕ) → IsListOf list (plain_turns order) → order ≢ [] → Spells list order
+list_of_plain_turns_spells_order list order h some n all = list_spells_if_order_not_empty list (plain_turns order) h (plain_turns_not_empty_if_order_not_empty order some) n (plain_turns_have_threads_below_count n order all)
 
-pub plain_empty : (list order : List ℕ) → IsListOf list (plain_turns order) → order ≡ [] → list ≡ []
-plain_empty list order h e = list_empty_if_order_empty list (plain_turns order) h (ap plain_turns e)
+pub list_of_plain_turns_empty_if_order_empty : (list order : List ℕ) → IsListOf list (plain_turns order) → order ≡ [] → list ≡ []
+list_of_plain_turns_empty_if_order_empty list order h e = list_empty_if_order_empty list (plain_turns order) h (ap plain_turns e)
 
 -- count turns more
 pub is_list_of_turns_step : (old list new : List ℕ) (thread : ℕ) (refused : Bool) (total left count : ℕ) → thread < 2 ^ 8 → left ≤ total → 1 ≤ count
@@ -157,10 +157,10 @@ order_of_turns_step (x ∷ xs) (suc k) t l e = ap (λ (z : List ℕ). replicate 
     ∙ sym (append_assoc (replicate x.count x.thread) (order_of_turns (take k xs)) (replicate t.count t.thread))
 
 -- a list of the turns so far, and of one more
-pub list_of_more : (turns : List Turns) (k : ℕ) (none : Turns) (list : List ℕ) → k < length turns
+pub is_list_of_plain_turns_step : (turns : List Turns) (k : ℕ) (none : Turns) (list : List ℕ) → k < length turns
     → IsListOf list (plain_turns (order_of_turns (take k turns)) ++ replicate (get_or turns k none).count ((get_or turns k none).thread, false))
     → IsListOf list (plain_turns (order_of_turns (take (k + 1) turns)))
-list_of_more turns k none list l h =
+is_list_of_plain_turns_step turns k none list l h =
     let t : Turns = get_or turns k none in
     let next : k + 1 ≡ suc k = omega arith in
     let same : plain_turns (order_of_turns (take (k + 1) turns)) ≡ plain_turns (order_of_turns (take k turns)) ++ replicate t.count (t.thread, false) =
@@ -170,11 +170,11 @@ list_of_more turns k none list l h =
     ∙ ap (λ (z : List Turn). plain_turns (order_of_turns (take k turns)) ++ z) (plain_turns-replicate t.count t.thread) in
     subst (IsListOf list) (sym same) h
 
-pub turns_of_items-more : (items : List Item) (k : ℕ) (x : Item) → k < length items → x ≡ get_or items k x
+pub turns_of_items_step : (items : List Item) (k : ℕ) (x : Item) → k < length items → x ≡ get_or items k x
     → turns_of_items (take (suc k) items) ≡ turns_of_items (take k items) ++ replicate x.count (x.thread, x.refused)
-turns_of_items-more [] k x l e = absurd (omega (arith, l))
-turns_of_items-more (y ∷ ys) zero x l e =
+turns_of_items_step [] k x l e = absurd (omega (arith, l))
+turns_of_items_step (y ∷ ys) zero x l e =
     append-nil (replicate y.count (y.thread, y.refused)) ∙ ap (λ (z : Item). replicate z.count (z.thread, z.refused)) (sym e)
-turns_of_items-more (y ∷ ys) (suc k) x l e = ap (λ (z : List Turn). replicate y.count (y.thread, y.refused) ++ z)
-    (turns_of_items-more ys k x (omega (arith, l)) e)
+turns_of_items_step (y ∷ ys) (suc k) x l e = ap (λ (z : List Turn). replicate y.count (y.thread, y.refused) ++ z)
+    (turns_of_items_step ys k x (omega (arith, l)) e)
     ∙ sym (append_assoc (replicate y.count (y.thread, y.refused)) (turns_of_items (take k ys)) (replicate x.count (x.thread, x.refused)))

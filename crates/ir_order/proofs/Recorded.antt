@@ -5,14 +5,14 @@ use Rattle.std.proofs.lemmas.List.{get_or-replicate}
 use Rattle.std.proofs.lemmas.Option.{get_or_from_slice_get}
 use Rattle.ir_image.specs.Guest.{Guest, guest_at}
 use Rattle.ir_runs.specs.Machine.{Machine, Trace}
-use Rattle.ir_runs.specs.Run.{State, Step, IsRun, IsDone, end, events, log}
-use Rattle.ir_runs.specs.Verdicts.{IsWhole}
+use Rattle.ir_runs.specs.Run.{State, Step, IsRun, IsDone, end, events, log, IsWhole}
 use Rattle.ir_thread.specs.declared.profile.Profile.{Profile}
 use Rattle.ir_flat.specs.Flat.{start_flat, tables, machine}
 use Rattle.ir_trace.specs.Recorded.{Recorded, trace_of}
-use Rattle.ir_record.specs.Recording.{AreAnswers, IsRecordingInOrder, IsRecordingByTurns, IsRecordingOf}
+use Rattle.ir_record.specs.Recording.{AreAnswers, IsRecordingOf}
+use Rattle.ir_record.specs.Recordings.{IsRecordingByTurns}
 use Rattle.ir_record.specs.Refusing.{Turn, plain_turns}
-use Rattle.ir_record.proofs.CallerLemmas.{in_turns-run, plain_of_order}
+use Rattle.ir_record.proofs.CallerLemmas.{is_run_if_in_turns}
 use Rattle.ir_record.specs.Worlds.{Answered, answers_in}
 use Rattle.ir_record_run.specs.Order.{order_of}
 use Rattle.ir_record_run.specs.Plan.{Plan}
@@ -20,7 +20,7 @@ use Rattle.ir_record_run.specs.Recording.{unasked, IsRecordedBy, IsRecordedOf}
 use Rattle.ir_sources.specs.Sources.{origin_of, IsAnswered}
 use Rattle.ir_order.specs.OneRun.{AreSame, IsAnsweredByTurns}
 use Rattle.ir_order.specs.Recording.{IsPlanned, IsPlannedInTurns, IsOfRun, RecordingsAreOfTheRun, OneRecordingByAList}
-use Rattle.ir_order.proofs.OneRun.{one_run_by_turns, answered_by_turns}
+use Rattle.ir_order.proofs.OneRun.{one_run_by_turns, answered_by_turns_if_answered_by_order}
 use Rattle.ir_order.proofs.Traces.{recording_of_run_is_unique}
 
 is_whole_of_same_run : {T : Type 0} (m : Machine T) (s : State T) (n : ℕ) (tr : Trace) (a b : List Step) → AreSame m s a b → IsRun m s a
@@ -47,7 +47,7 @@ recording_is_of_same_run guest budget profile turns run b before trace outputs a
         profile_is = h.emitted.profile_is;
         threads = h.emitted.threads;
         whole = is_whole_of_same_run (machine f) (tables f) (length guest.entries) (trace_of trace) run b same
-            (in_turns-run (machine f) (tables f) _ run x.by_turns.in_turns) x.by_turns.done h.emitted.whole;
+            (is_run_if_in_turns (machine f) (tables f) _ run x.by_turns.in_turns) x.by_turns.done h.emitted.whole;
       };
       printed = record {
         threads = h.printed.threads;
@@ -68,11 +68,11 @@ kept_answers_are_logged guest budget profile run answers t l h =
 recorded_run_is_planned : (guest : Guest) (plan : Plan) (list : List ℕ) (turns : List Turn) (trace : Recorded) (outputs : List (List ℕ)) (answers : List (List Answered))
     → plan.order ≡ Some list → (r : IsRecordingByTurns guest plan.budget plan.profile turns (unasked guest) trace outputs answers)
     → ((t : ℕ) → t < length guest.entries → IsAnswered (origin_of (is_some plan.order) plan.random plan.input t) (get_or answers t []))
-    → IsPlannedInTurns guest plan turns r.run
+    → IsPlannedInTurns guest plan turns r.0
 recorded_run_is_planned guest plan list turns trace outputs answers is r answered = record {
-  by_turns = r.by_turns;
+  by_turns = r.1;
   answered = λ t l. subst (IsAnswered (origin_of true plan.random plan.input t))
-      (kept_answers_are_logged guest plan.budget plan.profile r.run answers t l r.of.answered)
+      (kept_answers_are_logged guest plan.budget plan.profile r.0 answers t l r.2.answered)
       (subst (λ c. IsAnswered (origin_of c plan.random plan.input t) (get_or answers t [])) (ap is_some is) (answered t l));
 }
 
@@ -82,23 +82,23 @@ recording_is_of_planned_run : (guest : Guest) (plan : Plan) (list : List ℕ) (t
     → ((t : ℕ) → t < length guest.entries → IsAnswered (origin_of (is_some plan.order) plan.random plan.input t) (get_or answers t []))
     → IsOfRun guest plan.budget plan.profile run trace outputs
 recording_is_of_planned_run guest plan list turns run trace outputs answers is x r answered =
-    recording_is_of_same_run guest plan.budget plan.profile turns run r.run (unasked guest) trace outputs answers (origin_of true plan.random plan.input) x
-    (one_run_by_turns guest plan.budget plan.profile turns (origin_of true plan.random plan.input) run r.run (λ t l. refl) x
-    (recorded_run_is_planned guest plan list turns trace outputs answers is r answered)) r.of
+    recording_is_of_same_run guest plan.budget plan.profile turns run r.0 (unasked guest) trace outputs answers (origin_of true plan.random plan.input) x
+    (one_run_by_turns guest plan.budget plan.profile turns (origin_of true plan.random plan.input) run r.0 (λ t l. refl) x
+    (recorded_run_is_planned guest plan list turns trace outputs answers is r answered)) r.2
 
 -- a run by an order is one by its turns
-planned_in_turns : (guest : Guest) (plan : Plan) (order : List ℕ) (run : List Step) → IsPlanned guest plan order run
+planned_in_turns_if_planned_by_order : (guest : Guest) (plan : Plan) (order : List ℕ) (run : List Step) → IsPlanned guest plan order run
     → IsPlannedInTurns guest plan (plain_turns order) run
-planned_in_turns guest plan order run x = answered_by_turns guest plan.budget plan.profile order (origin_of true plan.random plan.input) run x
+planned_in_turns_if_planned_by_order guest plan order run x = answered_by_turns_if_answered_by_order guest plan.budget plan.profile order (origin_of true plan.random plan.input) run x
 
 -- what is recorded in turns is of each run that the guest makes by their order with the same answers
 pub recording_in_turns_is_of_run : (guest : Guest) (plan : Plan) (order : List ℕ) (run : List Step) (trace : Recorded) (outputs : List (List ℕ)) (answers : List (List Answered))
-    → IsPlanned guest plan order run → IsRecordingInOrder guest plan.budget plan.profile order (unasked guest) trace outputs answers
+    → IsPlanned guest plan order run → IsRecordingByTurns guest plan.budget plan.profile (plain_turns order) (unasked guest) trace outputs answers
     → ((t : ℕ) → t < length guest.entries → IsAnswered (origin_of true plan.random plan.input t) (get_or answers t []))
     → IsOfRun guest plan.budget plan.profile run trace outputs
 recording_in_turns_is_of_run guest plan order run trace outputs answers x r answered =
-    recording_is_of_planned_run guest (record plan { order = Some [] }) [] (plain_turns order) run trace outputs answers refl (planned_in_turns guest plan order run x)
-    (plain_of_order guest plan.budget plan.profile order (unasked guest) trace outputs answers r) answered
+    recording_is_of_planned_run guest (record plan { order = Some [] }) [] (plain_turns order) run trace outputs answers refl (planned_in_turns_if_planned_by_order guest plan order run x) r
+    answered
 
 -- the same of a recording by the list
 recording_by_list_is_of_run : (guest : Guest) (plan : Plan) (list : List ℕ) (turns : List Turn) (run : List Step) (trace : Recorded) (outputs : List (List ℕ))
@@ -120,8 +120,8 @@ recording_of_image_is_of_run image guest plan list turns run trace outputs is r 
     recording_by_list_is_of_run r.guest plan list turns run trace outputs r.answers is spelled x
     (subst (λ (o : Option (List ℕ)). IsRecordedBy o r.guest plan.budget plan.profile trace outputs r.answers) is r.recorded) r.answered
 
-pub recordings_in_turns : RecordingsAreOfTheRun
-recordings_in_turns image guest plan list turns run trace outputs found is spelled x r =
+pub recordings_by_list_are_of_the_run : RecordingsAreOfTheRun
+recordings_by_list_are_of_the_run image guest plan list turns run trace outputs found is spelled x r =
     let same : guest ≡ r.guest = cc (found, r.is) in
     subst (λ (g : Guest). IsOfRun g plan.budget plan.profile run trace outputs) (sym same)
     (recording_of_image_is_of_run image guest plan list turns run trace outputs is r
@@ -129,12 +129,12 @@ recordings_in_turns image guest plan list turns run trace outputs found is spell
     (subst (λ (g : Guest). IsPlannedInTurns g plan turns run) same x))
 
 -- the same of a list that refuses no try
-pub recordings_are_of_the_run : (image : List ℕ) (guest : Guest) (plan : Plan) (list order : List ℕ) (run : List Step) (trace : Recorded) (outputs : List (List ℕ))
+pub recordings_by_plain_list_are_of_the_run : (image : List ℕ) (guest : Guest) (plan : Plan) (list order : List ℕ) (run : List Step) (trace : Recorded) (outputs : List (List ℕ))
     → guest_at image ≡ Ok guest → plan.order ≡ Some list → order_of (length guest.entries) list ≡ Some (plain_turns order)
     → IsPlanned guest plan order run → IsRecordedOf image plan trace outputs
     → IsOfRun guest plan.budget plan.profile run trace outputs
-recordings_are_of_the_run image guest plan list order run trace outputs found is spelled x r =
-    recordings_in_turns image guest plan list (plain_turns order) run trace outputs found is spelled (planned_in_turns guest plan order run x) r
+recordings_by_plain_list_are_of_the_run image guest plan list order run trace outputs found is spelled x r =
+    recordings_by_list_are_of_the_run image guest plan list (plain_turns order) run trace outputs found is spelled (planned_in_turns_if_planned_by_order guest plan order run x) r
 
 -- the run that was recorded with a list
 record RecordedRun (image : List ℕ) (plan : Plan) (list : List ℕ) (guest : Guest) (trace : Recorded) (outputs : List (List ℕ)) : Type 0 where
@@ -150,16 +150,16 @@ recording_by_list_has_run : (image : List ℕ) (plan : Plan) (list : List ℕ) (
     → RecordedRun image plan list guest trace outputs
 recording_by_list_has_run image plan list guest trace outputs answers is (turns, spelled, r) answered = record {
   turns = turns;
-  run = r.run;
+  run = r.0;
   spelled = spelled;
   planned = recorded_run_is_planned guest plan list turns trace outputs answers is r answered;
-  of = record { trace_of = r.of.emitted; printed = r.of.printed };
+  of = record { trace_of = r.2.emitted; printed = r.2.printed };
 }
 
 recordings_by_list_equal_of_run : (image : List ℕ) (plan : Plan) (list : List ℕ) (a b : Recorded) (x y : List (List ℕ)) → plan.order ≡ Some list
     → (r : IsRecordedOf image plan a x) → RecordedRun image plan list r.guest a x → IsRecordedOf image plan b y → (a ≡ b) × (x ≡ y)
 recordings_by_list_equal_of_run image plan list a b x y is r h other = recording_of_run_is_unique r.guest plan.budget plan.profile h.run a b x y h.of
-    (recordings_in_turns image r.guest plan list h.turns h.run b y r.is is h.spelled h.planned other)
+    (recordings_by_list_are_of_the_run image r.guest plan list h.turns h.run b y r.is is h.spelled h.planned other)
 
 pub one_recording_by_list : OneRecordingByAList
 one_recording_by_list image plan list a b x y is r other = recordings_by_list_equal_of_run image plan list a b x y is r

@@ -2,7 +2,8 @@
 use Rattle.std.specs.Prelude.{◌≡◌, ◌↔◌, ◌<◌, ℕ, List, [], ◌∷◌, length, true}
 use Rattle.ir_image.specs.Guest.{Guest}
 use Rattle.ir_runs.specs.Machine.{Act, Machine}
-use Rattle.ir_runs.specs.Run.{State, Step, act, after, end, trail, log, IsByOrder}
+use Rattle.ir_runs.specs.Run.{State, Step, act, after, end, trail, log}
+use Rattle.ir_runs.specs.Orders.{IsByOrder}
 use Rattle.ir_runs.specs.Bounds.{trace}
 use Rattle.ir_thread.specs.declared.profile.Profile.{Profile}
 use Rattle.ir_flat.specs.Flat.{start_flat, tables, machine}

@@ -4,7 +4,7 @@ ghost use Rattle.std.specs.Prelude.{◌≡◌, ◌≢◌, List, [], ◌++◌, If
 ghost use Rattle.std.specs.String.{string_bytes};
 ghost use Rattle.ir_record.specs.Recording.{order_of_turns, turns_of_items};
 ghost use Rattle.ir_record.specs.Refusing.{Turn};
-ghost use Rattle.ir_order.specs.Spelling.{item_text, with_item, Spells, SpellsTurns, IsListOf};
+ghost use Rattle.ir_order.specs.Spelling.{item_text, with_item, Spells, IsListOf};
 
 use ir_record::{Item, Turns};
 use std::alloc::{AllocError, Global};
@@ -85,8 +85,7 @@ pub fn list_of(alloc: Global, turns: &[Turns]) -> Result<String, AllocError>
 /// # Errors
 /// Out of memory.
 pub fn list_of_items(alloc: Global, items: &[Item]) -> Result<String, AllocError>
-    ensures spelled { IfOk result (λ list. turns_of_items items.now ≢ [] → SpellsTurns (string_bytes list) (turns_of_items items.now)) }
-    ensures empty { IfOk result (λ list. turns_of_items items.now ≡ [] → string_bytes list ≡ []) }
+    ensures { IfOk result (λ list. IsListOf (string_bytes list) (turns_of_items items.now)) }
 {
     let mut list = String::new(alloc);
     'items: for each in items {

@@ -1,34 +1,29 @@
 -- Runs of a guest by turns.
-use Rattle.std.proofs.lemmas.Bool.{cases_eq}
-use Rattle.std.proofs.Common.{◌≡◌, ◌≢◌, ◌⊎◌, inl, inr, ℕ, zero, suc, List, [], ◌∷◌, ◌++◌, Bool, true, false, length, map, replicate, append_assoc, ◌+◌, ◌≤◌, arith, refl, sym, ap, ◌∙◌, subst}
+use Rattle.std.proofs.Common.{◌≡◌, inl, inr, ℕ, zero, suc, List, [], ◌∷◌, ◌++◌, Bool, true, false, length, map, replicate, append_assoc, ◌-◌, ◌≤◌, arith, refl, sym, ap, ◌∙◌, subst}
 use Rattle.ir_runs.specs.Machine.{Machine}
 use Rattle.ir_runs.specs.Run.{State, Step, after, end}
 use Rattle.ir_runs.proofs.CallerLemmas.{end_append}
-use Rattle.ir_states.specs.Counting.{entering}
+use Rattle.ir_states.specs.Outcomes.{switches}
 use Rattle.ir_states.specs.Orders.{IsAlone}
-use Rattle.ir_states.proofs.CallerLemmas.{entering_append}
 use Rattle.ir_store.specs.Nodes.{SourcedFlat}
 use Rattle.ir_graph.specs.Plain.{full_by, full_of, IsAnsweredRun}
 use Rattle.ir_graph.specs.Reached.{beginning}
 use Rattle.ir_graph.specs.Setup.{Setup, start_of}
-use Rattle.ir_graph.specs.Turn.{GoesAlone}
-use Rattle.ir_graph.proofs.CallerLemmas.{like_reflexive, like_transitive, like_after_going_alone, answered_run_append, goes_alone_in_turns}
-use Rattle.ir_explore.proofs.CallerLemmas.{switches_after_repeated_turn, switches_of_replicated_thread}
+use Rattle.ir_graph.specs.Turn.{GoesAlone, ways_taken}
+use Rattle.ir_graph.proofs.CallerLemmas.{ways_taken-append, like_reflexive, like_transitive, like_after_going_alone, answered_run_append, goes_alone_in_turns}
+use Rattle.ir_explore.specs.declared.origin.Origin.{Origin}
+use Rattle.ir_explore.specs.declared.origin.Refusal.{Refusal}
+use Rattle.ir_explore.specs.Origins.{AreWaysOf}
+use Rattle.ir_explore.proofs.CallerLemmas.{repeated_turn_adds_one_switch_at_most, switches_of_replicated_thread}
 use Rattle.ir_record.specs.Recording.{turns_of_items}
 use Rattle.ir_record.specs.Refusing.{Turn, InTurns}
 use Rattle.ir_record.specs.declared.item.Item.{Item}
 use Rattle.ir_flat.proofs.CallerLemmas.{length_of_start_threads}
 use Rattle.ir_sources.specs.Sources.{source, seed_of}
 use Rattle.ir_thread.specs.State.{most_budget}
-use Rattle.std.proofs.lemmas.List.{flat_map_more, append-nil}
+use Rattle.std.proofs.lemmas.List.{flat_map_more, append-nil, map-append}
 use Rattle.std.proofs.lemmas.List.FromFn.{length-map-range_with_len}
-use Rattle.ir_outcomes.specs.Again.{IsAgain, IsAgainWithin}
-
-replicate_of_sum : (t n k : ℕ) → replicate (n + k) t ≡ replicate n t ++ replicate k t
-replicate_of_sum t zero k = let e : zero + k ≡ k = omega arith in ap (λ z. replicate z t) e
-replicate_of_sum t (suc n) k =
-    let e : suc n + k ≡ suc (n + k) = omega arith in
-    ap (λ z. replicate z t) e ∙ (λ i. t ∷ replicate_of_sum t n k i)
+use Rattle.ir_outcomes.specs.Again.{IsAgain, IsAgainBy, AreWaysBack, ways_by}
 
 -- ---- runs by turns
 
@@ -70,15 +65,15 @@ start_is_run_again setup = record {
   in_turns = refl;
   taken = refl;
   ends = refl;
-  enters = refl;
+  goes = refl;
   each = length-map-range_with_len (λ t. source (seed_of setup.random t) setup.input) 0 (length setup.guest.entries)
       ∙ sym (length_of_start_threads setup.guest most_budget setup.profile 0 (length setup.guest.entries));
 }
 
 -- a thread goes on alone
-pub is_again_after_going_alone : (setup : Setup) (turns : List Turn) (before : List ℕ) (s u : SourcedFlat) (t : ℕ) (refused : Bool) (n e : ℕ)
+pub is_again_after_going_alone : (setup : Setup) (turns : List Turn) (before : List (ℕ × Bool)) (s u : SourcedFlat) (t : ℕ) (refused : Bool) (n e : ℕ)
     → IsAgain setup turns before s → GoesAlone s u t refused n e
-    → IsAgain setup (turns ++ replicate n (t, refused)) (before ++ replicate e t) u
+    → IsAgain setup (turns ++ replicate n (t, refused)) (before ++ replicate e (t, refused)) u
 is_again_after_going_alone setup turns before s u t refused n e a goes =
     let code = setup.guest.code in
     let own = s.flat.code in
@@ -93,8 +88,8 @@ is_again_after_going_alone setup turns before s u t refused n e a goes =
     let ends : full_of u ≡ end (full_by code) first (a.steps ++ goes.run) =
     goes.ends ∙ ap (λ z. end (full_by z) (full_of s) goes.run) same ∙ ap (λ z. end (full_by code) z goes.run) a.ends
     ∙ sym (end_append (full_by code) first a.steps goes.run) in
-    let late : entering (full_by code) there goes.run ≡ replicate e t =
-    ap (λ z. entering (full_by code) z goes.run) (sym a.ends) ∙ ap (λ z. entering (full_by z) (full_of s) goes.run) (sym same) ∙ goes.enters in record {
+    let late : ways_taken (full_by code) there goes.run ≡ replicate e (t, refused) =
+    ap (λ z. ways_taken (full_by code) z goes.run) (sym a.ends) ∙ ap (λ z. ways_taken (full_by z) (full_of s) goes.run) (sym same) ∙ goes.ways in record {
       like = like_transitive (start_of setup).flat s.flat u.flat a.like (like_after_going_alone s u t refused n e goes);
       steps = a.steps ++ goes.run;
       answered = answered_run_append code first a.steps goes.run a.answered answered;
@@ -103,68 +98,96 @@ is_again_after_going_alone setup turns before s u t refused n e a goes =
           ∙ (λ i. a.taken i ++ (threads_of_alone_run t goes.run goes.alone ∙ ap (λ k. replicate k t) goes.many) i)
           ∙ sym (threads_of_appended_turns turns t refused n);
       ends = ends;
-      enters = entering_append (full_by code) first a.steps goes.run ∙ (λ i. a.enters i ++ late i);
+      goes = ways_taken-append (full_by code) first a.steps goes.run ∙ (λ i. a.goes i ++ late i);
       each = goes.sources ∙ a.each ∙ sym goes.threads;
     }
 
 -- so it does with turns noted
-pub is_again_after_turns_noted : (setup : Setup) (items : List Item) (item : Item) (before : List ℕ) (f g : SourcedFlat) (e : ℕ)
+pub is_again_after_turns_noted : (setup : Setup) (items : List Item) (item : Item) (before : List (ℕ × Bool)) (f g : SourcedFlat) (e : ℕ)
     → IsAgain setup (turns_of_items items) before f → GoesAlone f g item.thread item.refused item.count e
-    → IsAgain setup (turns_of_items (items ++ item ∷ [])) (before ++ replicate e item.thread) g
+    → IsAgain setup (turns_of_items (items ++ item ∷ [])) (before ++ replicate e (item.thread, item.refused)) g
 is_again_after_turns_noted setup items item before f g e a goes =
-    subst (λ z. IsAgain setup z (before ++ replicate e item.thread) g)
+    subst (λ z. IsAgain setup z (before ++ replicate e (item.thread, item.refused)) g)
     (flat_map_more (λ (i : Item). replicate i.count (i.thread, i.refused)) [] items item)
     (is_again_after_going_alone setup (turns_of_items items) before f g item.thread item.refused item.count e a goes)
 
--- so many entries of a thread after others of it
-pub is_again_with_entries_joined : (setup : Setup) (turns : List Turn) (before : List ℕ) (f : SourcedFlat) (t n k : ℕ)
-    → IsAgain setup turns ((before ++ replicate n t) ++ replicate k t) f → IsAgain setup turns (before ++ replicate (n + k) t) f
-is_again_with_entries_joined setup turns before f t n k a =
+-- ---- the ways of a turn
+
+pub ways_by-replicate : (t : ℕ) (refused : Bool) (n : ℕ) → ways_by t (replicate n refused) ≡ replicate n (t, refused)
+ways_by-replicate t refused zero = refl
+ways_by-replicate t refused (suc n) = ap (λ z. (t, refused) ∷ z) (ways_by-replicate t refused n)
+
+threads_of_ways_by : (t : ℕ) (ways : List Bool) → map (λ (w : ℕ × Bool). w.0) (ways_by t ways) ≡ replicate (length ways) t
+threads_of_ways_by t [] = refl
+threads_of_ways_by t (w ∷ ways) = ap (λ z. t ∷ z) (threads_of_ways_by t ways)
+
+-- so many ways of a thread after others of it
+pub is_again_with_ways_joined : (setup : Setup) (turns : List Turn) (before : List (ℕ × Bool)) (f : SourcedFlat) (t : ℕ) (ways : List Bool) (refused : Bool) (n : ℕ)
+    → IsAgain setup turns ((before ++ ways_by t ways) ++ replicate n (t, refused)) f
+    → IsAgain setup turns (before ++ ways_by t (ways ++ replicate n refused)) f
+is_again_with_ways_joined setup turns before f t ways refused n a =
+    let joined : ways_by t ways ++ replicate n (t, refused) ≡ ways_by t (ways ++ replicate n refused) =
+    ap (λ z. ways_by t ways ++ z) (sym (ways_by-replicate t refused n)) ∙ sym (map-append (λ (r : Bool). (t, r)) ways (replicate n refused)) in
     subst (λ z. IsAgain setup turns z f)
-    (append_assoc before (replicate n t) (replicate k t) ∙ ap (λ z. before ++ z) (sym (replicate_of_sum t n k))) a
+    (append_assoc before (ways_by t ways) (replicate n (t, refused)) ∙ ap (λ z. before ++ z) joined) a
 
--- no entry
-pub is_again_with_no_entry : (setup : Setup) (turns : List Turn) (before : List ℕ) (f : SourcedFlat) (t : ℕ)
-    → IsAgain setup turns before f → IsAgain setup turns (before ++ replicate 0 t) f
-is_again_with_no_entry setup turns before f t a = subst (λ z. IsAgain setup turns z f) (sym (append-nil before)) a
+-- so many that enter, and then a refused try
+pub is_again_after_refused_try : (setup : Setup) (turns : List Turn) (before : List (ℕ × Bool)) (f : SourcedFlat) (t n : ℕ)
+    → IsAgain setup turns ((before ++ replicate n (t, false)) ++ replicate 1 (t, true)) f
+    → IsAgain setup turns (before ++ ways_by t (replicate n false ++ true ∷ [])) f
+is_again_after_refused_try setup turns before f t n a =
+    is_again_with_ways_joined setup turns before f t (replicate n false) true 1
+    (subst (λ z. IsAgain setup turns ((before ++ z) ++ replicate 1 (t, true)) f) (sym (ways_by-replicate t false n)) a)
 
--- the first turn is no switch, and each other is one at most
-pub first_turn_is_within_one : (setup : Setup) (turns : List Turn) (f : SourcedFlat) (t e : ℕ) → IsAgain setup turns ([] ++ replicate e t) f
-    → IsAgainWithin setup turns 1 f
-first_turn_is_within_one setup turns f t e a = record { entries = replicate e t; again = a; few = let l = switches_of_replicated_thread t e in omega (arith, l) }
+-- some ways of a thread after others of it
+pub is_again_with_ways_of_turn_joined : (setup : Setup) (turns : List Turn) (before : List (ℕ × Bool)) (f : SourcedFlat) (t : ℕ) (ways more : List Bool)
+    → IsAgain setup turns ((before ++ ways_by t ways) ++ ways_by t more) f → IsAgain setup turns (before ++ ways_by t (ways ++ more)) f
+is_again_with_ways_of_turn_joined setup turns before f t ways more a =
+    subst (λ z. IsAgain setup turns z f)
+    (append_assoc before (ways_by t ways) (ways_by t more) ∙ ap (λ z. before ++ z) (sym (map-append (λ (r : Bool). (t, r)) ways more))) a
 
-pub again_within_after_turn : (setup : Setup) (turns turns' : List Turn) (f g : SourcedFlat) (t e most : ℕ) → 1 ≤ most → (w : IsAgainWithin setup turns most f)
-    → IsAgain setup turns' (w.entries ++ replicate e t) g → IsAgainWithin setup turns' (most + 1) g
-again_within_after_turn setup turns turns' f g t e most some w a = record {
-  entries = w.entries ++ replicate e t;
-  again = a;
-  few = let l = switches_after_repeated_turn w.entries t e in let k = w.few in omega (arith, l, k, some);
-}
+-- no way
+pub is_again_with_no_way : (setup : Setup) (turns : List Turn) (before : List (ℕ × Bool)) (f : SourcedFlat)
+    → IsAgain setup turns before f → IsAgain setup turns (before ++ []) f
+is_again_with_no_way setup turns before f a = subst (λ z. IsAgain setup turns z f) (sym (append-nil before)) a
 
--- a turn without an entry is none
-pub again_within_after_no_entry : (setup : Setup) (turns turns' : List Turn) (f g : SourcedFlat) (t most : ℕ) → (w : IsAgainWithin setup turns most f)
-    → IsAgain setup turns' (w.entries ++ replicate 0 t) g → IsAgainWithin setup turns' most g
-again_within_after_no_entry setup turns turns' f g t most w a = record {
-  entries = w.entries;
-  again = subst (λ z. IsAgain setup turns' z g) (append-nil w.entries) a;
-  few = w.few;
-}
+pub is_again_without_no_way : (setup : Setup) (turns : List Turn) (before : List (ℕ × Bool)) (f : SourcedFlat)
+    → IsAgain setup turns (before ++ []) f → IsAgain setup turns before f
+is_again_without_no_way setup turns before f a = subst (λ z. IsAgain setup turns z f) (append-nil before) a
+
+-- ---- the ways of a path
 
 -- one turn more
-pub again_within_step : (setup : Setup) (turns turns' : List Turn) (f g : SourcedFlat) (t k : ℕ) → (w : IsAgainWithin setup turns k f)
-    → (k ≡ 0 → w.entries ≡ [])
-    → ((before : List ℕ) → IsAgain setup turns before f → (e : ℕ) × IsAgain setup turns' (before ++ replicate e t) g)
-    → (w' : IsAgainWithin setup turns' (k + 1) g) × (k + 1 ≡ 0 → w'.entries ≡ [])
-again_within_step setup turns turns' f g t k w none more = (
-  by (cases_eq k 0),
-  λ is. absurd {0} (omega (arith, is)),
-)
+pub again_by_turn_more : (setup : Setup) (turns turns' : List Turn) (table : List Refusal) (n : Origin) (path : List Origin) (f g : SourcedFlat)
+    → IsAgainBy setup turns table path f
+    → ((before : List (ℕ × Bool)) → IsAgain setup turns before f
+    → (own : List Bool) × AreWaysOf table n own × IsAgain setup turns' (before ++ ways_by n.thread own) g)
+    → IsAgainBy setup turns' table (n ∷ path) g
+again_by_turn_more setup turns turns' table n path f g w more = let r = more w.ways w.again in record {
+  ways = w.ways ++ ways_by n.thread r.0;
+  back = (w.ways, w.back, r.0, r.1, refl);
+  again = r.2;
+}
+
+-- the thread that enters or tries is switched less often than the path has turns
+pub switches_of_ways_back : (table : List Refusal) (path : List Origin) (ways : List (ℕ × Bool)) → AreWaysBack table path ways
+    → switches (map (λ (w : ℕ × Bool). w.0) ways) ≤ length path - 1
+switches_of_ways_back table [] ways back = let l : switches (map (λ (w : ℕ × Bool). w.0) ways) ≤ 0 =
+    subst (λ z. switches (map (λ (w : ℕ × Bool). w.0) z) ≤ 0) (sym back) (omega arith) in omega (arith, l)
+switches_of_ways_back table (n ∷ path) ways (before, back, own, are, is) =
+    let t = n.thread in
+    let us = map (λ (w : ℕ × Bool). w.0) before in
+    let same : map (λ (w : ℕ × Bool). w.0) ways ≡ us ++ replicate (length own) t =
+    ap (map (λ (w : ℕ × Bool). w.0)) is ∙ map-append (λ (w : ℕ × Bool). w.0) before (ways_by t own)
+    ∙ ap (λ z. us ++ z) (threads_of_ways_by t own) in
+    let few : switches (map (λ (w : ℕ × Bool). w.0) ways) ≤ length path =
+    subst (λ z. switches z ≤ length path) (sym same) (by path back (switches_of_ways_back table path before back)) in omega (arith, few)
   where
-    by : (k ≡ 0) ⊎ (k ≢ 0) → IsAgainWithin setup turns' (k + 1) g
-    by (inl first) =
-        let one : 1 ≡ k + 1 = omega (arith, first) in
-        let a = more [] (subst (λ z. IsAgain setup turns z f) (none first) w.again) in
-        subst (λ z. IsAgainWithin setup turns' z g) one (first_turn_is_within_one setup turns' g t a.0 a.1)
-    by (inr later) =
-        let a = more w.entries w.again in
-        again_within_after_turn setup turns turns' f g t a.0 k (omega (arith, later)) w a.1
+    by : (rest : List Origin) → AreWaysBack table rest before → switches (map (λ (w : ℕ × Bool). w.0) before) ≤ length rest - 1
+        → switches (map (λ (w : ℕ × Bool). w.0) before ++ replicate (length own) n.thread) ≤ length rest
+    by [] none l =
+        subst (λ z. switches (map (λ (w : ℕ × Bool). w.0) z ++ replicate (length own) n.thread) ≤ 0) (sym none)
+        (switches_of_replicated_thread n.thread (length own))
+    by (m ∷ rest) some l =
+        let k = repeated_turn_adds_one_switch_at_most (map (λ (w : ℕ × Bool). w.0) before) n.thread (length own) in
+        omega (arith, l, k)

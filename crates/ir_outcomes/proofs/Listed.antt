@@ -1,8 +1,9 @@
 -- The outcomes of a guest, listed.
-use Rattle.std.proofs.Common.{◌≡◌, ℕ, zero, suc, ◌+◌, ◌<◌, ◌≤◌, List, [], ◌∷◌, ◌++◌, inl, inr, Some, length, length-append, refl, sym, ap, ◌∙◌, subst, arith}
+use Rattle.std.proofs.Common.{◌≡◌, ℕ, suc, ◌+◌, ◌<◌, ◌≤◌, List, [], ◌∷◌, ◌++◌, inl, inr, Some, length, length-append, refl, sym, ap, ◌∙◌, subst, arith}
 use Rattle.std.specs.Prelude.{slice_get}
 use Rattle.std.proofs.lemmas.Bool.{cases_lt}
 use Rattle.std.proofs.lemmas.Option.{same_Some}
+use Rattle.ir_lemmas.proofs.CallerLemmas.{element_below_length_exists}
 use Rattle.ir_explore.specs.declared.origin.Origin.{Origin}
 use Rattle.ir_explore.proofs.CallerLemmas.{slice_get_after_push_cases, slice_get_kept_by_append, place_of_element_is_below_length}
 use Rattle.ir_runs.specs.Run.{Step}
@@ -45,12 +46,6 @@ are_shown_step setup flats origins listed many outcomes x s node level shown = r
         (shown f (subst (λ z. slice_get flats z.node ≡ Some f) (sym p.1) at.1))
   ];
 }
-
--- an element at each place
-element_below_length_exists : {A : Type 0} (xs : List A) (i : ℕ) → i < length xs → (x : A) × (slice_get xs i ≡ Some x)
-element_below_length_exists [] i l = absurd (omega (arith, l))
-element_below_length_exists (x ∷ xs) zero l = (x, refl)
-element_below_length_exists (x ∷ xs) (suc i) l = element_below_length_exists xs i (omega (arith, l))
 
 module _ (setup : Setup) (flats : List SourcedFlat) (origins : List Origin) (levels seen : ℕ) (listed : List ℕ) (outcomes : List Shown)
     (searched : AreSearched setup flats origins levels) (within : seen ≤ length origins)
@@ -213,8 +208,8 @@ module _ (setup : Setup) (flats more : List SourcedFlat) (origins new : List Ori
   }
 
 -- no node was looked at
-pub none_shown : (setup : Setup) (flats : List SourcedFlat) (origins : List Origin) → HasShown setup flats origins 0 [] []
-none_shown setup flats origins = record {
+pub has_shown_before_first_node : (setup : Setup) (flats : List SourcedFlat) (origins : List Origin) → HasShown setup flats origins 0 [] []
+has_shown_before_first_node setup flats origins = record {
   different = record {
     done = λ i v is. absurd (cc is);
     all = λ v f less at done. absurd (omega (arith, less));
@@ -230,21 +225,21 @@ none_shown setup flats origins = record {
 }
 
 -- the last of a list
-last_at : (xs : List ℕ) (x : ℕ) → slice_get (xs ++ x ∷ []) (length xs) ≡ Some x
-last_at [] x = refl
-last_at (y ∷ xs) x = last_at xs x
+slice_get_of_last_pushed : (xs : List ℕ) (x : ℕ) → slice_get (xs ++ x ∷ []) (length xs) ≡ Some x
+slice_get_of_last_pushed [] x = refl
+slice_get_of_last_pushed (y ∷ xs) x = slice_get_of_last_pushed xs x
 
 -- one more node is listed and shown
-pub shown_one : (setup : Setup) (flats : List SourcedFlat) (origins : List Origin) (seen : ℕ) (listed : List ℕ) (outcomes : List Shown) (x : Shown)
+pub has_shown_step : (setup : Setup) (flats : List SourcedFlat) (origins : List Origin) (seen : ℕ) (listed : List ℕ) (outcomes : List Shown) (x : Shown)
     → HasShown setup flats origins seen listed outcomes → AreOutcomes flats (suc seen) (listed ++ seen ∷ []) → x.node ≡ seen
     → ((n : Origin) → slice_get origins seen ≡ Some n → x.level ≡ n.level)
     → ((f : SourcedFlat) → slice_get flats seen ≡ Some f → IsShown setup f x.level (turns_of_items x.turns.items))
     → HasShown setup flats origins (suc seen) (listed ++ seen ∷ []) (outcomes ++ x ∷ [])
-shown_one setup flats origins seen listed outcomes x has different node level shown = record {
+has_shown_step setup flats origins seen listed outcomes x has different node level shown = record {
   different = different;
   shown = subst (λ n. AreShown setup flats origins (listed ++ seen ∷ []) n (outcomes ++ x ∷ []))
       (let a = length-append listed (seen ∷ []) in omega (arith, a))
-      (are_shown_step setup flats origins (listed ++ seen ∷ []) (length listed) outcomes x wide (last_at listed seen ∙ ap Some (sym node))
+      (are_shown_step setup flats origins (listed ++ seen ∷ []) (length listed) outcomes x wide (slice_get_of_last_pushed listed seen ∙ ap Some (sym node))
       (λ n is. level n (subst (λ z. slice_get origins z ≡ Some n) node is))
       (λ f is. shown f (subst (λ z. slice_get flats z ≡ Some f) node is)));
 }
@@ -258,8 +253,8 @@ shown_one setup flats origins seen listed outcomes x has different node level sh
     }
 
 -- no outcomes, before the first level
-pub none_explored : (setup : Setup) (flats : List SourcedFlat) → AreExplored setup flats 0 []
-none_explored setup flats = record {
+pub are_explored_before_first_level : (setup : Setup) (flats : List SourcedFlat) → AreExplored setup flats 0 []
+are_explored_before_first_level setup flats = record {
   shown = λ i x f at. absurd (cc at.0);
   fewest = λ i x f at. absurd (cc at.0);
   different = λ i j x y f g at. absurd (cc at.0);

@@ -3,7 +3,9 @@ use Rattle.std.proofs.Common.{◌≡◌, ℕ, zero, suc, ◌<◌, ◌≤◌, Boo
 use Rattle.std.specs.Prelude.{slice_get}
 use Rattle.std.proofs.lemmas.Bool.{cases_lt}
 use Rattle.std.proofs.lemmas.Option.{same_Some, slice_get_within}
+use Rattle.ir_lemmas.proofs.CallerLemmas.{element_below_length_exists}
 use Rattle.ir_explore.specs.declared.origin.Origin.{Origin}
+use Rattle.ir_explore.specs.declared.origin.Refusal.{Refusal}
 use Rattle.ir_explore.specs.Following.{IsOpen}
 use Rattle.ir_explore.specs.Origins.{AreRising}
 use Rattle.ir_explore.specs.Ways.{shut}
@@ -18,24 +20,24 @@ use Rattle.ir_graph.specs.Nodes.{LookAlike}
 use Rattle.ir_graph.specs.Plain.{IsLike}
 use Rattle.ir_graph.specs.Reached.{beginning}
 use Rattle.ir_graph.specs.Setup.{Setup}
-use Rattle.ir_graph.proofs.CallerLemmas.{answered_run_is_counting, hang_never_completes, can_end_if_answered_run_can, in_turns_of_plain}
-use Rattle.ir_outcomes.specs.Again.{IsAgainWithin}
+use Rattle.ir_graph.proofs.CallerLemmas.{answered_run_is_counting, hang_never_completes, can_end_if_answered_run_can, plain_in_turns_if_sourced_in_turns}
+use Rattle.ir_outcomes.specs.Again.{IsAgainBy}
 use Rattle.ir_outcomes.specs.Explored.{AreHangs}
 use Rattle.ir_outcomes.specs.Hang.{IsFirst}
 use Rattle.ir_outcomes.specs.Shown.{switches_by, IsShownAt, IsHangShown}
 use Rattle.ir_outcomes.specs.declared.shown.Shown.{Shown}
 use Rattle.ir_outcomes.proofs.Showing.{switches_again}
 
-pub shown_at_if_again_within : (setup : Setup) (turns : List Turn) (most level : ℕ) (s u : SourcedFlat) → IsAgainWithin setup turns most u
-    → most ≤ suc level → IsLike u.flat s.flat → LookAlike u s → IsShownAt setup s level turns
-shown_at_if_again_within setup turns most level s u w few like looks =
+pub shown_at_if_again : (setup : Setup) (turns : List Turn) (table : List Refusal) (path : List Origin) (level : ℕ) (s u : SourcedFlat)
+    → IsAgainBy setup turns table path u → length path ≤ suc level → IsLike u.flat s.flat → LookAlike u s → IsShownAt setup s level turns
+shown_at_if_again setup turns table path level s u w few like looks =
     let a = w.again in record {
       steps = a.steps;
       counting = answered_run_is_counting setup a.steps a.answered;
-      in_turns = in_turns_of_plain (thread_machine setup.guest.code) given (beginning setup) turns a.steps a.in_turns;
+      in_turns = plain_in_turns_if_sourced_in_turns (thread_machine setup.guest.code) given (beginning setup) turns a.steps a.in_turns;
       taken = a.taken;
       stands = λ can. can_end_if_answered_run_can setup a.steps s u a.answered a.ends a.like.code like.code looks can;
-      few = let l = w.few in let e = switches_again setup turns most u w in omega (arith, l, e, few);
+      few = let l = switches_again setup turns table path u w in omega (arith, l, few);
     }
 
 hang_shown_if_cannot_end : (setup : Setup) (s : SourcedFlat) (level : ℕ) (turns : List Turn) → IsShownAt setup s level turns
@@ -49,11 +51,6 @@ hang_shown_if_cannot_end setup s level turns shown lost =
       taken = shown.taken;
       few = shown.few;
     }
-
-element_below_length_exists : {A : Type 0} (xs : List A) (i : ℕ) → i < length xs → (x : A) × (slice_get xs i ≡ Some x)
-element_below_length_exists [] i l = absurd (omega (arith, l))
-element_below_length_exists (x ∷ xs) zero l = (x, refl)
-element_below_length_exists (x ∷ xs) (suc i) l = element_below_length_exists xs i (omega (arith, l))
 
 -- one more is counted
 pub shut_is_zero_if_all_open : (marks : List Bool) → ((v : ℕ) → v < length marks → IsOpen marks v) → shut marks ≡ 0
@@ -70,23 +67,23 @@ shut_is_positive_if_some_closed (true ∷ marks) (suc v) is = shut_is_positive_i
 shut_is_positive_if_some_closed (false ∷ marks) v is = omega arith
 
 -- of the first nodes, with one more
-pub shut_up_to_marked_node : (marks : List Bool) (v : ℕ) (d : Bool) → v < length marks → get_or marks v d ≡ true
+pub shut_count_kept_by_marked_node : (marks : List Bool) (v : ℕ) (d : Bool) → v < length marks → get_or marks v d ≡ true
     → shut (take (suc v) marks) ≡ shut (take v marks)
 unfolding shut
-shut_up_to_marked_node [] v d l is = absurd (omega (arith, l))
-shut_up_to_marked_node (true ∷ marks) zero d l is = refl
-shut_up_to_marked_node (false ∷ marks) zero d l is = absurd (true≢false (sym is))
-shut_up_to_marked_node (true ∷ marks) (suc v) d l is = shut_up_to_marked_node marks v d (omega (arith, l)) is
-shut_up_to_marked_node (false ∷ marks) (suc v) d l is = ap suc (shut_up_to_marked_node marks v d (omega (arith, l)) is)
+shut_count_kept_by_marked_node [] v d l is = absurd (omega (arith, l))
+shut_count_kept_by_marked_node (true ∷ marks) zero d l is = refl
+shut_count_kept_by_marked_node (false ∷ marks) zero d l is = absurd (true≢false (sym is))
+shut_count_kept_by_marked_node (true ∷ marks) (suc v) d l is = shut_count_kept_by_marked_node marks v d (omega (arith, l)) is
+shut_count_kept_by_marked_node (false ∷ marks) (suc v) d l is = ap suc (shut_count_kept_by_marked_node marks v d (omega (arith, l)) is)
 
-pub shut_up_to_unmarked_node : (marks : List Bool) (v : ℕ) (d : Bool) → v < length marks → get_or marks v d ≡ false
+pub shut_count_increased_by_unmarked_node : (marks : List Bool) (v : ℕ) (d : Bool) → v < length marks → get_or marks v d ≡ false
     → shut (take (suc v) marks) ≡ suc (shut (take v marks))
 unfolding shut
-shut_up_to_unmarked_node [] v d l is = absurd (omega (arith, l))
-shut_up_to_unmarked_node (true ∷ marks) zero d l is = absurd (true≢false is)
-shut_up_to_unmarked_node (false ∷ marks) zero d l is = refl
-shut_up_to_unmarked_node (true ∷ marks) (suc v) d l is = shut_up_to_unmarked_node marks v d (omega (arith, l)) is
-shut_up_to_unmarked_node (false ∷ marks) (suc v) d l is = ap suc (shut_up_to_unmarked_node marks v d (omega (arith, l)) is)
+shut_count_increased_by_unmarked_node [] v d l is = absurd (omega (arith, l))
+shut_count_increased_by_unmarked_node (true ∷ marks) zero d l is = absurd (true≢false is)
+shut_count_increased_by_unmarked_node (false ∷ marks) zero d l is = refl
+shut_count_increased_by_unmarked_node (true ∷ marks) (suc v) d l is = shut_count_increased_by_unmarked_node marks v d (omega (arith, l)) is
+shut_count_increased_by_unmarked_node (false ∷ marks) (suc v) d l is = ap suc (shut_count_increased_by_unmarked_node marks v d (omega (arith, l)) is)
 
 pub shut_of_empty : 0 ≡ shut []
 unfolding shut

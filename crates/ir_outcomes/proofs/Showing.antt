@@ -1,6 +1,8 @@
 -- A run by turns that shows an outcome.
-use Rattle.std.proofs.Common.{◌≡◌, ℕ, suc, ◌≤◌, List, sym, ap, ◌∙◌, subst, arith}
+use Rattle.std.proofs.Common.{◌≡◌, ℕ, suc, ◌-◌, ◌≤◌, List, length, map, sym, ap, ◌∙◌, subst, arith}
 use Rattle.std.proofs.lemmas.List.{append-nil}
+use Rattle.ir_explore.specs.declared.origin.Origin.{Origin}
+use Rattle.ir_explore.specs.declared.origin.Refusal.{Refusal}
 use Rattle.ir_record.specs.Refusing.{Turn, InTurns}
 use Rattle.ir_runs.specs.Run.{IsDone, end}
 use Rattle.ir_sources.specs.Sources.{given}
@@ -11,42 +13,44 @@ use Rattle.ir_thread.specs.State.{most_budget, thread_machine}
 use Rattle.ir_flat.specs.Flat.{machine, start_flat, tables}
 use Rattle.ir_store.specs.Nodes.{SourcedFlat}
 use Rattle.ir_graph.specs.Outcomes.{outcome_of}
+use Rattle.ir_graph.specs.Plain.{full_by}
 use Rattle.ir_graph.specs.Reached.{beginning}
 use Rattle.ir_graph.specs.Setup.{Setup}
-use Rattle.ir_graph.proofs.CallerLemmas.{done_answered_run_is_counted, in_turns_of_plain}
-use Rattle.ir_outcomes.specs.Again.{IsAgainWithin}
+use Rattle.ir_graph.proofs.CallerLemmas.{done_answered_run_is_counted, plain_in_turns_if_sourced_in_turns, threads_of_ways_taken}
+use Rattle.ir_outcomes.specs.Again.{IsAgainBy}
 use Rattle.ir_outcomes.specs.Shown.{switches_by, IsShown}
+use Rattle.ir_outcomes.proofs.Again.{switches_of_ways_back}
 
--- the threads after a run again, and how often the thread that enters is switched in it
-pub threads_again : (setup : Setup) (turns : List Turn) (most : ℕ) (u : SourcedFlat) (w : IsAgainWithin setup turns most u)
-    → tables u.flat ≡ end (thread_machine setup.guest.code) (tables (start_flat setup.guest most_budget setup.profile)) w.again.steps
-threads_again setup turns most u w =
-    ap plain w.again.ends ∙ plain_end (thread_machine setup.guest.code) given (beginning setup) w.again.steps
+module _ (setup : Setup) (turns : List Turn) (table : List Refusal) (path : List Origin) (u : SourcedFlat) (w : IsAgainBy setup turns table path u) where
+  -- the threads after a run again, and how often the thread that enters or tries is switched in it
+  pub threads_again : tables u.flat ≡ end (thread_machine setup.guest.code) (tables (start_flat setup.guest most_budget setup.profile)) w.again.steps
+  threads_again = ap plain w.again.ends ∙ plain_end (thread_machine setup.guest.code) given (beginning setup) w.again.steps
 
-pub switches_again : (setup : Setup) (turns : List Turn) (most : ℕ) (u : SourcedFlat) (w : IsAgainWithin setup turns most u)
-    → switches_by setup most_budget w.again.steps ≡ switches w.entries
-switches_again setup turns most u w =
-    ap switches (sym (sourced_entering (thread_machine setup.guest.code) given (beginning setup) w.again.steps) ∙ w.again.enters)
+  pub switches_again : switches_by setup most_budget w.again.steps ≤ length path - 1
+  switches_again =
+      let same : switches (map (λ z. z.0) w.ways) ≡ switches_by setup most_budget w.again.steps =
+      ap (λ z. switches (map (λ x. x.0) z)) (sym w.again.goes)
+      ∙ ap switches (threads_of_ways_taken (full_by setup.guest.code) (beginning setup) w.again.steps
+      ∙ sourced_entering (thread_machine setup.guest.code) given (beginning setup) w.again.steps) in
+      subst (λ n. n ≤ length path - 1) same (switches_of_ways_back table path w.ways w.back)
 
-pub shown_if_again_within : (setup : Setup) (turns : List Turn) (most level : ℕ) (s u : SourcedFlat) → IsAgainWithin setup turns most u
-    → most ≤ suc level → IsDone (machine u.flat) (tables u.flat) → outcome_of (tables u.flat) ≡ outcome_of (tables s.flat)
-    → IsShown setup s level turns
-shown_if_again_within setup turns most level s u w few done same =
-    let a = w.again in
-    let code = setup.guest.code in
-    let ends = threads_again setup turns most u w in
-    let first = tables (start_flat setup.guest most_budget setup.profile) in
-    let really : IsDone (thread_machine code) (end (thread_machine code) first a.steps) =
-    subst (IsDone (thread_machine code)) ends (subst (λ z. IsDone (thread_machine z) (tables u.flat)) a.like.code done) in record {
-      steps = a.steps;
-      counted = done_answered_run_is_counted setup a.steps a.answered really;
-      by_turns = record {
-        count = 0;
-        in_turns = subst (λ z. InTurns (thread_machine code) first z a.steps) (sym (append-nil turns))
-            (in_turns_of_plain (thread_machine code) given (beginning setup) turns a.steps a.in_turns);
-        done = really;
-      };
-      taken = a.taken;
-      same = ap outcome_of (sym ends) ∙ same;
-      few = let l = w.few in let e = switches_again setup turns most u w in omega (arith, l, e, few);
-    }
+  pub shown_if_again : (level : ℕ) (s : SourcedFlat) → length path ≤ suc level → IsDone (machine u.flat) (tables u.flat)
+      → outcome_of (tables u.flat) ≡ outcome_of (tables s.flat) → IsShown setup s level turns
+  shown_if_again level s few done same =
+      let a = w.again in
+      let code = setup.guest.code in
+      let first = tables (start_flat setup.guest most_budget setup.profile) in
+      let really : IsDone (thread_machine code) (end (thread_machine code) first a.steps) =
+      subst (IsDone (thread_machine code)) threads_again (subst (λ z. IsDone (thread_machine z) (tables u.flat)) a.like.code done) in record {
+        steps = a.steps;
+        counted = done_answered_run_is_counted setup a.steps a.answered really;
+        by_turns = record {
+          count = 0;
+          in_turns = subst (λ z. InTurns (thread_machine code) first z a.steps) (sym (append-nil turns))
+              (plain_in_turns_if_sourced_in_turns (thread_machine code) given (beginning setup) turns a.steps a.in_turns);
+          done = really;
+        };
+        taken = a.taken;
+        same = ap outcome_of (sym threads_again) ∙ same;
+        few = let l = switches_again in omega (arith, l, few);
+      }

@@ -5,26 +5,21 @@ use Rattle.ir_explore.specs.declared.stop.Stop.{Stop}
 use Rattle.ir_outcomes.specs.Exploring.{levels_left}
 
 -- what is so on success, where there is no error
-pub really_ok : {A E P : Type 0} (r : Result A E) → OnErr r ⊥ → OnOk r P → P
-really_ok (Ok x) never p = p
-really_ok (Err e) never p = absurd never
+pub ok_fact_if_no_error : {A E P : Type 0} (r : Result A E) → OnErr r ⊥ → OnOk r P → P
+ok_fact_if_no_error (Ok x) never p = p
+ok_fact_if_no_error (Err e) never p = absurd never
 
 -- what is so of this error
-pub really_err : {A E : Type 0} (P : E → Type 0) (r : Result A E) (e : E) → IsErrOf r e → IfErr r P → P e
-really_err P r e is p = subst (λ z. IfErr z P) is p
+pub error_fact_of_known_error : {A E : Type 0} (P : E → Type 0) (r : Result A E) (e : E) → IsErrOf r e → IfErr r P → P e
+error_fact_of_known_error P r e is p = subst (λ z. IfErr z P) is p
 
 -- what is so of a new value on success, and of the old one, where an error leaves that
-pub either_way : {A E L : Type 0} (P : L → Type 0) (r : Result A E) (new old : L) → OnOk r (P new) → OnErr r (new ≡ old) → P old → P new
-either_way P (Ok x) new old ok same p = ok
-either_way P (Err e) new old ok same p = subst P (sym same) p
-
--- what follows from what is so on success
-pub on_ok : {A E P Q : Type 0} (r : Result A E) → (P → Q) → OnOk r P → OnOk r Q
-on_ok (Ok x) f p = f p
-on_ok (Err e) f p = tt
+pub new_has_property_if_error_keeps_old : {A E L : Type 0} (P : L → Type 0) (r : Result A E) (new old : L) → OnOk r (P new) → OnErr r (new ≡ old) → P old → P new
+new_has_property_if_error_keeps_old P (Ok x) new old ok same p = ok
+new_has_property_if_error_keeps_old P (Err e) new old ok same p = subst P (sym same) p
 
 -- fewer levels are left once one is gone over
-pub left_less : (stop : Option Stop) (old new most : ℕ) → old ≤ most → (stop ≡ None → new ≡ suc old)
+pub fewer_levels_left_after_one_is_gone_over : (stop : Option Stop) (old new most : ℕ) → old ≤ most → (stop ≡ None → new ≡ suc old)
     → levels_left stop (suc most - new) < levels_left None (suc most - old)
-left_less None old new most few next = let a = next refl in omega (arith, a, few)
-left_less (Some why) old new most few next = omega arith
+fewer_levels_left_after_one_is_gone_over None old new most few next = let a = next refl in omega (arith, a, few)
+fewer_levels_left_after_one_is_gone_over (Some why) old new most few next = omega arith

@@ -16,13 +16,13 @@ use Rattle.ir_outcomes.specs.Again.{TakesEach}
 abbrev pub outcome_by : Setup → ℕ → List Step → Outcome
 outcome_by setup budget steps = outcome_of (end (thread_machine setup.guest.code) (tables (start_flat setup.guest budget setup.profile)) steps)
 
--- how often the thread that enters is switched in it
+-- how often the thread that enters or tries is switched in it
 abbrev pub switches_by : Setup → ℕ → List Step → ℕ
 switches_by setup budget steps =
     switches (entering (thread_machine setup.guest.code) (tables (start_flat setup.guest budget setup.profile)) steps)
 
 -- A run by these turns, each of which takes a step, is a complete one, each call of which is answered by its thread's source. It has the
--- outcome of the state, and switches the thread that enters at most so often.
+-- outcome of the state, and switches the thread that enters or tries at most so often.
 pub record IsShown (setup : Setup) (s : SourcedFlat) (level : ℕ) (turns : List Turn) : Type 0 where
   pub steps : List Step
   pub counted : IsCountedOf setup most_budget steps
@@ -33,7 +33,7 @@ pub record IsShown (setup : Setup) (s : SourcedFlat) (level : ℕ) (turns : List
   pub few : switches_by setup most_budget steps ≤ level
 
 -- A run by these turns, each of which takes a step, counts, and stands at what looks the same as the state: it can be brought to an end only
--- where the state can. It switches the thread that enters at most so often.
+-- where the state can. It switches the thread that enters or tries at most so often.
 pub record IsShownAt (setup : Setup) (s : SourcedFlat) (level : ℕ) (turns : List Turn) : Type 0 where
   pub steps : List Step
   pub counting : IsCounting setup most_budget steps
@@ -43,7 +43,7 @@ pub record IsShownAt (setup : Setup) (s : SourcedFlat) (level : ℕ) (turns : Li
   pub few : switches_by setup most_budget steps ≤ level
 
 -- A run by these turns, each of which takes a step, hangs: no run that counts, of whatever budget, continues it to a complete one. It
--- switches the thread that enters at most so often.
+-- switches the thread that enters or tries at most so often.
 pub record IsHangShown (setup : Setup) (level : ℕ) (turns : List Turn) : Type 0 where
   pub steps : List Step
   pub hangs : IsHangOf setup most_budget steps

@@ -28,7 +28,7 @@ pub struct Exploring<'a> {
     pub states: States<'a>,
     /// The different outcomes that were found.
     pub list: Listing,
-    /// The most switches of the thread that enters.
+    /// The most switches of the thread that enters or tries.
     pub most: usize,
     /// Why the search can't go on.
     pub stop: Option<Stop>,

@@ -7,6 +7,7 @@ mod hang;
 mod listing;
 mod path;
 mod rerun;
+mod rerun_error;
 mod shown;
 
 pub use explored::{Explored, explore};

@@ -1,97 +1,106 @@
 //! A guest that is run once more, turn by turn.
 
-ghost use Rattle.std.specs.Prelude.{◌≡◌, ◌⊎◌, ℕ, Bool, ◌<◌, ◌+◌, ◌++◌, List, [], length, replicate, IfOk, IfErr, OnOk};
+ghost use Rattle.std.specs.Prelude.{◌≡◌, ◌⊎◌, ℕ, Bool, true, false, ◌<◌, ◌+◌, ◌++◌, List, [], ◌∷◌, length, replicate, IfOk, IfErr, OnOk};
 ghost use Rattle.ir_explore.specs.declared.stop.Stop.TheVariants.{Memory, Order};
 ghost use Rattle.ir_explore.specs.Origins.{AreWaysOf};
 ghost use Rattle.ir_flat.specs.Flat.{thread_of};
-ghost use Rattle.ir_graph.specs.Plain.{Rests, result_by};
+ghost use Rattle.ir_graph.specs.Plain.{Rests};
 ghost use Rattle.ir_graph.specs.Setup.{Setup};
 ghost use Rattle.ir_graph.specs.Turn.{GoesAlone};
 ghost use Rattle.ir_record.specs.Recording.{turns_of_items};
 ghost use Rattle.ir_thread.specs.State.{IsAllowed, ask_of};
-ghost use Rattle.ir_outcomes.specs.Again.{IsAgain, IsAgainWithin};
+ghost use Rattle.ir_outcomes.specs.Again.{IsAgain, IsAgainBy, ways_by};
 
 use crate::path::refusals_to;
+use crate::rerun_error::RerunError;
 use ir_explore::{Origin, Refusal, Stop};
-use ir_graph::{States, run_to_rest};
+use ir_graph::{States, run_to_rest, way_result};
 use ir_record::Item;
 use ir_store::SourcedFlat;
 use std::alloc::Global;
 
-// So many steps of a thread from where it rests, in which its tries are refused or enter, each up to where it rests again.
+// So many steps of a thread from where it rests, each up to where it rests again: all are refused tries, or all enter.
 #[derive(Clone, Copy)]
-struct Leg {
+struct Stretch {
     thread: usize,
     refused: bool,
     steps: usize,
 }
 
 // The steps of a thread, and then so many more.
-fn add_steps(steps: u64, more: u64, thread: usize) -> Result<u64, Stop>
+fn add_steps(steps: u64, more: u64) -> Result<u64, RerunError>
     ensures { IfOk result (λ all. all ≡ steps + more) }
 {
     match steps.checked_add(more) {
         Some(all) => Ok(all),
-        None => Err(Stop::Log(thread)),
+        None => Err(RerunError::NoWay),
     }
 }
 
-// The result of a try that is refused, or that enters. In a step that is no try it is looked at by nothing.
-fn try_result(refused: bool) -> u32
-    ensures { result ≡ result_by refused }
-{
-    if refused { 0 } else { 1 }
-}
-
-// A thread that rests takes one step, an entry or a try that is refused or enters, and runs on alone to where it rests again; how many steps
-// that takes.
-fn enter(state: &mut SourcedFlat<'_>, thread: usize, refused: bool, limit: u64) -> Result<u64, Stop>
+// A thread that rests takes one step, a refused try or one that enters, and runs on alone to where it rests again; how many steps that takes.
+fn enter(
+    state: &mut SourcedFlat<'_>,
+    thread: usize,
+    refused: bool,
+    limit: u64,
+) -> Result<u64, RerunError>
     requires thread { thread < length state.old.flat.threads }
     requires source { thread < length state.old.sources }
     requires rests { Rests (ask_of state.old.flat.code (thread_of state.old.flat thread)) }
     ensures alone { IfOk result (λ steps. GoesAlone state.old state.new thread refused steps 1) }
     ensures rests { OnOk result (Rests (ask_of state.new.flat.code (thread_of state.new.flat thread))) }
 {
-    let tried = try_result(refused);
-    if let Err(_) = state.flat.step(thread, tried) {
-        return Err(Stop::Order(0));
+    let asked = state.flat.ask(thread);
+    let Some(answer) = way_result(refused, asked) else {
+        return Err(RerunError::NoWay);
+    };
+    if let Err(_) = state.flat.take(thread, asked, answer) {
+        return Err(RerunError::NoWay);
     }
-    let steps = run_to_rest(state, thread, limit)?;
-    let all = add_steps(1, steps, thread)?;
+    let Ok(steps) = run_to_rest(state, thread, limit) else {
+        return Err(RerunError::NoWay);
+    };
+    let all = add_steps(1, steps)?;
     Ok(all)
 }
 
-// A thread runs on alone to where it rests, and then takes the steps of a leg; how many steps that takes. Each call is answered by its source.
-fn take_leg(state: &mut SourcedFlat<'_>, leg: Leg, limit: u64) -> Result<u64, Stop>
-    requires thread { leg.thread < length state.old.flat.threads }
-    requires source { leg.thread < length state.old.sources }
-    ensures { IfOk result (λ steps. GoesAlone state.old state.new leg.thread leg.refused steps leg.steps) }
+// A thread runs on alone to where it rests, and then takes the steps of a stretch; how many steps that takes. Its source answers its calls.
+fn take_stretch(
+    state: &mut SourcedFlat<'_>,
+    stretch: Stretch,
+    limit: u64,
+) -> Result<u64, RerunError>
+    requires thread { stretch.thread < length state.old.flat.threads }
+    requires source { stretch.thread < length state.old.sources }
+    ensures { IfOk result (λ steps. GoesAlone state.old state.new stretch.thread stretch.refused steps stretch.steps) }
 {
-    let mut steps = run_to_rest(state, leg.thread, limit)?;
-    for _ in 0..leg.steps {
-        let more = enter(state, leg.thread, leg.refused, limit)?;
-        steps = add_steps(steps, more, leg.thread)?;
+    let Ok(mut steps) = run_to_rest(state, stretch.thread, limit) else {
+        return Err(RerunError::NoWay);
+    };
+    for _ in 0..stretch.steps {
+        let more = enter(state, stretch.thread, stretch.refused, limit)?;
+        steps = add_steps(steps, more)?;
     }
     Ok(steps)
 }
 
 // So does a thread of the guest, and its steps are noted.
-fn add_leg(
+fn add_stretch(
     state: &mut SourcedFlat<'_>,
     items: &mut Vec<Item>,
-    leg: Leg,
+    stretch: Stretch,
     limit: u64,
-) -> Result<(), Stop>
-    ensures { OnOk result ((setup : Setup) (before : List ℕ) → IsAgain setup (turns_of_items items.old.items) before state.old → IsAgain setup (turns_of_items items.new.items) (before ++ replicate leg.steps leg.thread) state.new) }
+) -> Result<(), RerunError>
+    ensures { OnOk result ((setup : Setup) (before : List (ℕ × Bool)) → IsAgain setup (turns_of_items items.old.items) before state.old → IsAgain setup (turns_of_items items.new.items) (before ++ replicate stretch.steps (stretch.thread, stretch.refused)) state.new) }
 {
-    if leg.thread >= state.flat.threads().len() || leg.thread >= state.sources.len() {
-        return Err(Stop::Order(0));
+    if stretch.thread >= state.flat.threads().len() || stretch.thread >= state.sources.len() {
+        return Err(RerunError::NoWay);
     }
-    let count = take_leg(state, leg, limit)?;
+    let count = take_stretch(state, stretch, limit)?;
     items.push(Item {
-        thread: leg.thread as u8,
+        thread: stretch.thread as u8,
         count,
-        refused: leg.refused,
+        refused: stretch.refused,
     })?;
     Ok(())
 }
@@ -103,21 +112,21 @@ fn add_refusal(
     thread: usize,
     refusal: Refusal,
     limit: u64,
-) -> Result<(), Stop>
-    ensures { OnOk result ((setup : Setup) (before : List ℕ) → IsAgain setup (turns_of_items items.old.items) before state.old → IsAgain setup (turns_of_items items.new.items) (before ++ replicate (refusal.entries + 1) thread) state.new) }
+) -> Result<(), RerunError>
+    ensures { OnOk result ((setup : Setup) (before : List (ℕ × Bool)) → IsAgain setup (turns_of_items items.old.items) before state.old → IsAgain setup (turns_of_items items.new.items) (before ++ ways_by thread (replicate refusal.entries false ++ true ∷ [])) state.new) }
 {
-    let entries = Leg {
+    let entries = Stretch {
         thread,
         refused: false,
         steps: refusal.entries as usize,
     };
-    add_leg(state, items, entries, limit)?;
-    let tries = Leg {
+    add_stretch(state, items, entries, limit)?;
+    let tries = Stretch {
         thread,
         refused: true,
         steps: 1,
     };
-    add_leg(state, items, tries, limit)?;
+    add_stretch(state, items, tries, limit)?;
     Ok(())
 }
 
@@ -129,21 +138,21 @@ fn add_turn(
     table: &[Refusal],
     origin: Origin,
     limit: u64,
-) -> Result<(), Stop>
-    ensures { OnOk result ((setup : Setup) (before : List ℕ) → IsAgain setup (turns_of_items items.old.items) before state.old → (ways : List Bool) × AreWaysOf table.now origin ways × IsAgain setup (turns_of_items items.new.items) (before ++ replicate (length ways) origin.thread) state.new) }
+) -> Result<(), RerunError>
+    ensures { OnOk result ((setup : Setup) (before : List (ℕ × Bool)) → IsAgain setup (turns_of_items items.old.items) before state.old → (ways : List Bool) × AreWaysOf table.now origin ways × IsAgain setup (turns_of_items items.new.items) (before ++ ways_by origin.thread ways) state.new) }
 {
     let thread = origin.thread as usize;
-    let refusals = refusals_to(alloc, table, origin.refusals as usize)?;
+    let refusals = refusals_to(alloc, table, origin.last_refusal as usize)?;
     for k in 0..refusals.len() {
         let refusal = refusals[refusals.len() - 1 - k];
         add_refusal(state, items, thread, refusal, limit)?;
     }
-    let entries = Leg {
+    let entries = Stretch {
         thread,
         refused: false,
         steps: origin.entries as usize,
     };
-    add_leg(state, items, entries, limit)?;
+    add_stretch(state, items, entries, limit)?;
     Ok(())
 }
 
@@ -155,8 +164,8 @@ fn add_path(
     table: &[Refusal],
     path: &[Origin],
     limit: u64,
-) -> Result<(), Stop>
-    ensures { OnOk result ((setup : Setup) → IsAgain setup (turns_of_items items.old.items) [] state.old → IsAgainWithin setup (turns_of_items items.new.items) (length path.now) state.new) }
+) -> Result<(), RerunError>
+    ensures { OnOk result ((setup : Setup) → IsAgain setup (turns_of_items items.old.items) [] state.old → IsAgainBy setup (turns_of_items items.new.items) table.now path.now state.new) }
 {
     for k in 0..path.len() {
         let origin = path[path.len() - 1 - k];
@@ -166,16 +175,20 @@ fn add_path(
 }
 
 // Each thread runs on alone to its next entry or try.
-fn add_rests(state: &mut SourcedFlat<'_>, items: &mut Vec<Item>, limit: u64) -> Result<(), Stop>
-    ensures { OnOk result ((setup : Setup) (most : ℕ) → IsAgainWithin setup (turns_of_items items.old.items) most state.old → IsAgainWithin setup (turns_of_items items.new.items) most state.new) }
+fn add_rests(
+    state: &mut SourcedFlat<'_>,
+    items: &mut Vec<Item>,
+    limit: u64,
+) -> Result<(), RerunError>
+    ensures { OnOk result ((setup : Setup) (ways : List (ℕ × Bool)) → IsAgain setup (turns_of_items items.old.items) ways state.old → IsAgain setup (turns_of_items items.new.items) ways state.new) }
 {
     for thread in 0..state.flat.threads().len() {
-        let none = Leg {
+        let none = Stretch {
             thread,
             refused: false,
             steps: 0,
         };
-        add_leg(state, items, none, limit)?;
+        add_stretch(state, items, none, limit)?;
     }
     Ok(())
 }
@@ -185,9 +198,9 @@ fn run_again<'a>(
     alloc: Global,
     states: &States<'a>,
     path: &[Origin],
-) -> Result<(SourcedFlat<'a>, Vec<Item>), Stop>
+) -> Result<(SourcedFlat<'a>, Vec<Item>), RerunError>
     requires { IsAllowed states.now.graph.setup.profile states.now.graph.setup.guest }
-    ensures { IfOk result (λ run. IsAgainWithin states.now.graph.setup (turns_of_items run.1.items) (length path.now) run.0) }
+    ensures { IfOk result (λ run. IsAgainBy states.now.graph.setup (turns_of_items run.1.items) states.now.search.found.refusals.items path.now run.0) }
 {
     let limit = states.graph.bounds.private;
     let mut state = states.graph.setup.start(alloc)?;
@@ -209,12 +222,12 @@ pub fn run_to_node<'a>(
     node: usize,
 ) -> Result<(SourcedFlat<'a>, Vec<Item>), Stop>
     requires { IsAllowed states.now.graph.setup.profile states.now.graph.setup.guest }
-    ensures again { IfOk result (λ run. IsAgainWithin states.now.graph.setup (turns_of_items run.1.items) (length path.now) run.0) }
+    ensures again { IfOk result (λ run. IsAgainBy states.now.graph.setup (turns_of_items run.1.items) states.now.search.found.refusals.items path.now run.0) }
     ensures refused { IfErr result (λ stop. (stop ≡ Memory) ⊎ (stop ≡ Order node)) }
 {
     match run_again(alloc, states, path) {
         Ok(run) => Ok(run),
-        Err(Stop::Memory) => Err(Stop::Memory),
-        Err(_) => Err(Stop::Order(node)),
+        Err(RerunError::NoMemory) => Err(Stop::Memory),
+        Err(RerunError::NoWay) => Err(Stop::Order(node)),
     }
 }

@@ -21,7 +21,7 @@ use std::alloc::Global;
 pub struct Shown {
     /// The node.
     pub node: usize,
-    /// How often the thread that enters is switched.
+    /// How often the thread that enters or tries is switched.
     pub level: usize,
     /// The steps of the threads, in turn; a try in them is refused, or it enters.
     pub turns: Vec<Item>,

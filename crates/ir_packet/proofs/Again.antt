@@ -8,21 +8,21 @@ use Rattle.ir_packet.specs.Packets.{checksum, unescaped, unescaped_from, joined,
 use Rattle.ir_packet.specs.Stream.{Item, Packet, TooLong, BadSum, Between, Inside, Summing, packet_item, items_from, items, most_bytes}
 
 -- what holds of the four bytes that are escaped holds of each byte that is
-escaped_byte_is_one_of_four : (P : ℕ → Type 0) (b : ℕ) (t u v w : Bool) → eqb b 35 ≡ t → eqb b 36 ≡ u → eqb b 125 ≡ v → eqb b 42 ≡ w
+escaped_byte_has_property_if_all_four_have : (P : ℕ → Type 0) (b : ℕ) (t u v w : Bool) → eqb b 35 ≡ t → eqb b 36 ≡ u → eqb b 125 ≡ v → eqb b 42 ≡ w
     → (t || u || v || w) ≡ true → P 35 → P 36 → P 125 → P 42 → P b
-escaped_byte_is_one_of_four P b true u v w e1 e2 e3 e4 any p1 p2 p3 p4 = subst P (sym (eqb-true b 35 e1)) p1
-escaped_byte_is_one_of_four P b false true v w e1 e2 e3 e4 any p1 p2 p3 p4 = subst P (sym (eqb-true b 36 e2)) p2
-escaped_byte_is_one_of_four P b false false true w e1 e2 e3 e4 any p1 p2 p3 p4 = subst P (sym (eqb-true b 125 e3)) p3
-escaped_byte_is_one_of_four P b false false false true e1 e2 e3 e4 any p1 p2 p3 p4 = subst P (sym (eqb-true b 42 e4)) p4
-escaped_byte_is_one_of_four P b false false false false e1 e2 e3 e4 any p1 p2 p3 p4 = absurd (false≢true any)
+escaped_byte_has_property_if_all_four_have P b true u v w e1 e2 e3 e4 any p1 p2 p3 p4 = subst P (sym (eqb-true b 35 e1)) p1
+escaped_byte_has_property_if_all_four_have P b false true v w e1 e2 e3 e4 any p1 p2 p3 p4 = subst P (sym (eqb-true b 36 e2)) p2
+escaped_byte_has_property_if_all_four_have P b false false true w e1 e2 e3 e4 any p1 p2 p3 p4 = subst P (sym (eqb-true b 125 e3)) p3
+escaped_byte_has_property_if_all_four_have P b false false false true e1 e2 e3 e4 any p1 p2 p3 p4 = subst P (sym (eqb-true b 42 e4)) p4
+escaped_byte_has_property_if_all_four_have P b false false false false e1 e2 e3 e4 any p1 p2 p3 p4 = absurd (false≢true any)
 
 -- a byte that needs no escape is none of the four
-unescaped_byte_is_no_mark : (b : ℕ) (t u v w : Bool) → eqb b 35 ≡ t → eqb b 36 ≡ u → eqb b 125 ≡ v → (t || u || v || w) ≡ false
+byte_without_need_of_escape_is_no_mark : (b : ℕ) (t u v w : Bool) → eqb b 35 ≡ t → eqb b 36 ≡ u → eqb b 125 ≡ v → (t || u || v || w) ≡ false
     → (eqb b 35 ≡ false) × (eqb b 36 ≡ false) × (eqb b 125 ≡ false)
-unescaped_byte_is_no_mark b true u v w e1 e2 e3 none = absurd (false≢true (sym none))
-unescaped_byte_is_no_mark b false true v w e1 e2 e3 none = absurd (false≢true (sym none))
-unescaped_byte_is_no_mark b false false true w e1 e2 e3 none = absurd (false≢true (sym none))
-unescaped_byte_is_no_mark b false false false w e1 e2 e3 none = (e1, e2, e3)
+byte_without_need_of_escape_is_no_mark b true u v w e1 e2 e3 none = absurd (false≢true (sym none))
+byte_without_need_of_escape_is_no_mark b false true v w e1 e2 e3 none = absurd (false≢true (sym none))
+byte_without_need_of_escape_is_no_mark b false false true w e1 e2 e3 none = absurd (false≢true (sym none))
+byte_without_need_of_escape_is_no_mark b false false false w e1 e2 e3 none = (e1, e2, e3)
 
 -- a byte that is neither `$` nor `#` stays in the packet
 plain_byte_stays_inside : (raw : List ℕ) (b : ℕ) (more : List ℕ) → eqb b 36 ≡ false → eqb b 35 ≡ false
@@ -42,11 +42,11 @@ escaped_byte_stays_inside : (raw : List ℕ) (b : ℕ) (more : List ℕ) (t : Bo
     → items_from (Inside raw) (cond t (125 ∷ bit_xor b 32 ∷ []) (b ∷ []) ++ more)
     ≡ items_from (Inside (raw ++ cond t (125 ∷ bit_xor b 32 ∷ []) (b ∷ []))) more
 escaped_byte_stays_inside raw b more true needs =
-    escaped_byte_is_one_of_four (λ (x : ℕ). items_from (Inside raw) (125 ∷ bit_xor x 32 ∷ more) ≡ items_from (Inside (raw ++ 125 ∷ bit_xor x 32 ∷ [])) more) b
+    escaped_byte_has_property_if_all_four_have (λ (x : ℕ). items_from (Inside raw) (125 ∷ bit_xor x 32 ∷ more) ≡ items_from (Inside (raw ++ 125 ∷ bit_xor x 32 ∷ [])) more) b
     (eqb b 35) (eqb b 36) (eqb b 125) (eqb b 42) refl refl refl refl needs (escape_pair_stays_inside raw 3 more refl refl) (escape_pair_stays_inside raw 4 more refl refl)
     (escape_pair_stays_inside raw 93 more refl refl) (escape_pair_stays_inside raw 10 more refl refl)
 escaped_byte_stays_inside raw b more false needs =
-    let n = unescaped_byte_is_no_mark b (eqb b 35) (eqb b 36) (eqb b 125) (eqb b 42) refl refl refl needs in
+    let n = byte_without_need_of_escape_is_no_mark b (eqb b 35) (eqb b 36) (eqb b 125) (eqb b 42) refl refl refl needs in
     plain_byte_stays_inside raw b more n.1 n.0
 
 escaped_payload_stays_inside : (raw payload rest : List ℕ) → items_from (Inside raw) (escaped payload ++ rest) ≡ items_from (Inside (raw ++ escaped payload)) rest
@@ -61,10 +61,10 @@ unescaped_of_escaped_byte : (b : ℕ) (more : List ℕ) (t : Bool) → needs_esc
     → unescaped_from false (cond t (125 ∷ bit_xor b 32 ∷ []) (b ∷ []) ++ more) ≡ b ∷ unescaped_from false more
 unfolding unescaped_from
 unescaped_of_escaped_byte b more true needs =
-    escaped_byte_is_one_of_four (λ (x : ℕ). unescaped_from false (125 ∷ bit_xor x 32 ∷ more) ≡ x ∷ unescaped_from false more) b (eqb b 35) (eqb b 36)
+    escaped_byte_has_property_if_all_four_have (λ (x : ℕ). unescaped_from false (125 ∷ bit_xor x 32 ∷ more) ≡ x ∷ unescaped_from false more) b (eqb b 35) (eqb b 36)
     (eqb b 125) (eqb b 42) refl refl refl refl needs refl refl refl refl
 unescaped_of_escaped_byte b more false needs =
-    let n = unescaped_byte_is_no_mark b (eqb b 35) (eqb b 36) (eqb b 125) (eqb b 42) refl refl refl needs in
+    let n = byte_without_need_of_escape_is_no_mark b (eqb b 35) (eqb b 36) (eqb b 125) (eqb b 42) refl refl refl needs in
     ap (λ (t : Bool). cond t (unescaped_from true more) (b ∷ unescaped_from false more)) n.2
 
 unescaped_of_escaped : (payload : List ℕ) → unescaped_from false (escaped payload) ≡ payload

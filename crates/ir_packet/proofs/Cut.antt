@@ -11,56 +11,56 @@ use Rattle.ir_packet.specs.Parts.{Part, Byte, Whole, CutOff, bytes_of, items_of,
 abbrev inside_by : Bool → Bool → List ℕ → ℕ → Place
 inside_by t u raw b = cond t (Inside []) (cond u (Summing raw) (Inside (raw ++ b ∷ [])))
 
-part_bytes_between_packets : (b : ℕ) (bytes : List ℕ) (t : Bool) → eqb b 36 ≡ t
+step_between_packets_keeps_bytes : (b : ℕ) (bytes : List ℕ) (t : Bool) → eqb b 36 ≡ t
     → flat_map bytes_of (cond t [] (Byte b ∷ [])) ++ (begun (cond t (Inside []) Between) ++ bytes) ≡ b ∷ bytes
-part_bytes_between_packets b bytes true is = ap (λ (x : ℕ). x ∷ bytes) (sym (eqb-true b 36 is))
-part_bytes_between_packets b bytes false is = refl
+step_between_packets_keeps_bytes b bytes true is = ap (λ (x : ℕ). x ∷ bytes) (sym (eqb-true b 36 is))
+step_between_packets_keeps_bytes b bytes false is = refl
 
-part_bytes_inside_packet : (raw : List ℕ) (b : ℕ) (bytes : List ℕ) (t u : Bool) → eqb b 36 ≡ t → eqb b 35 ≡ u
+step_inside_packet_keeps_bytes : (raw : List ℕ) (b : ℕ) (bytes : List ℕ) (t u : Bool) → eqb b 36 ≡ t → eqb b 35 ≡ u
     → flat_map bytes_of (cond t (CutOff (36 ∷ raw) ∷ []) []) ++ (begun (inside_by t u raw b) ++ bytes) ≡ 36 ∷ (raw ++ b ∷ bytes)
-part_bytes_inside_packet raw b bytes true u is none =
+step_inside_packet_keeps_bytes raw b bytes true u is none =
     ap (λ (r : List ℕ). 36 ∷ (r ++ 36 ∷ bytes)) (append-nil raw) ∙ ap (λ (x : ℕ). 36 ∷ (raw ++ x ∷ bytes)) (sym (eqb-true b 36 is))
-part_bytes_inside_packet raw b bytes false true none is =
+step_inside_packet_keeps_bytes raw b bytes false true none is =
     ap (λ (r : List ℕ). 36 ∷ r) (append_assoc raw (35 ∷ []) bytes) ∙ ap (λ (x : ℕ). 36 ∷ (raw ++ x ∷ bytes)) (sym (eqb-true b 35 is))
-part_bytes_inside_packet raw b bytes false false none isnt = ap (λ (r : List ℕ). 36 ∷ r) (append_assoc raw (b ∷ []) bytes)
+step_inside_packet_keeps_bytes raw b bytes false false none isnt = ap (λ (r : List ℕ). 36 ∷ r) (append_assoc raw (b ∷ []) bytes)
 
-part_bytes_after_digit : (raw : List ℕ) (a b : ℕ) (bytes : List ℕ)
+step_after_digit_keeps_bytes : (raw : List ℕ) (a b : ℕ) (bytes : List ℕ)
     → flat_map bytes_of (Whole raw a b ∷ []) ++ bytes ≡ (36 ∷ (raw ++ 35 ∷ a ∷ [])) ++ b ∷ bytes
-part_bytes_after_digit raw a b bytes =
+step_after_digit_keeps_bytes raw a b bytes =
     ap (λ (r : List ℕ). (36 ∷ r) ++ bytes) (append-nil (raw ++ 35 ∷ a ∷ b ∷ []))
     ∙ ap (λ (r : List ℕ). 36 ∷ r) (append_assoc raw (35 ∷ a ∷ b ∷ []) bytes ∙ sym (append_assoc raw (35 ∷ a ∷ []) (b ∷ bytes)))
 
-part_bytes_after_step : (p : Place) (b : ℕ) (bytes : List ℕ) → flat_map bytes_of (part_at p b) ++ (begun (step p b) ++ bytes) ≡ begun p ++ b ∷ bytes
-part_bytes_after_step Between b bytes = part_bytes_between_packets b bytes (eqb b 36) refl
-part_bytes_after_step (Inside raw) b bytes = part_bytes_inside_packet raw b bytes (eqb b 36) (eqb b 35) refl refl
-part_bytes_after_step (Summing raw) b bytes =
+step_keeps_bytes : (p : Place) (b : ℕ) (bytes : List ℕ) → flat_map bytes_of (part_at p b) ++ (begun (step p b) ++ bytes) ≡ begun p ++ b ∷ bytes
+step_keeps_bytes Between b bytes = step_between_packets_keeps_bytes b bytes (eqb b 36) refl
+step_keeps_bytes (Inside raw) b bytes = step_inside_packet_keeps_bytes raw b bytes (eqb b 36) (eqb b 35) refl refl
+step_keeps_bytes (Summing raw) b bytes =
     ap (λ (r : List ℕ). 36 ∷ r) (append_assoc raw (35 ∷ b ∷ []) bytes ∙ sym (append_assoc raw (35 ∷ []) (b ∷ bytes)))
-part_bytes_after_step (Digit raw a) b bytes = part_bytes_after_digit raw a b bytes
+step_keeps_bytes (Digit raw a) b bytes = step_after_digit_keeps_bytes raw a b bytes
 
-bytes_of_parts_from : (p : Place) (bytes : List ℕ) → flat_map bytes_of (parts_from p bytes) ≡ begun p ++ bytes
+bytes_of_parts_from_are_begun_and_bytes : (p : Place) (bytes : List ℕ) → flat_map bytes_of (parts_from p bytes) ≡ begun p ++ bytes
 unfolding parts_from
-bytes_of_parts_from Between [] = refl
-bytes_of_parts_from (Inside raw) [] = refl
-bytes_of_parts_from (Summing raw) [] = refl
-bytes_of_parts_from (Digit raw a) [] = refl
-bytes_of_parts_from p (b ∷ bytes) =
+bytes_of_parts_from_are_begun_and_bytes Between [] = refl
+bytes_of_parts_from_are_begun_and_bytes (Inside raw) [] = refl
+bytes_of_parts_from_are_begun_and_bytes (Summing raw) [] = refl
+bytes_of_parts_from_are_begun_and_bytes (Digit raw a) [] = refl
+bytes_of_parts_from_are_begun_and_bytes p (b ∷ bytes) =
     flat_map-append bytes_of (part_at p b) (parts_from (step p b) bytes)
-    ∙ ap (λ (r : List ℕ). flat_map bytes_of (part_at p b) ++ r) (bytes_of_parts_from (step p b) bytes) ∙ part_bytes_after_step p b bytes
+    ∙ ap (λ (r : List ℕ). flat_map bytes_of (part_at p b) ++ r) (bytes_of_parts_from_are_begun_and_bytes (step p b) bytes) ∙ step_keeps_bytes p b bytes
 
 pub bytes_of_parts : (bytes : List ℕ) → flat_map bytes_of (parts bytes) ≡ bytes
-bytes_of_parts bytes = bytes_of_parts_from Between bytes
+bytes_of_parts bytes = bytes_of_parts_from_are_begun_and_bytes Between bytes
 
-part_items_between_packets : (b : ℕ) (t : Bool) → eqb b 36 ≡ t → flat_map items_of (cond t [] (Byte b ∷ [])) ≡ byte_items b
-part_items_between_packets b true is = ap byte_items (sym (eqb-true b 36 is))
-part_items_between_packets b false is = append-nil (byte_items b)
+items_of_part_between_packets_are_byte_items : (b : ℕ) (t : Bool) → eqb b 36 ≡ t → flat_map items_of (cond t [] (Byte b ∷ [])) ≡ byte_items b
+items_of_part_between_packets_are_byte_items b true is = ap byte_items (sym (eqb-true b 36 is))
+items_of_part_between_packets_are_byte_items b false is = append-nil (byte_items b)
 
-part_items_inside_packet : (raw : List ℕ) (t : Bool) → flat_map items_of (cond t (CutOff (36 ∷ raw) ∷ []) []) ≡ []
-part_items_inside_packet raw true = refl
-part_items_inside_packet raw false = refl
+items_of_part_inside_packet_are_none : (raw : List ℕ) (t : Bool) → flat_map items_of (cond t (CutOff (36 ∷ raw) ∷ []) []) ≡ []
+items_of_part_inside_packet_are_none raw true = refl
+items_of_part_inside_packet_are_none raw false = refl
 
 items_of_part_are_ends : (p : Place) (b : ℕ) → flat_map items_of (part_at p b) ≡ ends p b
-items_of_part_are_ends Between b = part_items_between_packets b (eqb b 36) refl
-items_of_part_are_ends (Inside raw) b = part_items_inside_packet raw (eqb b 36)
+items_of_part_are_ends Between b = items_of_part_between_packets_are_byte_items b (eqb b 36) refl
+items_of_part_are_ends (Inside raw) b = items_of_part_inside_packet_are_none raw (eqb b 36)
 items_of_part_are_ends (Summing raw) b = refl
 items_of_part_are_ends (Digit raw a) b = refl
 
@@ -112,32 +112,32 @@ is_between (Digit raw a) = false
 not_between_if_test_false : (p : Place) → is_between p ≡ false → p ≡ Between → ⊥
 not_between_if_test_false p isnt is = false≢true (sym isnt ∙ ap is_between is)
 
-abbrev AllParts : List Part → Type 0
-AllParts parts = AllByRecursion IsPart parts
+abbrev AreAllParts : List Part → Type 0
+AreAllParts parts = AllByRecursion IsPart parts
 
-parts_form_between_packets : (b : ℕ) (t : Bool) (rest : List Part) → eqb b 36 ≡ t → AllParts rest → AllParts (cond t [] (Byte b ∷ []) ++ rest)
-parts_form_between_packets b true rest is all = all
-parts_form_between_packets b false rest isnt all = (eqb-false b 36 isnt, all)
+part_between_packets_and_rest_are_parts : (b : ℕ) (t : Bool) (rest : List Part) → eqb b 36 ≡ t → AreAllParts rest → AreAllParts (cond t [] (Byte b ∷ []) ++ rest)
+part_between_packets_and_rest_are_parts b true rest is all = all
+part_between_packets_and_rest_are_parts b false rest isnt all = (eqb-false b 36 isnt, all)
 
-parts_form_inside_packet : (raw : List ℕ) (t : Bool) (rest : List Part) → IsPlain raw → AllParts rest
-    → AllParts (cond t (CutOff (36 ∷ raw) ∷ []) [] ++ rest)
-parts_form_inside_packet raw true rest plain all = ((Inside raw, refl, plain, not_between_if_test_false (Inside raw) refl), all)
-parts_form_inside_packet raw false rest plain all = all
+part_inside_packet_and_rest_are_parts : (raw : List ℕ) (t : Bool) (rest : List Part) → IsPlain raw → AreAllParts rest
+    → AreAllParts (cond t (CutOff (36 ∷ raw) ∷ []) [] ++ rest)
+part_inside_packet_and_rest_are_parts raw true rest plain all = ((Inside raw, refl, plain, not_between_if_test_false (Inside raw) refl), all)
+part_inside_packet_and_rest_are_parts raw false rest plain all = all
 
-parts_form_after_part : (p : Place) (b : ℕ) (rest : List Part) → IsPlainPlace p → AllParts rest → AllParts (part_at p b ++ rest)
-parts_form_after_part Between b rest plain all = parts_form_between_packets b (eqb b 36) rest refl all
-parts_form_after_part (Inside raw) b rest plain all = parts_form_inside_packet raw (eqb b 36) rest plain all
-parts_form_after_part (Summing raw) b rest plain all = all
-parts_form_after_part (Digit raw a) b rest plain all = (plain, all)
+part_at_place_and_rest_are_parts : (p : Place) (b : ℕ) (rest : List Part) → IsPlainPlace p → AreAllParts rest → AreAllParts (part_at p b ++ rest)
+part_at_place_and_rest_are_parts Between b rest plain all = part_between_packets_and_rest_are_parts b (eqb b 36) rest refl all
+part_at_place_and_rest_are_parts (Inside raw) b rest plain all = part_inside_packet_and_rest_are_parts raw (eqb b 36) rest plain all
+part_at_place_and_rest_are_parts (Summing raw) b rest plain all = all
+part_at_place_and_rest_are_parts (Digit raw a) b rest plain all = (plain, all)
 
-parts_from_have_form : (p : Place) (bytes : List ℕ) → IsPlainPlace p → AllParts (parts_from p bytes)
+parts_from_are_parts : (p : Place) (bytes : List ℕ) → IsPlainPlace p → AreAllParts (parts_from p bytes)
 unfolding parts_from
-parts_from_have_form Between [] plain = tt
-parts_from_have_form (Inside raw) [] plain = ((Inside raw, refl, plain, not_between_if_test_false (Inside raw) refl), tt)
-parts_from_have_form (Summing raw) [] plain = ((Summing raw, refl, plain, not_between_if_test_false (Summing raw) refl), tt)
-parts_from_have_form (Digit raw a) [] plain = ((Digit raw a, refl, plain, not_between_if_test_false (Digit raw a) refl), tt)
-parts_from_have_form p (b ∷ bytes) plain =
-    parts_form_after_part p b (parts_from (step p b) bytes) plain (parts_from_have_form (step p b) bytes (step_keeps_plain_place p b plain))
+parts_from_are_parts Between [] plain = tt
+parts_from_are_parts (Inside raw) [] plain = ((Inside raw, refl, plain, not_between_if_test_false (Inside raw) refl), tt)
+parts_from_are_parts (Summing raw) [] plain = ((Summing raw, refl, plain, not_between_if_test_false (Summing raw) refl), tt)
+parts_from_are_parts (Digit raw a) [] plain = ((Digit raw a, refl, plain, not_between_if_test_false (Digit raw a) refl), tt)
+parts_from_are_parts p (b ∷ bytes) plain =
+    part_at_place_and_rest_are_parts p b (parts_from (step p b) bytes) plain (parts_from_are_parts (step p b) bytes (step_keeps_plain_place p b plain))
 
-pub parts_have_form : (bytes : List ℕ) → AllByRecursion IsPart (parts bytes)
-parts_have_form bytes = parts_from_have_form Between bytes tt
+pub parts_of_stream_are_parts : (bytes : List ℕ) → AllByRecursion IsPart (parts bytes)
+parts_of_stream_are_parts bytes = parts_from_are_parts Between bytes tt

@@ -13,7 +13,7 @@ use Rattle.ir_thread.specs.State.{thread_machine}
 use Rattle.ir_thread.specs.State as thread
 use Rattle.ir_thread.proofs.CallerLemmas.{thread_machine_is_lawful}
 use Rattle.ir_past.specs.Leaving.{LeavesFirst}
-use Rattle.ir_past.proofs.Returning.{Enters, target_object_after_step, IsEntering, act_emitting_entry_is_entering, exiting_thread_is_inside, entering_thread_is_not_inside, own_step_keeps_object_or_exits, other_step_on_version_and_inside, no_other_writes_while_inside}
+use Rattle.ir_past.proofs.Returning.{Enters, target_object_after_step, IsEntering, act_emitting_entry_is_entering, exiting_thread_is_inside, entering_thread_is_not_inside, own_step_keeps_object_or_exits, other_step_adds_leaves_one_to_version_and_keeps_inside, no_other_writer_leaves_while_inside}
 
 -- ---- the steps of a thread
 
@@ -22,13 +22,13 @@ trail_of_own_step : {T : Type 0} (m : Machine T) (s : State T) (e : Step) (run :
 trail_of_own_step m s e run t own = subst (λ z. trail m s (e ∷ run) z ≡ (s.now z, label m s e) ∷ trail m (after m s e) run z) own (trail_of_cons_own_thread m s e run)
 
 -- what the thread's later steps emit
-emits_from_rest_after_own_step : {T : Type 0} (m : Machine T) (s : State T) (e : Step) (run : List Step) (t k : ℕ) (b : Label) → e.0 ≡ t
+run_emits_if_rest_emits_after_own_step : {T : Type 0} (m : Machine T) (s : State T) (e : Step) (run : List Step) (t k : ℕ) (b : Label) → e.0 ≡ t
     → Emits m (after m s e) run t k b → Emits m s (e ∷ run) t (suc k) b
-emits_from_rest_after_own_step {T} m s e run t k b own x = (x.0, subst (λ (ks : List (T × Label)). At ks (suc k) (x.0, b)) (sym (trail_of_own_step m s e run t own)) x.1)
+run_emits_if_rest_emits_after_own_step {T} m s e run t k b own x = (x.0, subst (λ (ks : List (T × Label)). At ks (suc k) (x.0, b)) (sym (trail_of_own_step m s e run t own)) x.1)
 
-rest_emits_after_own_step : {T : Type 0} (m : Machine T) (s : State T) (e : Step) (run : List Step) (t k : ℕ) (b : Label) → e.0 ≡ t
+rest_emits_if_run_emits_after_own_step : {T : Type 0} (m : Machine T) (s : State T) (e : Step) (run : List Step) (t k : ℕ) (b : Label) → e.0 ≡ t
     → Emits m s (e ∷ run) t (suc k) b → Emits m (after m s e) run t k b
-rest_emits_after_own_step {T} m s e run t k b own x = (x.0, subst (λ (ks : List (T × Label)). At ks (suc k) (x.0, b)) (trail_of_own_step m s e run t own) x.1)
+rest_emits_if_run_emits_after_own_step {T} m s e run t k b own x = (x.0, subst (λ (ks : List (T × Label)). At ks (suc k) (x.0, b)) (trail_of_own_step m s e run t own) x.1)
 
 -- and what its first one does
 emits_own_first_label : {T : Type 0} (m : Machine T) (s : State T) (e : Step) (run : List Step) (t : ℕ) (b : Label) → e.0 ≡ t
@@ -45,13 +45,13 @@ first_emitted_label_is_own {T} m s e run t b own x =
     let same : (s.now t, label m s e) ≡ (x.0, b) = subst (λ (ks : List (T × Label)). At ks 0 (x.0, b)) (trail_of_own_step m s e run t own) x.1 in
     ap (λ (p : T × Label). p.1) same
 
-emits_from_rest_after_other_step : {T : Type 0} (m : Machine T) (s : State T) (e : Step) (run : List Step) (t k : ℕ) (b : Label) → t ≢ e.0
+run_emits_if_rest_emits_after_other_step : {T : Type 0} (m : Machine T) (s : State T) (e : Step) (run : List Step) (t k : ℕ) (b : Label) → t ≢ e.0
     → Emits m (after m s e) run t k b → Emits m s (e ∷ run) t k b
-emits_from_rest_after_other_step {T} m s e run t k b ne x = (x.0, subst (λ (ks : List (T × Label)). At ks k (x.0, b)) (sym (trail_of_cons_other_thread m s e run t ne)) x.1)
+run_emits_if_rest_emits_after_other_step {T} m s e run t k b ne x = (x.0, subst (λ (ks : List (T × Label)). At ks k (x.0, b)) (sym (trail_of_cons_other_thread m s e run t ne)) x.1)
 
-rest_emits_after_other_step : {T : Type 0} (m : Machine T) (s : State T) (e : Step) (run : List Step) (t k : ℕ) (b : Label) → t ≢ e.0
+rest_emits_if_run_emits_after_other_step : {T : Type 0} (m : Machine T) (s : State T) (e : Step) (run : List Step) (t k : ℕ) (b : Label) → t ≢ e.0
     → Emits m s (e ∷ run) t k b → Emits m (after m s e) run t k b
-rest_emits_after_other_step {T} m s e run t k b ne x = (x.0, subst (λ (ks : List (T × Label)). At ks k (x.0, b)) (trail_of_cons_other_thread m s e run t ne) x.1)
+rest_emits_if_run_emits_after_other_step {T} m s e run t k b ne x = (x.0, subst (λ (ks : List (T × Label)). At ks k (x.0, b)) (trail_of_cons_other_thread m s e run t ne) x.1)
 
 -- ---- acts
 
@@ -95,30 +95,30 @@ pub record Exits {T : Type 0} (m : Machine T) (s : State T) (run : List Step) (t
   pub leaves : Emits m s run t leave (Out o a v)
   pub first : (k : ℕ) → Emits m s run t k (Out o a v) → leave ≤ k
 
-exits_from_rest_after_own_step : {T : Type 0} (m : Machine T) (s : State T) (e : Step) (run : List Step) (t o : ℕ) (a : Access) (v : ℕ) → e.0 ≡ t
+run_exits_if_rest_exits_after_own_step : {T : Type 0} (m : Machine T) (s : State T) (e : Step) (run : List Step) (t o : ℕ) (a : Access) (v : ℕ) → e.0 ≡ t
     → (label m s e ≡ Out o a v → ⊥) → Exits m (after m s e) run t o a v → Exits m s (e ∷ run) t o a v
-exits_from_rest_after_own_step m s e run t o a v own stays x = record {
+run_exits_if_rest_exits_after_own_step m s e run t o a v own stays x = record {
   leave = suc x.leave;
-  leaves = emits_from_rest_after_own_step m s e run t x.leave (Out o a v) own x.leaves;
+  leaves = run_emits_if_rest_emits_after_own_step m s e run t x.leave (Out o a v) own x.leaves;
   first = no_earlier;
 }
   where
     no_earlier : (k : ℕ) → Emits m s (e ∷ run) t k (Out o a v) → suc x.leave ≤ k
     no_earlier zero y = absurd (stays (first_emitted_label_is_own m s e run t (Out o a v) own y))
-    no_earlier (suc k) y = let low = x.first k (rest_emits_after_own_step m s e run t k (Out o a v) own y) in omega (arith, low)
+    no_earlier (suc k) y = let low = x.first k (rest_emits_if_run_emits_after_own_step m s e run t k (Out o a v) own y) in omega (arith, low)
 
-exits_from_rest_after_other_step : {T : Type 0} (m : Machine T) (s : State T) (e : Step) (run : List Step) (t o : ℕ) (a : Access) (v : ℕ) → (e.0 ≡ t → ⊥)
+run_exits_if_rest_exits_after_other_step : {T : Type 0} (m : Machine T) (s : State T) (e : Step) (run : List Step) (t o : ℕ) (a : Access) (v : ℕ) → (e.0 ≡ t → ⊥)
     → Exits m (after m s e) run t o a v → Exits m s (e ∷ run) t o a v
-exits_from_rest_after_other_step m s e run t o a v other x = record {
+run_exits_if_rest_exits_after_other_step m s e run t o a v other x = record {
   leave = x.leave;
-  leaves = emits_from_rest_after_other_step m s e run t x.leave (Out o a v) (λ same. other (sym same)) x.leaves;
-  first = λ k y. x.first k (rest_emits_after_other_step m s e run t k (Out o a v) (λ same. other (sym same)) y);
+  leaves = run_emits_if_rest_emits_after_other_step m s e run t x.leave (Out o a v) (λ same. other (sym same)) x.leaves;
+  first = λ k y. x.first k (rest_emits_if_run_emits_after_other_step m s e run t k (Out o a v) (λ same. other (sym same)) y);
 }
 
 -- behind a leave the thread isn't inside
-outside_after_exit : {T : Type 0} (m : Machine T) (s : State T) (e : Step) (t o : ℕ) (a : Access) → e.0 ≡ t → act m s e ≡ Exit o a
+thread_is_outside_after_exit : {T : Type 0} (m : Machine T) (s : State T) (e : Step) (t o : ℕ) (a : Access) → e.0 ≡ t → act m s e ≡ Exit o a
     → ((after m s e).objects o).inside t ≡ None
-outside_after_exit m s e t o a own does = ap (λ z. z.inside t) object ∙ gone a
+thread_is_outside_after_exit m s e t o a own does = ap (λ z. z.inside t) object ∙ gone a
   where
     object : (after m s e).objects o ≡ acted (Exit o a) e.0 (s.objects o)
     object = subst (λ q. (after m s e).objects (target q) ≡ acted q e.0 (s.objects (target q))) does (target_object_after_step m s e)
@@ -135,18 +135,18 @@ thread_inside_does_not_enter m law s good e t o a own inside enters =
     none-some a (sym (subst (λ z. (s.objects o).inside z ≡ None) own (entering_thread_is_not_inside m law s good e o h.access h.answer h.does)) ∙ inside)
 
 -- at the end no thread is inside
-none_inside_when_done : {T : Type 0} (m : Machine T) → IsLawful m → (s : State T) → StateInvariant m s → IsDone m s → (t o : ℕ) → (s.objects o).inside t ≡ None
-none_inside_when_done m law s good done t o =
+no_thread_is_inside_when_done : {T : Type 0} (m : Machine T) → IsLawful m → (s : State T) → StateInvariant m s → IsDone m s → (t o : ℕ) → (s.objects o).inside t ≡ None
+no_thread_is_inside_when_done m law s good done t o =
     let holds : Holds Done (m.held (s.now t)) = subst (λ q. Holds q (m.held (s.now t))) (done t) (law.holds (s.now t)) in
     good.linked t o ∙ holds o
 
 thread_inside_exits : {T : Type 0} (m : Machine T) → IsLawful m → (s : State T) → StateInvariant m s → (run : List Step) → IsRun m s run → IsDone m (end m s run)
     → (t o : ℕ) (a : Access) (v : ℕ) → (s.objects o).inside t ≡ Some a → (s.objects o).version ≡ v → Exits m s run t o a v
-thread_inside_exits m law s good [] ok done t o a v inside version = absurd (none-some a (sym (none_inside_when_done m law s good done t o) ∙ inside))
+thread_inside_exits m law s good [] ok done t o a v inside version = absurd (none-some a (sym (no_thread_is_inside_when_done m law s good done t o) ∙ inside))
 thread_inside_exits m law s good (e ∷ run) ok done t o a v inside version = elim (cases_eq e.0 t) [
   | inl own ↦ elim (own_step_keeps_object_or_exits m s e t o own (thread_inside_does_not_enter m law s good e t o a own inside)) [
-    | inl same ↦ exits_from_rest_after_own_step m s e run t o a v own
-        (λ out. none-some a (sym (outside_after_exit m s e t o a own (act_emitting_leave_is_exit (act m s e) (s.objects (target (act m s e))) o a v out)) ∙ (same.1 ∙ inside)))
+    | inl same ↦ run_exits_if_rest_exits_after_own_step m s e run t o a v own
+        (λ out. none-some a (sym (thread_is_outside_after_exit m s e t o a own (act_emitting_leave_is_exit (act m s e) (s.objects (target (act m s e))) o a v out)) ∙ (same.1 ∙ inside)))
         (thread_inside_exits m law (after m s e) (state_invariant_after_step m law s good e ok.0) run ok.1 done t o a v (same.1 ∙ inside) (same.0 ∙ version))
     | inr exit ↦
         let held = subst (λ z. (s.objects o).inside z ≡ Some exit.0) own (exiting_thread_is_inside m law s good e o exit.0 exit.1) in
@@ -159,9 +159,9 @@ thread_inside_exits m law s good (e ∷ run) ok done t o a v inside version = el
         }
   ]
   | inr other ↦
-      let step = other_step_on_version_and_inside m s e t o other in
-      let none = no_other_writes_while_inside m law s good e t o a other inside in
-      exits_from_rest_after_other_step m s e run t o a v other
+      let step = other_step_adds_leaves_one_to_version_and_keeps_inside m s e t o other in
+      let none = no_other_writer_leaves_while_inside m law s good e t o a other inside in
+      run_exits_if_rest_exits_after_other_step m s e run t o a v other
       (thread_inside_exits m law (after m s e) (state_invariant_after_step m law s good e ok.0) run ok.1 done t o a v (step.1 ∙ inside)
       (let same = step.0 in omega (arith, same, none, version)))
 ]
@@ -173,9 +173,9 @@ record IsInsideAt {T : Type 0} (m : Machine T) (s : State T) (e : Step) (t o : �
   inside : ((after m s e).objects o).inside t ≡ Some a
   version : ((after m s e).objects o).version ≡ v
 
-inside_after_entry : {T : Type 0} (m : Machine T) (s : State T) (e : Step) (t o : ℕ) (a : Access) (v l : ℕ) → e.0 ≡ t → label m s e ≡ In o a v l
+thread_is_inside_after_entry : {T : Type 0} (m : Machine T) (s : State T) (e : Step) (t o : ℕ) (a : Access) (v l : ℕ) → e.0 ≡ t → label m s e ≡ In o a v l
     → IsInsideAt m s e t o a v
-inside_after_entry m s e t o a v l own enters = record {
+thread_is_inside_after_entry m s e t o a v l own enters = record {
   inside = ap (λ z. z.inside t) object
       ∙ subst (λ z. upd (s.objects o).inside e.0 (Some a) z ≡ Some a) own (upd_at_own_place (s.objects o).inside e.0 (Some a));
   version = ap (λ z. z.version) object ∙ ap (λ z. (s.objects (target z)).version) (sym entry.does) ∙ entry.version;
@@ -192,34 +192,34 @@ leaves_first_if_exits : {T : Type 0} (m : Machine T) (s : State T) (e : Step) (r
 leaves_first_if_exits m s e run t o a v own x = record {
   leave = suc x.leave;
   past = omega arith;
-  leaves = emits_from_rest_after_own_step m s e run t x.leave (Out o a v) own x.leaves;
+  leaves = run_emits_if_rest_emits_after_own_step m s e run t x.leave (Out o a v) own x.leaves;
   first = no_earlier;
 }
   where
     no_earlier : (k : ℕ) → 0 < k → Emits m s (e ∷ run) t k (Out o a v) → suc x.leave ≤ k
     no_earlier zero past y = absurd (omega (arith, past))
-    no_earlier (suc k) past y = let low = x.first k (rest_emits_after_own_step m s e run t k (Out o a v) own y) in omega (arith, low)
+    no_earlier (suc k) past y = let low = x.first k (rest_emits_if_run_emits_after_own_step m s e run t k (Out o a v) own y) in omega (arith, low)
 
 leaves_first_after_own_step : {T : Type 0} (m : Machine T) (s : State T) (e : Step) (run : List Step) (t j o : ℕ) (a : Access) (v : ℕ) → e.0 ≡ t
     → LeavesFirst m (after m s e) run t j o a v → LeavesFirst m s (e ∷ run) t (suc j) o a v
 leaves_first_after_own_step m s e run t j o a v own x = record {
   leave = suc x.leave;
   past = (let less = x.past in omega (arith, less));
-  leaves = emits_from_rest_after_own_step m s e run t x.leave (Out o a v) own x.leaves;
+  leaves = run_emits_if_rest_emits_after_own_step m s e run t x.leave (Out o a v) own x.leaves;
   first = no_earlier;
 }
   where
     no_earlier : (k : ℕ) → suc j < k → Emits m s (e ∷ run) t k (Out o a v) → suc x.leave ≤ k
     no_earlier zero past y = absurd (omega (arith, past))
-    no_earlier (suc k) past y = let low = x.first k (omega (arith, past)) (rest_emits_after_own_step m s e run t k (Out o a v) own y) in omega (arith, low)
+    no_earlier (suc k) past y = let low = x.first k (omega (arith, past)) (rest_emits_if_run_emits_after_own_step m s e run t k (Out o a v) own y) in omega (arith, low)
 
 leaves_first_after_other_step : {T : Type 0} (m : Machine T) (s : State T) (e : Step) (run : List Step) (t j o : ℕ) (a : Access) (v : ℕ) → (e.0 ≡ t → ⊥)
     → LeavesFirst m (after m s e) run t j o a v → LeavesFirst m s (e ∷ run) t j o a v
 leaves_first_after_other_step m s e run t j o a v other x = record {
   leave = x.leave;
   past = x.past;
-  leaves = emits_from_rest_after_other_step m s e run t x.leave (Out o a v) (λ same. other (sym same)) x.leaves;
-  first = λ k past y. x.first k past (rest_emits_after_other_step m s e run t k (Out o a v) (λ same. other (sym same)) y);
+  leaves = run_emits_if_rest_emits_after_other_step m s e run t x.leave (Out o a v) (λ same. other (sym same)) x.leaves;
+  first = λ k past y. x.first k past (rest_emits_if_run_emits_after_other_step m s e run t k (Out o a v) (λ same. other (sym same)) y);
 }
 
 pub entry_is_left : {T : Type 0} (m : Machine T) → IsLawful m → (s : State T) → StateInvariant m s → (run : List Step) → IsRun m s run → IsDone m (end m s run)
@@ -229,21 +229,21 @@ entry_is_left m law s good (e ∷ run) ok done t j o a v l enters = elim (cases_
   | inl own ↦ by own (λ k y. entry_is_left m law (after m s e) (state_invariant_after_step m law s good e ok.0) run ok.1 done t k o a v l y) j enters
   | inr other ↦ leaves_first_after_other_step m s e run t j o a v other
       (entry_is_left m law (after m s e) (state_invariant_after_step m law s good e ok.0) run ok.1 done t j o a v l
-      (rest_emits_after_other_step m s e run t j (In o a v l) (λ same. other (sym same)) enters))
+      (rest_emits_if_run_emits_after_other_step m s e run t j (In o a v l) (λ same. other (sym same)) enters))
 ]
   where
     by : e.0 ≡ t → ((k : ℕ) → Emits m (after m s e) run t k (In o a v l) → LeavesFirst m (after m s e) run t k o a v) → (j : ℕ)
         → Emits m s (e ∷ run) t j (In o a v l) → LeavesFirst m s (e ∷ run) t j o a v
     by own again zero y =
-        let there = inside_after_entry m s e t o a v l own (first_emitted_label_is_own m s e run t (In o a v l) own y) in
+        let there = thread_is_inside_after_entry m s e t o a v l own (first_emitted_label_is_own m s e run t (In o a v l) own y) in
         leaves_first_if_exits m s e run t o a v own
         (thread_inside_exits m law (after m s e) (state_invariant_after_step m law s good e ok.0) run ok.1 done t o a v there.inside there.version)
-    by own again (suc j) y = leaves_first_after_own_step m s e run t j o a v own (again j (rest_emits_after_own_step m s e run t j (In o a v l) own y))
+    by own again (suc j) y = leaves_first_after_own_step m s e run t j o a v own (again j (rest_emits_if_run_emits_after_own_step m s e run t j (In o a v l) own y))
 
 -- ---- the law
 
-pub entries_left : (code : List ℕ) (s : State thread.ThreadState) → IsStart (thread_machine code) s → (run : List Step)
+pub entry_is_left_in_complete_run : (code : List ℕ) (s : State thread.ThreadState) → IsStart (thread_machine code) s → (run : List Step)
     → IsComplete (thread_machine code) s run → (t j o : ℕ) (a : Access) (v l : ℕ) → Emits (thread_machine code) s run t j (In o a v l)
     → LeavesFirst (thread_machine code) s run t j o a v
-entries_left code s start run whole t j o a v l enters =
+entry_is_left_in_complete_run code s start run whole t j o a v l enters =
     entry_is_left (thread_machine code) (thread_machine_is_lawful code) s (state_invariant_at_start (thread_machine code) s start) run whole.0 whole.1 t j o a v l enters

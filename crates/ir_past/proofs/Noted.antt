@@ -23,38 +23,38 @@ use Rattle.ir_past.proofs.Rows.{before_next_event_cases, event_is_of_existing_th
 
 -- ---- logs of events and of labels
 
-pub at_of_mapped_label : (es : List Event) (i : ℕ) (e : Event) → slice_get es i ≡ Some e → At (map label_of es) i (label_of e)
-at_of_mapped_label [] i e is = absurd (none-some e is)
-at_of_mapped_label (x ∷ xs) zero e is = ap label_of (same_Some x e is)
-at_of_mapped_label (x ∷ xs) (suc i) e is = at_of_mapped_label xs i e is
+pub label_of_event_is_at_its_place : (es : List Event) (i : ℕ) (e : Event) → slice_get es i ≡ Some e → At (map label_of es) i (label_of e)
+label_of_event_is_at_its_place [] i e is = absurd (none-some e is)
+label_of_event_is_at_its_place (x ∷ xs) zero e is = ap label_of (same_Some x e is)
+label_of_event_is_at_its_place (x ∷ xs) (suc i) e is = label_of_event_is_at_its_place xs i e is
 
-pub event_of_label_at : (es : List Event) (i : ℕ) (m : Label) → At (map label_of es) i m → (e : Event) × (slice_get es i ≡ Some e) × (label_of e ≡ m)
-event_of_label_at [] i m at = absurd at
-event_of_label_at (x ∷ xs) zero m at = (x, refl, at)
-event_of_label_at (x ∷ xs) (suc i) m at = event_of_label_at xs i m at
+pub event_of_label_is_at_its_place : (es : List Event) (i : ℕ) (m : Label) → At (map label_of es) i m → (e : Event) × (slice_get es i ≡ Some e) × (label_of e ≡ m)
+event_of_label_is_at_its_place [] i m at = absurd at
+event_of_label_is_at_its_place (x ∷ xs) zero m at = (x, refl, at)
+event_of_label_is_at_its_place (x ∷ xs) (suc i) m at = event_of_label_is_at_its_place xs i m at
 
-write_event_of_write_label : (e : Event) (o v l : ℕ) → label_of e ≡ In o Writing v l → e ≡ variant.Write o v l
-write_event_of_write_label (variant.Answer k x) o v l is = absurd (let bad : Answer k x ≡ In o Writing v l = is in cc)
-write_event_of_write_label (variant.Read p w) o v l is = absurd (let bad : In p Reading w 0 ≡ In o Writing v l = is in let same : Reading ≡ Writing = cc in cc)
-write_event_of_write_label (variant.Write p w k) o v l is =
+event_is_write_if_label_is_write : (e : Event) (o v l : ℕ) → label_of e ≡ In o Writing v l → e ≡ variant.Write o v l
+event_is_write_if_label_is_write (variant.Answer k x) o v l is = absurd (let bad : Answer k x ≡ In o Writing v l = is in cc)
+event_is_write_if_label_is_write (variant.Read p w) o v l is = absurd (let bad : In p Reading w 0 ≡ In o Writing v l = is in let same : Reading ≡ Writing = cc in cc)
+event_is_write_if_label_is_write (variant.Write p w k) o v l is =
     let same : In p Writing w k ≡ In o Writing v l = is in
     let object : p ≡ o = cc in
     let version : w ≡ v = cc in
     let readers : k ≡ l = cc in
     λ i. variant.Write (object i) (version i) (readers i)
-write_event_of_write_label (variant.Try p) o v l is = absurd (let bad : Refused p ≡ In o Writing v l = is in cc)
+event_is_write_if_label_is_write (variant.Try p) o v l is = absurd (let bad : Refused p ≡ In o Writing v l = is in cc)
 
-write_at_of_write_label : (r : Recorded) (t i o v l : ℕ) → At ((trace_of r).logs t) i (In o Writing v l) → IsWriteAt r t i o v l
-write_at_of_write_label r t i o v l at =
-    let e = event_of_label_at (recorded_thread r t).events i (In o Writing v l) at in
-    e.1 ∙ ap Some (write_event_of_write_label e.0 o v l e.2)
+write_entry_is_at_place_of_write_label : (r : Recorded) (t i o v l : ℕ) → At ((trace_of r).logs t) i (In o Writing v l) → IsWriteAt r t i o v l
+write_entry_is_at_place_of_write_label r t i o v l at =
+    let e = event_of_label_is_at_its_place (recorded_thread r t).events i (In o Writing v l) at in
+    e.1 ∙ ap Some (event_is_write_if_label_is_write e.0 o v l e.2)
 
 -- what made a version that is entered
 pub entered_version_was_made : (r : Recorded) → IsCoherent (length r.threads) (trace_of r) → (t i o v : ℕ) (a : Access) (l : ℕ)
     → At ((trace_of r).logs t) i (In o a (suc v) l) → (u j k : ℕ) × IsWriteAt r u j o v k
 entered_version_was_made r coherent t i o v a l at =
     let made = coherent.made t i o v l a at in
-    (made.0, made.1, made.2, write_at_of_write_label r made.0 made.1 o v made.2 made.3)
+    (made.0, made.1, made.2, write_entry_is_at_place_of_write_label r made.0 made.1 o v made.2 made.3)
 
 -- ---- the versions below a write entry's are made
 
@@ -62,7 +62,7 @@ pub version_below_write_was_made : (r : Recorded) → IsCoherent (length r.threa
     → (u k m : ℕ) × IsWriteAt r u k o v m
 version_below_write_was_made r coherent zero v t j o l less is = absurd (omega (arith, less))
 version_below_write_was_made r coherent (suc w) v t j o l less is =
-    let made = entered_version_was_made r coherent t j o w Writing l (at_of_mapped_label (recorded_thread r t).events j (variant.Write o (suc w) l) is) in
+    let made = entered_version_was_made r coherent t j o w Writing l (label_of_event_is_at_its_place (recorded_thread r t).events j (variant.Write o (suc w) l) is) in
     let here : IsWriteAt r made.0 made.1 o w made.2 = made.3 in
     elim (cases_eq v w) [
       | inl same ↦ (made.0, made.1, made.2, subst (λ z. IsWriteAt r made.0 made.1 o z made.2) (sym same) here)
@@ -163,9 +163,9 @@ makes_before_next_thread r t n m all h = record {
     below u j ne (inr here) = absurd (omega (arith, here.1))
 
 -- what a stale write's read was written over by is noted
-pub overwriter_noted : (r : Recorded) (m : Makers) (n t i j o v w : ℕ) → IsCoherent (length r.threads) (trace_of r) → length r.threads ≤ n
+pub overwriter_is_noted_if_read_is_stale : (r : Recorded) (m : Makers) (n t i j o v w : ℕ) → IsCoherent (length r.threads) (trace_of r) → length r.threads ≤ n
     → Makes r n 0 m → IsStale r t i j o v w → maker_in m o v ≡ None → ⊥
-overwriter_noted r m n t i j o v w coherent all h s none =
+overwriter_is_noted_if_read_is_stale r m n t i j o v w coherent all h s none =
     let made = version_below_write_was_made r coherent w v t j o s.readers s.over s.write in
     h.noted made.0 made.1 o v made.2 made.3 (inl (omega (arith, event_is_of_existing_thread r made.0 made.1 _ made.3, all))) none
 
@@ -184,7 +184,7 @@ makes_of_equal_thread r t n m same h = subst (λ z. Makes r z 0 m) same h
 pub writer_of_version_is_unique : (r : Recorded) → AreCoherent r → (t i u j o v l k : ℕ) → IsWriteAt r t i o v l → IsWriteAt r u j o v k
     → (t ≡ u) × (i ≡ j)
 writer_of_version_is_unique r coherent t i u j o v l k one two = coherent.writer t i u j o v l k
-    (at_of_mapped_label (recorded_thread r t).events i (variant.Write o v l) one) (at_of_mapped_label (recorded_thread r u).events j (variant.Write o v k) two)
+    (label_of_event_is_at_its_place (recorded_thread r t).events i (variant.Write o v l) one) (label_of_event_is_at_its_place (recorded_thread r u).events j (variant.Write o v k) two)
 
 -- the write entry that is noted is the only one
 pub noted_writer_is_unique : (r : Recorded) (m : Makers) (n o w u j l : ℕ) (p : Place) → AreCoherent r → Makes r n 0 m → maker_in m o w ≡ Some p

@@ -6,14 +6,15 @@ use Rattle.std.proofs.lemmas.Option.{same_Some, none-some, slice_get-get_or}
 use Rattle.ir_log.specs.declared.event.Event.{Event}
 use Rattle.ir_log.specs.declared.event.Event.TheVariants.{Answer, Read, Write, Try}
 use Rattle.std.specs.List.{AllByRecursion}
+use Rattle.ir_lemmas.proofs.CallerLemmas.{get_or_after_set, get_or_after_set_elsewhere}
 use Rattle.ir_thread.specs.declared.profile.Profile.{Profile}
-use Rattle.ir_trace.specs.Recorded.{IsEvent}
+use Rattle.ir_trace.specs.Bounds.{IsEvent}
 use Rattle.ir_past.specs.Past.{IsStaleIn, entered}
 use Rattle.ir_past.specs.Tables.{last_read}
 use Rattle.ir_past.specs.Progress.{IsOpen, HoldsOpen, Fits, IsPairAt}
 use Rattle.ir_past.specs.declared.last_reads.ReadEntry.{ReadEntry}
 use Rattle.ir_past.specs.declared.last_reads.StalePair.{StalePair}
-use Rattle.ir_past.proofs.Tables.{get_or_after_set, get_or_after_set_elsewhere, get_or_of_empty_table}
+use Rattle.ir_past.proofs.Tables.{get_or_of_replicate_none}
 
 -- what both events say of one place is the same
 slice_get_is_unique : (es : List Event) (k : ℕ) (a b : Event) → slice_get es k ≡ Some a → slice_get es k ≡ Some b → a ≡ b
@@ -73,7 +74,7 @@ open_version_is_unique es n o i j v w p q =
 
 pub holds_open_at_start : (es : List Event) (n : ℕ) → HoldsOpen es 0 (replicate n None)
 holds_open_at_start es n = record {
-  found = λ o e is. absurd (none-some e (sym (get_or_of_empty_table n o) ∙ is));
+  found = λ o e is. absurd (none-some e (sym (get_or_of_replicate_none n o) ∙ is));
   all = λ o i v p is. absurd (omega (arith, p.before));
 }
 
@@ -186,11 +187,11 @@ abbrev pub IsPairOf : Option ReadEntry → ℕ → ℕ → StalePair → Type 0
 IsPairOf before o w p = (p.object ≡ o) × (p.written ≡ w) × (p.version < w)
     × (before ≡ Some record { event = p.read; version = p.version })
 
-pub found_pair_is_pair_at : (es : List Event) (n o w l : ℕ) (table : List (Option ReadEntry)) (before : Option ReadEntry) (found : Option StalePair)
+pub found_pair_is_stale_pair_at_event : (es : List Event) (n o w l : ℕ) (table : List (Option ReadEntry)) (before : Option ReadEntry) (found : Option StalePair)
     → slice_get es n ≡ Some (Write o w l) → HoldsOpen es n table → before ≡ last_read table o → IfSome found (IsPairOf before o w)
     → IfSome found (IsPairAt es n)
-found_pair_is_pair_at es n o w l table before None at h same is = tt
-found_pair_is_pair_at es n o w l table before (Some x) at h same is =
+found_pair_is_stale_pair_at_event es n o w l table before None at h same is = tt
+found_pair_is_stale_pair_at_event es n o w l table before (Some x) at h same is =
     let entry : ReadEntry = record { event = x.read; version = x.version } in
     let stale : IsStaleIn es x.read n o x.version w =
     open_read_makes_later_write_stale es x.read n o x.version w l (h.found o entry (sym same ∙ is.3)) at is.2 in

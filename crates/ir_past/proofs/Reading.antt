@@ -2,6 +2,7 @@
 use Rattle.std.proofs.Common.{◌≡◌, ℕ, ◌+◌, ◌<◌, ◌≤◌, inl, inr, Some, List, [], ◌∷◌, ◌++◌, length, refl, sym, ap, ◌∙◌, subst, arith}
 use Rattle.std.proofs.lemmas.Bool.{cases_eq}
 use Rattle.std.proofs.lemmas.Option.{same_Some, none-some, slice_get_within}
+use Rattle.ir_lemmas.proofs.CallerLemmas.{added_element_is_last, slice_get_after_push_cases, slice_get_after_push_earlier}
 use Rattle.ir_log.specs.declared.event.Event.{Event}
 use Rattle.ir_log.specs.declared.event.Event.TheVariants as variant
 use Rattle.ir_trace.specs.Recorded.{Recorded, recorded_thread}
@@ -9,7 +10,6 @@ use Rattle.ir_coherence.specs.Before.{IsBefore}
 use Rattle.ir_past.specs.Past.{event_at, IsReadAt, HasPlace, AreReaders}
 use Rattle.ir_past.specs.Progress.{ReadBefore}
 use Rattle.ir_past.specs.declared.place.Place.{Place}
-use Rattle.ir_past.proofs.Tables.{slice_get_after_push_cases, slice_get_after_push_earlier, slice_get_of_pushed}
 use Rattle.ir_past.proofs.Rows.{before_next_event, before_next_event_cases, before_next_thread, event_is_of_existing_thread}
 
 nothing_before_first_event : (u j : ℕ) → IsBefore u j 0 0 → ⊥
@@ -42,24 +42,24 @@ read_before_step_without_read r o v t n places e at ne h = record {
 pub read_before_step_with_read : (r : Recorded) (o v : ℕ) (p : Place) (places : List Place) → IsReadAt r p.thread p.event o v
     → ReadBefore r o v p.thread p.event places → ReadBefore r o v p.thread (p.event + 1) (places ++ p ∷ [])
 read_before_step_with_read r o v p places at h = record {
-  sound = λ k q is. elim (slice_get_after_push_cases places p q k is) [
+  sound = λ k q is. elim (slice_get_after_push_cases places p k q is) [
     | inl old ↦ h.sound k q old
     | inr new ↦ subst (λ (z : Place). IsReadAt r z.thread z.event o v) new.1 at
   ];
-  before = λ k q is. elim (slice_get_after_push_cases places p q k is) [
+  before = λ k q is. elim (slice_get_after_push_cases places p k q is) [
     | inl old ↦ before_next_event q.thread q.event p.thread p.event (h.before k q old)
     | inr new ↦ subst (λ (z : Place). IsBefore z.thread z.event p.thread (p.event + 1)) new.1 (inr (refl, omega arith))
   ];
   complete = λ u i is b. elim (before_next_event_cases u i p.thread p.event b) [
     | inl less ↦ has_more u i (h.complete u i is less)
-    | inr here ↦ record { number = length places; place = p; there = slice_get_of_pushed places p; thread = sym here.0; event = sym here.1 }
+    | inr here ↦ record { number = length places; place = p; there = added_element_is_last places p; thread = sym here.0; event = sym here.1 }
   ];
-  rising = λ a b x z less first second. elim (slice_get_after_push_cases places p z b second) [
-    | inl old ↦ elim (slice_get_after_push_cases places p x a first) [
+  rising = λ a b x z less first second. elim (slice_get_after_push_cases places p b z second) [
+    | inl old ↦ elim (slice_get_after_push_cases places p a x first) [
       | inl both ↦ h.rising a b x z less both old
       | inr new ↦ absurd (omega (arith, less, new.0, slice_get_within places b z old))
     ]
-    | inr new ↦ elim (slice_get_after_push_cases places p x a first) [
+    | inr new ↦ elim (slice_get_after_push_cases places p a x first) [
       | inl old ↦ subst (λ (k : Place). IsBefore x.thread x.event k.thread k.event) new.1 (h.before a x old)
       | inr same ↦ absurd (omega (arith, less, same.0, new.0))
     ]

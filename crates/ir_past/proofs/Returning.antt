@@ -16,7 +16,7 @@ use Rattle.ir_log.specs.Logging.{label_of}
 use Rattle.ir_log.specs.declared.event.Event.{Event}
 use Rattle.ir_log.specs.declared.event.Event.TheVariants as variant
 use Rattle.ir_past.specs.Past.{entered}
-use Rattle.ir_past.proofs.Noted.{at_of_mapped_label, event_of_label_at}
+use Rattle.ir_past.proofs.Noted.{label_of_event_is_at_its_place, event_of_label_is_at_its_place}
 use Rattle.ir_past.specs.Returning.{leaves_one, ComesBack, LeavesAndComesBack, ReadsAndComesBack, IsReturn}
 
 -- ---- logs
@@ -96,26 +96,26 @@ own_act_keeps_object_or_exits (Store p i x) b t o same free = inl (refl, refl)
 own_act_keeps_object_or_exits Never b t o same free = inl (refl, refl)
 
 -- what an act of thread u does to the object that it is about, as thread t sees it
-other_act_on_version_and_inside : (q : Act) (b : Object) (u t o : ℕ) → (u ≡ t → ⊥) → target q ≡ o
+other_act_adds_leaves_one_to_version_and_keeps_inside : (q : Act) (b : Object) (u t o : ℕ) → (u ≡ t → ⊥) → target q ≡ o
     → ((acted q u b).version ≡ b.version + leaves_one t o u (emitted q b)) × ((acted q u b).inside t ≡ b.inside t)
-other_act_on_version_and_inside Silent b u t o ne same = ((let plain : b.version ≡ b.version + 0 = omega arith in plain), refl)
-other_act_on_version_and_inside (Result k x) b u t o ne same = ((let plain : b.version ≡ b.version + 0 = omega arith in plain), refl)
-other_act_on_version_and_inside (Entry p Reading x) b u t o ne same =
+other_act_adds_leaves_one_to_version_and_keeps_inside Silent b u t o ne same = ((let plain : b.version ≡ b.version + 0 = omega arith in plain), refl)
+other_act_adds_leaves_one_to_version_and_keeps_inside (Result k x) b u t o ne same = ((let plain : b.version ≡ b.version + 0 = omega arith in plain), refl)
+other_act_adds_leaves_one_to_version_and_keeps_inside (Entry p Reading x) b u t o ne same =
     ((let plain : b.version ≡ b.version + 0 = omega arith in plain), upd_at_other_place b.inside u t (Some Reading) (λ e. ne (sym e)))
-other_act_on_version_and_inside (Entry p Writing x) b u t o ne same =
+other_act_adds_leaves_one_to_version_and_keeps_inside (Entry p Writing x) b u t o ne same =
     ((let plain : b.version ≡ b.version + 0 = omega arith in plain), upd_at_other_place b.inside u t (Some Writing) (λ e. ne (sym e)))
-other_act_on_version_and_inside (Refusal p) b u t o ne same = ((let plain : b.version ≡ b.version + 0 = omega arith in plain), refl)
-other_act_on_version_and_inside (Exit p Reading) b u t o ne same =
+other_act_adds_leaves_one_to_version_and_keeps_inside (Refusal p) b u t o ne same = ((let plain : b.version ≡ b.version + 0 = omega arith in plain), refl)
+other_act_adds_leaves_one_to_version_and_keeps_inside (Exit p Reading) b u t o ne same =
     ((let plain : b.version ≡ b.version + 0 = omega arith in plain), upd_at_other_place b.inside u t None (λ e. ne (sym e)))
-other_act_on_version_and_inside (Exit p Writing) b u t o ne same = (
+other_act_adds_leaves_one_to_version_and_keeps_inside (Exit p Writing) b u t o ne same = (
   (let one : leaves_one t o u (Out p Writing b.version) ≡ 1 = ap {B = ℕ} (λ (c : Bool). cond c 0 (cond (eqb p o) 1 0)) (ne_eqb u t ne)
       ∙ ap {B = ℕ} (λ (c : Bool). cond c 1 0) (eq-eqb p o same) in
       omega (arith, one)),
   upd_at_other_place b.inside u t None (λ e. ne (sym e)),
 )
-other_act_on_version_and_inside (Load p i) b u t o ne same = ((let plain : b.version ≡ b.version + 0 = omega arith in plain), refl)
-other_act_on_version_and_inside (Store p i x) b u t o ne same = ((let plain : b.version ≡ b.version + 0 = omega arith in plain), refl)
-other_act_on_version_and_inside Never b u t o ne same = ((let plain : b.version ≡ b.version + 0 = omega arith in plain), refl)
+other_act_adds_leaves_one_to_version_and_keeps_inside (Load p i) b u t o ne same = ((let plain : b.version ≡ b.version + 0 = omega arith in plain), refl)
+other_act_adds_leaves_one_to_version_and_keeps_inside (Store p i x) b u t o ne same = ((let plain : b.version ≡ b.version + 0 = omega arith in plain), refl)
+other_act_adds_leaves_one_to_version_and_keeps_inside Never b u t o ne same = ((let plain : b.version ≡ b.version + 0 = omega arith in plain), refl)
 
 -- what is counted of a label: nothing, or it is a leave of the object after writing by another thread
 leaves_one_is_zero_or_exit : (q : Act) (b : Object) (u t o : ℕ) → (leaves_one t o u (emitted q b) ≡ 0) ⊎ ((q ≡ Exit o Writing) × (u ≡ t → ⊥))
@@ -215,11 +215,11 @@ own_step_keeps_object_or_exits m s e t o own free = elim (cases_eq (target (act 
 ]
 
 -- a step of another thread
-pub other_step_on_version_and_inside : {T : Type 0} (m : Machine T) (s : State T) (e : Step) (t o : ℕ) → (e.0 ≡ t → ⊥)
+pub other_step_adds_leaves_one_to_version_and_keeps_inside : {T : Type 0} (m : Machine T) (s : State T) (e : Step) (t o : ℕ) → (e.0 ≡ t → ⊥)
     → (((after m s e).objects o).version ≡ (s.objects o).version + leaves_one t o e.0 (label m s e))
     × (((after m s e).objects o).inside t ≡ (s.objects o).inside t)
-other_step_on_version_and_inside m s e t o other = elim (cases_eq (target (act m s e)) o) [
-  | inl here ↦ let h = other_act_on_version_and_inside (act m s e) (s.objects (target (act m s e))) e.0 t o other here in (
+other_step_adds_leaves_one_to_version_and_keeps_inside m s e t o other = elim (cases_eq (target (act m s e)) o) [
+  | inl here ↦ let h = other_act_adds_leaves_one_to_version_and_keeps_inside (act m s e) (s.objects (target (act m s e))) e.0 t o other here in (
     subst (λ z. ((after m s e).objects z).version ≡ (s.objects z).version + leaves_one t o e.0 (label m s e)) here
         (ap (λ z. z.version) (target_object_after_step m s e) ∙ h.0),
     subst (λ z. ((after m s e).objects z).inside t ≡ (s.objects z).inside t) here (ap (λ z. z.inside t) (target_object_after_step m s e) ∙ h.1),
@@ -233,13 +233,13 @@ other_step_on_version_and_inside m s e t o other = elim (cases_eq (target (act m
   ]
 ]
 
-leaves_one_of_own_step : (t o u : ℕ) (k : Label) → u ≡ t → leaves_one t o u k ≡ 0
-leaves_one_of_own_step t o u Quiet same = refl
-leaves_one_of_own_step t o u (Answer c x) same = refl
-leaves_one_of_own_step t o u (In p a v l) same = refl
-leaves_one_of_own_step t o u (Refused p) same = refl
-leaves_one_of_own_step t o u (Out p Reading v) same = refl
-leaves_one_of_own_step t o u (Out p Writing v) same = ap {B = ℕ} (λ (c : Bool). cond c 0 (cond (eqb p o) 1 0)) (eq-eqb u t same)
+leaves_one_of_own_step_is_zero : (t o u : ℕ) (k : Label) → u ≡ t → leaves_one t o u k ≡ 0
+leaves_one_of_own_step_is_zero t o u Quiet same = refl
+leaves_one_of_own_step_is_zero t o u (Answer c x) same = refl
+leaves_one_of_own_step_is_zero t o u (In p a v l) same = refl
+leaves_one_of_own_step_is_zero t o u (Refused p) same = refl
+leaves_one_of_own_step_is_zero t o u (Out p Reading v) same = refl
+leaves_one_of_own_step_is_zero t o u (Out p Writing v) same = ap {B = ℕ} (λ (c : Bool). cond c 0 (cond (eqb p o) 1 0)) (eq-eqb u t same)
 
 -- ---- the thread comes back
 
@@ -257,7 +257,7 @@ comes_back_after_own_step m s e run t j n o w own version number c = record {
   writes = c.writes;
   number = (let long = ap length (log_of_own_step m s e c.between t own) ∙ length_of_logged (label m s e) (log m (after m s e) c.between t) in
       let rest = c.number in omega (arith, long, rest, number));
-  counted = (let none = leaves_one_of_own_step t o e.0 (label m s e) own in let rest = c.counted in omega (arith, none, rest, version));
+  counted = (let none = leaves_one_of_own_step_is_zero t o e.0 (label m s e) own in let rest = c.counted in omega (arith, none, rest, version));
 }
 
 comes_back_after_other_step : {T : Type 0} (m : Machine T) (s : State T) (e : Step) (run : List Step) (t j o w : ℕ) → (e.0 ≡ t → ⊥)
@@ -282,7 +282,7 @@ outside_thread_comes_back m law s good (e ∷ run) ok t j o w l out h = elim (ca
   | inl own ↦ by own (λ n free next. outside_thread_comes_back m law (after m s e) (state_invariant_after_step m law s good e ok.0) run ok.1 t n o w l free next)
       (next_write_cases (label m s e) (log m (after m s e) run t) j o w l
       (subst (λ (ks : List Label). IsNextWrite ks j o w l) (log_of_own_step m s e run t own) h))
-  | inr other ↦ let step = other_step_on_version_and_inside m s e t o other in
+  | inr other ↦ let step = other_step_adds_leaves_one_to_version_and_keeps_inside m s e t o other in
       comes_back_after_other_step m s e run t j o w other step.0
       (outside_thread_comes_back m law (after m s e) (state_invariant_after_step m law s good e ok.0) run ok.1 t j o w l (step.1 ∙ out)
       (subst (λ (ks : List Label). IsNextWrite ks j o w l) (log_of_other_step m s e run t other) h))
@@ -311,9 +311,9 @@ outside_thread_comes_back m law s good (e ∷ run) ok t j o w l out h = elim (ca
 
 -- ---- the thread leaves, and comes back
 
-leaves_and_comes_after_own_step : {T : Type 0} (m : Machine T) (s : State T) (e : Step) (run : List Step) (t j n o v w : ℕ) → e.0 ≡ t
+leaves_and_comes_back_after_own_step : {T : Type 0} (m : Machine T) (s : State T) (e : Step) (run : List Step) (t j n o v w : ℕ) → e.0 ≡ t
     → j ≡ logged_count (label m s e) + n → LeavesAndComesBack m (after m s e) run t n o v w → LeavesAndComesBack m s (e ∷ run) t j o v w
-leaves_and_comes_after_own_step m s e run t j n o v w own number c = record {
+leaves_and_comes_back_after_own_step m s e run t j n o v w own number c = record {
   before = e ∷ c.before;
   leave = c.leave;
   after_leave = c.after_leave;
@@ -327,9 +327,9 @@ leaves_and_comes_after_own_step m s e run t j n o v w own number c = record {
   version = c.version;
 }
 
-leaves_and_comes_after_other_step : {T : Type 0} (m : Machine T) (s : State T) (e : Step) (run : List Step) (t j o v w : ℕ) → (e.0 ≡ t → ⊥)
+leaves_and_comes_back_after_other_step : {T : Type 0} (m : Machine T) (s : State T) (e : Step) (run : List Step) (t j o v w : ℕ) → (e.0 ≡ t → ⊥)
     → LeavesAndComesBack m (after m s e) run t j o v w → LeavesAndComesBack m s (e ∷ run) t j o v w
-leaves_and_comes_after_other_step m s e run t j o v w other c = record {
+leaves_and_comes_back_after_other_step m s e run t j o v w other c = record {
   before = e ∷ c.before;
   leave = c.leave;
   after_leave = c.after_leave;
@@ -343,18 +343,18 @@ leaves_and_comes_after_other_step m s e run t j o v w other c = record {
 }
 
 -- while a thread is inside, no other leaves after writing
-pub no_other_writes_while_inside : {T : Type 0} (m : Machine T) → IsLawful m → (s : State T) → StateInvariant m s → (e : Step) (t o : ℕ) (a : Access) → (e.0 ≡ t → ⊥)
+pub no_other_writer_leaves_while_inside : {T : Type 0} (m : Machine T) → IsLawful m → (s : State T) → StateInvariant m s → (e : Step) (t o : ℕ) (a : Access) → (e.0 ≡ t → ⊥)
     → (s.objects o).inside t ≡ Some a → leaves_one t o e.0 (label m s e) ≡ 0
-no_other_writes_while_inside m law s good e t o a other inside = elim (leaves_one_is_zero_or_exit (act m s e) (s.objects (target (act m s e))) e.0 t o) [
+no_other_writer_leaves_while_inside m law s good e t o a other inside = elim (leaves_one_is_zero_or_exit (act m s e) (s.objects (target (act m s e))) e.0 t o) [
   | inl none ↦ none
   | inr h ↦ absurd (none-some a (sym (good.exclusive o e.0 t other (exiting_thread_is_inside m law s good e o Writing h.0)) ∙ inside))
 ]
 
 -- the reader leaves
-leaves_and_comes_at_exit : {T : Type 0} (m : Machine T) → IsLawful m → (s : State T) → StateInvariant m s → (e : Step) → Can m s e → (run : List Step)
+leaves_and_comes_back_at_exit : {T : Type 0} (m : Machine T) → IsLawful m → (s : State T) → StateInvariant m s → (e : Step) → Can m s e → (run : List Step)
     → IsRun m (after m s e) run → (t j o v w l : ℕ) → e.0 ≡ t → act m s e ≡ Exit o Reading → (s.objects o).version ≡ v
     → IsNextWrite (log m (after m s e) run t) j o w l → LeavesAndComesBack m s (e ∷ run) t j o v w
-leaves_and_comes_at_exit m law s good e can run ok t j o v w l own does version next = record {
+leaves_and_comes_back_at_exit m law s good e can run ok t j o v w l own does version next = record {
   before = [];
   leave = e;
   after_leave = run;
@@ -381,9 +381,9 @@ inside_reader_leaves_and_comes_back m law s good (e ∷ run) ok t j o v w l read
       (λ n inside same next. inside_reader_leaves_and_comes_back m law (after m s e) (state_invariant_after_step m law s good e ok.0) run ok.1 t n o v w l inside same next)
       (next_write_cases (label m s e) (log m (after m s e) run t) j o w l
       (subst (λ (ks : List Label). IsNextWrite ks j o w l) (log_of_own_step m s e run t own) h))
-  | inr other ↦ let step = other_step_on_version_and_inside m s e t o other in
-      let none = no_other_writes_while_inside m law s good e t o Reading other reads in
-      leaves_and_comes_after_other_step m s e run t j o v w other
+  | inr other ↦ let step = other_step_adds_leaves_one_to_version_and_keeps_inside m s e t o other in
+      let none = no_other_writer_leaves_while_inside m law s good e t o Reading other reads in
+      leaves_and_comes_back_after_other_step m s e run t j o v w other
       (inside_reader_leaves_and_comes_back m law (after m s e) (state_invariant_after_step m law s good e ok.0) run ok.1 t j o v w l (step.1 ∙ reads)
       (let same = step.0 in omega (arith, same, none, version))
       (subst (λ (ks : List Label). IsNextWrite ks j o w l) (log_of_other_step m s e run t other) h))
@@ -397,12 +397,12 @@ inside_reader_leaves_and_comes_back m law s good (e ∷ run) ok t j o v w l read
         absurd (none-some Reading (sym (subst (λ z. (s.objects o).inside z ≡ None) own
         (entering_thread_is_not_inside m law s good e o Writing own_entry.answer own_entry.does)) ∙ reads))
     by own again (There n is none next) = elim (own_step_keeps_object_or_exits m s e t o own none) [
-      | inl same ↦ leaves_and_comes_after_own_step m s e run t j n o v w own is (again n (same.1 ∙ reads) (same.0 ∙ version) next)
+      | inl same ↦ leaves_and_comes_back_after_own_step m s e run t j n o v w own is (again n (same.1 ∙ reads) (same.0 ∙ version) next)
       | inr exit ↦ let held = subst (λ z. (s.objects o).inside z ≡ Some exit.0) own (exiting_thread_is_inside m law s good e o exit.0 exit.1) in
           let access : exit.0 ≡ Reading = same_Some exit.0 Reading (sym held ∙ reads) in
           let does : act m s e ≡ Exit o Reading = exit.1 ∙ ap (Exit o) access in
           let quiet : logged_count (label m s e) ≡ 0 = ap (λ q. logged_count (emitted q (s.objects (target q)))) does in
-          leaves_and_comes_at_exit m law s good e ok.0 run ok.1 t j o v w l own does version
+          leaves_and_comes_back_at_exit m law s good e ok.0 run ok.1 t j o v w l own does version
           (subst (λ z. IsNextWrite (log m (after m s e) run t) z o w l) (let same : n ≡ j = omega (arith, is, quiet) in same) next)
     ]
 
@@ -420,28 +420,28 @@ data PairCases (k : Label) (ks : List Label) (i j o v w l : ℕ) : Type 0 where
   Read : k ≡ In o Reading v 0 → i ≡ 0 → (n : ℕ) → j ≡ 1 + n → IsNextWrite ks n o w l → PairCases k ks i j o v w l
   Later : (m n : ℕ) → i ≡ logged_count k + m → j ≡ logged_count k + n → IsReadWritePair ks m n o v w l → PairCases k ks i j o v w l
 
-pair_cases_for_logged_label : (k : Label) (ks : List Label) (i j o v w l : ℕ) → logged_count k ≡ 1 → IsReadWritePair (k ∷ ks) i j o v w l → PairCases k ks i j o v w l
-pair_cases_for_logged_label k ks i zero o v w l one h = absurd (let less = h.later in omega (arith, less))
-pair_cases_for_logged_label k ks zero (suc n) o v w l one h = Read h.read refl n (let same : suc n ≡ 1 + n = omega arith in same)
+read_write_pair_cases_for_logged_label : (k : Label) (ks : List Label) (i j o v w l : ℕ) → logged_count k ≡ 1 → IsReadWritePair (k ∷ ks) i j o v w l → PairCases k ks i j o v w l
+read_write_pair_cases_for_logged_label k ks i zero o v w l one h = absurd (let less = h.later in omega (arith, less))
+read_write_pair_cases_for_logged_label k ks zero (suc n) o v w l one h = Read h.read refl n (let same : suc n ≡ 1 + n = omega arith in same)
     (record { at = h.write; first = λ m x less is. h.first (suc m) x (omega arith) (omega (arith, less)) is })
-pair_cases_for_logged_label k ks (suc m) (suc n) o v w l one h = Later m n (omega (arith, one)) (omega (arith, one)) (record {
+read_write_pair_cases_for_logged_label k ks (suc m) (suc n) o v w l one h = Later m n (omega (arith, one)) (omega (arith, one)) (record {
   read = h.read;
   write = h.write;
   later = (let less = h.later in omega (arith, less));
   first = λ d x from to is. h.first (suc d) x (omega (arith, from)) (omega (arith, to)) is;
 })
 
-pair_cases : (k : Label) (ks : List Label) (i j o v w l : ℕ) → IsReadWritePair (logged k ks) i j o v w l → PairCases k ks i j o v w l
-pair_cases Quiet ks i j o v w l h = Later i j (let same : i ≡ 0 + i = omega arith in same) (let same : j ≡ 0 + j = omega arith in same) h
-pair_cases (Answer c x) ks i j o v w l h = pair_cases_for_logged_label (Answer c x) ks i j o v w l refl h
-pair_cases (In p a u r) ks i j o v w l h = pair_cases_for_logged_label (In p a u r) ks i j o v w l refl h
-pair_cases (Refused p) ks i j o v w l h = pair_cases_for_logged_label (Refused p) ks i j o v w l refl h
-pair_cases (Out p a u) ks i j o v w l h = Later i j (let same : i ≡ 0 + i = omega arith in same) (let same : j ≡ 0 + j = omega arith in same) h
+read_write_pair_cases : (k : Label) (ks : List Label) (i j o v w l : ℕ) → IsReadWritePair (logged k ks) i j o v w l → PairCases k ks i j o v w l
+read_write_pair_cases Quiet ks i j o v w l h = Later i j (let same : i ≡ 0 + i = omega arith in same) (let same : j ≡ 0 + j = omega arith in same) h
+read_write_pair_cases (Answer c x) ks i j o v w l h = read_write_pair_cases_for_logged_label (Answer c x) ks i j o v w l refl h
+read_write_pair_cases (In p a u r) ks i j o v w l h = read_write_pair_cases_for_logged_label (In p a u r) ks i j o v w l refl h
+read_write_pair_cases (Refused p) ks i j o v w l h = read_write_pair_cases_for_logged_label (Refused p) ks i j o v w l refl h
+read_write_pair_cases (Out p a u) ks i j o v w l h = Later i j (let same : i ≡ 0 + i = omega arith in same) (let same : j ≡ 0 + j = omega arith in same) h
 
-reads_and_comes_after_own_step : {T : Type 0} (m : Machine T) (s : State T) (e : Step) (run : List Step) (t i j a b o v w : ℕ) → e.0 ≡ t
+reads_and_comes_back_after_own_step : {T : Type 0} (m : Machine T) (s : State T) (e : Step) (run : List Step) (t i j a b o v w : ℕ) → e.0 ≡ t
     → i ≡ logged_count (label m s e) + a → j ≡ logged_count (label m s e) + b → ReadsAndComesBack m (after m s e) run t a b o v w
     → ReadsAndComesBack m s (e ∷ run) t i j o v w
-reads_and_comes_after_own_step m s e run t i j a b o v w own first second c = record {
+reads_and_comes_back_after_own_step m s e run t i j a b o v w own first second c = record {
   before = e ∷ c.before;
   read = c.read;
   after_read = c.after_read;
@@ -455,9 +455,9 @@ reads_and_comes_after_own_step m s e run t i j a b o v w own first second c = re
   comes = c.comes;
 }
 
-reads_and_comes_after_other_step : {T : Type 0} (m : Machine T) (s : State T) (e : Step) (run : List Step) (t i j o v w : ℕ) → (e.0 ≡ t → ⊥)
+reads_and_comes_back_after_other_step : {T : Type 0} (m : Machine T) (s : State T) (e : Step) (run : List Step) (t i j o v w : ℕ) → (e.0 ≡ t → ⊥)
     → ReadsAndComesBack m (after m s e) run t i j o v w → ReadsAndComesBack m s (e ∷ run) t i j o v w
-reads_and_comes_after_other_step m s e run t i j o v w other c = record {
+reads_and_comes_back_after_other_step m s e run t i j o v w other c = record {
   before = e ∷ c.before;
   read = c.read;
   after_read = c.after_read;
@@ -471,10 +471,10 @@ reads_and_comes_after_other_step m s e run t i j o v w other c = record {
 }
 
 -- the reader enters
-reads_and_comes_at_entry : {T : Type 0} (m : Machine T) → IsLawful m → (s : State T) → StateInvariant m s → (e : Step) → Can m s e → (run : List Step)
+reads_and_comes_back_at_entry : {T : Type 0} (m : Machine T) → IsLawful m → (s : State T) → StateInvariant m s → (e : Step) → Can m s e → (run : List Step)
     → IsRun m (after m s e) run → (t n o v w l : ℕ) → e.0 ≡ t → label m s e ≡ In o Reading v 0
     → IsNextWrite (log m (after m s e) run t) n o w l → (i j : ℕ) → i ≡ 0 → j ≡ 1 + n → ReadsAndComesBack m s (e ∷ run) t i j o v w
-reads_and_comes_at_entry m law s good e can run ok t n o v w l own reads next i j first second = record {
+reads_and_comes_back_at_entry m law s good e can run ok t n o v w l own reads next i j first second = record {
   before = [];
   read = e;
   after_read = run;
@@ -505,17 +505,17 @@ reader_reads_and_comes_back : {T : Type 0} (m : Machine T) → IsLawful m → (s
 reader_reads_and_comes_back m law s good [] ok t i j o v w l h = absurd h.read
 reader_reads_and_comes_back m law s good (e ∷ run) ok t i j o v w l h = elim (cases_eq e.0 t) [
   | inl own ↦ by own (λ a b pair. reader_reads_and_comes_back m law (after m s e) (state_invariant_after_step m law s good e ok.0) run ok.1 t a b o v w l pair)
-      (pair_cases (label m s e) (log m (after m s e) run t) i j o v w l
+      (read_write_pair_cases (label m s e) (log m (after m s e) run t) i j o v w l
       (subst (λ (ks : List Label). IsReadWritePair ks i j o v w l) (log_of_own_step m s e run t own) h))
-  | inr other ↦ reads_and_comes_after_other_step m s e run t i j o v w other
+  | inr other ↦ reads_and_comes_back_after_other_step m s e run t i j o v w other
       (reader_reads_and_comes_back m law (after m s e) (state_invariant_after_step m law s good e ok.0) run ok.1 t i j o v w l
       (subst (λ (ks : List Label). IsReadWritePair ks i j o v w l) (log_of_other_step m s e run t other) h))
 ]
   where
     by : e.0 ≡ t → ((a b : ℕ) → IsReadWritePair (log m (after m s e) run t) a b o v w l → ReadsAndComesBack m (after m s e) run t a b o v w)
         → PairCases (label m s e) (log m (after m s e) run t) i j o v w l → ReadsAndComesBack m s (e ∷ run) t i j o v w
-    by own again (Read k first n second next) = reads_and_comes_at_entry m law s good e ok.0 run ok.1 t n o v w l own k next i j first second
-    by own again (Later a b first second pair) = reads_and_comes_after_own_step m s e run t i j a b o v w own first second (again a b pair)
+    by own again (Read k first n second next) = reads_and_comes_back_at_entry m law s good e ok.0 run ok.1 t n o v w l own k next i j first second
+    by own again (Later a b first second pair) = reads_and_comes_back_after_own_step m s e run t i j a b o v w own first second (again a b pair)
 
 -- ---- the law
 
@@ -527,10 +527,10 @@ entered_if_label_enters o (variant.Try p) h = absurd h
 
 return_is_read_write_pair : (es : List Event) (i j o v w : ℕ) → (h : IsReturn es i j o v w) → IsReadWritePair (map label_of es) i j o v w h.readers
 return_is_read_write_pair es i j o v w h = record {
-  read = at_of_mapped_label es i (variant.Read o v) h.read;
-  write = at_of_mapped_label es j (variant.Write o w h.readers) h.write;
+  read = label_of_event_is_at_its_place es i (variant.Read o v) h.read;
+  write = label_of_event_is_at_its_place es j (variant.Write o w h.readers) h.write;
   later = h.later;
-  first = λ k x from to at enters. let e = event_of_label_at es k x at in
+  first = λ k x from to at enters. let e = event_of_label_is_at_its_place es k x at in
       h.next k e.0 from to e.1 (entered_if_label_enters o e.0 (subst (Enters o) (sym e.2) enters));
 }
 

@@ -4,6 +4,7 @@ use Rattle.std.specs.Prelude.{slice_get}
 use Rattle.std.proofs.lemmas.Bool.{cases_eq, cases_lt}
 use Rattle.std.proofs.lemmas.List.{get_or_past}
 use Rattle.std.proofs.lemmas.Option.{none-some, slice_get_within}
+use Rattle.ir_lemmas.proofs.CallerLemmas.{added_element_is_last, slice_get_after_push_cases, slice_get_after_push_earlier}
 use Rattle.ir_log.specs.declared.event.Event.{Event}
 use Rattle.ir_trace.specs.Recorded.{Recorded, RecordedThread, recorded_thread}
 use Rattle.ir_trace.specs.Absent.{absent}
@@ -11,7 +12,6 @@ use Rattle.ir_coherence.specs.Before.{IsBefore}
 use Rattle.ir_past.specs.Past.{event_at, IsStale, IsRow, HasRow, AreStaleWrites}
 use Rattle.ir_past.specs.Progress.{HasRows}
 use Rattle.ir_past.specs.declared.stale_write.StaleWrite.{StaleWrite}
-use Rattle.ir_past.proofs.Tables.{slice_get_after_push_cases, slice_get_after_push_earlier, slice_get_of_pushed}
 use Rattle.ir_past.proofs.Open.{read_of_stale_write_is_unique}
 
 pub before_next_event : (u j t n : ℕ) → IsBefore u j t n → IsBefore u j t (n + 1)
@@ -75,11 +75,11 @@ has_row_after_push rows x t i j h = record {
 pub has_rows_step_with_stale_write : (r : Recorded) (x : StaleWrite) (rows : List StaleWrite) → HasRows r x.thread x.event rows → IsRow r x
     → HasRows r x.thread (x.event + 1) (rows ++ x ∷ [])
 has_rows_step_with_stale_write r x rows h row = record {
-  sound = λ k y is. elim (slice_get_after_push_cases rows x y k is) [
+  sound = λ k y is. elim (slice_get_after_push_cases rows x k y is) [
     | inl old ↦ h.sound k y old
     | inr new ↦ subst (IsRow r) new.1 row
   ];
-  before = λ k y is. elim (slice_get_after_push_cases rows x y k is) [
+  before = λ k y is. elim (slice_get_after_push_cases rows x k y is) [
     | inl old ↦ before_next_event y.thread y.event x.thread x.event (h.before k y old)
     | inr new ↦ subst (λ (z : StaleWrite). IsBefore z.thread z.event x.thread (x.event + 1)) new.1 (inr (refl, omega arith))
   ];
@@ -87,12 +87,12 @@ has_rows_step_with_stale_write r x rows h row = record {
     | inl less ↦ has_row_after_push rows x u i j (h.complete u i j o v w s less)
     | inr here ↦ new_row u i j o v w s here.0 here.1
   ];
-  rising = λ a b y z less first second. elim (slice_get_after_push_cases rows x z b second) [
-    | inl old ↦ elim (slice_get_after_push_cases rows x y a first) [
+  rising = λ a b y z less first second. elim (slice_get_after_push_cases rows x b z second) [
+    | inl old ↦ elim (slice_get_after_push_cases rows x a y first) [
       | inl both ↦ h.rising a b y z less both old
       | inr new ↦ absurd (omega (arith, less, new.0, slice_get_within rows b z old))
     ]
-    | inr new ↦ elim (slice_get_after_push_cases rows x y a first) [
+    | inr new ↦ elim (slice_get_after_push_cases rows x a y first) [
       | inl old ↦ subst (λ (k : StaleWrite). IsBefore y.thread y.event k.thread k.event) new.1 (h.before a y old)
       | inr same ↦ absurd (omega (arith, less, same.0, new.0))
     ]
@@ -103,7 +103,7 @@ has_rows_step_with_stale_write r x rows h row = record {
     new_row u i j o v w s thread event = record {
       place = length rows;
       row = x;
-      there = slice_get_of_pushed rows x;
+      there = added_element_is_last rows x;
       thread = sym thread;
       read = sym (read_of_stale_write_is_unique (recorded_thread r x.thread).events i x.read x.event o x.object v w x.version x.written
           (subst (λ z. IsStale r z i x.event o v w) thread (subst (λ z. IsStale r u i z o v w) event s)) row.stale);

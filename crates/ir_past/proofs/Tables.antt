@@ -5,6 +5,7 @@ use Rattle.std.specs.Option.{option_map_or}
 use Rattle.std.proofs.lemmas.Bool.{cases_eq, cases_lt}
 use Rattle.std.proofs.lemmas.List.{get_or_past}
 use Rattle.std.proofs.lemmas.Option.{same_Some, none-some}
+use Rattle.ir_lemmas.proofs.CallerLemmas.{get_or_after_set, get_or_after_set_elsewhere}
 
 -- a table that was made longer says the same
 pub get_or_after_resize : {X : Type 0} (old new : List (Option X)) (n : ℕ) → length old < n → length new ≡ n
@@ -19,43 +20,12 @@ get_or_after_resize old new n longer all same more v = elim (cases_lt v (length 
   ]
 ]
 
-pub get_or_after_set : {X : Type 0} (xs : List X) (i : ℕ) (w d : X) → i < length xs → get_or (slice_set xs i w) i d ≡ w
-get_or_after_set [] i w d l = absurd (omega arith)
-get_or_after_set (y ∷ ys) zero w d l = refl
-get_or_after_set (y ∷ ys) (suc i) w d l = get_or_after_set ys i w d (omega arith)
-
-pub get_or_after_set_elsewhere : {X : Type 0} (xs : List X) (i o : ℕ) (w d : X) → (i ≡ o → ⊥) → get_or (slice_set xs i w) o d ≡ get_or xs o d
-get_or_after_set_elsewhere [] i o w d ne = refl
-get_or_after_set_elsewhere (y ∷ ys) zero zero w d ne = absurd (ne refl)
-get_or_after_set_elsewhere (y ∷ ys) zero (suc o) w d ne = refl
-get_or_after_set_elsewhere (y ∷ ys) (suc i) zero w d ne = refl
-get_or_after_set_elsewhere (y ∷ ys) (suc i) (suc o) w d ne = get_or_after_set_elsewhere ys i o w d (λ e. ne (ap suc e))
-
-pub get_or_of_empty_table : {X : Type 0} (n o : ℕ) → get_or (replicate {A = Option X} n None) o None ≡ None
-get_or_of_empty_table zero o = refl
-get_or_of_empty_table (suc n) zero = refl
-get_or_of_empty_table (suc n) (suc o) = get_or_of_empty_table n o
+pub get_or_of_replicate_none : {X : Type 0} (n o : ℕ) → get_or (replicate {A = Option X} n None) o None ≡ None
+get_or_of_replicate_none zero o = refl
+get_or_of_replicate_none (suc n) zero = refl
+get_or_of_replicate_none (suc n) (suc o) = get_or_of_replicate_none n o
 
 -- ---- a list that grows at its end
-
-pub slice_get_after_push_cases : {X : Type 0} (xs : List X) (y z : X) (k : ℕ) → slice_get (xs ++ y ∷ []) k ≡ Some z
-    → (slice_get xs k ≡ Some z) ⊎ ((k ≡ length xs) × (y ≡ z))
-slice_get_after_push_cases [] y z zero e = inr (refl, same_Some y z e)
-slice_get_after_push_cases [] y z (suc k) e = absurd (none-some z e)
-slice_get_after_push_cases (x ∷ xs) y z zero e = inl e
-slice_get_after_push_cases (x ∷ xs) y z (suc k) e = elim (slice_get_after_push_cases xs y z k e) [
-  | inl h ↦ inl h
-  | inr h ↦ inr (ap suc h.0, h.1)
-]
-
-pub slice_get_after_push_earlier : {X : Type 0} (xs : List X) (y z : X) (k : ℕ) → slice_get xs k ≡ Some z → slice_get (xs ++ y ∷ []) k ≡ Some z
-slice_get_after_push_earlier [] y z k e = absurd (none-some z e)
-slice_get_after_push_earlier (x ∷ xs) y z zero e = e
-slice_get_after_push_earlier (x ∷ xs) y z (suc k) e = slice_get_after_push_earlier xs y z k e
-
-pub slice_get_of_pushed : {X : Type 0} (xs : List X) (y : X) → slice_get (xs ++ y ∷ []) (length xs) ≡ Some y
-slice_get_of_pushed [] y = refl
-slice_get_of_pushed (x ∷ xs) y = slice_get_of_pushed xs y
 
 -- ---- what is noted at a number
 
@@ -91,10 +61,10 @@ mapped_get_after_set_elsewhere f (y ∷ ys) (suc i) zero w ne = refl
 mapped_get_after_set_elsewhere f (y ∷ ys) (suc i) (suc o) w ne = mapped_get_after_set_elsewhere f ys i o w (λ e. ne (ap suc e))
 
 -- one of the tables notes p at w, and the others are as they were
-pub mapped_get_after_noted : {X Y : Type 0} (f : ℕ → X → Option Y) (xs : List X) (i w : ℕ) (x new : X) (p : Y) → i < length xs → get_or xs i x ≡ x
+pub mapped_get_after_set_at_pair : {X Y : Type 0} (f : ℕ → X → Option Y) (xs : List X) (i w : ℕ) (x new : X) (p : Y) → i < length xs → get_or xs i x ≡ x
     → ((v : ℕ) → f v new ≡ (if v == w then Some p else f v x)) → (o v : ℕ)
     → mapped_get_or_none (f v) (slice_set xs i new) o ≡ (if (o == i) && (v == w) then Some p else mapped_get_or_none (f v) xs o)
-mapped_get_after_noted {X} {Y} f xs i w x new p within is noted o v = elim (cases_eq o i) [
+mapped_get_after_set_at_pair {X} {Y} f xs i w x new p within is noted o v = elim (cases_eq o i) [
   | inl here ↦ subst (λ z. mapped_get_or_none (f v) (slice_set xs i new) z ≡ (if (z == i) && (v == w) then Some p else mapped_get_or_none (f v) xs z)) (sym here)
       (mapped_get_after_set (f v) xs i new within ∙ noted v
       ∙ ap {B = Option Y} (λ (z : Option Y). if v == w then Some p else z) (sym (mapped_get_within (f v) xs i x within is))

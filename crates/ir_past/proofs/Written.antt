@@ -75,8 +75,8 @@ stops_after_first_part err.NoMem a b c failed first rest done h = (prefix_after_
 stops_after_first_part err.Write a b c failed first rest done h = (prefix_after_whole_text a b c first rest done h.0, h.1)
 
 -- the rest of a text was stopped
-pub rest_stops_after_first_part : {A : Type 0} (result : Result A PastErr) (a b c : Option (List ℕ)) (failed : Bool) (bytes first rest : List ℕ)
+pub if_err_stops_after_first_part : {A : Type 0} (result : Result A PastErr) (a b c : Option (List ℕ)) (failed : Bool) (bytes first rest : List ℕ)
     → bytes ≡ first → Appends a b bytes → IfErr result (λ e. Stops e (writer_of b c failed) rest)
     → IfErr result (λ e. Stops e (writer_of a c failed) (first ++ rest))
-rest_stops_after_first_part (Ok x) a b c failed bytes first rest same done h = tt
-rest_stops_after_first_part (Err e) a b c failed bytes first rest same done h = stops_after_first_part e a b c failed first rest (subst (Appends a b) same done) h
+if_err_stops_after_first_part (Ok x) a b c failed bytes first rest same done h = tt
+if_err_stops_after_first_part (Err e) a b c failed bytes first rest same done h = stops_after_first_part e a b c failed first rest (subst (Appends a b) same done) h

@@ -1,7 +1,8 @@
 //! The write entries of a trace.
 
 ghost use Rattle.std.specs.Prelude.{◌+◌, ◌<◌, length, OnOk, IfOk};
-ghost use Rattle.ir_trace.specs.Recorded.{recorded_thread, IsRecorded};
+ghost use Rattle.ir_trace.specs.Recorded.{recorded_thread};
+ghost use Rattle.ir_trace.specs.Bounds.{IsRecorded};
 ghost use Rattle.ir_past.specs.Progress.{Makes};
 
 use crate::logs::{events_of, thread_count};

@@ -4,6 +4,7 @@ use Rattle.std.specs.Prelude.{slice_get}
 use Rattle.std.proofs.lemmas.Bool.{cases_eq, cases_lt}
 use Rattle.std.proofs.lemmas.List.{get_or_past}
 use Rattle.std.proofs.lemmas.Option.{same_Some, none-some, slice_get_within, slice_get_read}
+use Rattle.ir_lemmas.proofs.CallerLemmas.{added_element_is_last, slice_get_after_push_cases, slice_get_after_push_earlier}
 use Rattle.ir_thread.specs.State.{most_events}
 use Rattle.ir_trace.specs.Recorded.{Recorded, RecordedThread, recorded_thread}
 use Rattle.ir_trace.specs.Absent.{absent}
@@ -11,7 +12,7 @@ use Rattle.ir_coherence.specs.Before.{IsBefore}
 use Rattle.ir_picture.specs.Boxes.{AreFolded, IsInBox, HasBox, IsBox, AreBoxes}
 use Rattle.ir_picture.specs.Boxing.{IsFold, EndsBy, HasLast, BoxedBefore}
 use Rattle.ir_picture.specs.declared.event_box.EventBox.{EventBox}
-use Rattle.ir_picture.proofs.Lists.{slice_get_after_set, slice_get_after_set_elsewhere, slice_get_after_set_cases, length_of_slice_set, slice_get_after_push_cases, slice_get_after_push_earlier, slice_get_of_pushed}
+use Rattle.ir_picture.proofs.Lists.{slice_get_after_set, slice_get_after_set_elsewhere, slice_get_after_set_cases, length_of_slice_set}
 
 suc_is_plus_one : (n : ℕ) → suc n ≡ n + 1
 suc_is_plus_one n = omega arith
@@ -23,9 +24,9 @@ before_next_event_cases u j t n (inr here) = elim (cases_lt j n) [
   | inr not ↦ inr (here.0, omega (arith, here.1, not))
 ]
 
-ends_by_next_event : (b : EventBox) (t n : ℕ) → EndsBy b t n → EndsBy b t (n + 1)
-ends_by_next_event b t n (inl less) = inl less
-ends_by_next_event b t n (inr here) = inr (here.0, omega (arith, here.1))
+box_still_ends_by_next_event : (b : EventBox) (t n : ℕ) → EndsBy b t n → EndsBy b t (n + 1)
+box_still_ends_by_next_event b t n (inl less) = inl less
+box_still_ends_by_next_event b t n (inr here) = inr (here.0, omega (arith, here.1))
 
 nothing_before_first_event : (u j : ℕ) → IsBefore u j 0 0 → ⊥
 nothing_before_first_event u j (inl less) = omega (arith, less)
@@ -47,7 +48,7 @@ pub boxed_before_step_for_new_box : (r : Recorded) (t n : ℕ) (boxes : List Eve
     → n < length (recorded_thread r t).events → IsFold (recorded_thread r t).events n false → BoxedBefore r t n boxes
     → BoxedBefore r t (n + 1) (boxes ++ new ∷ [])
 boxed_before_step_for_new_box r t n boxes new thread event count there within fold h = record {
-  each = λ k b is. elim (slice_get_after_push_cases boxes new b k is) [
+  each = λ k b is. elim (slice_get_after_push_cases boxes new k b is) [
     | inl old ↦ h.each k b old
     | inr now ↦ subst (IsBox r) now.1 (record {
       thread = omega (arith, thread, there);
@@ -56,8 +57,8 @@ boxed_before_step_for_new_box r t n boxes new thread event count there within fo
       folds = λ i from below. absurd (omega (arith, from, below, event, count));
     })
   ];
-  before = λ k b is. elim (slice_get_after_push_cases boxes new b k is) [
-    | inl old ↦ ends_by_next_event b t n (h.before k b old)
+  before = λ k b is. elim (slice_get_after_push_cases boxes new k b is) [
+    | inl old ↦ box_still_ends_by_next_event b t n (h.before k b old)
     | inr now ↦ subst (λ (x : EventBox). EndsBy x t (n + 1)) now.1 (inr (thread, omega (arith, event, count)))
   ];
   all = λ u i inside b. elim (before_next_event_cases u i t n b) [
@@ -65,7 +66,7 @@ boxed_before_step_for_new_box r t n boxes new thread event count there within fo
     | inr here ↦ record {
       number = length boxes;
       box = new;
-      there = slice_get_of_pushed boxes new;
+      there = added_element_is_last boxes new;
       has = record {
         thread = omega (arith, thread, here.0);
         from = omega (arith, event, here.1);
@@ -73,18 +74,18 @@ boxed_before_step_for_new_box r t n boxes new thread event count there within fo
       };
     }
   ];
-  apart = λ k m a b less first second. elim (slice_get_after_push_cases boxes new b m second) [
-    | inl old ↦ elim (slice_get_after_push_cases boxes new a k first) [
+  apart = λ k m a b less first second. elim (slice_get_after_push_cases boxes new m b second) [
+    | inl old ↦ elim (slice_get_after_push_cases boxes new k a first) [
       | inl both ↦ h.apart k m a b less both old
       | inr now ↦ absurd (omega (arith, less, now.0, slice_get_within boxes m b old))
     ]
-    | inr now ↦ elim (slice_get_after_push_cases boxes new a k first) [
+    | inr now ↦ elim (slice_get_after_push_cases boxes new k a first) [
       | inl old ↦ subst (λ (x : EventBox). EndsBy a x.thread x.event) now.1
           (subst (λ z. EndsBy a z new.event) (sym thread) (subst (EndsBy a t) (sym event) (h.before k a old)))
       | inr same ↦ absurd (omega (arith, less, same.0, now.0))
     ]
   ];
-  joined = λ k u i b is has folded b4. elim (slice_get_after_push_cases boxes new b k is) [
+  joined = λ k u i b is has folded b4. elim (slice_get_after_push_cases boxes new k b is) [
     | inl old ↦ elim (before_next_event_cases u (suc i) t n b4) [
       | inl less ↦ h.joined k u i b old has folded less
       | inr here ↦ absurd (fold i (sym here.1)
@@ -107,7 +108,7 @@ boxed_before_step_for_new_box r t n boxes new thread event count there within fo
       length boxes,
       new,
       omega (arith, length-append boxes (new ∷ [])),
-      slice_get_of_pushed boxes new,
+      added_element_is_last boxes new,
       record { thread = thread; from = omega (arith, event); below = omega (arith, event, count) },
     )
 
@@ -155,7 +156,7 @@ boxed_before_step_for_joined_box r t n k boxes b new long at thread ends thread_
   ];
   before = λ m a is. elim (slice_get_after_set_cases boxes k m new a inside is) [
     | inl now ↦ subst (λ (x : EventBox). EndsBy x t (n + 1)) now.1 (inr (thread_new ∙ thread, omega (arith, event_new, count_new, ends)))
-    | inr old ↦ ends_by_next_event a t n (h.before m a old.1)
+    | inr old ↦ box_still_ends_by_next_event a t n (h.before m a old.1)
   ];
   all = λ u i there b4. elim (before_next_event_cases u i t n b4) [
     | inl less ↦ has_more u i (h.all u i there less)
@@ -303,10 +304,10 @@ pub box_count_within_limit : (r : Recorded) (n : ℕ) (boxes : List EventBox) �
 box_count_within_limit r n boxes all h = subst (λ z. length boxes ≤ z * most_events) all (omega (arith, h.few))
 
 -- the same by the length of the list
-pub boxed_before_step_for_last_box : (r : Recorded) (t n long : ℕ) (boxes : List EventBox) (own : EventBox) → long ≡ length boxes → own ≡ get_or boxes (long - 1) own
+pub boxed_before_step_for_joined_last_box : (r : Recorded) (t n long : ℕ) (boxes : List EventBox) (own : EventBox) → long ≡ length boxes → own ≡ get_or boxes (long - 1) own
     → n < length (recorded_thread r t).events → IsFold (recorded_thread r t).events n true → BoxedBefore r t n boxes
     → BoxedBefore r t (n + 1) (slice_set boxes (long - 1) (record { thread = own.thread; event = own.event; count = own.count + 1 }))
-boxed_before_step_for_last_box r t n long boxes own all is within fold h =
+boxed_before_step_for_joined_last_box r t n long boxes own all is within fold h =
     let last = last_box_ends_at_folded_event r t n boxes fold h in
     let place : last.0 ≡ long - 1 = omega (arith, all, last.2) in
     let at : slice_get boxes (long - 1) ≡ Some own = slice_get_read boxes long (long - 1) own all (omega (arith, all, last.2)) is in

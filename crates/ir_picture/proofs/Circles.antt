@@ -5,6 +5,7 @@ use Rattle.std.proofs.lemmas.Bool.{cases_eq, cases_lt}
 use Rattle.std.proofs.lemmas.List.{get_or_past}
 use Rattle.std.proofs.lemmas.Nat.{mul-le}
 use Rattle.std.proofs.lemmas.Option.{same_Some, none-some, slice_get_within}
+use Rattle.ir_lemmas.proofs.CallerLemmas.{element_below_length_exists}
 use Rattle.ir_log.specs.declared.event.Event.{Event}
 use Rattle.ir_thread.specs.State.{most_events}
 use Rattle.ir_trace.specs.Recorded.{Recorded, RecordedThread, recorded_thread}
@@ -28,15 +29,14 @@ use Rattle.ir_picture.proofs.Cuts.{first_event_is_in_box, cut_box_begins_with_ne
 use Rattle.ir_picture.proofs.Known.{knows_at_start}
 use Rattle.ir_picture.proofs.Placed.{first_event_of_box_exists}
 use Rattle.ir_picture.proofs.Room.{left_of_at_most_product, near_first_point}
-use Rattle.ir_picture.proofs.Next.{element_below_length_exists}
 
 -- ---- the start
 
-pub being_placed_at_start : (r : Recorded) (boxes : List PlacedBox) (lanes : List Lane) (f : ℕ → ℕ → Version) → AreBoxes r (events_of_all boxes)
+pub boxes_are_being_placed_at_start : (r : Recorded) (boxes : List PlacedBox) (lanes : List Lane) (f : ℕ → ℕ → Version) → AreBoxes r (events_of_all boxes)
     → length lanes ≡ length r.threads
     → ((t : ℕ) (l : Lane) → slice_get lanes t ≡ Some l → (l.free ≡ first_point) × IsCut (events_of_all boxes) t 0 l.next)
     → ((o v : ℕ) → f o v ≡ unknown) → length boxes ≤ length r.threads * most_events → length r.threads ≤ 16 → AreBeingPlaced r boxes lanes f
-being_placed_at_start r boxes lanes f are same at none few threads = record {
+boxes_are_being_placed_at_start r boxes lanes f are same at none few threads = record {
   order = [];
   is = tt;
   boxes = are;
@@ -72,14 +72,14 @@ being_placed_at_start r boxes lanes f are same at none few threads = record {
 
 -- ---- the next box of a thread, if there is one
 
-pub next_box_of_thread_or_none : (boxes : List PlacedBox) (k t : ℕ)
+pub box_at_place_is_of_thread_or_not : (boxes : List PlacedBox) (k t : ℕ)
     → ((b : PlacedBox) × (slice_get boxes k ≡ Some b) × (b.events.thread ≡ t)) ⊎ ((b : PlacedBox) → slice_get boxes k ≡ Some b → b.events.thread ≡ t → ⊥)
-next_box_of_thread_or_none [] k t = inr (λ b is thread. none-some b is)
-next_box_of_thread_or_none (x ∷ xs) zero t = elim (cases_eq x.events.thread t) [
+box_at_place_is_of_thread_or_not [] k t = inr (λ b is thread. none-some b is)
+box_at_place_is_of_thread_or_not (x ∷ xs) zero t = elim (cases_eq x.events.thread t) [
   | inl same ↦ inl (x, refl, same)
   | inr ne ↦ inr (λ b is thread. ne (ap (λ (y : PlacedBox). y.events.thread) (same_Some x b is) ∙ thread))
 ]
-next_box_of_thread_or_none (x ∷ xs) (suc k) t = next_box_of_thread_or_none xs k t
+box_at_place_is_of_thread_or_not (x ∷ xs) (suc k) t = box_at_place_is_of_thread_or_not xs k t
 
 -- a thread with no next box has all its events placed
 pub events_placed_if_no_next_box : (r : Recorded) (boxes : List PlacedBox) (lanes : List Lane) (f : ℕ → ℕ → Version) (h : AreBeingPlaced r boxes lanes f) (t : ℕ)
@@ -111,7 +111,7 @@ pub cannot_follow_if_boxes_wait : (r : Recorded) (boxes : List PlacedBox) (lanes
 cannot_follow_if_boxes_wait r boxes lanes f coherent h waits t follow = elim (cases_lt t (length lanes)) [
   | inl within ↦
       let lane = element_below_length_exists lanes t within in
-      elim (next_box_of_thread_or_none boxes lane.0.next t) [
+      elim (box_at_place_is_of_thread_or_not boxes lane.0.next t) [
         | inl found ↦
             let at = slice_get_of_map (λ (x : PlacedBox). x.events) boxes lane.0.next found.0 found.1 in
             let event = first_event_of_box_exists r found.0.events (h.boxes.each lane.0.next found.0.events at) in
@@ -202,6 +202,6 @@ are_placed_if_no_next_box r boxes lanes f h over = record {
               (to_thread (λ q. q.u) t) (of_thread (λ q. q.u) t) free.u;
         }
 
-pub length_of_events_of_all : (boxes : List PlacedBox) → length (events_of_all boxes) ≡ length boxes
-length_of_events_of_all [] = refl
-length_of_events_of_all (b ∷ bs) = ap suc (length_of_events_of_all bs)
+pub events_of_all_keeps_length : (boxes : List PlacedBox) → length (events_of_all boxes) ≡ length boxes
+events_of_all_keeps_length [] = refl
+events_of_all_keeps_length (b ∷ bs) = ap suc (events_of_all_keeps_length bs)

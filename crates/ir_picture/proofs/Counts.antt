@@ -9,18 +9,19 @@ use Rattle.ir_log.specs.Logging.{label_of}
 use Rattle.ir_log.specs.declared.event.Event.{Event}
 use Rattle.ir_log.specs.declared.event.Event.TheVariants.{Answer, Read, Write, Try}
 use Rattle.ir_thread.specs.State.{most_events}
-use Rattle.ir_trace.specs.Recorded.{Recorded, recorded_thread, trace_of, IsRecorded}
+use Rattle.ir_trace.specs.Recorded.{Recorded, recorded_thread, trace_of}
+use Rattle.ir_trace.specs.Bounds.{IsRecorded}
 use Rattle.ir_coherence.proofs.CallerLemmas.{recorded_thread_at_number_is_recorded}
 use Rattle.ir_past.specs.Past.{event_at, IsReadAt}
 use Rattle.ir_past.proofs.CallerLemmas.{event_is_of_existing_thread}
 use Rattle.ir_picture.specs.Placing.{placed_reads}
 
-pub reads_one_of_read : (o v : ℕ) → reads_one o v (label_of (Read o v)) ≡ 1
-reads_one_of_read o v = ap (λ b. cond b (cond (eqb v v) 1 0) 0) (eq-eqb o o refl) ∙ ap (λ b. cond b 1 0) (eq-eqb v v refl)
+pub reads_one_of_read_is_one : (o v : ℕ) → reads_one o v (label_of (Read o v)) ≡ 1
+reads_one_of_read_is_one o v = ap (λ b. cond b (cond (eqb v v) 1 0) 0) (eq-eqb o o refl) ∙ ap (λ b. cond b 1 0) (eq-eqb v v refl)
 
-pub reads_one_of_other_event : (e : Event) (o v : ℕ) → (e ≡ Read o v → ⊥) → reads_one o v (label_of e) ≡ 0
-reads_one_of_other_event (Answer kind value) o v ne = refl
-reads_one_of_other_event (Read p w) o v ne = elim (cases_eq p o) [
+pub reads_one_of_other_event_is_zero : (e : Event) (o v : ℕ) → (e ≡ Read o v → ⊥) → reads_one o v (label_of e) ≡ 0
+reads_one_of_other_event_is_zero (Answer kind value) o v ne = refl
+reads_one_of_other_event_is_zero (Read p w) o v ne = elim (cases_eq p o) [
   | inl object ↦ elim (cases_eq w v) [
     | inl version ↦ absurd (ne (λ i. Read (object i) (version i)))
     | inr other ↦ ap {B = ℕ} (λ b. cond (eqb p o) (cond b 1 0) 0) (ne_eqb w v other) ∙ none (eqb p o)
@@ -31,8 +32,8 @@ reads_one_of_other_event (Read p w) o v ne = elim (cases_eq p o) [
     none : (b : Bool) → ◌≡◌ {A = ℕ} (cond b 0 0) 0
     none true = refl
     none false = refl
-reads_one_of_other_event (Write p w l) o v ne = refl
-reads_one_of_other_event (Try p) o v ne = refl
+reads_one_of_other_event_is_zero (Write p w l) o v ne = refl
+reads_one_of_other_event_is_zero (Try p) o v ne = refl
 
 pub reads_one_at_most_one : (o v : ℕ) (e : Event) → reads_one o v (label_of e) ≤ 1
 reads_one_at_most_one o v (Answer kind value) = omega arith
@@ -66,33 +67,33 @@ reads_of_prefix_step o v (suc n) (x ∷ es) e is = omega (arith, reads_of_prefix
 
 reads_positive_if_read : (o v j : ℕ) (es : List Event) → slice_get es j ≡ Some (Read o v) → 0 < reads o v (map label_of es)
 reads_positive_if_read o v j [] is = absurd (none-some (Read o v) is)
-reads_positive_if_read o v zero (x ∷ es) is = omega (arith, ap (λ (y : Event). reads_one o v (label_of y)) (same_Some x (Read o v) is), reads_one_of_read o v)
+reads_positive_if_read o v zero (x ∷ es) is = omega (arith, ap (λ (y : Event). reads_one o v (label_of y)) (same_Some x (Read o v) is), reads_one_of_read_is_one o v)
 reads_positive_if_read o v (suc j) (x ∷ es) is = omega (arith, reads_positive_if_read o v j es is)
 
 -- all are counted where each is among the first n
-pub reads_of_prefix_if_each_within : (o v n : ℕ) (es : List Event) → ((j : ℕ) → slice_get es j ≡ Some (Read o v) → j < n)
+pub prefix_has_all_reads_if_each_read_is_within : (o v n : ℕ) (es : List Event) → ((j : ℕ) → slice_get es j ≡ Some (Read o v) → j < n)
     → reads o v (map label_of (take n es)) ≡ reads o v (map label_of es)
-reads_of_prefix_if_each_within o v zero [] all = refl
-reads_of_prefix_if_each_within o v zero (e ∷ es) all =
+prefix_has_all_reads_if_each_read_is_within o v zero [] all = refl
+prefix_has_all_reads_if_each_read_is_within o v zero (e ∷ es) all =
     omega (
       arith,
-      reads_one_of_other_event e o v (λ same. absurd (omega (arith, all 0 (ap Some same)))),
-      reads_of_prefix_if_each_within o v zero es (λ j is. absurd (omega (arith, all (suc j) is))),
+      reads_one_of_other_event_is_zero e o v (λ same. absurd (omega (arith, all 0 (ap Some same)))),
+      prefix_has_all_reads_if_each_read_is_within o v zero es (λ j is. absurd (omega (arith, all (suc j) is))),
       zero_reads es,
     )
   where
     zero_reads : (xs : List Event) → reads o v (map label_of (take 0 xs)) ≡ 0
     zero_reads xs = refl
-reads_of_prefix_if_each_within o v (suc n) [] all = refl
-reads_of_prefix_if_each_within o v (suc n) (e ∷ es) all = omega (arith, reads_of_prefix_if_each_within o v n es (λ j is. omega (arith, all (suc j) is)))
+prefix_has_all_reads_if_each_read_is_within o v (suc n) [] all = refl
+prefix_has_all_reads_if_each_read_is_within o v (suc n) (e ∷ es) all = omega (arith, prefix_has_all_reads_if_each_read_is_within o v n es (λ j is. omega (arith, all (suc j) is)))
 
 -- each is among the first n where all are counted there
-pub read_within_prefix_if_counted : (o v n j : ℕ) (es : List Event) → reads o v (map label_of (take n es)) ≡ reads o v (map label_of es)
+pub read_is_within_prefix_if_prefix_has_all_reads : (o v n j : ℕ) (es : List Event) → reads o v (map label_of (take n es)) ≡ reads o v (map label_of es)
     → slice_get es j ≡ Some (Read o v) → j < n
-read_within_prefix_if_counted o v zero j es same is = absurd (omega (arith, same, reads_positive_if_read o v j es is))
-read_within_prefix_if_counted o v (suc n) j [] same is = absurd (none-some (Read o v) is)
-read_within_prefix_if_counted o v (suc n) zero (e ∷ es) same is = omega arith
-read_within_prefix_if_counted o v (suc n) (suc j) (e ∷ es) same is = omega (arith, read_within_prefix_if_counted o v n j es (omega (arith, same)) is)
+read_is_within_prefix_if_prefix_has_all_reads o v zero j es same is = absurd (omega (arith, same, reads_positive_if_read o v j es is))
+read_is_within_prefix_if_prefix_has_all_reads o v (suc n) j [] same is = absurd (none-some (Read o v) is)
+read_is_within_prefix_if_prefix_has_all_reads o v (suc n) zero (e ∷ es) same is = omega arith
+read_is_within_prefix_if_prefix_has_all_reads o v (suc n) (suc j) (e ∷ es) same is = omega (arith, read_is_within_prefix_if_prefix_has_all_reads o v n j es (omega (arith, same)) is)
 
 -- ---- all logs
 
@@ -122,12 +123,12 @@ terms_equal_if_sums_equal n u f g le same l = elim (cases_lt (f u) (g u)) [
 abbrev pub all_reads : Recorded → ℕ → ℕ → ℕ
 all_reads r o v = sum_below (length r.threads) (λ u. reads o v ((trace_of r).logs u))
 
-pub placed_reads_if_each_placed : (r : Recorded) (c : ℕ → ℕ) (o v : ℕ) → ((u j : ℕ) → IsReadAt r u j o v → j < c u) → placed_reads r c o v ≡ all_reads r o v
-placed_reads_if_each_placed r c o v all = sum_below_of_equal_functions (length r.threads) (λ u. reads o v (map label_of (take (c u) (recorded_thread r u).events)))
-    (λ u. reads o v ((trace_of r).logs u)) (λ u l. reads_of_prefix_if_each_within o v (c u) (recorded_thread r u).events (all u))
+pub placed_reads_are_all_reads_if_each_is_placed : (r : Recorded) (c : ℕ → ℕ) (o v : ℕ) → ((u j : ℕ) → IsReadAt r u j o v → j < c u) → placed_reads r c o v ≡ all_reads r o v
+placed_reads_are_all_reads_if_each_is_placed r c o v all = sum_below_of_equal_functions (length r.threads) (λ u. reads o v (map label_of (take (c u) (recorded_thread r u).events)))
+    (λ u. reads o v ((trace_of r).logs u)) (λ u l. prefix_has_all_reads_if_each_read_is_within o v (c u) (recorded_thread r u).events (all u))
 
-pub read_placed_if_counted : (r : Recorded) (c : ℕ → ℕ) (o v u j : ℕ) → placed_reads r c o v ≡ all_reads r o v → IsReadAt r u j o v → j < c u
-read_placed_if_counted r c o v u j same is = read_within_prefix_if_counted o v (c u) j (recorded_thread r u).events
+pub read_is_placed_if_placed_reads_are_all_reads : (r : Recorded) (c : ℕ → ℕ) (o v u j : ℕ) → placed_reads r c o v ≡ all_reads r o v → IsReadAt r u j o v → j < c u
+read_is_placed_if_placed_reads_are_all_reads r c o v u j same is = read_is_within_prefix_if_prefix_has_all_reads o v (c u) j (recorded_thread r u).events
     (terms_equal_if_sums_equal (length r.threads) u (λ x. reads o v (map label_of (take (c x) (recorded_thread r x).events))) (λ x. reads o v ((trace_of r).logs x))
     (λ x. reads_of_prefix_at_most_reads o v (c x) (recorded_thread r x).events) same (event_is_of_existing_thread r u j (Read o v) is)) is
 

@@ -27,14 +27,14 @@ version_read_of_drop : (o n : ℕ) (es : List Event) (e : Event) → n < length 
 version_read_of_drop o n es e some = at_drop_more (version_read o) es n e some ∙ version_read_of_cons o (get_or es n e) (drop (n + 1) es)
 
 -- the next event reads the object
-pub version_read_if_next_event_reads : (o n v : ℕ) (es : List Event) (e : Event) → n < length es → version_read o (get_or es n e ∷ []) ≡ Some v
+pub version_read_is_of_next_event_if_it_reads : (o n v : ℕ) (es : List Event) (e : Event) → n < length es → version_read o (get_or es n e ∷ []) ≡ Some v
     → version_read o (drop n es) ≡ Some v
-version_read_if_next_event_reads o n v es e some is = version_read_of_drop o n es e some ∙ ap (λ x. or_else x (version_read o (drop (n + 1) es))) is
+version_read_is_of_next_event_if_it_reads o n v es e some is = version_read_of_drop o n es e some ∙ ap (λ x. or_else x (version_read o (drop (n + 1) es))) is
 
 -- it doesn't
-pub version_read_unless_next_event_reads : (o n : ℕ) (es : List Event) (e : Event) → n < length es → version_read o (get_or es n e ∷ []) ≡ None
+pub version_read_skips_next_event_unless_it_reads : (o n : ℕ) (es : List Event) (e : Event) → n < length es → version_read o (get_or es n e ∷ []) ≡ None
     → version_read o (drop n es) ≡ version_read o (drop (n + 1) es)
-version_read_unless_next_event_reads o n es e some is = version_read_of_drop o n es e some ∙ ap (λ x. or_else x (version_read o (drop (n + 1) es))) is
+version_read_skips_next_event_unless_it_reads o n es e some is = version_read_of_drop o n es e some ∙ ap (λ x. or_else x (version_read o (drop (n + 1) es))) is
 
 pub version_read_past_end : (o n : ℕ) (es : List Event) → length es ≤ n → version_read o (drop n es) ≡ None
 unfolding version_read

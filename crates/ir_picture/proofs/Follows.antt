@@ -9,13 +9,13 @@ use Rattle.ir_log.specs.declared.event.Event.TheVariants.{Answer, Read, Write, T
 use Rattle.ir_trace.specs.Recorded.{Recorded, recorded_thread}
 use Rattle.ir_past.specs.Past.{event_at, IsReadAt, IsWriteAt}
 use Rattle.ir_past.specs.Answers.{AreCoherent}
-use Rattle.ir_past.proofs.CallerLemmas.{at_of_mapped_label, entered_version_was_made}
+use Rattle.ir_past.proofs.CallerLemmas.{label_of_event_is_at_its_place, entered_version_was_made}
 use Rattle.ir_picture.specs.Needs.{Needs, IsEntryAt, CanFollow}
 use Rattle.ir_picture.specs.Placing.{Knows, placed_reads, made_by, after_needs, first_point, later_of}
 use Rattle.ir_picture.specs.declared.placed_box.Point.{Point}
 use Rattle.ir_picture.specs.declared.placed_box.PlacedBox.{PlacedBox}
 use Rattle.ir_picture.specs.declared.table.Version.{Version}
-use Rattle.ir_picture.proofs.Counts.{all_reads, placed_reads_if_each_placed, read_placed_if_counted}
+use Rattle.ir_picture.proofs.Counts.{all_reads, placed_reads_are_all_reads_if_each_is_placed, read_is_placed_if_placed_reads_are_all_reads}
 
 -- one event is at a place
 pub event_at_is_unique : (r : Recorded) (t i : ℕ) (a b : Event) → event_at r t i ≡ Some a → event_at r t i ≡ Some b → a ≡ b
@@ -24,11 +24,11 @@ event_at_is_unique r t i a b x y = same_Some a b (sym x ∙ y)
 -- one write entry is at a version
 pub writer_of_version_is_unique : (r : Recorded) → AreCoherent r → (t i u j o v l k : ℕ) → IsWriteAt r t i o v l → IsWriteAt r u j o v k → (t ≡ u) × (i ≡ j)
 writer_of_version_is_unique r coherent t i u j o v l k a b = coherent.writer t i u j o v l k
-    (at_of_mapped_label (recorded_thread r t).events i (Write o v l) a) (at_of_mapped_label (recorded_thread r u).events j (Write o v k) b)
+    (label_of_event_is_at_its_place (recorded_thread r t).events i (Write o v l) a) (label_of_event_is_at_its_place (recorded_thread r u).events j (Write o v k) b)
 
 -- a write entry tells how many read entries of its version there are
 pub write_tells_reader_count : (r : Recorded) → AreCoherent r → (t i o v l : ℕ) → IsWriteAt r t i o v l → l ≡ all_reads r o v
-write_tells_reader_count r coherent t i o v l is = coherent.readers t i o v l (at_of_mapped_label (recorded_thread r t).events i (Write o v l) is)
+write_tells_reader_count r coherent t i o v l is = coherent.readers t i o v l (label_of_event_is_at_its_place (recorded_thread r t).events i (Write o v l) is)
 
 pub read_event_is_injective : (o v p w : ℕ) → ◌≡◌ {A = Event} (Read o v) (Read p w) → (o ≡ p) × (v ≡ w)
 read_event_is_injective o v p w e = (cc, cc)
@@ -37,25 +37,25 @@ pub write_event_is_injective : (o v l p w k : ℕ) → ◌≡◌ {A = Event} (Wr
 write_event_is_injective o v l p w k e = (cc, (cc, cc))
 
 -- what an event needs, by what it is
-pub read_needs_its_maker : (r : Recorded) (t i o v u j : ℕ) → IsReadAt r t i o v → Needs r t i u j → (w k : ℕ) × (v ≡ suc w) × IsWriteAt r u j o w k
-read_needs_its_maker r t i o v u j is (inl m) = elim m.entry [
+pub need_of_read_is_its_maker : (r : Recorded) (t i o v u j : ℕ) → IsReadAt r t i o v → Needs r t i u j → (w k : ℕ) × (v ≡ suc w) × IsWriteAt r u j o w k
+need_of_read_is_its_maker r t i o v u j is (inl m) = elim m.entry [
   | inl read ↦
       let same = read_event_is_injective m.object (suc m.version) o v (event_at_is_unique r t i (Read m.object (suc m.version)) (Read o v) read is) in
       (m.version, m.readers, sym same.1, subst (λ z. IsWriteAt r u j z m.version m.readers) same.0 m.made)
   | inr write ↦ absurd (let bad : Write m.object (suc m.version) write.0 ≡ Read o v = event_at_is_unique r t i (Write m.object (suc m.version) write.0) (Read o v) write.1 is in cc)
 ]
-read_needs_its_maker r t i o v u j is (inr d) =
+need_of_read_is_its_maker r t i o v u j is (inr d) =
     absurd (let bad : Write d.object d.version d.readers ≡ Read o v = event_at_is_unique r t i (Write d.object d.version d.readers) (Read o v) d.write is in cc)
 
-pub write_needs_maker_or_reader : (r : Recorded) (t i o v l u j : ℕ) → IsWriteAt r t i o v l → Needs r t i u j
+pub need_of_write_is_its_maker_or_reader : (r : Recorded) (t i o v l u j : ℕ) → IsWriteAt r t i o v l → Needs r t i u j
     → ((w k : ℕ) × (v ≡ suc w) × IsWriteAt r u j o w k) ⊎ IsReadAt r u j o v
-write_needs_maker_or_reader r t i o v l u j is (inl m) = elim m.entry [
+need_of_write_is_its_maker_or_reader r t i o v l u j is (inl m) = elim m.entry [
   | inl read ↦ absurd (let bad : Read m.object (suc m.version) ≡ Write o v l = event_at_is_unique r t i (Read m.object (suc m.version)) (Write o v l) read is in cc)
   | inr write ↦
       let same = write_event_is_injective m.object (suc m.version) write.0 o v l (event_at_is_unique r t i (Write m.object (suc m.version) write.0) (Write o v l) write.1 is) in
       inl (m.version, m.readers, sym same.1.0, subst (λ z. IsWriteAt r u j z m.version m.readers) same.0 m.made)
 ]
-write_needs_maker_or_reader r t i o v l u j is (inr d) =
+need_of_write_is_its_maker_or_reader r t i o v l u j is (inr d) =
     let same = write_event_is_injective d.object d.version d.readers o v l (event_at_is_unique r t i (Write d.object d.version d.readers) (Write o v l) d.write is) in
     inr (subst (λ z. IsReadAt r u j o z) same.1.0 (subst (λ z. IsReadAt r u j z d.version) same.0 d.read))
 
@@ -70,21 +70,21 @@ event_without_entry_needs_nothing r t i u j e is no_read no_write (inr d) =
 
 -- ---- tests
 
-pub if_else_none_is_some : {A : Type 0} (b : Bool) (x : Option A) (p : A) → (if b then x else None) ≡ Some p → (b ≡ true) × (x ≡ Some p)
-if_else_none_is_some true x p e = (refl, e)
-if_else_none_is_some false x p e = absurd (none-some p e)
+pub test_true_if_choice_is_some : {A : Type 0} (b : Bool) (x : Option A) (p : A) → (if b then x else None) ≡ Some p → (b ≡ true) × (x ≡ Some p)
+test_true_if_choice_is_some true x p e = (refl, e)
+test_true_if_choice_is_some false x p e = absurd (none-some p e)
 
-pub if_else_none_is_none : {A : Type 0} (b : Bool) (x : Option A) → (if b then x else None) ≡ None → (b ≡ false) ⊎ (x ≡ None)
-if_else_none_is_none true x e = inr e
-if_else_none_is_none false x e = inl refl
+pub test_false_or_value_none_if_choice_is_none : {A : Type 0} (b : Bool) (x : Option A) → (if b then x else None) ≡ None → (b ≡ false) ⊎ (x ≡ None)
+test_false_or_value_none_if_choice_is_none true x e = inr e
+test_false_or_value_none_if_choice_is_none false x e = inl refl
 
-pub option_map_is_some : {A B : Type 0} (f : A → B) (x : Option A) (p : B) → option_map f x ≡ Some p → (q : A) × (x ≡ Some q) × (f q ≡ p)
-option_map_is_some f None p e = absurd (none-some p e)
-option_map_is_some f (Some q) p e = (q, refl, same_Some (f q) p e)
+pub option_is_some_if_option_map_is_some : {A B : Type 0} (f : A → B) (x : Option A) (p : B) → option_map f x ≡ Some p → (q : A) × (x ≡ Some q) × (f q ≡ p)
+option_is_some_if_option_map_is_some f None p e = absurd (none-some p e)
+option_is_some_if_option_map_is_some f (Some q) p e = (q, refl, same_Some (f q) p e)
 
-pub option_map_is_none : {A B : Type 0} (f : A → B) (x : Option A) → option_map f x ≡ None → x ≡ None
-option_map_is_none f None e = refl
-option_map_is_none f (Some q) e = absurd (none-some (f q) (sym e))
+pub option_is_none_if_option_map_is_none : {A B : Type 0} (f : A → B) (x : Option A) → option_map f x ≡ None → x ≡ None
+option_is_none_if_option_map_is_none f None e = refl
+option_is_none_if_option_map_is_none f (Some q) e = absurd (none-some (f q) (sym e))
 
 -- a version that isn't the first is made by its maker
 pub made_by_of_later_version : (k : Version) (v : ℕ) → made_by k (suc v) ≡ k.made
@@ -113,18 +113,18 @@ can_follow_if_place_known r boxes c f coherent knows t (Try o) p is after = reco
 can_follow_if_place_known r boxes c f coherent knows t (Read o v) p is after = record {
   there = slice_get_within (recorded_thread r t).events (c t) (Read o v) is;
   needs = λ u j needs.
-      let m = read_needs_its_maker r t (c t) o v u j is needs in
+      let m = need_of_read_is_its_maker r t (c t) o v u j is needs in
       maker_is_placed_if_known r boxes c f coherent knows o v m.0 m.1 u j p after m.2 m.3;
 }
 can_follow_if_place_known r boxes c f coherent knows t (Write o v l) p is after =
-    let test = if_else_none_is_some ((f o v).readers == l) (option_map (λ (q : Point). later_of q (f o v).left) (made_by (f o v) v)) p after in
-    let made = option_map_is_some (λ (q : Point). later_of q (f o v).left) (made_by (f o v) v) p test.1 in
+    let test = test_true_if_choice_is_some ((f o v).readers == l) (option_map (λ (q : Point). later_of q (f o v).left) (made_by (f o v) v)) p after in
+    let made = option_is_some_if_option_map_is_some (λ (q : Point). later_of q (f o v).left) (made_by (f o v) v) p test.1 in
     let count : placed_reads r c o v ≡ all_reads r o v = sym (knows.readers o v) ∙ (eqb-true (f o v).readers l test.0 ∙ write_tells_reader_count r coherent t (c t) o v l is) in
     record {
       there = slice_get_within (recorded_thread r t).events (c t) (Write o v l) is;
-      needs = λ u j needs. elim (write_needs_maker_or_reader r t (c t) o v l u j is needs) [
+      needs = λ u j needs. elim (need_of_write_is_its_maker_or_reader r t (c t) o v l u j is needs) [
         | inl m ↦ maker_is_placed_if_known r boxes c f coherent knows o v m.0 m.1 u j made.0 made.1 m.2 m.3
-        | inr read ↦ read_placed_if_counted r c o v u j count read
+        | inr read ↦ read_is_placed_if_placed_reads_are_all_reads r c o v u j count read
       ];
     }
 
@@ -145,9 +145,9 @@ maker_is_known_if_can_follow r boxes c f coherent knows t o (suc v) entry follow
     )
   where
     made_of : IsEntryAt r t (c t) o (suc v) → (u j k : ℕ) × IsWriteAt r u j o v k
-    made_of (inl read) = entered_version_was_made r coherent t (c t) o v Reading 0 (at_of_mapped_label (recorded_thread r t).events (c t) (Read o (suc v)) read)
+    made_of (inl read) = entered_version_was_made r coherent t (c t) o v Reading 0 (label_of_event_is_at_its_place (recorded_thread r t).events (c t) (Read o (suc v)) read)
     made_of (inr write) = entered_version_was_made r coherent t (c t) o v Writing write.0
-        (at_of_mapped_label (recorded_thread r t).events (c t) (Write o (suc v) write.0) write.1)
+        (label_of_event_is_at_its_place (recorded_thread r t).events (c t) (Write o (suc v) write.0) write.1)
 
     made : (u j k : ℕ) × IsWriteAt r u j o v k
     made = made_of entry
@@ -159,9 +159,9 @@ cannot_follow_if_no_place_known r boxes c f coherent knows t (Answer kind value)
 cannot_follow_if_no_place_known r boxes c f coherent knows t (Try o) is none follow = none-some first_point (sym none)
 cannot_follow_if_no_place_known r boxes c f coherent knows t (Read o v) is none follow = maker_is_known_if_can_follow r boxes c f coherent knows t o v (inl is) follow none
 cannot_follow_if_no_place_known r boxes c f coherent knows t (Write o v l) is none follow =
-    elim (if_else_none_is_none ((f o v).readers == l) (option_map (λ (q : Point). later_of q (f o v).left) (made_by (f o v) v)) none) [
+    elim (test_false_or_value_none_if_choice_is_none ((f o v).readers == l) (option_map (λ (q : Point). later_of q (f o v).left) (made_by (f o v) v)) none) [
       | inl other ↦
-          let count : placed_reads r c o v ≡ all_reads r o v = placed_reads_if_each_placed r c o v (λ u j read. follow.needs u j (inr record {
+          let count : placed_reads r c o v ≡ all_reads r o v = placed_reads_are_all_reads_if_each_is_placed r c o v (λ u j read. follow.needs u j (inr record {
             object = o;
             version = v;
             readers = l;
@@ -172,5 +172,5 @@ cannot_follow_if_no_place_known r boxes c f coherent knows t (Write o v l) is no
           let bad : true ≡ false = sym (eq-eqb (f o v).readers l same) ∙ other in
           cc
       | inr unmade ↦ maker_is_known_if_can_follow r boxes c f coherent knows t o v (inr (l, is)) follow
-          (option_map_is_none (λ (q : Point). later_of q (f o v).left) (made_by (f o v) v) unmade)
+          (option_is_none_if_option_map_is_none (λ (q : Point). later_of q (f o v).left) (made_by (f o v) v) unmade)
     ]

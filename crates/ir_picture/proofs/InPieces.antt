@@ -54,8 +54,8 @@ prefix_written_if_write_fails a b c held left text f prefix =
 -- ---- one text after another
 
 -- what comes after the text that was held is what comes after the whole text
-part_and_held_before_next_text : (a b : Option (List ℕ)) (held text next : List ℕ) → (f : Buffered a b held text) → f.part ++ (held ++ next) ≡ text ++ next
-part_and_held_before_next_text a b held text next f = sym (append_assoc f.part held next) ∙ ap (λ (x : List ℕ). x ++ next) f.others
+part_and_held_before_next_are_text_before_next : (a b : Option (List ℕ)) (held text next : List ℕ) → (f : Buffered a b held text) → f.part ++ (held ++ next) ≡ text ++ next
+part_and_held_before_next_are_text_before_next a b held text next f = sym (append_assoc f.part held next) ∙ ap (λ (x : List ℕ). x ++ next) f.others
 
 -- the next text was put
 pub buffered_after_next_text : (a b c : Option (List ℕ)) (held kept text next : List ℕ) → Buffered a b held text → Buffered b c kept (held ++ next)
@@ -63,19 +63,19 @@ pub buffered_after_next_text : (a b c : Option (List ℕ)) (held kept text next 
 buffered_after_next_text a b c held kept text next f g = record {
   part = f.part ++ g.part;
   written = Appends-trans a b c f.part g.part f.written g.written;
-  others = append_assoc f.part g.part kept ∙ ap (λ (x : List ℕ). f.part ++ x) g.others ∙ part_and_held_before_next_text a b held text next f;
+  others = append_assoc f.part g.part kept ∙ ap (λ (x : List ℕ). f.part ++ x) g.others ∙ part_and_held_before_next_are_text_before_next a b held text next f;
 }
 
 -- all was written at last
 pub appended_after_last_text : (a b c : Option (List ℕ)) (held text next : List ℕ) → Buffered a b held text → Appends b c (held ++ next)
     → Appends a c (text ++ next)
 appended_after_last_text a b c held text next f done =
-    subst (Appends a c) (part_and_held_before_next_text a b held text next f) (Appends-trans a b c f.part (held ++ next) f.written done)
+    subst (Appends a c) (part_and_held_before_next_are_text_before_next a b held text next f) (Appends-trans a b c f.part (held ++ next) f.written done)
 
 prefix_appended_after_held_text : (a b c : Option (List ℕ)) (held text next : List ℕ) → Buffered a b held text → AppendsPrefix b c (held ++ next)
     → AppendsPrefix a c (text ++ next)
 prefix_appended_after_held_text a b c held text next f prefix =
-    subst (AppendsPrefix a c) (part_and_held_before_next_text a b held text next f) (prefix_after_whole_text a b c f.part (held ++ next) f.written prefix)
+    subst (AppendsPrefix a c) (part_and_held_before_next_are_text_before_next a b held text next f) (prefix_after_whole_text a b c f.part (held ++ next) f.written prefix)
 
 -- the next text was stopped
 pub stops_in_next_text : (e : PastErr) (a b c : Option (List ℕ)) (failed : Bool) (held text next : List ℕ) → Buffered a b held text

@@ -17,8 +17,8 @@ use Rattle.ir_picture.specs.declared.placed_box.Point.{Point}
 use Rattle.ir_picture.specs.declared.placed_box.PlacedBox.{PlacedBox}
 use Rattle.ir_picture.specs.declared.table.Version.{Version}
 use Rattle.ir_picture.proofs.Lists.{slice_get_of_map}
-use Rattle.ir_picture.proofs.Least.{place_after_equal_events, place_after_no_events, place_after_union_of_events, place_after_single_box, place_after_other_box_set}
-use Rattle.ir_picture.proofs.Counts.{reads_one_of_read, reads_one_of_other_event, reads_one_at_most_one, placed_reads_step, placed_reads_at_start}
+use Rattle.ir_picture.proofs.Least.{place_after_equal_events, place_after_no_events, place_after_union_of_events, place_after_single_box, place_stays_after_events_if_other_box_set}
+use Rattle.ir_picture.proofs.Counts.{reads_one_of_read_is_one, reads_one_of_other_event_is_zero, reads_one_at_most_one, placed_reads_step, placed_reads_at_start}
 use Rattle.ir_picture.proofs.Follows.{event_at_is_unique, writer_of_version_is_unique}
 
 -- ---- what noting an event changes
@@ -55,7 +55,7 @@ pub record VersionChange (e : Event) (p : Point) (o v : ℕ) (old new : Version)
 version_change_for_other_event : (e : Event) (p : Point) (o v : ℕ) (old new : Version) → new ≡ old → (e ≡ Read o v → ⊥)
     → ((w l : ℕ) → v ≡ suc w → e ≡ Write o w l → ⊥) → VersionChange e p o v old new
 version_change_for_other_event e p o v old new same no_reads no_writes = record {
-  readers = omega (arith, ap (λ (x : Version). x.readers) same, reads_one_of_other_event e o v no_reads);
+  readers = omega (arith, ap (λ (x : Version). x.readers) same, reads_one_of_other_event_is_zero e o v no_reads);
   read = λ is. absurd (no_reads is);
   unread = λ not. ap (λ (x : Version). x.left) same;
   write = λ w l next is. absurd (no_writes w l next is);
@@ -75,7 +75,7 @@ version_change_of_noted (Read q w) p f o v = elim (pair_equal_or_not o q v w) [
           arith,
           ap (λ (x : Version). x.readers) is,
           ap (λ (x : Version). x.readers) old,
-          reads_one_of_read o v,
+          reads_one_of_read_is_one o v,
           ap (λ (x : Event). reads_one o v (label_of x)) event,
         );
         read = λ e. ap (λ (x : Version). x.left) is ∙ ap (λ (x : Version). later_of x.left p) old;
@@ -96,7 +96,7 @@ version_change_of_noted (Write q w k) p f o v = elim (pair_equal_or_not o q v (w
           arith,
           ap (λ (x : Version). x.readers) is,
           ap (λ (x : Version). x.readers) old,
-          reads_one_of_other_event (Write q w k) o v (λ e. let bad : ◌≡◌ {A = Event} (Write q w k) (Read o v) = e in cc),
+          reads_one_of_other_event_is_zero (Write q w k) o v (λ e. let bad : ◌≡◌ {A = Event} (Write q w k) (Read o v) = e in cc),
         );
         read = λ e. absurd (let bad : ◌≡◌ {A = Event} (Write q w k) (Read o v) = e in cc);
         unread = λ not. ap (λ (x : Version). x.left) is ∙ ap (λ (x : Version). x.left) old;
@@ -127,10 +127,10 @@ pub knows_after_unplaced_box_set : (r : Recorded) (boxes : List PlacedBox) (c : 
     → new.events ≡ b.events → c b.events.thread ≤ b.events.event → Knows r boxes c f → Knows r (slice_set boxes k new) c f
 knows_after_unplaced_box_set r boxes c f k b new at same late h = record {
   readers = h.readers;
-  left = λ o v. place_after_other_box_set boxes k b new (ReadsPlaced r c o v) (f o v).left at same (λ i has these. omega (arith, these.0, has.from, late)) (h.left o v);
+  left = λ o v. place_stays_after_events_if_other_box_set boxes k b new (ReadsPlaced r c o v) (f o v).left at same (λ i has these. omega (arith, these.0, has.from, late)) (h.left o v);
   made = λ o v p is. (
     (h.made o v p is).0,
-    place_after_other_box_set boxes k b new (WritesPlaced r c o v) p at same (λ i has these. omega (arith, these.0, has.from, late)) (h.made o v p is).1,
+    place_stays_after_events_if_other_box_set boxes k b new (WritesPlaced r c o v) p at same (λ i has these. omega (arith, these.0, has.from, late)) (h.made o v p is).1,
   );
   none = h.none;
 }

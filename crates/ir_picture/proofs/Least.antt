@@ -106,10 +106,10 @@ place_after_equal_events boxes A B p to back h = record {
       (ends_where_of_wider_set boxes (λ q. q.u) B A back) h.u;
 }
 
-pub place_after_other_box_set : (boxes : List PlacedBox) (k : ℕ) (b new : PlacedBox) (These : ℕ → ℕ → Type 0) (p : Point) → slice_get boxes k ≡ Some b
+pub place_stays_after_events_if_other_box_set : (boxes : List PlacedBox) (k : ℕ) (b new : PlacedBox) (These : ℕ → ℕ → Type 0) (p : Point) → slice_get boxes k ≡ Some b
     → new.events ≡ b.events → ((i : ℕ) → IsInBox b.events b.events.thread i → These b.events.thread i → ⊥) → IsAfter boxes These p
     → IsAfter (slice_set boxes k new) These p
-place_after_other_box_set boxes k b new These p there same not h = record {
+place_stays_after_events_if_other_box_set boxes k b new These p there same not h = record {
   x = least_above_of_equal_sets 0 (EndsWhere boxes (λ q. q.x) These) (EndsWhere (slice_set boxes k new) (λ q. q.x) These) p.x
       (ends_where_after_other_box_set boxes k b new (λ q. q.x) These there not) (ends_where_before_other_box_set boxes k b new (λ q. q.x) These there same not) h.x;
   u = least_above_of_equal_sets 1 (EndsWhere boxes (λ q. q.u) These) (EndsWhere (slice_set boxes k new) (λ q. q.u) These) p.u
@@ -122,9 +122,9 @@ place_after_no_events boxes These none = record {
   u = least_above_of_empty_set 1 (EndsWhere boxes (λ q. q.u) These) (λ z e. none e.box.events.thread e.event e.these);
 }
 
-ends_where_of_union : (boxes : List PlacedBox) (number : Point → ℕ) (A B C : ℕ → ℕ → Type 0) → ((u i : ℕ) → C u i → A u i ⊎ B u i) → (z : ℕ)
+ends_where_of_union_cases : (boxes : List PlacedBox) (number : Point → ℕ) (A B C : ℕ → ℕ → Type 0) → ((u i : ℕ) → C u i → A u i ⊎ B u i) → (z : ℕ)
     → EndsWhere boxes number C z → EndsWhere boxes number A z ⊎ EndsWhere boxes number B z
-ends_where_of_union boxes number A B C parts z e = elim (parts e.box.events.thread e.event e.these) [
+ends_where_of_union_cases boxes number A B C parts z e = elim (parts e.box.events.thread e.event e.these) [
   | inl a ↦ inl (record { at = e.at; box = e.box; event = e.event; there = e.there; has = e.has; these = a; ends = e.ends })
   | inr b ↦ inr (record { at = e.at; box = e.box; event = e.event; there = e.there; has = e.has; these = b; ends = e.ends })
 ]
@@ -133,9 +133,9 @@ pub place_after_union_of_events : (boxes : List PlacedBox) (A B C : ℕ → ℕ 
     → ((u i : ℕ) → C u i → A u i ⊎ B u i) → IsAfter boxes A p → IsAfter boxes B q → IsAfter boxes C (later_of p q)
 place_after_union_of_events boxes A B C p q of_a of_b parts h k = record {
   x = least_above_of_union 0 (EndsWhere boxes (λ y. y.x) A) (EndsWhere boxes (λ y. y.x) B) (EndsWhere boxes (λ y. y.x) C) p.x q.x
-      (ends_where_of_wider_set boxes (λ y. y.x) A C of_a) (ends_where_of_wider_set boxes (λ y. y.x) B C of_b) (ends_where_of_union boxes (λ y. y.x) A B C parts) h.x k.x;
+      (ends_where_of_wider_set boxes (λ y. y.x) A C of_a) (ends_where_of_wider_set boxes (λ y. y.x) B C of_b) (ends_where_of_union_cases boxes (λ y. y.x) A B C parts) h.x k.x;
   u = least_above_of_union 1 (EndsWhere boxes (λ y. y.u) A) (EndsWhere boxes (λ y. y.u) B) (EndsWhere boxes (λ y. y.u) C) p.u q.u
-      (ends_where_of_wider_set boxes (λ y. y.u) A C of_a) (ends_where_of_wider_set boxes (λ y. y.u) B C of_b) (ends_where_of_union boxes (λ y. y.u) A B C parts) h.u k.u;
+      (ends_where_of_wider_set boxes (λ y. y.u) A C of_a) (ends_where_of_wider_set boxes (λ y. y.u) B C of_b) (ends_where_of_union_cases boxes (λ y. y.u) A B C parts) h.u k.u;
 }
 
 -- where these are events of one box alone

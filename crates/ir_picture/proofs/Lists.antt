@@ -5,12 +5,13 @@ use Rattle.std.specs.Option.{option_map_or}
 use Rattle.std.proofs.lemmas.Bool.{cases_eq, cases_lt}
 use Rattle.std.proofs.lemmas.List.{get_or_past}
 use Rattle.std.proofs.lemmas.Option.{same_Some, none-some}
+use Rattle.ir_lemmas.proofs.CallerLemmas.{get_or_after_set, get_or_after_set_elsewhere}
 
 -- what is at a place, by a read that has a default
-pub slice_get_if_own_default : {X : Type 0} (xs : List X) (i : ℕ) (x : X) → i < length xs → get_or xs i x ≡ x → slice_get xs i ≡ Some x
-slice_get_if_own_default [] i x l e = absurd (omega arith)
-slice_get_if_own_default (y ∷ ys) zero x l e = ap Some e
-slice_get_if_own_default (y ∷ ys) (suc i) x l e = slice_get_if_own_default ys i x (omega arith) e
+pub slice_get_from_get_or_with_own_default : {X : Type 0} (xs : List X) (i : ℕ) (x : X) → i < length xs → get_or xs i x ≡ x → slice_get xs i ≡ Some x
+slice_get_from_get_or_with_own_default [] i x l e = absurd (omega arith)
+slice_get_from_get_or_with_own_default (y ∷ ys) zero x l e = ap Some e
+slice_get_from_get_or_with_own_default (y ∷ ys) (suc i) x l e = slice_get_from_get_or_with_own_default ys i x (omega arith) e
 
 pub slice_get_after_set : {X : Type 0} (xs : List X) (i : ℕ) (y : X) → i < length xs → slice_get (slice_set xs i y) i ≡ Some y
 slice_get_after_set [] i y l = absurd (omega arith)
@@ -56,25 +57,6 @@ map_after_invisible_set f (z ∷ zs) (suc k) x y e same = ap (λ w. f z ∷ w) (
 
 -- ---- a list that grows at its end
 
-pub slice_get_after_push_cases : {X : Type 0} (xs : List X) (y z : X) (k : ℕ) → slice_get (xs ++ y ∷ []) k ≡ Some z
-    → (slice_get xs k ≡ Some z) ⊎ ((k ≡ length xs) × (y ≡ z))
-slice_get_after_push_cases [] y z zero e = inr (refl, same_Some y z e)
-slice_get_after_push_cases [] y z (suc k) e = absurd (none-some z e)
-slice_get_after_push_cases (x ∷ xs) y z zero e = inl e
-slice_get_after_push_cases (x ∷ xs) y z (suc k) e = elim (slice_get_after_push_cases xs y z k e) [
-  | inl h ↦ inl h
-  | inr h ↦ inr (ap suc h.0, h.1)
-]
-
-pub slice_get_after_push_earlier : {X : Type 0} (xs : List X) (y z : X) (k : ℕ) → slice_get xs k ≡ Some z → slice_get (xs ++ y ∷ []) k ≡ Some z
-slice_get_after_push_earlier [] y z k e = absurd (none-some z e)
-slice_get_after_push_earlier (x ∷ xs) y z zero e = e
-slice_get_after_push_earlier (x ∷ xs) y z (suc k) e = slice_get_after_push_earlier xs y z k e
-
-pub slice_get_of_pushed : {X : Type 0} (xs : List X) (y : X) → slice_get (xs ++ y ∷ []) (length xs) ≡ Some y
-slice_get_of_pushed [] y = refl
-slice_get_of_pushed (x ∷ xs) y = slice_get_of_pushed xs y
-
 -- ---- tables by numbers, with a default
 
 pub get_or_after_resize : {X : Type 0} (old new : List X) (n : ℕ) (none : X) → length old < n → length new ≡ n
@@ -88,18 +70,6 @@ get_or_after_resize old new n none longer all same more v = elim (cases_lt v (le
     | inr beyond ↦ get_or_past new v none (omega (arith, all, beyond)) ∙ sym (get_or_past old v none past)
   ]
 ]
-
-pub get_or_after_set : {X : Type 0} (xs : List X) (i : ℕ) (w d : X) → i < length xs → get_or (slice_set xs i w) i d ≡ w
-get_or_after_set [] i w d l = absurd (omega arith)
-get_or_after_set (y ∷ ys) zero w d l = refl
-get_or_after_set (y ∷ ys) (suc i) w d l = get_or_after_set ys i w d (omega arith)
-
-pub get_or_after_set_elsewhere : {X : Type 0} (xs : List X) (i o : ℕ) (w d : X) → (i ≡ o → ⊥) → get_or (slice_set xs i w) o d ≡ get_or xs o d
-get_or_after_set_elsewhere [] i o w d ne = refl
-get_or_after_set_elsewhere (y ∷ ys) zero zero w d ne = absurd (ne refl)
-get_or_after_set_elsewhere (y ∷ ys) zero (suc o) w d ne = refl
-get_or_after_set_elsewhere (y ∷ ys) (suc i) zero w d ne = refl
-get_or_after_set_elsewhere (y ∷ ys) (suc i) (suc o) w d ne = get_or_after_set_elsewhere ys i o w d (λ e. ne (ap suc e))
 
 pub get_or_after_set_cases : {X : Type 0} (xs : List X) (i : ℕ) (p d : X) → i < length xs → (v : ℕ)
     → get_or (slice_set xs i p) v d ≡ (if v == i then p else get_or xs v d)
@@ -132,10 +102,10 @@ mapped_get_or_after_set_elsewhere f d (y ∷ ys) (suc i) zero w ne = refl
 mapped_get_or_after_set_elsewhere f d (y ∷ ys) (suc i) (suc o) w ne = mapped_get_or_after_set_elsewhere f d ys i o w (λ e. ne (ap suc e))
 
 -- one of the tables notes p at w, and the others are as they were
-pub mapped_get_or_after_noted : {X Y : Type 0} (f : ℕ → X → Y) (d : Y) (xs : List X) (i w : ℕ) (x new : X) (p : Y) → i < length xs → get_or xs i x ≡ x
+pub mapped_get_or_after_set_at_pair : {X Y : Type 0} (f : ℕ → X → Y) (d : Y) (xs : List X) (i w : ℕ) (x new : X) (p : Y) → i < length xs → get_or xs i x ≡ x
     → ((v : ℕ) → f v new ≡ (if v == w then p else f v x)) → (o v : ℕ)
     → mapped_get_or (f v) d (slice_set xs i new) o ≡ (if (o == i) && (v == w) then p else mapped_get_or (f v) d xs o)
-mapped_get_or_after_noted {X} {Y} f d xs i w x new p within is noted o v = elim (cases_eq o i) [
+mapped_get_or_after_set_at_pair {X} {Y} f d xs i w x new p within is noted o v = elim (cases_eq o i) [
   | inl here ↦ subst (λ z. mapped_get_or (f v) d (slice_set xs i new) z ≡ (if (z == i) && (v == w) then p else mapped_get_or (f v) d xs z)) (sym here)
       (mapped_get_or_after_set (f v) d xs i new within ∙ noted v
       ∙ ap {B = Y} (λ (z : Y). if v == w then p else z) (sym (mapped_get_or_within (f v) d xs i x within is))

@@ -3,6 +3,7 @@ use Rattle.std.proofs.Common.{◌≡◌, ℕ, suc, zero, ◌+◌, ◌<◌, ◌�
 use Rattle.std.specs.Prelude.{slice_get}
 use Rattle.std.proofs.lemmas.Bool.{cases_eq, cases_lt}
 use Rattle.std.proofs.lemmas.Option.{none-some, slice_get_within}
+use Rattle.ir_lemmas.proofs.CallerLemmas.{element_below_length_exists}
 use Rattle.ir_log.specs.declared.event.Event.{Event}
 use Rattle.ir_trace.specs.Recorded.{Recorded, recorded_thread}
 use Rattle.ir_past.specs.Past.{event_at}
@@ -18,14 +19,14 @@ use Rattle.ir_picture.specs.declared.placed_box.PlacedBox.{PlacedBox}
 use Rattle.ir_picture.specs.declared.table.Version.{Version}
 use Rattle.ir_picture.specs.declared.placing.Lane.{Lane}
 use Rattle.ir_picture.proofs.Lists.{slice_get_after_set, slice_get_after_set_cases, length_of_slice_set, slice_get_of_map, map_after_invisible_set}
-use Rattle.ir_picture.proofs.Least.{place_after_other_box_set}
+use Rattle.ir_picture.proofs.Least.{place_stays_after_events_if_other_box_set}
 use Rattle.ir_picture.proofs.Orders.{needed_event_is_placed}
 use Rattle.ir_picture.proofs.Follows.{can_follow_if_place_known}
 use Rattle.ir_picture.proofs.Cuts.{cut_box_begins_with_next_event, cut_behind_next_box}
 use Rattle.ir_picture.proofs.Known.{knows_after_unplaced_box_set}
 use Rattle.ir_picture.proofs.Steps.{OrderReaches, order_reaches_end_of_box}
-use Rattle.ir_picture.proofs.Placed.{IsPlacedByEvents, placed_if_placed_by_events, placed_by_events_if_placed, placed_after_other_box_set, new_box_is_placed_by_events, place_after_needs}
-use Rattle.ir_picture.proofs.Room.{NearVersion, left_of_after_next_box, near_with_fewer_boxes, near_box_end, near_version_after_noted_all, near_needed_place}
+use Rattle.ir_picture.proofs.Placed.{IsPlacedByEvents, placed_if_placed_by_events, placed_by_events_if_placed, box_stays_placed_if_other_box_set, new_box_is_placed_by_events, place_after_needs}
+use Rattle.ir_picture.proofs.Room.{NearVersion, left_of_falls_by_one_after_next_box, near_with_fewer_boxes, near_box_end, near_version_after_noted_all, near_needed_place}
 
 -- ---- the events of a box
 
@@ -58,15 +59,10 @@ length_of_take_of_drop (suc i) n (x ∷ xs) l = length_of_take_of_drop i n xs (o
 pub event_at_of_box_event : (r : Recorded) (b : EventBox) (m : ℕ) (e : Event) → slice_get (events_in r b) m ≡ Some e → event_at r b.thread (b.event + m) ≡ Some e
 event_at_of_box_event r b m e is = slice_get_of_drop b.event m (recorded_thread r b.thread).events e (slice_get_of_take b.count m (drop b.event (recorded_thread r b.thread).events) e is)
 
-pub length_of_events_in : (r : Recorded) (b : EventBox) → IsBox r b → length (events_in r b) ≡ b.count
-length_of_events_in r b is = length_of_take_of_drop b.event b.count (recorded_thread r b.thread).events is.within
+pub length_of_events_in_is_box_count : (r : Recorded) (b : EventBox) → IsBox r b → length (events_in r b) ≡ b.count
+length_of_events_in_is_box_count r b is = length_of_take_of_drop b.event b.count (recorded_thread r b.thread).events is.within
 
 -- ---- boxes whose first event is placed
-
-pub element_below_length_exists : {X : Type 0} (xs : List X) (i : ℕ) → i < length xs → (x : X) × (slice_get xs i ≡ Some x)
-element_below_length_exists [] i less = absurd (omega (arith, less))
-element_below_length_exists (x ∷ xs) zero less = (x, refl)
-element_below_length_exists (x ∷ xs) (suc i) less = element_below_length_exists xs i (omega (arith, less))
 
 -- such a box is placed whole
 box_placed_whole_if_begun : (r : Recorded) (boxes : List PlacedBox) (lanes : List Lane) (f : ℕ → ℕ → Version) (h : AreBeingPlaced r boxes lanes f) (m : ℕ) (a : PlacedBox)
@@ -91,13 +87,13 @@ box_placed_whole_if_begun r boxes lanes f h m a at less =
 abbrev pub lane_after : Lane → PlacedBox → Lane
 lane_after lane new = record { next = lane.next + 1; free = right_of new.end }
 
-pub being_placed_after_next_box : (r : Recorded) (boxes : List PlacedBox) (lanes : List Lane) (f : ℕ → ℕ → Version) (lane : Lane) (b : PlacedBox) (e : Event) (needed : Point)
+pub boxes_are_being_placed_after_next_box : (r : Recorded) (boxes : List PlacedBox) (lanes : List Lane) (f : ℕ → ℕ → Version) (lane : Lane) (b : PlacedBox) (e : Event) (needed : Point)
     → AreCoherent r → AreBeingPlaced r boxes lanes f → slice_get lanes b.events.thread ≡ Some lane → slice_get boxes lane.next ≡ Some b
     → event_at r b.events.thread b.events.event ≡ Some e → after_needs f e ≡ Some needed
     → AreBeingPlaced r (slice_set boxes lane.next (box_at b.events e lane.free needed))
     (slice_set lanes b.events.thread (lane_after lane (box_at b.events e lane.free needed)))
     (noted_all (events_in r b.events) (right_of (box_at b.events e lane.free needed).end) f)
-being_placed_after_next_box r boxes lanes f lane b e needed coherent h at there first after = record {
+boxes_are_being_placed_after_next_box r boxes lanes f lane b e needed coherent h at there first after = record {
   order = stepped.order;
   is = stepped.is;
   boxes = are_new;
@@ -154,7 +150,7 @@ being_placed_after_next_box r boxes lanes f lane b e needed coherent h at there 
     stepped : OrderReaches r (slice_set boxes k new) c t (b.events.event + b.events.count) (noted_all (events_in r b.events) (right_of new.end) f)
     stepped = order_reaches_end_of_box r (slice_set boxes k new) k new coherent are_new (slice_get_after_set boxes k new within) (events_in r b.events) h.order f h.is
         (λ m x is. subst (λ n. event_at r t n ≡ Some x) (omega (arith, here)) (event_at_of_box_event r b.events m x is)) (omega (arith, here))
-        (omega (arith, here, length_of_events_in r b.events is_box)) (λ some. follow) knows_new
+        (omega (arith, here, length_of_events_in_is_box_count r b.events is_box)) (λ some. follow) knows_new
 
     d : ℕ → ℕ
     d = placed stepped.order
@@ -166,7 +162,7 @@ being_placed_after_next_box r boxes lanes f lane b e needed coherent h at there 
 
     -- a box that was placed before stays where it is
     kept : (m : ℕ) (a : PlacedBox) → slice_get boxes m ≡ Some a → a.events.event < c a.events.thread → IsPlacedByEvents r (slice_set boxes k new) a
-    kept m a at_m less = placed_after_other_box_set r boxes k b new a there refl (λ i has before. elim before [
+    kept m a at_m less = box_stays_placed_if_other_box_set r boxes k b new a there refl (λ i has before. elim before [
       | inl own ↦ omega (arith, own.1, less, has.from, here, ap c own.0)
       | inr n ↦ omega (
         arith,
@@ -177,11 +173,11 @@ being_placed_after_next_box r boxes lanes f lane b e needed coherent h at there 
     ]) (placed_by_events_if_placed r boxes a h.boxes (h.done m a at_m less))
 
     free_new : IsAfter (slice_set boxes k new) (IsOf t b.events.event) lane.free
-    free_new = place_after_other_box_set boxes k b new (IsOf t b.events.event) lane.free there refl (λ i has own. omega (arith, own.1, has.from))
+    free_new = place_stays_after_events_if_other_box_set boxes k b new (IsOf t b.events.event) lane.free there refl (λ i has own. omega (arith, own.1, has.from))
         (subst (λ n. IsAfter boxes (IsOf t n) lane.free) (sym here) at_lane.free)
 
     needed_new : IsAfter (slice_set boxes k new) (Needs r t b.events.event) needed
-    needed_new = place_after_other_box_set boxes k b new (Needs r t b.events.event) needed there refl
+    needed_new = place_stays_after_events_if_other_box_set boxes k b new (Needs r t b.events.event) needed there refl
         (λ i has needs. omega (arith, follow.needs t i (subst (λ n. Needs r t n t i) here needs), has.from, here))
         (subst (λ n. IsAfter boxes (Needs r t n) needed) (sym here) (place_after_needs r boxes c f coherent h.knows t e needed first_next after))
 
@@ -306,7 +302,7 @@ being_placed_after_next_box r boxes lanes f lane b e needed coherent h at there 
           let before = h.at u l old.1 in
           subst (λ n. IsLaneAt (slice_set boxes k new) u n l) (sym (stepped.others u (λ same. old.0 (sym same)))) (record {
             cut = subst (λ (x : List EventBox). IsCut x u (c u) l.next) (sym same_events) before.cut;
-            free = place_after_other_box_set boxes k b new (IsOf u (c u)) l.free there refl (λ i has own. old.0 own.0) before.free;
+            free = place_stays_after_events_if_other_box_set boxes k b new (IsOf u (c u)) l.free there refl (λ i has own. old.0 own.0) before.free;
           })
     ]
 
@@ -314,7 +310,7 @@ being_placed_after_next_box r boxes lanes f lane b e needed coherent h at there 
     near o v = record { left = h.room.left o v; made = h.room.made o v }
 
     fewer : suc (left_of (slice_set boxes k new) (slice_set lanes t (lane_after lane new))) ≡ left_of boxes lanes
-    fewer = left_of_after_next_box boxes lanes k t new lane (lane_after lane new) at within refl
+    fewer = left_of_falls_by_one_after_next_box boxes lanes k t new lane (lane_after lane new) at within refl
 
     rest : ℕ
     rest = left_of (slice_set boxes k new) (slice_set lanes t (lane_after lane new))

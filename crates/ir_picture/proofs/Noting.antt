@@ -3,6 +3,7 @@ use Rattle.std.proofs.Common.{◌≡◌, ℕ, suc, zero, ◌+◌, ◌<◌, inl, 
 use Rattle.std.specs.Prelude.{slice_get}
 use Rattle.std.proofs.lemmas.Bool.{cases_eq, cases_lt}
 use Rattle.std.proofs.lemmas.Option.{same_Some, none-some, slice_get-get_or}
+use Rattle.ir_lemmas.proofs.CallerLemmas.{get_or_after_set, get_or_after_set_elsewhere}
 use Rattle.ir_log.specs.declared.event.Event.{Event}
 use Rattle.ir_log.specs.declared.event.Event.TheVariants.{Read, Write, Try}
 use Rattle.ir_past.specs.Past.{entered}
@@ -12,7 +13,6 @@ use Rattle.ir_picture.specs.Boxing.{IsRepeat, IsRepeatBefore, IsFold, are_alike,
 use Rattle.ir_picture.specs.declared.repeats.Habits.{Habits}
 use Rattle.ir_picture.specs.declared.repeats.Repeat.{Repeat}
 use Rattle.ir_picture.specs.declared.repeats.Repeat.TheVariants as repeat
-use Rattle.ir_picture.proofs.Lists.{get_or_after_set, get_or_after_set_elsewhere}
 
 pub slice_get_from_get_or : (es : List Event) (n : ℕ) (d e : Event) → n < length es → get_or es n d ≡ e → slice_get es n ≡ Some e
 slice_get_from_get_or es n d e within is = slice_get-get_or es n d within ∙ ap Some is

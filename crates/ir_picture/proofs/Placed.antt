@@ -17,9 +17,9 @@ use Rattle.ir_picture.specs.declared.placed_box.Point.{Point}
 use Rattle.ir_picture.specs.declared.placed_box.PlacedBox.{PlacedBox}
 use Rattle.ir_picture.specs.declared.table.Version.{Version}
 use Rattle.ir_picture.proofs.Lists.{slice_get_of_map, slice_get_before_map}
-use Rattle.ir_picture.proofs.Least.{least_above_of_equal_sets, place_after_equal_events, place_after_no_events, place_after_union_of_events, place_after_other_box_set, ends_where_of_wider_set, ends_where_after_other_box_set, ends_where_before_other_box_set}
-use Rattle.ir_picture.proofs.FoldNeeds.{box_needs_come_from_first_event}
-use Rattle.ir_picture.proofs.Follows.{read_needs_its_maker, write_needs_maker_or_reader, event_without_entry_needs_nothing, if_else_none_is_some, option_map_is_some, made_by_of_later_version, can_follow_if_place_known}
+use Rattle.ir_picture.proofs.Least.{least_above_of_equal_sets, place_after_equal_events, place_after_no_events, place_after_union_of_events, place_stays_after_events_if_other_box_set, ends_where_of_wider_set, ends_where_after_other_box_set, ends_where_before_other_box_set}
+use Rattle.ir_picture.proofs.FoldNeeds.{box_needs_come_from_first_or_earlier_event}
+use Rattle.ir_picture.proofs.Follows.{need_of_read_is_its_maker, need_of_write_is_its_maker_or_reader, event_without_entry_needs_nothing, test_true_if_choice_is_some, option_is_some_if_option_map_is_some, made_by_of_later_version, can_follow_if_place_known}
 
 -- ---- the first place after what an event needs
 
@@ -53,16 +53,16 @@ place_after_needs r boxes c f coherent knows t (Try o) p is after = subst (IsAft
     (place_after_no_events boxes (Needs r t (c t)) (λ u j needs. event_without_entry_needs_nothing r t (c t) u j (Try o) is (λ q v e. cc) (λ q v l e. cc) needs))
 place_after_needs r boxes c f coherent knows t (Read o v) p is after =
     let follow = can_follow_if_place_known r boxes c f coherent knows t (Read o v) p is after in
-    place_after_equal_events boxes (MakesVersion r o v) (Needs r t (c t)) p (maker_is_needed_by_entry r t (c t) o v (inl is)) (λ u j needs. read_needs_its_maker r t (c t) o v u j is needs)
+    place_after_equal_events boxes (MakesVersion r o v) (Needs r t (c t)) p (maker_is_needed_by_entry r t (c t) o v (inl is)) (λ u j needs. need_of_read_is_its_maker r t (c t) o v u j is needs)
     (place_after_makers r boxes c f knows o v p after (λ u j m. follow.needs u j (maker_is_needed_by_entry r t (c t) o v (inl is) u j m)))
 place_after_needs r boxes c f coherent knows t (Write o v l) p is after =
     let follow = can_follow_if_place_known r boxes c f coherent knows t (Write o v l) p is after in
-    let test = if_else_none_is_some ((f o v).readers == l) (option_map (λ (q : Point). later_of q (f o v).left) (made_by (f o v) v)) p after in
-    let made = option_map_is_some (λ (q : Point). later_of q (f o v).left) (made_by (f o v) v) p test.1 in
+    let test = test_true_if_choice_is_some ((f o v).readers == l) (option_map (λ (q : Point). later_of q (f o v).left) (made_by (f o v) v)) p after in
+    let made = option_is_some_if_option_map_is_some (λ (q : Point). later_of q (f o v).left) (made_by (f o v) v) p test.1 in
     subst (IsAfter boxes (Needs r t (c t))) made.2
     (place_after_union_of_events boxes (MakesVersion r o v) (ReadsPlaced r c o v) (Needs r t (c t)) made.0 (f o v).left (maker_is_needed_by_entry r t (c t) o v (inr (l, is)))
     (λ u j d. inr (record { object = o; version = v; readers = l; write = is; read = d.1 }))
-    (λ u j needs. elim (write_needs_maker_or_reader r t (c t) o v l u j is needs) [
+    (λ u j needs. elim (need_of_write_is_its_maker_or_reader r t (c t) o v l u j is needs) [
       | inl m ↦ inl m
       | inr read ↦ inr (follow.needs u j needs, read)
     ])
@@ -168,11 +168,11 @@ placed_by_events_if_placed r boxes b are h = record {
 }
 
 -- a box that is placed stays so where another is changed whose events are none that it comes after
-pub placed_after_other_box_set : (r : Recorded) (boxes : List PlacedBox) (k : ℕ) (old new b : PlacedBox) → slice_get boxes k ≡ Some old → new.events ≡ old.events
+pub box_stays_placed_if_other_box_set : (r : Recorded) (boxes : List PlacedBox) (k : ℕ) (old new b : PlacedBox) → slice_get boxes k ≡ Some old → new.events ≡ old.events
     → ((i : ℕ) → IsInBox old.events old.events.thread i → ComesBeforeBox r b.events old.events.thread i → ⊥) → IsPlacedByEvents r boxes b
     → IsPlacedByEvents r (slice_set boxes k new) b
-placed_after_other_box_set r boxes k old new b at same not h = record {
-  start = place_after_other_box_set boxes k old new (ComesBeforeBox r b.events) b.start at same not h.start;
+box_stays_placed_if_other_box_set r boxes k old new b at same not h = record {
+  start = place_stays_after_events_if_other_box_set boxes k old new (ComesBeforeBox r b.events) b.start at same not h.start;
   end_x = h.end_x;
   end_u = h.end_u;
   came = least_above_of_equal_sets 1 (EndsWhere boxes (λ q. q.u) (IsOf b.events.thread b.events.event))
@@ -261,7 +261,7 @@ new_box_is_placed_by_events r boxes events e free needed are is first of_free of
     parts_x : (z : ℕ) → EndsWhere boxes (λ q. q.x) (ComesBeforeBox r events) z → (z < free.x) ⊎ (z < needed.x)
     parts_x z w = elim w.these [
       | inl own ↦ inl (of_free.x.above z (record { at = w.at; box = w.box; event = w.event; there = w.there; has = w.has; these = own; ends = w.ends }))
-      | inr n ↦ elim (box_needs_come_from_first_event r events is (suc n.0) n.0 w.box.events.thread w.event (omega arith) n.1.from n.1.below n.2) [
+      | inr n ↦ elim (box_needs_come_from_first_or_earlier_event r events is (suc n.0) n.0 w.box.events.thread w.event (omega arith) n.1.from n.1.below n.2) [
         | inl needs ↦ inr (of_needed.x.above z
             (record { at = w.at; box = w.box; event = w.event; there = w.there; has = w.has; these = needs; ends = w.ends }))
         | inr old ↦ inl (omega (
@@ -275,7 +275,7 @@ new_box_is_placed_by_events r boxes events e free needed are is first of_free of
     parts_u : (z : ℕ) → EndsWhere boxes (λ q. q.u) (ComesBeforeBox r events) z → (z < free.u) ⊎ (z < needed.u)
     parts_u z w = elim w.these [
       | inl own ↦ inl (of_free.u.above z (record { at = w.at; box = w.box; event = w.event; there = w.there; has = w.has; these = own; ends = w.ends }))
-      | inr n ↦ elim (box_needs_come_from_first_event r events is (suc n.0) n.0 w.box.events.thread w.event (omega arith) n.1.from n.1.below n.2) [
+      | inr n ↦ elim (box_needs_come_from_first_or_earlier_event r events is (suc n.0) n.0 w.box.events.thread w.event (omega arith) n.1.from n.1.below n.2) [
         | inl needs ↦ inr (of_needed.u.above z
             (record { at = w.at; box = w.box; event = w.event; there = w.there; has = w.has; these = needs; ends = w.ends }))
         | inr old ↦ inl (omega (

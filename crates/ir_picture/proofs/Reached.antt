@@ -24,8 +24,8 @@ use Rattle.ir_picture.specs.declared.placing.Placing.{Placing}
 use Rattle.ir_picture.proofs.Lists.{slice_get_of_map}
 use Rattle.ir_picture.proofs.Fitting.{events_fit_objects}
 use Rattle.ir_picture.proofs.Counts.{placed_reads_within_limit}
-use Rattle.ir_picture.proofs.Room.{left_of_after_next_box, near_needed_place, event_length_at_most_one}
-use Rattle.ir_picture.proofs.Next.{being_placed_after_next_box, lane_after, event_at_of_box_event, length_of_events_in}
+use Rattle.ir_picture.proofs.Room.{left_of_falls_by_one_after_next_box, near_needed_place, event_length_at_most_one}
+use Rattle.ir_picture.proofs.Next.{boxes_are_being_placed_after_next_box, lane_after, event_at_of_box_event, length_of_events_in_is_box_count}
 
 pub placing_box_is_box : (r : Recorded) (p : Placing) → IsPlacing r p → (k : ℕ) (b : PlacedBox) → slice_get p.boxes.items k ≡ Some b → IsBox r b.events
 placing_box_is_box r p h k b at = h.are.boxes.each k b.events (slice_get_of_map (λ (x : PlacedBox). x.events) p.boxes.items k b at)
@@ -71,7 +71,7 @@ placing_after_next_box r p new t needed lane b e coherent h reads first boxes la
       (subst (λ (ls : List Lane). AreBeingPlaced r new.boxes.items ls after) (sym lanes)
       (subst (λ (bs : List PlacedBox). AreBeingPlaced r bs (slice_set p.lanes.items t (lane_after lane box)) after) (sym boxes)
       (subst (λ z. AreBeingPlaced r (slice_set p.boxes.items lane.next box) (slice_set p.lanes.items z (lane_after lane box)) after) reads.thread
-      (being_placed_after_next_box r p.boxes.items p.lanes.items (version_in p.table) lane b e needed coherent h.are
+      (boxes_are_being_placed_after_next_box r p.boxes.items p.lanes.items (version_in p.table) lane b e needed coherent h.are
       (subst (λ z. slice_get p.lanes.items z ≡ Some lane) (sym reads.thread) reads.at) reads.there first
       (subst (λ (x : Event). after_needs (version_in p.table) x ≡ Some needed) (same_Some reads.event e (sym reads.first ∙ first)) reads.after)))));
 }
@@ -97,8 +97,8 @@ needed_place_within_limit r p t needed h ready =
     (λ o v. record { left = h.are.room.left o v; made = h.are.room.made o v }) ready.after in
     (omega (arith, near.x, h.are.room.small), omega (arith, near.u, h.are.room.small))
 
-count_within_sixteen_threads : (n m : ℕ) → n ≤ 16 → m ≤ n * most_events → m ≤ 16 * most_events
-count_within_sixteen_threads n m a b = omega (arith, b, mul-le n most_events 16 most_events a (omega arith))
+count_within_events_of_sixteen_threads : (n m : ℕ) → n ≤ 16 → m ≤ n * most_events → m ≤ 16 * most_events
+count_within_events_of_sixteen_threads n m a b = omega (arith, b, mul-le n most_events 16 most_events a (omega arith))
 
 -- the counts of read entries fit
 pub reader_counts_fit : (r : Recorded) (p : Placing) (b : EventBox) → IsPlacing r p → IsBox r b → (o v : ℕ)
@@ -106,9 +106,9 @@ pub reader_counts_fit : (r : Recorded) (p : Placing) (b : EventBox) → IsPlacin
 reader_counts_fit r p b h is o v = omega (
   arith,
   h.are.knows.readers o v,
-  count_within_sixteen_threads (length r.threads) (placed_reads r (placed h.are.order) o v) (recorded_threads_at_most_limit r h.recorded)
+  count_within_events_of_sixteen_threads (length r.threads) (placed_reads r (placed h.are.order) o v) (recorded_threads_at_most_limit r h.recorded)
       (placed_reads_within_limit r (placed h.are.order) o v h.recorded),
-  length_of_events_in r b is,
+  length_of_events_in_is_box_count r b is,
   is.within,
   (recorded_thread_at_number_is_recorded r h.recorded b.thread is.thread).few_events,
 )
@@ -124,9 +124,9 @@ box_events_fit_objects r p b h is k o e at enters = omega (
 
 -- ---- what is asked of the next box of a thread
 
-pub lane_read_is_lane_of_thread : (r : Recorded) (p : Placing) (t : ℕ) (lane : Lane) → IsPlacing r p → t < length r.threads → lane ≡ get_or p.lanes.items t lane
+pub lane_from_get_or_is_lane_of_thread : (r : Recorded) (p : Placing) (t : ℕ) (lane : Lane) → IsPlacing r p → t < length r.threads → lane ≡ get_or p.lanes.items t lane
     → slice_get p.lanes.items t ≡ Some lane
-lane_read_is_lane_of_thread r p t lane h less is = slice_get_read p.lanes.items (length p.lanes.items) t lane refl (omega (arith, less, h.are.threads)) is
+lane_from_get_or_is_lane_of_thread r p t lane h less is = slice_get_read p.lanes.items (length p.lanes.items) t lane refl (omega (arith, less, h.are.threads)) is
 
 pub next_box_if_found : (r : Recorded) (p : Placing) (t : ℕ) (lane : Lane) (boxes : List PlacedBox) (own : EventBox) (e : Event) → boxes ≡ p.boxes.items
     → slice_get p.lanes.items t ≡ Some lane
@@ -147,54 +147,54 @@ pub found_box_is_box : (r : Recorded) (p : Placing) (t k : ℕ) (boxes : List Pl
 found_box_is_box r p t k boxes own h same f = subst (IsBox r) f.2
     (placing_box_is_box r p h k f.0 (subst (λ (bs : List PlacedBox). slice_get bs k ≡ Some f.0) same f.1))
 
-pub ready_if_place_after_needs : (r : Recorded) (p : Placing) (t : ℕ) (lane : Lane) (e : Event) (result : Option Point)
+pub thread_is_ready_if_place_after_needs : (r : Recorded) (p : Placing) (t : ℕ) (lane : Lane) (e : Event) (result : Option Point)
     → ((b : PlacedBox) × IsNext r p.boxes.items p.lanes.items t lane b e) → result ≡ after_needs (version_in p.table) e
     → IfSome result (λ x. IsReady r p t x)
-ready_if_place_after_needs r p t lane e None next is = tt
-ready_if_place_after_needs r p t lane e (Some x) next is = record { lane = lane; box = next.0; event = e; next = next.1; after = sym is }
+thread_is_ready_if_place_after_needs r p t lane e None next is = tt
+thread_is_ready_if_place_after_needs r p t lane e (Some x) next is = record { lane = lane; box = next.0; event = e; next = next.1; after = sym is }
 
-pub waiting_if_no_place_after_needs : (r : Recorded) (p : Placing) (t : ℕ) (lane : Lane) (e : Event) (result : Option Point)
+pub thread_is_waiting_if_no_place_after_needs : (r : Recorded) (p : Placing) (t : ℕ) (lane : Lane) (e : Event) (result : Option Point)
     → ((b : PlacedBox) × IsNext r p.boxes.items p.lanes.items t lane b e) → result ≡ after_needs (version_in p.table) e
     → IfNone result (IsWaiting r p t)
-waiting_if_no_place_after_needs r p t lane e (Some x) next is = tt
-waiting_if_no_place_after_needs r p t lane e None next is = λ l b x other.
+thread_is_waiting_if_no_place_after_needs r p t lane e (Some x) next is = tt
+thread_is_waiting_if_no_place_after_needs r p t lane e None next is = λ l b x other.
     let same_lane : lane ≡ l = same_Some lane l (sym next.1.at ∙ other.at) in
     let same_box : next.0 ≡ b = same_Some next.0 b (sym next.1.there
     ∙ subst (λ (y : Lane). slice_get p.boxes.items y.next ≡ Some b) (sym same_lane) other.there) in
     let same : e ≡ x = same_Some e x (sym next.1.first ∙ subst (λ (y : PlacedBox). event_at r t y.events.event ≡ Some x) (sym same_box) other.first) in
     subst (λ (y : Event). after_needs (version_in p.table) y ≡ None) same (sym is)
 
-pub waiting_if_no_next_box : (r : Recorded) (p : Placing) (t : ℕ) (lane : Lane) (boxes : List PlacedBox) → boxes ≡ p.boxes.items → slice_get p.lanes.items t ≡ Some lane
+pub thread_is_waiting_if_no_next_box : (r : Recorded) (p : Placing) (t : ℕ) (lane : Lane) (boxes : List PlacedBox) → boxes ≡ p.boxes.items → slice_get p.lanes.items t ≡ Some lane
     → ((b : PlacedBox) → slice_get boxes lane.next ≡ Some b → b.events.thread ≡ t → ⊥) → IsWaiting r p t
-waiting_if_no_next_box r p t lane boxes same at none l b e next =
+thread_is_waiting_if_no_next_box r p t lane boxes same at none l b e next =
     let same_lane : lane ≡ l = same_Some lane l (sym at ∙ next.at) in
     absurd (none b (subst (λ (bs : List PlacedBox). slice_get bs lane.next ≡ Some b) (sym same)
     (subst (λ (y : Lane). slice_get p.boxes.items y.next ≡ Some b) (sym same_lane) next.there)) next.thread)
 
 -- a thread that isn't there waits
-pub waiting_beyond_last_thread : (r : Recorded) (p : Placing) (t : ℕ) → IsPlacing r p → length r.threads ≤ t → IsWaiting r p t
-waiting_beyond_last_thread r p t h past l b e next = absurd (omega (arith, past, h.are.threads, slice_get_within p.lanes.items t l next.at))
+pub thread_is_waiting_beyond_last_thread : (r : Recorded) (p : Placing) (t : ℕ) → IsPlacing r p → length r.threads ≤ t → IsWaiting r p t
+thread_is_waiting_beyond_last_thread r p t h past l b e next = absurd (omega (arith, past, h.are.threads, slice_get_within p.lanes.items t l next.at))
 
-pub over_beyond_last_thread : (r : Recorded) (p : Placing) (t : ℕ) → IsPlacing r p → length r.threads ≤ t → IsOver p t
-over_beyond_last_thread r p t h past l b at there thread = omega (arith, past, h.are.threads, slice_get_within p.lanes.items t l at)
+pub thread_is_over_beyond_last_thread : (r : Recorded) (p : Placing) (t : ℕ) → IsPlacing r p → length r.threads ≤ t → IsOver p t
+thread_is_over_beyond_last_thread r p t h past l b at there thread = omega (arith, past, h.are.threads, slice_get_within p.lanes.items t l at)
 
-pub over_if_no_next_box : (p : Placing) (t : ℕ) (lane : Lane) (boxes : List PlacedBox) → boxes ≡ p.boxes.items → slice_get p.lanes.items t ≡ Some lane
+pub thread_is_over_if_no_next_box : (p : Placing) (t : ℕ) (lane : Lane) (boxes : List PlacedBox) → boxes ≡ p.boxes.items → slice_get p.lanes.items t ≡ Some lane
     → ((b : PlacedBox) → slice_get boxes lane.next ≡ Some b → b.events.thread ≡ t → ⊥) → IsOver p t
-over_if_no_next_box p t lane boxes same at none l b at_l there thread =
+thread_is_over_if_no_next_box p t lane boxes same at none l b at_l there thread =
     let same_lane : lane ≡ l = same_Some lane l (sym at ∙ at_l) in
     none b (subst (λ (bs : List PlacedBox). slice_get bs lane.next ≡ Some b) (sym same)
     (subst (λ (y : Lane). slice_get p.boxes.items y.next ≡ Some b) (sym same_lane) there)) thread
 
 -- ---- what the code reads where a thread is ready
 
-pub lane_read_of_ready_thread : (r : Recorded) (p : Placing) (t : ℕ) (needed : Point) (lane : Lane) → IsReady r p t needed → lane ≡ get_or p.lanes.items t lane
+pub lane_from_get_or_is_lane_of_ready_thread : (r : Recorded) (p : Placing) (t : ℕ) (needed : Point) (lane : Lane) → IsReady r p t needed → lane ≡ get_or p.lanes.items t lane
     → slice_get p.lanes.items t ≡ Some lane
-lane_read_of_ready_thread r p t needed lane h is = slice_get_read p.lanes.items (length p.lanes.items) t lane refl (slice_get_within p.lanes.items t h.lane h.next.at) is
+lane_from_get_or_is_lane_of_ready_thread r p t needed lane h is = slice_get_read p.lanes.items (length p.lanes.items) t lane refl (slice_get_within p.lanes.items t h.lane h.next.at) is
 
-pub ready_parts_of_values_read : (r : Recorded) (p : Placing) (t : ℕ) (needed : Point) (lane : Lane) (b : PlacedBox) → IsPlacing r p → IsReady r p t needed
+pub ready_parts_of_values_from_get_or : (r : Recorded) (p : Placing) (t : ℕ) (needed : Point) (lane : Lane) (b : PlacedBox) → IsPlacing r p → IsReady r p t needed
     → lane ≡ get_or p.lanes.items t lane → b ≡ get_or p.boxes.items lane.next b → ReadyParts r p t needed lane b
-ready_parts_of_values_read r p t needed lane b h ready is_lane is_box =
-    let at = lane_read_of_ready_thread r p t needed lane ready is_lane in
+ready_parts_of_values_from_get_or r p t needed lane b h ready is_lane is_box =
+    let at = lane_from_get_or_is_lane_of_ready_thread r p t needed lane ready is_lane in
     let x = ready_parts_of_lane r p t needed ready lane at in
     ready_parts_of_lane_and_box r p t needed ready lane b at
     (slice_get_read p.boxes.items (length p.boxes.items) lane.next b refl (slice_get_within p.boxes.items lane.next ready.box x.there) is_box)
@@ -232,6 +232,6 @@ pub boxes_left_falls : (r : Recorded) (p : Placing) (t : ℕ) (needed : Point) (
     → left_of (slice_set p.boxes.items lane.next box) (slice_set p.lanes.items t (record { next = lane.next + 1; free = free })) < boxes_left p
 boxes_left_falls r p t needed lane b box free reads = omega (
   arith,
-  left_of_after_next_box p.boxes.items p.lanes.items lane.next t box lane (record { next = lane.next + 1; free = free }) reads.at
+  left_of_falls_by_one_after_next_box p.boxes.items p.lanes.items lane.next t box lane (record { next = lane.next + 1; free = free }) reads.at
       (slice_get_within p.boxes.items lane.next b reads.there) refl,
 )

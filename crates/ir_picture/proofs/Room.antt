@@ -13,7 +13,7 @@ use Rattle.ir_picture.specs.declared.placed_box.PlacedBox.{PlacedBox}
 use Rattle.ir_picture.specs.declared.table.Version.{Version}
 use Rattle.ir_picture.specs.declared.placing.Lane.{Lane}
 use Rattle.ir_picture.proofs.Lists.{length_of_slice_set}
-use Rattle.ir_picture.proofs.Follows.{if_else_none_is_some, option_map_is_some, made_by_of_later_version}
+use Rattle.ir_picture.proofs.Follows.{test_true_if_choice_is_some, option_is_some_if_option_map_is_some, made_by_of_later_version}
 
 -- ---- boxes that are left
 
@@ -27,10 +27,10 @@ left_of_boxes_of_equal_count : (boxes new : List PlacedBox) (lanes : List Lane) 
 left_of_boxes_of_equal_count boxes new [] same = refl
 left_of_boxes_of_equal_count boxes new (l ∷ ls) same = omega (arith, same, left_of_boxes_of_equal_count boxes new ls same)
 
-pub left_of_after_next_box : (boxes : List PlacedBox) (lanes : List Lane) (k t : ℕ) (new : PlacedBox) (lane after : Lane) → slice_get lanes t ≡ Some lane
+pub left_of_falls_by_one_after_next_box : (boxes : List PlacedBox) (lanes : List Lane) (k t : ℕ) (new : PlacedBox) (lane after : Lane) → slice_get lanes t ≡ Some lane
     → lane.next < length boxes → after.next ≡ lane.next + 1
     → suc (left_of (slice_set boxes k new) (slice_set lanes t after)) ≡ left_of boxes lanes
-left_of_after_next_box boxes lanes k t new lane after at less next = omega (
+left_of_falls_by_one_after_next_box boxes lanes k t new lane after at less next = omega (
   arith,
   left_of_boxes_of_equal_count boxes (slice_set boxes k new) (slice_set lanes t after) (length_of_slice_set boxes k new),
   left_of_after_lane_set boxes lanes t lane after at,
@@ -98,7 +98,7 @@ pub near_needed_place : (top n : ℕ) (f : ℕ → ℕ → Version) (e : Event) 
 near_needed_place top n f (Answer kind value) p low all is = subst (IsNear top n) (same_Some first_point p is) (near_first_point top n low)
 near_needed_place top n f (Read o v) p low all is = near_made_place top n (f o v) v p low (all o v) is
 near_needed_place top n f (Write o v l) p low all is =
-    let test = if_else_none_is_some ((f o v).readers == l) (option_map (λ (q : Point). later_of q (f o v).left) (made_by (f o v) v)) p is in
-    let made = option_map_is_some (λ (q : Point). later_of q (f o v).left) (made_by (f o v) v) p test.1 in
+    let test = test_true_if_choice_is_some ((f o v).readers == l) (option_map (λ (q : Point). later_of q (f o v).left) (made_by (f o v) v)) p is in
+    let made = option_is_some_if_option_map_is_some (λ (q : Point). later_of q (f o v).left) (made_by (f o v) v) p test.1 in
     subst (IsNear top n) made.2 (near_later_of top n made.0 (f o v).left (near_made_place top n (f o v) v made.0 low (all o v) made.1) (all o v).left)
 near_needed_place top n f (Try o) p low all is = subst (IsNear top n) (same_Some first_point p is) (near_first_point top n low)

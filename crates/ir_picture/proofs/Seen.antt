@@ -3,6 +3,7 @@ use Rattle.std.proofs.Common.{◌≡◌, ℕ, suc, zero, ◌+◌, ◌-◌, ◌<�
 use Rattle.std.specs.Prelude.{slice_get, IfSome, IfNone}
 use Rattle.std.proofs.lemmas.Bool.{cases_eq, cases_lt}
 use Rattle.std.proofs.lemmas.Option.{same_Some, none-some, slice_get_within}
+use Rattle.ir_lemmas.proofs.CallerLemmas.{added_element_is_last, get_or_after_set, get_or_after_set_elsewhere, slice_get_after_push_cases, slice_get_after_push_earlier}
 use Rattle.ir_log.specs.declared.event.Event.{Event}
 use Rattle.ir_log.specs.declared.event.Event.TheVariants.{Answer, Read, Write, Try}
 use Rattle.ir_trace.specs.Recorded.{Recorded, recorded_thread}
@@ -23,7 +24,7 @@ use Rattle.ir_picture.specs.Seeing.{Enters, IsLastEntry, entry_noted, HoldsEntri
 use Rattle.ir_picture.specs.declared.event_box.EventBox.{EventBox}
 use Rattle.ir_picture.specs.declared.placed_box.PlacedBox.{PlacedBox}
 use Rattle.ir_picture.specs.declared.sights.Sight.{Sight}
-use Rattle.ir_picture.proofs.Lists.{get_or_after_set, get_or_after_set_elsewhere, slice_get_of_map, slice_get_after_push_cases, slice_get_after_push_earlier, slice_get_of_pushed}
+use Rattle.ir_picture.proofs.Lists.{slice_get_of_map}
 use Rattle.ir_picture.proofs.Follows.{event_at_is_unique, writer_of_version_is_unique}
 
 -- ---- entries
@@ -368,23 +369,23 @@ sight_from_parts r boxes t i o v k m p maker seer some sees made ne at_k in_k at
     first_maker = write_is_first_of_box r maker.events p.thread p.event made.object made.version made.readers (listed_box_is_box r boxes k maker some at_k) in_k made.made
 
 -- what a sight at an event says of its maker
-pub maker_of_sight : (r : Recorded) (boxes : List PlacedBox) (t i : ℕ) (s : Sight) → SeesAt r boxes t i s
+pub maker_of_sight_is_maker_of_event : (r : Recorded) (boxes : List PlacedBox) (t i : ℕ) (s : Sight) → SeesAt r boxes t i s
     → IsMakerOf r t i s.maker.events.thread s.maker.events.event
-maker_of_sight r boxes t i s h = subst (λ n. IsMakerOf r n i s.maker.events.thread s.maker.events.event) h.thread
+maker_of_sight_is_maker_of_event r boxes t i s h = subst (λ n. IsMakerOf r n i s.maker.events.thread s.maker.events.event) h.thread
     (subst (λ n. IsMakerOf r s.seer.events.thread n s.maker.events.thread s.maker.events.event) h.event h.sight.made)
 
 -- none where the maker is of the same thread, or has no box, or the event has none
 pub no_sight_of_own_maker : (r : Recorded) (boxes : List PlacedBox) (t i : ℕ) (p : Place) (s : Sight) → AreCoherent r → IsMakerOf r t i p.thread p.event → p.thread ≡ t
     → SeesAt r boxes t i s → ⊥
 no_sight_of_own_maker r boxes t i p s coherent made own h =
-    let same = maker_is_unique r coherent t i s.maker.events.thread s.maker.events.event p.thread p.event (maker_of_sight r boxes t i s h) made in
+    let same = maker_is_unique r coherent t i s.maker.events.thread s.maker.events.event p.thread p.event (maker_of_sight_is_maker_of_event r boxes t i s h) made in
     h.sight.others (same.0 ∙ (own ∙ sym h.thread))
 
 pub no_sight_without_maker_box : (r : Recorded) (boxes : List PlacedBox) (t i : ℕ) (p : Place) (s : Sight) → AreCoherent r → AreSomeBoxes r (events_of_all boxes)
     → IsMakerOf r t i p.thread p.event → ((k : ℕ) (b : PlacedBox) → slice_get boxes k ≡ Some b → IsInBox b.events p.thread p.event → ⊥)
     → SeesAt r boxes t i s → ⊥
 no_sight_without_maker_box r boxes t i p s coherent some made none h =
-    let same = maker_is_unique r coherent t i s.maker.events.thread s.maker.events.event p.thread p.event (maker_of_sight r boxes t i s h) made in
+    let same = maker_is_unique r coherent t i s.maker.events.thread s.maker.events.event p.thread p.event (maker_of_sight_is_maker_of_event r boxes t i s h) made in
     none h.sight.from s.maker h.sight.maker (box_has_its_first_event r boxes h.sight.from p.thread p.event s.maker some h.sight.maker same.0 same.1)
 
 pub no_sight_without_seer_box : (r : Recorded) (boxes : List PlacedBox) (t i : ℕ) (s : Sight) → AreSomeBoxes r (events_of_all boxes)
@@ -438,11 +439,11 @@ pub sights_before_step_with_sight : (r : Recorded) (boxes : List PlacedBox) (t n
     → AreSomeBoxes r (events_of_all boxes) → SeesAt r boxes t n new → SightsBefore r boxes t n sights
     → SightsBefore r boxes t (n + 1) (sights ++ new ∷ [])
 sights_before_step_with_sight r boxes t n sights new coherent some sees h = record {
-  each = λ k s is. elim (slice_get_after_push_cases sights new s k is) [
+  each = λ k s is. elim (slice_get_after_push_cases sights new k s is) [
     | inl old ↦ h.each k s old
     | inr now ↦ subst (IsSight r boxes) now.1 sees.sight
   ];
-  before = λ k s is. elim (slice_get_after_push_cases sights new s k is) [
+  before = λ k s is. elim (slice_get_after_push_cases sights new k s is) [
     | inl old ↦ before_next_event s.seer.events.thread s.seer.events.event t n (h.before k s old)
     | inr now ↦ subst (λ (x : Sight). IsBefore x.seer.events.thread x.seer.events.event t (n + 1)) now.1 (inr (sees.thread, omega (arith, sees.event)))
   ];
@@ -450,16 +451,16 @@ sights_before_step_with_sight r boxes t n sights new coherent some sees h = reco
     | inl less ↦ let old = h.all s is less in (old.0, slice_get_after_push_earlier sights new s old.0 old.1)
     | inr here ↦ (
       length sights,
-      slice_get_of_pushed sights new
+      added_element_is_last sights new
           ∙ ap Some (sight_of_event_is_unique r boxes t n new s coherent some sees (record { sight = is; thread = here.0; event = here.1 })),
     )
   ];
-  rising = λ k m s z less first second. elim (slice_get_after_push_cases sights new z m second) [
-    | inl old ↦ elim (slice_get_after_push_cases sights new s k first) [
+  rising = λ k m s z less first second. elim (slice_get_after_push_cases sights new m z second) [
+    | inl old ↦ elim (slice_get_after_push_cases sights new k s first) [
       | inl both ↦ h.rising k m s z less both old
       | inr now ↦ absurd (omega (arith, less, now.0, slice_get_within sights m z old))
     ]
-    | inr now ↦ elim (slice_get_after_push_cases sights new s k first) [
+    | inr now ↦ elim (slice_get_after_push_cases sights new k s first) [
       | inl old ↦ subst (λ (x : Sight). IsBefore s.seer.events.thread s.seer.events.event x.seer.events.thread x.seer.events.event) now.1
           (subst (λ u. IsBefore s.seer.events.thread s.seer.events.event u new.seer.events.event) (sym sees.thread)
           (subst (IsBefore s.seer.events.thread s.seer.events.event t) (sym sees.event) (h.before k s old)))
@@ -512,8 +513,8 @@ pub object_of_entry_fits : (r : Recorded) (t n o v : ℕ) (e : Event) (objects :
 object_of_entry_fits r t n o v e objects at enters fits = fits n o e at (entered_if_enters e o v enters)
 
 -- what is not the first version
-pub sees_new_of_later_version : (r : Recorded) (t i o v : ℕ) → (v ≡ 0 → ⊥) → SeesNew r t i o v → SeesNew r t i o (suc (v - 1))
-sees_new_of_later_version r t i o v ne sees =
+pub sees_new_of_successor_unless_first_version : (r : Recorded) (t i o v : ℕ) → (v ≡ 0 → ⊥) → SeesNew r t i o v → SeesNew r t i o (suc (v - 1))
+sees_new_of_successor_unless_first_version r t i o v ne sees =
     let same : v ≡ suc (v - 1) = omega (arith, ne) in
     subst (SeesNew r t i o) same sees
 
@@ -525,9 +526,9 @@ if_none_from_fact (Some x) P p = tt
 pub found_maker_is_maker : (r : Recorded) (t i o v : ℕ) (m : Makers) (result : Option Place) → Makes r (length r.threads) 0 m → SeesNew r t i o v → (v ≡ 0 → ⊥)
     → result ≡ maker_in m o (v - 1) → IfSome result (λ p. IsMakerOf r t i p.thread p.event)
 found_maker_is_maker r t i o v m None makes sees ne is = tt
-found_maker_is_maker r t i o v m (Some p) makes sees ne is = maker_in_table_is_maker r t i o (v - 1) p.thread p.event m p makes (sees_new_of_later_version r t i o v ne sees) (sym is)
+found_maker_is_maker r t i o v m (Some p) makes sees ne is = maker_in_table_is_maker r t i o (v - 1) p.thread p.event m p makes (sees_new_of_successor_unless_first_version r t i o v ne sees) (sym is)
 
 pub no_maker_if_none_found : (r : Recorded) (t i o v : ℕ) (m : Makers) (result : Option Place) → Makes r (length r.threads) 0 m → SeesNew r t i o v → (v ≡ 0 → ⊥)
     → result ≡ maker_in m o (v - 1) → IfNone result ((u j : ℕ) → IsMakerOf r t i u j → ⊥)
 no_maker_if_none_found r t i o v m (Some p) makes sees ne is = tt
-no_maker_if_none_found r t i o v m None makes sees ne is = no_maker_unless_in_table r t i o (v - 1) m makes (sees_new_of_later_version r t i o v ne sees) (sym is)
+no_maker_if_none_found r t i o v m None makes sees ne is = no_maker_unless_in_table r t i o (v - 1) m makes (sees_new_of_successor_unless_first_version r t i o v ne sees) (sym is)

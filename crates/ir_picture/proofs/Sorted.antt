@@ -4,6 +4,7 @@ use Rattle.std.specs.Prelude.{slice_get}
 use Rattle.std.specs.List.Sorted.{IsNonDecreasingBy, IsPartitionPoint, IsPartitionedBy}
 use Rattle.std.proofs.lemmas.Bool.{cases_eq, cases_lt, ltb-true, ltb-false, leb-true, leb-false, eqb-true, and_parts}
 use Rattle.std.proofs.lemmas.Option.{same_Some, none-some, slice_get_within, slice_get-get_or, get_or_from_slice_get}
+use Rattle.ir_lemmas.proofs.CallerLemmas.{true_is_not_false, and_true_from_both, or_true_from_left, or_true_from_right, slice_get_after_push_cases}
 use Rattle.ir_picture.specs.Boxes.{IsInBox}
 use Rattle.ir_picture.specs.Boxing.{EndsBy, AreApart}
 use Rattle.ir_picture.specs.Placing.{IsCut, first_point, events_of_all}
@@ -11,7 +12,7 @@ use Rattle.ir_picture.specs.Shown.{is_in, has_box, begins_by}
 use Rattle.ir_picture.specs.declared.event_box.EventBox.{EventBox}
 use Rattle.ir_picture.specs.declared.placed_box.PlacedBox.{PlacedBox}
 use Rattle.ir_picture.specs.declared.placing.Lane.{Lane}
-use Rattle.ir_picture.proofs.Lists.{slice_get_of_map, slice_get_after_push_cases}
+use Rattle.ir_picture.proofs.Lists.{slice_get_of_map}
 
 pub threads_of_boxes_rise : (boxes : List EventBox) → AreApart boxes → IsNonDecreasingBy (λ (b : EventBox). b.thread) boxes
 threads_of_boxes_rise boxes apart i j d le less = elim (cases_eq i j) [
@@ -44,21 +45,9 @@ pub bool_cases : (b : Bool) → (b ≡ true) ⊎ (b ≡ false)
 bool_cases true = inl refl
 bool_cases false = inr refl
 
-or_true_from_left : (a b : Bool) → a ≡ true → (a || b) ≡ true
-or_true_from_left true b e = refl
-or_true_from_left false b e = absurd (let bad : false ≡ true = e in cc)
-
-or_true_from_right : (a b : Bool) → b ≡ true → (a || b) ≡ true
-or_true_from_right true b e = refl
-or_true_from_right false b e = e
-
 or_true_cases : (a b : Bool) → (a || b) ≡ true → (a ≡ true) ⊎ (b ≡ true)
 or_true_cases true b e = inl refl
 or_true_cases false b e = inr e
-
-and_true_from_both : (a b : Bool) → a ≡ true → b ≡ true → (a && b) ≡ true
-and_true_from_both true b e f = f
-and_true_from_both false b e f = e
 
 nat_le_true_if_at_most : (a b : ℕ) → a ≤ b → nat_le a b ≡ true
 nat_le_true_if_at_most a b h = elim (bool_cases (nat_le a b)) [
@@ -133,9 +122,6 @@ later_box_begins_after_event b a t i has (inl less) (inr here) = omega (arith, l
 later_box_begins_after_event b a t i has (inr by) (inl lower) = omega (arith, by.0, lower, has.thread)
 later_box_begins_after_event b a t i has (inr by) (inr here) = omega (arith, by.1, here.1, has.below)
 
-pub true_is_not_false : (c : Bool) → c ≡ true → c ≡ false → ⊥
-true_is_not_false c e f = let bad : true ≡ false = sym e ∙ f in cc
-
 -- where n boxes begin by an event, it can only be in the last of these
 pub box_of_event_is_last_begun : (boxes : List PlacedBox) (t i n : ℕ) → AreApart (events_of_all boxes) → n ≤ length boxes
     → IsPartitionPoint (λ (b : PlacedBox). begins_by t i b.events ≡ true) (λ b. begins_by t i b.events ≡ false) boxes n
@@ -179,7 +165,7 @@ in_box_if_has_box_true (x ∷ xs) t i e = elim (or_true_cases (is_in t i x) (has
 pub lanes_at_start_after_push : (boxes : List EventBox) (lanes : List Lane) (new : Lane) (t : ℕ) → length lanes ≡ t → new.free ≡ first_point → IsCut boxes t 0 new.next
     → ((u : ℕ) (l : Lane) → slice_get lanes u ≡ Some l → (l.free ≡ first_point) × IsCut boxes u 0 l.next)
     → (u : ℕ) (l : Lane) → slice_get (lanes ++ new ∷ []) u ≡ Some l → (l.free ≡ first_point) × IsCut boxes u 0 l.next
-lanes_at_start_after_push boxes lanes new t long free cut all u l is = elim (slice_get_after_push_cases lanes new l u is) [
+lanes_at_start_after_push boxes lanes new t long free cut all u l is = elim (slice_get_after_push_cases lanes new u l is) [
   | inl old ↦ all u l old
   | inr now ↦ subst (λ (x : Lane). (x.free ≡ first_point) × IsCut boxes u 0 x.next) now.1
       (free, subst (λ z. IsCut boxes z 0 new.next) (sym (now.0 ∙ long)) cut)

@@ -45,20 +45,20 @@ comes_before_tells_before t i x = elim (ltb_tells_less x.thread t) [
     neither (inl a) f g = f a
     neither (inr b) f g = g b
 
-pub before_if_comes_before : (t i : ℕ) (x : StaleWrite) → comes_before t i x ≡ true → IsBefore x.thread x.event t i
-before_if_comes_before t i x is = elim (comes_before_tells_before t i x) [
+pub before_if_comes_before_is_true : (t i : ℕ) (x : StaleWrite) → comes_before t i x ≡ true → IsBefore x.thread x.event t i
+before_if_comes_before_is_true t i x is = elim (comes_before_tells_before t i x) [
   | inl holds ↦ holds.1
   | inr fails ↦ absurd (false≢true (sym fails.0 ∙ is))
 ]
 
-pub not_before_unless_comes_before : (t i : ℕ) (x : StaleWrite) → comes_before t i x ≡ false → IsBefore x.thread x.event t i → ⊥
-not_before_unless_comes_before t i x is = elim (comes_before_tells_before t i x) [
+pub not_before_if_comes_before_is_false : (t i : ℕ) (x : StaleWrite) → comes_before t i x ≡ false → IsBefore x.thread x.event t i → ⊥
+not_before_if_comes_before_is_false t i x is = elim (comes_before_tells_before t i x) [
   | inl holds ↦ absurd (true≢false (sym holds.0 ∙ is))
   | inr fails ↦ fails.1
 ]
 
-comes_before_if_before : (t i : ℕ) (x : StaleWrite) → IsBefore x.thread x.event t i → comes_before t i x ≡ true
-comes_before_if_before t i x before = elim (comes_before_tells_before t i x) [
+comes_before_is_true_if_before : (t i : ℕ) (x : StaleWrite) → IsBefore x.thread x.event t i → comes_before t i x ≡ true
+comes_before_is_true_if_before t i x before = elim (comes_before_tells_before t i x) [
   | inl holds ↦ holds.0
   | inr fails ↦ absurd (fails.1 before)
 ]
@@ -77,23 +77,23 @@ before_irreflexive a b (inr x) = let less = x.1 in omega (arith, less)
 -- those that come before an event are the first
 pub stale_writes_partitioned_by_event : (t i : ℕ) (xs : List StaleWrite) → IsRising xs → IsPartitionedBy (comes_before t i) xs
 stale_writes_partitioned_by_event t i xs rising a b d at within is = elim (cases_lt a b) [
-  | inl less ↦ comes_before_if_before t i (get_or xs a d)
+  | inl less ↦ comes_before_is_true_if_before t i (get_or xs a d)
       (before_transitive (get_or xs a d).thread (get_or xs a d).event (get_or xs b d).thread (get_or xs b d).event t i
       (rising a b (get_or xs a d) (get_or xs b d) less (slice_get-get_or xs a d (omega (arith, less, within))) (slice_get-get_or xs b d within))
-      (before_if_comes_before t i (get_or xs b d) is))
+      (before_if_comes_before_is_true t i (get_or xs b d) is))
   | inr not ↦ let same : b ≡ a = omega (arith, at, not) in subst (λ n. comes_before t i (get_or xs n d) ≡ true) same is
 ]
 
 pub before_below_partition_point : (t i n : ℕ) (xs : List StaleWrite)
     → IsPartitionPoint (λ (x : StaleWrite). comes_before t i x ≡ true) (λ x. comes_before t i x ≡ false) xs n → (k : ℕ) (x : StaleWrite) → k < n
     → slice_get xs k ≡ Some x → IsBefore x.thread x.event t i
-before_below_partition_point t i n xs point k x less at = before_if_comes_before t i x
+before_below_partition_point t i n xs point k x less at = before_if_comes_before_is_true t i x
     (subst (λ z. comes_before t i z ≡ true) (get_or_from_slice_get xs k x x at) (point.0 k x (omega arith) less))
 
 pub not_before_from_partition_point : (t i n : ℕ) (xs : List StaleWrite)
     → IsPartitionPoint (λ (x : StaleWrite). comes_before t i x ≡ true) (λ x. comes_before t i x ≡ false) xs n → (k : ℕ) (x : StaleWrite) → n ≤ k
     → slice_get xs k ≡ Some x → IsBefore x.thread x.event t i → ⊥
-not_before_from_partition_point t i n xs point k x more at = not_before_unless_comes_before t i x
+not_before_from_partition_point t i n xs point k x more at = not_before_if_comes_before_is_false t i x
     (subst (λ z. comes_before t i z ≡ false) (get_or_from_slice_get xs k x x at) (point.1 k x more (slice_get_within xs k x at)))
 
 -- ---- what is read
@@ -102,9 +102,9 @@ not_before_from_partition_point t i n xs point k x more at = not_before_unless_c
 abbrev IsStaleWriteAt : StaleWrite → ℕ → ℕ → Type 0
 IsStaleWriteAt x t i = (x.thread ≡ t) × (x.event ≡ i)
 
-event_test_tells_place : (x : StaleWrite) (t i : ℕ) → (((x.thread == t) && (x.event == i)) ≡ true × IsStaleWriteAt x t i)
+event_test_tells_is_stale_write_at : (x : StaleWrite) (t i : ℕ) → (((x.thread == t) && (x.event == i)) ≡ true × IsStaleWriteAt x t i)
     ⊎ ((((x.thread == t) && (x.event == i)) ≡ false) × (IsStaleWriteAt x t i → ⊥))
-event_test_tells_place x t i = elim (eqb_tells x.thread t) [
+event_test_tells_is_stale_write_at x t i = elim (eqb_tells x.thread t) [
   | inl same ↦ elim (eqb_tells x.event i) [
     | inl here ↦ inl (ap (λ z. z && eqb x.event i) same.0 ∙ here.0, (same.1, here.1))
     | inr fails ↦ inr (ap (λ z. z && eqb x.event i) same.0 ∙ fails.0, λ p. fails.1 p.1)
@@ -114,14 +114,14 @@ event_test_tells_place x t i = elim (eqb_tells x.thread t) [
 
 read_of_cons_if_matching : (x : StaleWrite) (xs : List StaleWrite) (t i : ℕ) → IsStaleWriteAt x t i → read_of (x ∷ xs) t i ≡ Some x.read
 unfolding read_of
-read_of_cons_if_matching x xs t i at = elim (event_test_tells_place x t i) [
+read_of_cons_if_matching x xs t i at = elim (event_test_tells_is_stale_write_at x t i) [
   | inl holds ↦ ap (λ (z : Bool). if z then Some x.read else read_of xs t i) holds.0
   | inr fails ↦ absurd (fails.1 at)
 ]
 
 read_of_cons_unless_matching : (x : StaleWrite) (xs : List StaleWrite) (t i : ℕ) → (IsStaleWriteAt x t i → ⊥) → read_of (x ∷ xs) t i ≡ read_of xs t i
 unfolding read_of
-read_of_cons_unless_matching x xs t i not = elim (event_test_tells_place x t i) [
+read_of_cons_unless_matching x xs t i not = elim (event_test_tells_is_stale_write_at x t i) [
   | inl holds ↦ absurd (not holds.1)
   | inr fails ↦ ap (λ (z : Bool). if z then Some x.read else read_of xs t i) fails.0
 ]
@@ -150,9 +150,9 @@ pub record IsCountBefore (xs : List StaleWrite) (t i n : ℕ) : Type 0 where
   pub rest : (k : ℕ) (x : StaleWrite) → n ≤ k → slice_get xs k ≡ Some x → IsBefore x.thread x.event t i → ⊥
 
 -- it is what the next one of them read, if that is of the event
-pub read_of_next_stale_write : (xs : List StaleWrite) (t i n : ℕ) (x : StaleWrite) → IsRising xs → IsCountBefore xs t i n → slice_get xs n ≡ Some x
+pub read_of_all_is_read_of_next_stale_write : (xs : List StaleWrite) (t i n : ℕ) (x : StaleWrite) → IsRising xs → IsCountBefore xs t i n → slice_get xs n ≡ Some x
     → read_of xs t i ≡ read_of (x ∷ []) t i
-read_of_next_stale_write xs t i n x rising counts at = elim (event_test_tells_place x t i) [
+read_of_all_is_read_of_next_stale_write xs t i n x rising counts at = elim (event_test_tells_is_stale_write_at x t i) [
   | inl here ↦ read_of_first_matching xs n t i x at here.1 (λ j y less there is. matching_write_is_not_before y t i is (counts.before j y less there))
       ∙ sym (read_of_cons_if_matching x [] t i here.1)
   | inr other ↦ read_of_none_matching xs t i (no_later other.1) ∙ sym (read_of_none_matching (x ∷ []) t i (only other.1))

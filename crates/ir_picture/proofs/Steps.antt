@@ -11,8 +11,8 @@ use Rattle.ir_picture.specs.Placing.{Knows, noted, noted_all, right_of, events_o
 use Rattle.ir_picture.specs.declared.placed_box.PlacedBox.{PlacedBox}
 use Rattle.ir_picture.specs.declared.table.Version.{Version}
 use Rattle.ir_picture.proofs.Lists.{slice_get_of_map}
-use Rattle.ir_picture.proofs.Orders.{placed_of_own_thread, placed_of_other_thread, needed_event_is_placed}
-use Rattle.ir_picture.proofs.FoldNeeds.{repeated_read_needs_what_read_needs, repeated_try_needs_nothing}
+use Rattle.ir_picture.proofs.Orders.{placed_counts_own_thread, placed_ignores_other_thread, needed_event_is_placed}
+use Rattle.ir_picture.proofs.FoldNeeds.{read_needs_what_repeated_read_needs, repeated_try_needs_nothing}
 use Rattle.ir_picture.proofs.Known.{knows_after_noted_event}
 
 -- an order that has come to event n of thread t, and what is known then
@@ -30,7 +30,7 @@ repeated_event_can_follow r order t i is here there folded = record {
   there = subst (λ n. n < length (recorded_thread r t).events) (sym here) there;
   needs = λ u j needs. elim folded.repeats [
     | inl reads ↦ needed_event_is_placed r order is t reads.1.before u j (omega (arith, here, reads.1.earlier))
-        (repeated_read_needs_what_read_needs r t (suc i) u j reads.1 (subst (λ n. Needs r t n u j) here needs))
+        (read_needs_what_repeated_read_needs r t (suc i) u j reads.1 (subst (λ n. Needs r t n u j) here needs))
     | inr tries ↦ absurd (repeated_try_needs_nothing r t (suc i) u j tries.1 (subst (λ n. Needs r t n u j) here needs))
   ];
 }
@@ -55,12 +55,12 @@ order_reaches_end_of_box r boxes k b coherent are at [] order f is events from e
 order_reaches_end_of_box r boxes k b coherent are at (e ∷ es) order f is events from ends follow knows =
     let t = b.events.thread in
     let next : List ℕ = t ∷ order in
-    let now : placed next t ≡ suc (placed order t) = placed_of_own_thread t order in
+    let now : placed next t ≡ suc (placed order t) = placed_counts_own_thread t order in
     let can : CanFollow r (placed order) t = follow (omega arith) in
     let is_next : IsOrder r next = (is, can) in
     let event : event_at r t (placed order t) ≡ Some e = subst (λ n. event_at r t n ≡ Some e) (omega arith) (events 0 e refl) in
     let known : Knows r boxes (placed next) (noted e (right_of b.end) f) =
-    knows_after_noted_event r boxes (placed order) (placed next) f t k b e coherent are event now (λ u ne. placed_of_other_thread t u order ne) at
+    knows_after_noted_event r boxes (placed order) (placed next) f t k b e coherent are event now (λ u ne. placed_ignores_other_thread t u order ne) at
     (record { thread = refl; from = from; below = omega (arith, ends) }) knows in
     let box = are.each k b.events (slice_get_of_map (λ (x : PlacedBox). x.events) boxes k b at) in
     let rest = order_reaches_end_of_box r boxes k b coherent are at es next (noted e (right_of b.end) f) is_next
@@ -72,6 +72,6 @@ order_reaches_end_of_box r boxes k b coherent are at (e ∷ es) order f is event
       order = rest.order;
       is = rest.is;
       here = rest.here;
-      others = λ u ne. placed_equal_by_number u t rest.order order (placed next u) (rest.others u ne) (placed_of_other_thread t u order ne);
+      others = λ u ne. placed_equal_by_number u t rest.order order (placed next u) (rest.others u ne) (placed_ignores_other_thread t u order ne);
       knows = rest.knows;
     }

@@ -1,6 +1,7 @@
 -- Texts that are put one after the other.
 use Rattle.std.proofs.Common.{◌≡◌, ℕ, suc, ◌+◌, ◌<◌, ◌≤◌, List, [], ◌∷◌, ◌++◌, codes, decimal, length, drop, flat_map, get_or, refl, sym, ap, ◌∙◌, append_assoc, append-nil, arith}
 use Rattle.std.proofs.lemmas.List.{at_drop_more, at_drop_all}
+use Rattle.ir_lemmas.proofs.CallerLemmas.{text_split_after_put, append_of_four_texts}
 use Rattle.ir_trace.specs.Recorded.{Recorded, RecordedThread}
 use Rattle.ir_log.specs.declared.event.Event.{Event}
 use Rattle.ir_picture.specs.Numbers.{comma, row_start, rows_from, first_numbers, place_numbers, row_with, with_commas, thread_row, thread_rows}
@@ -12,32 +13,17 @@ use Rattle.ir_picture.specs.declared.placed_box.Point.{Point}
 use Rattle.ir_picture.specs.declared.placed_box.PlacedBox.{PlacedBox}
 use Rattle.ir_picture.specs.declared.sights.Sight.{Sight}
 
--- of what is left to put, the first text was put
-pub text_split_after_put : (so_far line left more text new : List ℕ) → so_far ++ left ≡ text → left ≡ line ++ more → new ≡ so_far ++ line → new ++ more ≡ text
-text_split_after_put so_far line left more text new e first made =
-    ap (λ (x : List ℕ). x ++ more) made ∙ append_assoc so_far line more ∙ ap (λ (x : List ℕ). so_far ++ x) (sym first) ∙ e
-
 -- the same of two texts
 pub text_split_after_two_puts : (so_far one two left more text mid new : List ℕ) → so_far ++ left ≡ text → left ≡ one ++ (two ++ more) → mid ≡ so_far ++ one
     → new ≡ mid ++ two → new ++ more ≡ text
 text_split_after_two_puts so_far one two left more text mid new e first made last =
     text_split_after_put mid two (two ++ more) more text new (text_split_after_put so_far one left (two ++ more) text mid e first made) refl last
 
--- nothing is left to put
-pub text_is_put_if_nothing_left : (so_far left text : List ℕ) → so_far ++ left ≡ text → left ≡ [] → so_far ≡ text
-text_is_put_if_nothing_left so_far left text e none = sym (append-nil so_far) ∙ ap (λ (x : List ℕ). so_far ++ x) (sym none) ∙ e
-
 -- ---- texts that are put one after the other
 
 pub append_of_three_texts : (old a b c one two three : List ℕ) → one ≡ old ++ a → two ≡ one ++ b → three ≡ two ++ c → three ≡ old ++ (a ++ (b ++ c))
 append_of_three_texts old a b c one two three x y z = z ∙ ap (λ (w : List ℕ). w ++ c) (y ∙ ap (λ (w : List ℕ). w ++ b) x)
     ∙ append_assoc (old ++ a) b c ∙ append_assoc old a (b ++ c)
-
-pub append_of_four_texts : (old a b c d one two three four : List ℕ) → one ≡ old ++ a → two ≡ one ++ b → three ≡ two ++ c → four ≡ three ++ d
-    → four ≡ old ++ (a ++ (b ++ (c ++ d)))
-append_of_four_texts old a b c d one two three four x y z w = w ∙ ap (λ (v : List ℕ). v ++ d) (append_of_three_texts old a b c one two three x y z)
-    ∙ append_assoc old (a ++ (b ++ c)) d
-    ∙ ap (λ (v : List ℕ). old ++ v) (append_assoc a (b ++ c) d ∙ ap (λ (v : List ℕ). a ++ v) (append_assoc b c d))
 
 pub append_of_five_texts : (old a b c d e one two three four five : List ℕ) → one ≡ old ++ a → two ≡ one ++ b → three ≡ two ++ c → four ≡ three ++ d
     → five ≡ four ++ e → five ≡ old ++ (a ++ (b ++ (c ++ (d ++ e))))
@@ -168,23 +154,23 @@ flat_map_past_end f n xs all = at_drop_all (flat_map f) xs n all
 -- ---- data in a frame
 
 -- its four parts
-pub four_parts_of_framed_data : (a b c d before head after : List ℕ) → a ≡ before ++ head → d ≡ after → ((a ++ b) ++ c) ++ d ≡ before ++ ((head ++ (b ++ c)) ++ after)
-four_parts_of_framed_data a b c d before head after begins ends = ap (λ (x : List ℕ). ((x ++ b) ++ c) ++ d) begins ∙ regroup before head b c d
+pub four_parts_are_framed_text : (a b c d before head after : List ℕ) → a ≡ before ++ head → d ≡ after → ((a ++ b) ++ c) ++ d ≡ before ++ ((head ++ (b ++ c)) ++ after)
+four_parts_are_framed_text a b c d before head after begins ends = ap (λ (x : List ℕ). ((x ++ b) ++ c) ++ d) begins ∙ regroup before head b c d
     ∙ ap (λ (x : List ℕ). before ++ ((head ++ (b ++ c)) ++ x)) ends
   where
     regroup : (p h b c d : List ℕ) → (((p ++ h) ++ b) ++ c) ++ d ≡ p ++ ((h ++ (b ++ c)) ++ d)
     regroup p h b c d = simp append_assoc
 
 -- with its end
-pub data_parts_with_end : (start threads name boxes end middle stale last : List ℕ)
+pub data_parts_regroup_with_end : (start threads name boxes end middle stale last : List ℕ)
     → ((start ++ (threads ++ name)) ++ (boxes ++ ((end ++ middle) ++ stale))) ++ (end ++ last)
     ≡ start ++ (threads ++ ((name ++ (boxes ++ end)) ++ ((middle ++ (stale ++ end)) ++ last)))
-data_parts_with_end start threads name boxes end middle stale last = simp append_assoc
+data_parts_regroup_with_end start threads name boxes end middle stale last = simp append_assoc
 
 -- and a text after it
-pub data_parts_before_last_text : (start threads boxes stale end last : List ℕ)
+pub data_parts_regroup_before_last_text : (start threads boxes stale end last : List ℕ)
     → start ++ (threads ++ (boxes ++ (stale ++ (end ++ last)))) ≡ (start ++ (threads ++ (boxes ++ (stale ++ end)))) ++ last
-data_parts_before_last_text start threads boxes stale end last = sym (regroup start threads boxes stale end last)
+data_parts_regroup_before_last_text start threads boxes stale end last = sym (regroup start threads boxes stale end last)
   where
     regroup : (a b c d e f : List ℕ) → (a ++ (b ++ (c ++ (d ++ e)))) ++ f ≡ a ++ (b ++ (c ++ (d ++ (e ++ f))))
     regroup a b c d e f = simp append_assoc
@@ -192,10 +178,10 @@ data_parts_before_last_text start threads boxes stale end last = sym (regroup st
 -- ---- the events for other viewers
 
 -- their four parts
-pub four_parts_of_chrome_text : (r : Recorded) (p : Picture) (sights : List Sight) (n : ℕ) (first last : List ℕ) (boxes : List PlacedBox) (stale : List StaleWrite)
+pub four_parts_are_chrome_text : (r : Recorded) (p : Picture) (sights : List Sight) (n : ℕ) (first last : List ℕ) (boxes : List PlacedBox) (stale : List StaleWrite)
     → first ≡ chrome_start n → n ≡ length r.threads → boxes ≡ p.boxes.items → stale ≡ p.stale.items → last ≡ chrome_end
     → ((first ++ flat_map (box_line r stale) boxes) ++ all_arrows 0 sights) ++ last ≡ chrome_text r p sights
-four_parts_of_chrome_text r p sights n first last boxes stale begins count same_boxes same_stale ends =
+four_parts_are_chrome_text r p sights n first last boxes stale begins count same_boxes same_stale ends =
     append_assoc (first ++ flat_map (box_line r stale) boxes) (all_arrows 0 sights) last
     ∙ append_assoc first (flat_map (box_line r stale) boxes) (all_arrows 0 sights ++ last)
     ∙ ap (λ (x : List ℕ). x ++ (flat_map (box_line r stale) boxes ++ (all_arrows 0 sights ++ last))) (begins ∙ ap chrome_start count)

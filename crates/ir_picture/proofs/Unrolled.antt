@@ -18,7 +18,7 @@ use Rattle.ir_log.specs.declared.event.Event.TheVariants as variant
 use Rattle.ir_trace.specs.Recorded.{Recorded, recorded_thread}
 use Rattle.ir_past.specs.Past.{event_at}
 use Rattle.ir_past.specs.Returning.{leaves_one}
-use Rattle.ir_past.proofs.CallerLemmas.{at_of_mapped_label, Enters, log_of_own_step, log_of_other_step, target_object_after_step, other_object_after_step, act_emitting_entry_is_entering, exiting_thread_is_inside, entering_thread_is_not_inside, own_step_keeps_object_or_exits, other_step_on_version_and_inside}
+use Rattle.ir_past.proofs.CallerLemmas.{label_of_event_is_at_its_place, Enters, log_of_own_step, log_of_other_step, target_object_after_step, other_object_after_step, act_emitting_entry_is_entering, exiting_thread_is_inside, entering_thread_is_not_inside, own_step_keeps_object_or_exits, other_step_adds_leaves_one_to_version_and_keeps_inside}
 use Rattle.ir_picture.specs.Needs.{IsEntryAt, Needs, placed, CanFollow, IsOrder, HasNoCircle}
 
 -- ---- versions only grow
@@ -91,10 +91,10 @@ label_enters_or_not (In p a v l) o = elim (cases_eq p o) [
 label_enters_or_not (Refused p) o = inr (λ z. z)
 label_enters_or_not (Out p a v) o = inr (λ z. z)
 
-written_over_stays : {T : Type 0} (m : Machine T) → IsLawful m → (s : State T) → StateInvariant m s → (e : Step) (o v t : ℕ) → IsWrittenOver v t (s.objects o)
+object_stays_written_over_after_step : {T : Type 0} (m : Machine T) → IsLawful m → (s : State T) → StateInvariant m s → (e : Step) (o v t : ℕ) → IsWrittenOver v t (s.objects o)
     → IsWrittenOver v t ((after m s e).objects o)
-written_over_stays m law s good e o v t (inl less) = inl (let more = step_does_not_lower_version m s e o in omega (arith, less, more))
-written_over_stays m law s good e o v t (inr is) = elim (cases_eq e.0 t) [
+object_stays_written_over_after_step m law s good e o v t (inl less) = inl (let more = step_does_not_lower_version m s e o in omega (arith, less, more))
+object_stays_written_over_after_step m law s good e o v t (inr is) = elim (cases_eq e.0 t) [
   | inl own ↦ elim (label_enters_or_not (label m s e) o) [
     | inl entry ↦ let h = act_emitting_entry_is_entering (act m s e) (s.objects (target (act m s e))) o entry.0 entry.1 entry.2 entry.3 in
         absurd (none-some Writing (sym (subst (λ z. (s.objects o).inside z ≡ None) own (entering_thread_is_not_inside m law s good e o entry.0 h.answer h.does)) ∙ is.1))
@@ -104,7 +104,7 @@ written_over_stays m law s good e o v t (inr is) = elim (cases_eq e.0 t) [
           (sym (subst (λ z. (s.objects o).inside z ≡ Some exit.0) own (exiting_thread_is_inside m law s good e o exit.0 exit.1)) ∙ is.1)))
     ]
   ]
-  | inr other ↦ let step = other_step_on_version_and_inside m s e t o other in
+  | inr other ↦ let step = other_step_adds_leaves_one_to_version_and_keeps_inside m s e t o other in
       elim (cases_eq (leaves_one t o e.0 (label m s e)) 0) [
         | inl none ↦ inr ((let same = step.0 in let before = is.0 in omega (arith, same, before, none)), step.1 ∙ is.1)
         | inr some ↦ inl (let same = step.0 in let before = is.0 in omega (arith, same, before, some))
@@ -120,16 +120,16 @@ written_over_stays m law s good e o v t (inr is) = elim (cases_eq e.0 t) [
         let before = is.0 in
         omega (arith, version, before)
 
-no_later_read_of_written_over : {T : Type 0} (m : Machine T) → IsLawful m → (s : State T) → StateInvariant m s → (run : List Step) → IsRun m s run → (o v t u n : ℕ)
+no_later_read_of_written_over_version : {T : Type 0} (m : Machine T) → IsLawful m → (s : State T) → StateInvariant m s → (run : List Step) → IsRun m s run → (o v t u n : ℕ)
     → IsWrittenOver v t (s.objects o) → At (log m s run u) n (In o Reading v 0) → ⊥
-no_later_read_of_written_over m law s good [] ok o v t u n over at = at
-no_later_read_of_written_over m law s good (e ∷ run) ok o v t u n over at = elim (cases_eq e.0 u) [
+no_later_read_of_written_over_version m law s good [] ok o v t u n over at = at
+no_later_read_of_written_over_version m law s good (e ∷ run) ok o v t u n over at = elim (cases_eq e.0 u) [
   | inl own ↦ elim (logged_label_is_head_or_tail (label m s e) (log m (after m s e) run u) n (In o Reading v 0)
       (subst (λ (ks : List Label). At ks n (In o Reading v 0)) (log_of_own_step m s e run u own) at)) [
         | inl head ↦ by head over
-        | inr tail ↦ no_later_read_of_written_over m law (after m s e) (state_invariant_after_step m law s good e ok.0) run ok.1 o v t u tail.0 (written_over_stays m law s good e o v t over) tail.1
+        | inr tail ↦ no_later_read_of_written_over_version m law (after m s e) (state_invariant_after_step m law s good e ok.0) run ok.1 o v t u tail.0 (object_stays_written_over_after_step m law s good e o v t over) tail.1
       ]
-  | inr other ↦ no_later_read_of_written_over m law (after m s e) (state_invariant_after_step m law s good e ok.0) run ok.1 o v t u n (written_over_stays m law s good e o v t over)
+  | inr other ↦ no_later_read_of_written_over_version m law (after m s e) (state_invariant_after_step m law s good e ok.0) run ok.1 o v t u n (object_stays_written_over_after_step m law s good e o v t over)
       (subst (λ (ks : List Label). At ks n (In o Reading v 0)) (log_of_other_step m s e run u other) at)
 ]
   where
@@ -170,22 +170,22 @@ at_place_is_unique [] n x y a b = absurd a
 at_place_is_unique (z ∷ zs) zero x y a b = sym a ∙ b
 at_place_is_unique (z ∷ zs) (suc n) x y a b = at_place_is_unique zs n x y a b
 
-drop_of_next : {A : Type 0} (xs ys : List A) (k : ℕ) (x : A) → drop k xs ≡ x ∷ ys → drop (suc k) xs ≡ ys
-drop_of_next [] ys zero x is = absurd (cc is)
-drop_of_next [] ys (suc k) x is = absurd (cc is)
-drop_of_next (z ∷ zs) ys zero x is = let same : zs ≡ ys = cc is in same
-drop_of_next (z ∷ zs) ys (suc k) x is = drop_of_next zs ys k x is
+drop_one_more_is_tail_if_drop_is_cons : {A : Type 0} (xs ys : List A) (k : ℕ) (x : A) → drop k xs ≡ x ∷ ys → drop (suc k) xs ≡ ys
+drop_one_more_is_tail_if_drop_is_cons [] ys zero x is = absurd (cc is)
+drop_one_more_is_tail_if_drop_is_cons [] ys (suc k) x is = absurd (cc is)
+drop_one_more_is_tail_if_drop_is_cons (z ∷ zs) ys zero x is = let same : zs ≡ ys = cc is in same
+drop_one_more_is_tail_if_drop_is_cons (z ∷ zs) ys (suc k) x is = drop_one_more_is_tail_if_drop_is_cons zs ys k x is
 
-drop_of_cons_is_within : {A : Type 0} (xs ys : List A) (k : ℕ) (x : A) → drop k xs ≡ x ∷ ys → k < length xs
-drop_of_cons_is_within [] ys zero x is = absurd (cc is)
-drop_of_cons_is_within [] ys (suc k) x is = absurd (cc is)
-drop_of_cons_is_within (z ∷ zs) ys zero x is = omega arith
-drop_of_cons_is_within (z ∷ zs) ys (suc k) x is = let less = drop_of_cons_is_within zs ys k x is in omega (arith, less)
+place_is_within_if_drop_is_cons : {A : Type 0} (xs ys : List A) (k : ℕ) (x : A) → drop k xs ≡ x ∷ ys → k < length xs
+place_is_within_if_drop_is_cons [] ys zero x is = absurd (cc is)
+place_is_within_if_drop_is_cons [] ys (suc k) x is = absurd (cc is)
+place_is_within_if_drop_is_cons (z ∷ zs) ys zero x is = omega arith
+place_is_within_if_drop_is_cons (z ∷ zs) ys (suc k) x is = let less = place_is_within_if_drop_is_cons zs ys k x is in omega (arith, less)
 
-drop_of_empty_is_past_end : {A : Type 0} (xs : List A) (k : ℕ) → drop k xs ≡ [] → length xs ≤ k
-drop_of_empty_is_past_end [] k is = omega arith
-drop_of_empty_is_past_end (z ∷ zs) zero is = absurd (cc is)
-drop_of_empty_is_past_end (z ∷ zs) (suc k) is = let less = drop_of_empty_is_past_end zs k is in omega (arith, less)
+place_is_past_end_if_drop_is_empty : {A : Type 0} (xs : List A) (k : ℕ) → drop k xs ≡ [] → length xs ≤ k
+place_is_past_end_if_drop_is_empty [] k is = omega arith
+place_is_past_end_if_drop_is_empty (z ∷ zs) zero is = absurd (cc is)
+place_is_past_end_if_drop_is_empty (z ∷ zs) (suc k) is = let less = place_is_past_end_if_drop_is_empty zs k is in omega (arith, less)
 
 length_of_mapped_events : (es : List Event) → length (map label_of es) ≡ length es
 length_of_mapped_events [] = refl
@@ -232,7 +232,7 @@ thread_can_follow_logging_step m law s good e can run ok r order logs h = record
     left = h.left e.0 ∙ log_of_own_step m s e run e.0 refl ∙ logs (log m (after m s e) run e.0)
 
     there : placed order e.0 < length (recorded_thread r e.0).events
-    there = let less = drop_of_cons_is_within (labels r e.0) (log m (after m s e) run e.0) (placed order e.0) (label m s e) left in
+    there = let less = place_is_within_if_drop_is_cons (labels r e.0) (log m (after m s e) run e.0) (placed order e.0) (label m s e) left in
         let size = length_of_mapped_events (recorded_thread r e.0).events in omega (arith, less, size)
 
     -- the label of the next event
@@ -241,7 +241,7 @@ thread_can_follow_logging_step m law s good e can run ok r order logs h = record
         (let same : placed order e.0 + 0 ≡ placed order e.0 = omega arith in
         subst (λ z. At (labels r e.0) z (label m s e)) same (at_place_before_drop (labels r e.0) (placed order e.0) 0 (label m s e)
         (subst (λ (ks : List Label). At ks 0 (label m s e)) (sym left) refl)))
-        (at_of_mapped_label (recorded_thread r e.0).events (placed order e.0) ev at)
+        (label_of_event_is_at_its_place (recorded_thread r e.0).events (placed order e.0) ev at)
 
     -- an event that isn't placed is logged by this step or a later one
     later : (u j : ℕ) (ev : Event) → event_at r u j ≡ Some ev → placed order u ≤ j
@@ -251,7 +251,7 @@ thread_can_follow_logging_step m law s good e can run ok r order logs h = record
         let same : j ≡ placed order u + d = omega (arith, past) in
         let here = subst (λ (ks : List Label). At ks d (label_of ev)) (h.left u)
         (at_place_after_drop (labels r u) (placed order u) d (label_of ev) (subst (λ z. At (labels r u) z (label_of ev)) same
-        (at_of_mapped_label (recorded_thread r u).events j ev at))) in
+        (label_of_event_is_at_its_place (recorded_thread r u).events j ev at))) in
         elim (cases_eq e.0 u) [
           | inl own ↦ logged_label_is_head_or_tail (label m s e) (log m (after m s e) run u) d (label_of ev)
               (subst (λ (ks : List Label). At ks d (label_of ev)) (log_of_own_step m s e run u own) here)
@@ -270,7 +270,7 @@ thread_can_follow_logging_step m law s good e can run ok r order logs h = record
         → (u : ℕ) → (label m s e ≡ In o Reading v 0) ⊎ ((n : ℕ) × At (log m (after m s e) run u) n (In o Reading v 0)) → ⊥
     read o v l is u (inl head) = let same : In o Writing v l ≡ In o Reading v 0 = sym is ∙ head in
         let access : Writing ≡ Reading = cc same in cc access
-    read o v l is u (inr tail) = no_later_read_of_written_over m law (after m s e) (state_invariant_after_step m law s good e can) run ok o v e.0 u tail.0
+    read o v l is u (inr tail) = no_later_read_of_written_over_version m law (after m s e) (state_invariant_after_step m law s good e can) run ok o v e.0 u tail.0
         (written_over_after_write_entry m s e o v l is) tail.1
 
     entry_label : (o v : ℕ) → IsEntryAt r e.0 (placed order e.0) o v → (a : Access) × (x : ℕ) × (label m s e ≡ In o a v x)
@@ -308,7 +308,7 @@ unrolled_after_logging_step m s e run r order logs h follows = record { is = (h.
     left : (t : ℕ) → drop (placed (e.0 ∷ order) t) (labels r t) ≡ log m (after m s e) run t
     left t = elim (cases_eq e.0 t) [
       | inl own ↦ ap (λ k. drop k (labels r t)) (own_count t own)
-          ∙ drop_of_next (labels r t) (log m (after m s e) run t) (placed order t) (label m s e)
+          ∙ drop_one_more_is_tail_if_drop_is_cons (labels r t) (log m (after m s e) run t) (placed order t) (label m s e)
           (h.left t ∙ log_of_own_step m s e run t own ∙ logs (log m (after m s e) run t))
       | inr other ↦ ap (λ k. drop k (labels r t)) (other_count t other) ∙ h.left t ∙ log_of_other_step m s e run t other
     ]
@@ -325,7 +325,7 @@ unrolled_run_has_no_circle : {T : Type 0} (m : Machine T) → IsLawful m → (s 
 unrolled_run_has_no_circle m law s good [] ok r order h = (order, h.is, all)
   where
     all : (t : ℕ) → placed order t ≡ length (recorded_thread r t).events
-    all t = let past = drop_of_empty_is_past_end (labels r t) (placed order t) (h.left t) in
+    all t = let past = place_is_past_end_if_drop_is_empty (labels r t) (placed order t) (h.left t) in
         let size = length_of_mapped_events (recorded_thread r t).events in let within = h.within t in omega (arith, past, size, within)
 unrolled_run_has_no_circle m law s good (e ∷ run) ok r order h = elim (logged_adds_label_or_nothing (label m s e)) [
   | inl quiet ↦ unrolled_run_has_no_circle m law (after m s e) (state_invariant_after_step m law s good e ok.0) run ok.1 r order (unrolled_after_silent_step m s e run r order quiet h)

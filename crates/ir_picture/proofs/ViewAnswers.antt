@@ -13,7 +13,7 @@ use Rattle.ir_picture.specs.Progress.{data_head, stale_head, data_rows}
 use Rattle.ir_picture.specs.declared.asked.Around.{Around}
 use Rattle.ir_picture.specs.declared.asked.Form.TheVariants as form
 use Rattle.ir_picture.specs.declared.limits.TheConstants.{MOST_BOXES}
-use Rattle.ir_picture.proofs.Texts.{four_parts_of_framed_data, data_parts_with_end, data_parts_before_last_text}
+use Rattle.ir_picture.proofs.Texts.{four_parts_are_framed_text, data_parts_regroup_with_end, data_parts_regroup_before_last_text}
 use Rattle.ir_picture.specs.Chrome.{AreSights, chrome_text, IsChromeAnswer}
 use Rattle.ir_picture.specs.declared.asked.Asked.{Asked}
 use Rattle.ir_picture.specs.declared.picture.Picture.{Picture}
@@ -35,14 +35,14 @@ view_not_answered_if_stopped asked r s text e w coherent there is stops =
 
 -- ---- answers that are answers of another kind
 
-pub answered_as_other_kind : (P Q : ExitStatus → List ℕ → Type 0) (s : ExitStatus) (w : Writer) → ((text : List ℕ) → P s text → Q s text) → Answered P s w
+pub answered_of_implied_kind : (P Q : ExitStatus → List ℕ → Type 0) (s : ExitStatus) (w : Writer) → ((text : List ℕ) → P s text → Q s text) → Answered P s w
     → Answered Q s w
-answered_as_other_kind P Q s w as_other a = record { text = a.text; is = as_other a.text a.is; took = a.took; works = a.works }
+answered_of_implied_kind P Q s w as_other a = record { text = a.text; is = as_other a.text a.is; took = a.took; works = a.works }
 
-pub not_answered_as_other_kind : (P Q : ExitStatus → List ℕ → Type 0) (e : PastErr) (w : Writer)
+pub not_answered_of_implied_kind : (P Q : ExitStatus → List ℕ → Type 0) (e : PastErr) (w : Writer)
     → ((s : ExitStatus) (text : List ℕ) → P s text → Q s text) → NotAnswered P e w → NotAnswered Q e w
-not_answered_as_other_kind P Q e w as_other (inl h) = inl h
-not_answered_as_other_kind P Q e w as_other (inr h) =
+not_answered_of_implied_kind P Q e w as_other (inl h) = inl h
+not_answered_of_implied_kind P Q e w as_other (inr h) =
     inr (record { answered = h.answered; text = h.text; is = as_other h.answered h.text h.is; stops = h.stops })
 
 -- the events for other viewers are the answer that they are
@@ -60,22 +60,22 @@ chrome_text_is_chrome_answer r p boxes found sights same_boxes same all = (
 -- ---- data in a frame
 
 -- its four parts
-pub four_parts_of_framed_rows : (r : Recorded) (near : Option Around) (p : Picture) (first a d before after : List ℕ) (ends : List Point) (boxes : List PlacedBox)
+pub four_parts_are_framed_rows : (r : Recorded) (near : Option Around) (p : Picture) (first a d before after : List ℕ) (ends : List Point) (boxes : List PlacedBox)
     (stale : List StaleWrite) → a ≡ first ++ data_head false r near ends → first ≡ before → ends ≡ p.ends.items → boxes ≡ p.boxes.items
     → stale ≡ p.stale.items → d ≡ after
     → ((a ++ rows_from (box_row r) 0 boxes) ++ (stale_head ++ rows_from stale_row 0 stale)) ++ d ≡ before ++ (data_rows r near p ++ after)
-four_parts_of_framed_rows r near p first a d before after ends boxes stale begins same_first same_ends same_boxes same_stale closes =
-    four_parts_of_framed_data a (rows_from (box_row r) 0 boxes) (stale_head ++ rows_from stale_row 0 stale) d before (data_head false r near p.ends.items) after
+four_parts_are_framed_rows r near p first a d before after ends boxes stale begins same_first same_ends same_boxes same_stale closes =
+    four_parts_are_framed_text a (rows_from (box_row r) 0 boxes) (stale_head ++ rows_from stale_row 0 stale) d before (data_head false r near p.ends.items) after
     (begins ∙ (λ i. same_first i ++ data_head false r near (same_ends i))) closes
     ∙ (λ i. before ++ ((data_head false r near p.ends.items
     ++ (rows_from (box_row r) 0 (same_boxes i) ++ (stale_head ++ rows_from stale_row 0 (same_stale i)))) ++ after))
 
 -- the data with its end, and a text after it
-pub data_text_of_rows_with_end : (r : Recorded) (near : Option Around) (p : Picture) (last : List ℕ) → data_rows r near p ++ (codes "\n]}" ++ last) ≡ data_text r near p ++ last
-data_text_of_rows_with_end r near p last =
-    data_parts_with_end (data_start false r near) (thread_list r p.ends.items) (codes ",\"boxes\":[") (rows_from (box_row r) 0 p.boxes.items) (codes "\n]")
+pub rows_with_end_are_data_text : (r : Recorded) (near : Option Around) (p : Picture) (last : List ℕ) → data_rows r near p ++ (codes "\n]}" ++ last) ≡ data_text r near p ++ last
+rows_with_end_are_data_text r near p last =
+    data_parts_regroup_with_end (data_start false r near) (thread_list r p.ends.items) (codes ",\"boxes\":[") (rows_from (box_row r) 0 p.boxes.items) (codes "\n]")
     (codes ",\"stale\":[") (rows_from stale_row 0 p.stale.items) (codes "}" ++ last)
-    ∙ data_parts_before_last_text (data_start false r near) (thread_list r p.ends.items) (listed (codes ",\"boxes\":[") (box_row r) p.boxes.items)
+    ∙ data_parts_regroup_before_last_text (data_start false r near) (thread_list r p.ends.items) (listed (codes ",\"boxes\":[") (box_row r) p.boxes.items)
     (listed (codes ",\"stale\":[") stale_row p.stale.items) (codes "}") last
 
 -- in a frame of its own it is the data of the picture
@@ -83,7 +83,7 @@ pub framed_rows_are_data_form : (r : Recorded) (near : Option Around) (p : Pictu
     → IsForm form.Data r near p status.Done (before ++ (data_rows r near p ++ after))
 framed_rows_are_data_form r near p before after none ends = (
   refl,
-  ap (λ (x : List ℕ). x ++ (data_rows r near p ++ after)) none ∙ ap (λ (x : List ℕ). data_rows r near p ++ x) ends ∙ data_text_of_rows_with_end r near p (10 ∷ []),
+  ap (λ (x : List ℕ). x ++ (data_rows r near p ++ after)) none ∙ ap (λ (x : List ℕ). data_rows r near p ++ x) ends ∙ rows_with_end_are_data_text r near p (10 ∷ []),
 )
 
 -- in that of a page it is the page of the picture
@@ -93,5 +93,5 @@ framed_rows_are_page_form r near p before after fits begins ends = inl (
   fits,
   refl,
   ap (λ (x : List ℕ). x ++ (data_rows r near p ++ after)) begins ∙ ap (λ (x : List ℕ). page_head ++ (data_rows r near p ++ x)) ends
-      ∙ ap (λ (x : List ℕ). page_head ++ x) (data_text_of_rows_with_end r near p page_tail),
+      ∙ ap (λ (x : List ℕ). page_head ++ x) (rows_with_end_are_data_text r near p page_tail),
 )

@@ -6,7 +6,8 @@ use Rattle.ir_runs.specs.Verdicts.{reads, sum_below}
 use Rattle.ir_log.specs.Logging.{label_of}
 use Rattle.ir_log.specs.declared.event.Event.{Event}
 use Rattle.ir_log.specs.declared.event.Event.TheVariants.{Answer, Read, Write, Try}
-use Rattle.ir_trace.specs.Recorded.{Recorded, recorded_thread, IsRecorded}
+use Rattle.ir_trace.specs.Recorded.{Recorded, recorded_thread}
+use Rattle.ir_trace.specs.Bounds.{IsRecorded}
 use Rattle.ir_past.specs.Past.{event_at, IsReadAt, IsWriteAt}
 use Rattle.ir_picture.specs.Needs.{placed, IsOrder}
 use Rattle.ir_picture.specs.Boxes.{IsInBox, AreBoxes}

@@ -2,7 +2,8 @@
 
 ghost use Rattle.std.specs.Prelude.{◌≡◌, ◌+◌, ◌*◌, ◌<◌, ◌≤◌, true, false, length, vec_len, OnOk, IfOk};
 ghost use Rattle.ir_thread.specs.State.{most_events};
-ghost use Rattle.ir_trace.specs.Recorded.{recorded_thread, IsRecorded};
+ghost use Rattle.ir_trace.specs.Recorded.{recorded_thread};
+ghost use Rattle.ir_trace.specs.Bounds.{IsRecorded};
 ghost use Rattle.ir_picture.specs.Boxes.{AreBoxes};
 ghost use Rattle.ir_picture.specs.Boxing.{Notes, IsFold, BoxedBefore};
 

@@ -1,8 +1,9 @@
 //! Texts that are written in pieces.
 
-ghost use Rattle.std.specs.Prelude.{◌≡◌, ◌++◌, [], OnOk, OnErr, IfOk, IfErr, false, true};
+ghost use Rattle.std.specs.Prelude.{◌≡◌, ◌++◌, [], OnOk, IfOk, IfErr, false};
 ghost use Rattle.std.specs.Io.KnownBytes.{Appends};
 ghost use Rattle.ir_stream.specs.Answers.{AppendsPrefix};
+ghost use Rattle.ir_stream.specs.Writing.{WritesOrFails};
 ghost use Rattle.ir_files.specs.Writers.{writer_of};
 ghost use Rattle.ir_text.specs.Buffered.{Buffered};
 ghost use Rattle.ir_past.specs.Answers.{Stops};
@@ -59,10 +60,8 @@ pub fn push_number<N: Integer>(
 /// # Errors
 /// The writer failed; then a prefix was written.
 pub fn write_piece<O: Sink>(text: &mut Vec<u8>, out: &mut O) -> Result<(), DeviceErr>
-    ensures ok { OnOk result (Buffered (O.written out.old) (O.written out.new) text.new.items text.old.items) }
-    ensures stays { OnOk result (O.broken out.new ≡ O.broken out.old) }
-    ensures prefix { OnErr result (AppendsPrefix (O.written out.old) (O.written out.new) text.old.items) }
-    ensures err { OnErr result (O.broken out.new ≡ true) }
+    ensures { WritesOrFails O.broken out.old out.new (Buffered (O.written out.old) (O.written out.new) text.new.items text.old.items)
+        (AppendsPrefix (O.written out.old) (O.written out.new) text.old.items) result }
 {
     if text.len() < PIECE {
         return Ok(());

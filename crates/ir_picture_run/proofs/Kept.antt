@@ -4,6 +4,7 @@ use Rattle.std.specs.Prelude.{slice_get}
 use Rattle.std.specs.List.{slice_index_or}
 use Rattle.std.proofs.lemmas.List.{map-append}
 use Rattle.std.proofs.lemmas.Option.{none-some, slice_get_within}
+use Rattle.ir_lemmas.proofs.CallerLemmas.{slice_get_after_push_cases}
 use Rattle.ir_past.specs.Past.{IsRising}
 use Rattle.ir_past.specs.declared.stale_write.StaleWrite.{StaleWrite}
 use Rattle.ir_rests.specs.declared.rest.Rest.{Rest}
@@ -11,7 +12,6 @@ use Rattle.ir_picture.specs.Shown.{is_shown}
 use Rattle.ir_picture.specs.declared.placed_box.PlacedBox.{PlacedBox}
 use Rattle.ir_picture_run.specs.Resting.{kept_if, first_kept, writes_of}
 use Rattle.ir_picture_run.specs.declared.resting.Resting.{Resting}
-use Rattle.ir_picture_run.proofs.Pushed.{slice_get_after_push_cases}
 
 -- none is kept before the first row
 pub first_kept_of_no_row : (shown : List PlacedBox) (rows : List StaleWrite) (rests : List (Option Rest)) (none : List Resting) → none ≡ []
@@ -37,40 +37,40 @@ record AreSomeRows (rows : List StaleWrite) (n : ℕ) (ws : List StaleWrite) : T
   among : (a : ℕ) (x : StaleWrite) → slice_get ws a ≡ Some x → (k : ℕ) × (k < n) × (slice_get rows k ≡ Some x)
   rising : IsRising ws
 
-are_some_of_one_more_row : (rows : List StaleWrite) (n : ℕ) (ws : List StaleWrite) → AreSomeRows rows n ws → AreSomeRows rows (suc n) ws
-are_some_of_one_more_row rows n ws h = record {
+are_some_rows_of_one_more_row : (rows : List StaleWrite) (n : ℕ) (ws : List StaleWrite) → AreSomeRows rows n ws → AreSomeRows rows (suc n) ws
+are_some_rows_of_one_more_row rows n ws h = record {
   among = λ a x e. let at = h.among a x e in (at.0, (let l = at.1 in omega (arith, l)), at.2);
   rising = h.rising;
 }
 
-are_some_after_row_pushed : (rows : List StaleWrite) (n : ℕ) (ws : List StaleWrite) (y : StaleWrite) → IsRising rows → slice_get rows n ≡ Some y → AreSomeRows rows n ws
+are_some_rows_after_row_pushed : (rows : List StaleWrite) (n : ℕ) (ws : List StaleWrite) (y : StaleWrite) → IsRising rows → slice_get rows n ≡ Some y → AreSomeRows rows n ws
     → AreSomeRows rows (suc n) (ws ++ y ∷ [])
-are_some_after_row_pushed rows n ws y rises there h = record {
-  among = λ a x e. elim (slice_get_after_push_cases ws y x a e) [
+are_some_rows_after_row_pushed rows n ws y rises there h = record {
+  among = λ a x e. elim (slice_get_after_push_cases ws y a x e) [
     | inl old ↦ (let at = h.among a x old in (at.0, (let l = at.1 in omega (arith, l)), at.2))
     | inr new ↦ (n, omega arith, there ∙ ap Some new.1)
   ];
-  rising = λ a b x z less at_a at_b. elim (slice_get_after_push_cases ws y z b at_b) [
-    | inl old ↦ elim (slice_get_after_push_cases ws y x a at_a) [
+  rising = λ a b x z less at_a at_b. elim (slice_get_after_push_cases ws y b z at_b) [
+    | inl old ↦ elim (slice_get_after_push_cases ws y a x at_a) [
       | inl both ↦ h.rising a b x z less both old
       | inr new ↦ absurd (let l = slice_get_within ws b z old in let same = new.0 in omega (arith, l, same, less))
     ]
-    | inr new ↦ elim (slice_get_after_push_cases ws y x a at_a) [
+    | inr new ↦ elim (slice_get_after_push_cases ws y a x at_a) [
       | inl before ↦ (let at = h.among a x before in rises at.0 n x z at.1 at.2 (there ∙ ap Some new.1))
       | inr also ↦ absurd (let p = new.0 in let q = also.0 in omega (arith, p, q, less))
     ]
   ];
 }
 
-are_some_after_row_choice : (shown : List PlacedBox) (rows : List StaleWrite) (n : ℕ) (ws : List StaleWrite) (x : Option StaleWrite) (r : Option Rest)
+are_some_rows_after_row_choice : (shown : List PlacedBox) (rows : List StaleWrite) (n : ℕ) (ws : List StaleWrite) (x : Option StaleWrite) (r : Option Rest)
     → IsRising rows → slice_get rows n ≡ x → AreSomeRows rows n ws → AreSomeRows rows (suc n) (ws ++ writes_of (kept_if shown x r))
-are_some_after_row_choice shown rows n ws None r rises at h = subst (AreSomeRows rows (suc n)) (sym (append-nil ws)) (are_some_of_one_more_row rows n ws h)
-are_some_after_row_choice shown rows n ws (Some x) None rises at h = subst (AreSomeRows rows (suc n)) (sym (append-nil ws)) (are_some_of_one_more_row rows n ws h)
-are_some_after_row_choice shown rows n ws (Some x) (Some r) rises at h = by (is_shown shown x)
+are_some_rows_after_row_choice shown rows n ws None r rises at h = subst (AreSomeRows rows (suc n)) (sym (append-nil ws)) (are_some_rows_of_one_more_row rows n ws h)
+are_some_rows_after_row_choice shown rows n ws (Some x) None rises at h = subst (AreSomeRows rows (suc n)) (sym (append-nil ws)) (are_some_rows_of_one_more_row rows n ws h)
+are_some_rows_after_row_choice shown rows n ws (Some x) (Some r) rises at h = by (is_shown shown x)
   where
     by : (b : Bool) → AreSomeRows rows (suc n) (ws ++ writes_of (cond b ((record { write = x; rest = r }) ∷ []) []))
-    by true = are_some_after_row_pushed rows n ws x rises at h
-    by false = subst (AreSomeRows rows (suc n)) (sym (append-nil ws)) (are_some_of_one_more_row rows n ws h)
+    by true = are_some_rows_after_row_pushed rows n ws x rises at h
+    by false = subst (AreSomeRows rows (suc n)) (sym (append-nil ws)) (are_some_rows_of_one_more_row rows n ws h)
 
 kept_writes_are_some_rows : (shown : List PlacedBox) (rows : List StaleWrite) (rests : List (Option Rest)) (n : ℕ) → IsRising rows
     → AreSomeRows rows n (writes_of (first_kept shown rows rests n))
@@ -81,7 +81,7 @@ kept_writes_are_some_rows shown rows rests zero rises = record {
 }
 kept_writes_are_some_rows shown rows rests (suc n) rises =
     subst (AreSomeRows rows (suc n)) (sym (map-append (λ (x : Resting). x.write) (first_kept shown rows rests n) (kept_if shown (slice_get rows n) (slice_index_or rests n None))))
-    (are_some_after_row_choice shown rows n (writes_of (first_kept shown rows rests n)) (slice_get rows n) (slice_index_or rests n None) rises refl
+    (are_some_rows_after_row_choice shown rows n (writes_of (first_kept shown rows rests n)) (slice_get rows n) (slice_index_or rests n None) rises refl
     (kept_writes_are_some_rows shown rows rests n rises))
 
 pub kept_writes_are_rising : (shown : List PlacedBox) (rows : List StaleWrite) (rests : List (Option Rest)) (n : ℕ) → IsRising rows

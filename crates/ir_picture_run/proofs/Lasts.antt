@@ -3,6 +3,7 @@ use Rattle.std.proofs.Common.{◌≡◌, ℕ, ◌+◌, ◌<◌, inl, inr, List, 
 use Rattle.std.specs.List.{slice_get}
 use Rattle.std.proofs.lemmas.List.{length_push}
 use Rattle.std.proofs.lemmas.Option.{none-some, same_Some, slice_get-get_or, slice_get_within}
+use Rattle.ir_lemmas.proofs.CallerLemmas.{slice_get_after_push_cases}
 use Rattle.ir_log.specs.declared.event.Event.{Event}
 use Rattle.ir_log.specs.declared.event.Event.TheVariants.{Try}
 use Rattle.ir_fit.specs.Fit.{FittedTrace, HasRun}
@@ -15,7 +16,6 @@ use Rattle.ir_picture.specs.declared.event_box.EventBox.{EventBox}
 use Rattle.ir_picture.specs.declared.placed_box.PlacedBox.{PlacedBox}
 use Rattle.ir_picture_run.specs.Steps.{IsDrawn, AreDrawn}
 use Rattle.ir_picture_run.specs.declared.drawn.Drawn.{Drawn}
-use Rattle.ir_picture_run.proofs.Pushed.{slice_get_after_push_cases}
 
 -- the first event of a box is one of the guest's thread
 pub box_first_event_is_inside : (f : FittedTrace) → HasRun f → (b : EventBox) → IsBox f.recorded b → IsInside f b.thread b.event
@@ -34,14 +34,14 @@ pub record AreDrawnTo (f : FittedTrace) (boxes : List PlacedBox) (n : ℕ) (draw
   pub size : length drawn ≡ n
   pub each : (k : ℕ) (b : PlacedBox) (d : Drawn) → slice_get boxes k ≡ Some b → slice_get drawn k ≡ Some d → IsDrawn f b d
 
-pub drawn_to_none : (f : FittedTrace) (boxes : List PlacedBox) → AreDrawnTo f boxes 0 []
-drawn_to_none f boxes = record { size = refl; each = λ k b d at there. absurd (none-some d there) }
+pub drawn_to_no_box : (f : FittedTrace) (boxes : List PlacedBox) → AreDrawnTo f boxes 0 []
+drawn_to_no_box f boxes = record { size = refl; each = λ k b d at there. absurd (none-some d there) }
 
 pub drawn_to_next_box : (f : FittedTrace) (boxes : List PlacedBox) (n : ℕ) (old new : List Drawn) (b : PlacedBox) (d : Drawn) → AreDrawnTo f boxes n old
     → slice_get boxes n ≡ Some b → IsDrawn f b d → new ≡ old ++ d ∷ [] → AreDrawnTo f boxes (n + 1) new
 drawn_to_next_box f boxes n old new b d h at is made = subst (AreDrawnTo f boxes (n + 1)) (sym made) (record {
   size = length_push old d ∙ (let s = h.size in omega (arith, s));
-  each = λ k c e there new_there. elim (slice_get_after_push_cases old d e k new_there) [
+  each = λ k c e there new_there. elim (slice_get_after_push_cases old d k e new_there) [
     | inl before ↦ h.each k c e there before
     | inr last ↦
         let here : slice_get boxes n ≡ Some c = ap (slice_get boxes) (sym (last.0 ∙ h.size)) ∙ there in

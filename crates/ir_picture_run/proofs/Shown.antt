@@ -16,7 +16,7 @@ use Rattle.ir_picture.specs.Progress.{data_head, stale_head, AreBoxesOf, IsOf}
 use Rattle.ir_picture.specs.declared.asked.Around.{Around}
 use Rattle.ir_picture.specs.declared.placed_box.Point.{Point}
 use Rattle.ir_picture.specs.declared.placed_box.PlacedBox.{PlacedBox}
-use Rattle.ir_picture.proofs.CallerLemmas.{four_parts_of_framed_data, data_parts_with_end, data_parts_before_last_text, picture_is_of_trace}
+use Rattle.ir_picture.proofs.CallerLemmas.{four_parts_are_framed_text, data_parts_regroup_with_end, data_parts_regroup_before_last_text, picture_is_of_trace}
 use Rattle.ir_picture_run.specs.Resting.{resting_writes, writes_of}
 use Rattle.ir_picture_run.proofs.Kept.{kept_writes_are_rising}
 use Rattle.ir_picture.specs.Answers.{page_head, page_tail, IsThere, IsPicture}
@@ -75,16 +75,16 @@ pub framed_parts_are_data_rows : (f : FittedTrace) (near : Option Around) (p : P
     (r : Recorded) (ends : List Point) → a ≡ first ++ data_head true r near ends → first ≡ before → r ≡ f.recorded → ends ≡ p.ends.items → d ≡ after
     → ((a ++ rows_from (drawn_row f) 0 drawn) ++ (stale_head ++ rows_from resting_row 0 kept)) ++ d ≡ before ++ (data_rows f near p drawn kept ++ after)
 framed_parts_are_data_rows f near p drawn kept first a d before after r ends begins same_first same same_ends closes =
-    four_parts_of_framed_data a (rows_from (drawn_row f) 0 drawn) (stale_head ++ rows_from resting_row 0 kept) d before (data_head true f.recorded near p.ends.items) after
+    four_parts_are_framed_text a (rows_from (drawn_row f) 0 drawn) (stale_head ++ rows_from resting_row 0 kept) d before (data_head true f.recorded near p.ends.items) after
     (begins ∙ (λ i. same_first i ++ data_head true (same i) near (same_ends i))) closes
 
 -- the data with its end, and a text after it
 pub ended_data_rows_are_text : (f : FittedTrace) (near : Option Around) (p : Picture) (drawn : List Drawn) (kept : List Resting) (last : List ℕ)
     → data_rows f near p drawn kept ++ (codes "\n]}" ++ last) ≡ data_text f near p drawn kept ++ last
 ended_data_rows_are_text f near p drawn kept last =
-    data_parts_with_end (data_start true f.recorded near) (thread_list f.recorded p.ends.items) (codes ",\"boxes\":[") (rows_from (drawn_row f) 0 drawn)
+    data_parts_regroup_with_end (data_start true f.recorded near) (thread_list f.recorded p.ends.items) (codes ",\"boxes\":[") (rows_from (drawn_row f) 0 drawn)
     (codes "\n]") (codes ",\"stale\":[") (rows_from resting_row 0 kept) (codes "}" ++ last)
-    ∙ data_parts_before_last_text (data_start true f.recorded near) (thread_list f.recorded p.ends.items) (listed (codes ",\"boxes\":[") (drawn_row f) drawn)
+    ∙ data_parts_regroup_before_last_text (data_start true f.recorded near) (thread_list f.recorded p.ends.items) (listed (codes ",\"boxes\":[") (drawn_row f) drawn)
     (listed (codes ",\"stale\":[") resting_row kept) (codes "}") last
 
 -- in a frame of its own it is the data of the picture

@@ -64,23 +64,23 @@ takes_line_at_input_end (Some xs) (Some ys) (Some zs) line plain p q e =
     (cut.0 ∙ ap line_of (sym whole), e ∙ cut.1 ∙ ap after_line (sym whole))
 
 -- what is read without a line feed is no longer than the line
-pub line_is_as_long_as_consumed : (a b : Option (List ℕ)) (line : List ℕ) (n : ℕ) → IsPlain line → Consumes a b line → n < length line
+pub line_is_no_shorter_than_consumed : (a b : Option (List ℕ)) (line : List ℕ) (n : ℕ) → IsPlain line → Consumes a b line → n < length line
     → IfSome a (λ input. n < length (line_of input))
-line_is_as_long_as_consumed None b line n plain p long = tt
-line_is_as_long_as_consumed (Some xs) None line n plain p long = absurd p
-line_is_as_long_as_consumed (Some xs) (Some ys) line n plain p long =
+line_is_no_shorter_than_consumed None b line n plain p long = tt
+line_is_no_shorter_than_consumed (Some xs) None line n plain p long = absurd p
+line_is_no_shorter_than_consumed (Some xs) (Some ys) line n plain p long =
     let e : length (line_of xs) ≡ length (line ++ line_of ys) = ap (λ (x : List ℕ). length (line_of x)) p
     ∙ ap (λ (x : List ℕ). length x) (line_of_plain_prefix line ys plain) in
     omega (arith, length-append line (line_of ys))
 
-line_length_without_return : (line : List ℕ) → length line ≤ length (without_return line) + 1
-line_length_without_return line = grind (arith, length-take (length line - 1) line)
+without_return_drops_one_byte_at_most : (line : List ℕ) → length line ≤ length (without_return line) + 1
+without_return_drops_one_byte_at_most line = grind (arith, length-take (length line - 1) line)
 
 -- a line of more bytes than the digits and a carriage return is no text in hexadecimal
 pub too_long_line_has_no_bytes : (line : List ℕ) → most_digits + 1 < length line → bytes_of_line line ≡ None
 unfolding bytes_of_line
 too_long_line_has_no_bytes line long =
-    let more = line_length_without_return line in
+    let more = without_return_drops_one_byte_at_most line in
     let test : leb (length (without_return line)) most_digits ≡ false = lt-leb (length (without_return line)) most_digits (omega arith) in
     rw test refl
 
@@ -105,7 +105,7 @@ too_long_line_is_refused (Some xs) long = too_long_line_has_no_bytes (line_of xs
 
 -- nothing more was taken of a line
 pub in_line_after_consumed_plain : (a b c : Option (List ℕ)) (line : List ℕ) → IsPlain line → Consumes a b line → Keeps b c → IsInLine a c
-in_line_after_consumed_plain a b c line plain p line_length_without_return = (line, plain, Consumes-kept a b c line p line_length_without_return)
+in_line_after_consumed_plain a b c line plain p without_return_drops_one_byte_at_most = (line, plain, Consumes-kept a b c line p without_return_drops_one_byte_at_most)
 
 -- a line that was taken and gives no bytes
 pub line_fails_if_no_bytes : {A : Type 0} (r : Result A BundleErr) (a b : Option (List ℕ)) (line line' : List ℕ) (failed : Bool) → TakesLine a b line

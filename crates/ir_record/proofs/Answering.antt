@@ -11,11 +11,11 @@ use Rattle.ir_runs.specs.Run.{Can, after}
 use Rattle.ir_flat.proofs.CallerLemmas.{events_added_by}
 use Rattle.ir_log.specs.Logged.{Logged}
 use Rattle.ir_log.specs.declared.event.Event.TheVariants as event
-use Rattle.ir_record.specs.Progress.{TookIf, IsTape, log_at, labels_at}
+use Rattle.ir_record.specs.Progress.{TookIf, HasLogs, log_at, labels_at}
 use Rattle.ir_record.specs.Worlds.{answers_at, Answered}
-use Rattle.ir_record.proofs.Steps.{turn_taken_by_step, ask_not_try_enters_if_free}
+use Rattle.ir_record.proofs.Steps.{turn_taken_by_step, enters_if_free_unless_ask_is_try}
 use Rattle.ir_record.proofs.Running.{hold_few_objects_if_flat}
-use Rattle.ir_record.proofs.Logs.{tape_after_event_pushed, labels_after_event_pushed, labels_of_other_thread_after_set}
+use Rattle.ir_record.proofs.Logs.{has_logs_after_event_pushed, labels_after_event_pushed, labels_of_other_thread_after_set}
 
 -- there is the step
 pub environment_call_can_step : (f : Flat) (t value : ℕ) (kind : EnvKind) → ask_of f.code (thread_of f t) ≡ Env kind → is_result kind value ≡ true
@@ -23,12 +23,12 @@ pub environment_call_can_step : (f : Flat) (t value : ℕ) (kind : EnvKind) → 
 environment_call_can_step f t value kind is fits = subst (λ q. Admits (machine f) (act_of (shared_ask q) value)
     ((tables f).objects (target (act_of (shared_ask q) value)))) (sym is) fits
 
-pub room_to_log_answer : (f : Flat) (t : ℕ) (kind : EnvKind) → ask_of f.code (thread_of f t) ≡ Env kind → (thread_of f t).events < most_events
-room_to_log_answer f t kind is = (subst (Permits (thread_of f t)) is (ask_of_permitted f.code (thread_of f t))).1
+pub event_count_is_below_limit_at_call : (f : Flat) (t : ℕ) (kind : EnvKind) → ask_of f.code (thread_of f t) ≡ Env kind → (thread_of f t).events < most_events
+event_count_is_below_limit_at_call f t kind is = (subst (Permits (thread_of f t)) is (ask_of_permitted f.code (thread_of f t))).1
 
 -- an answer was logged, and it is its world's
 pub record AnswerLogged (f g : Flat) (logs more : List Logged) (t value : ℕ) (kind : EnvKind) : Type 0 where
-  pub tape : IsTape f logs
+  pub has_logs : HasLogs f logs
   pub flat : IsFlat f
   pub below : t < length f.threads
   pub asked : ask_of f.code (thread_of f t) ≡ Env kind
@@ -41,10 +41,10 @@ pub record AnswerLogged (f g : Flat) (logs more : List Logged) (t value : ℕ) (
   pub pushed : new ≡ record (log_at logs t) { events = (log_at logs t).events ++ event.Answer kind value ∷ [] }
   pub logged : more ≡ set logs t new
 
-pub tape_after_answer : (f g : Flat) (logs more : List Logged) (t value : ℕ) (kind : EnvKind) → AnswerLogged f g logs more t value kind
-    → IsTape g more
-tape_after_answer f g logs more t value kind a =
-    subst (IsTape g) (sym a.logged) (tape_after_event_pushed f g logs t value (event.Answer kind value) a.new a.tape a.below a.taken a.threads a.objects
+pub has_logs_after_answer : (f g : Flat) (logs more : List Logged) (t value : ℕ) (kind : EnvKind) → AnswerLogged f g logs more t value kind
+    → HasLogs g more
+has_logs_after_answer f g logs more t value kind a =
+    subst (HasLogs g) (sym a.logged) (has_logs_after_event_pushed f g logs t value (event.Answer kind value) a.new a.has_logs a.below a.taken a.threads a.objects
     (ap events_added_by a.asked) a.fits a.pushed)
 
 pub turn_taken_by_answer : (f g : Flat) (logs more : List Logged) (t value : ℕ) (kind : EnvKind) → AnswerLogged f g logs more t value kind
@@ -62,8 +62,8 @@ turn_taken_by_answer f g logs more t value kind a answers given l e =
       objects = a.objects;
       emits = ap (λ q. emitted (act_of (shared_ask q) value) ((tables f).objects (target (act_of (shared_ask q) value)))) a.asked;
       own_log = subst (λ z. labels_at z t ≡ labels_at logs t ++ Answer kind value ∷ []) (sym a.logged)
-          (labels_after_event_pushed logs t (event.Answer kind value) a.new (omega (arith, a.below, a.tape.one_each)) a.pushed);
+          (labels_after_event_pushed logs t (event.Answer kind value) a.new (omega (arith, a.below, a.has_logs.one_each)) a.pushed);
       own_answers = ap (λ z. answers_at z t) e ∙ get_or-set_same answers t (answers_at answers t ++ (kind, value) ∷ []) [] l;
       other_logs = λ u ne. subst (λ z. labels_at z u ≡ labels_at logs u) (sym a.logged) (labels_of_other_thread_after_set logs t u a.new ne);
       other_answers = λ u ne. ap (λ z. answers_at z u) e ∙ get_or-set_other answers t u (answers_at answers t ++ (kind, value) ∷ []) [] ne;
-    }) (ask_not_try_enters_if_free f t value (Env kind) a.asked (λ o e. cc e))
+    }) (enters_if_free_unless_ask_is_try f t value (Env kind) a.asked (λ o e. cc e))

@@ -9,10 +9,10 @@ pub asked_world_has_not_failed : {W : Type 0} (broken : W → Bool) (worlds : Li
     → w ≡ get_or worlds t w → broken w ≡ false
 asked_world_has_not_failed broken worlds t w works l e = ap broken e ∙ sym (get_or-map broken worlds t w false l) ∙ works t
 
-pub answers_after_world_set : {W : Type 0} (answers : W → List Answered) (worlds : List W) (t : ℕ) (w new : W) (given : Answered) → t < length worlds
+pub answers_with_one_added_after_world_set : {W : Type 0} (answers : W → List Answered) (worlds : List W) (t : ℕ) (w new : W) (given : Answered) → t < length worlds
     → w ≡ get_or worlds t w → answers new ≡ answers w ++ given ∷ []
     → map answers (set worlds t new) ≡ set (map answers worlds) t (answers_at (map answers worlds) t ++ given ∷ [])
-answers_after_world_set answers worlds t w new given l e h =
+answers_with_one_added_after_world_set answers worlds t w new given l e h =
     map-set answers worlds t new ∙ ap (set (map answers worlds) t)
     (h ∙ ap (λ z. z ++ given ∷ []) (ap answers e ∙ sym (get_or-map answers worlds t w [] l)))
 
@@ -48,8 +48,8 @@ length_with_world_added worlds new w n h e = let k = length-append worlds (w ∷
     ap (λ xs. length xs) e in omega (arith, h, k, m)
 
 -- a world that is as before, seen by a function
-pub map_after_alike_set : {W B : Type 0} (f : W → B) (worlds : List W) (t : ℕ) (w new : W) → w ≡ get_or worlds t w → f new ≡ f w
+pub map_ignores_set_of_alike_element : {W B : Type 0} (f : W → B) (worlds : List W) (t : ℕ) (w new : W) → w ≡ get_or worlds t w → f new ≡ f w
     → map f (set worlds t new) ≡ map f worlds
-map_after_alike_set f [] t w new e h = refl
-map_after_alike_set f (x ∷ worlds) zero w new e h = ap (λ z. z ∷ map f worlds) (h ∙ ap f e)
-map_after_alike_set f (x ∷ worlds) (suc t) w new e h = ap (λ z. f x ∷ z) (map_after_alike_set f worlds t w new e h)
+map_ignores_set_of_alike_element f [] t w new e h = refl
+map_ignores_set_of_alike_element f (x ∷ worlds) zero w new e h = ap (λ z. z ∷ map f worlds) (h ∙ ap f e)
+map_ignores_set_of_alike_element f (x ∷ worlds) (suc t) w new e h = ap (λ z. f x ∷ z) (map_ignores_set_of_alike_element f worlds t w new e h)

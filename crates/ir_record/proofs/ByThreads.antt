@@ -7,7 +7,8 @@ use Rattle.std.proofs.lemmas.List.{length-map, get_or_past}
 use Rattle.std.proofs.lemmas.Option.{slice_get-get_or, slice_get-map}
 use Rattle.std.specs.List.{slice_get}
 use Rattle.std.specs.Prelude.{option_map}
-use Rattle.ir_image.specs.Guest.{limits_of, Guest, object_count, object_words, first_words, IsGuest}
+use Rattle.ir_image.specs.Guest.{limits_of, Guest, object_count, object_words, first_words}
+use Rattle.ir_image.specs.Bounds.{IsGuest}
 use Rattle.ir_image.specs.declared.form.ImageForm.{ImageForm}
 use Rattle.ir_image.specs.declared.form.ImageForm.TheVariants.{Small, Large}
 use Rattle.ir_thread.specs.State.{ask_of, shared_ask, thread_machine}
@@ -22,11 +23,11 @@ use Rattle.ir_image.proofs.CallerLemmas.{element_of_padded}
 use Rattle.ir_crew.specs.Ends.{AreTracks, IsEnd}
 use Rattle.ir_crew.specs.Plays.{M}
 use Rattle.ir_crew.specs.Rule.{View, IsTrack, start_objects}
-use Rattle.ir_flat.specs.Flat.{Flat, thread_of, cell_of, tables, idle, start_flat, start_threads, start_cells}
+use Rattle.ir_flat.specs.Flat.{Flat, thread_of, cell_of, tables, idle, start_flat, start_threads, start_cells, MayRun, alone_after}
 use Rattle.ir_flat.specs.Room.{empty}
 use Rattle.ir_runs.specs.Run.{State, Step, events, log}
 use Rattle.ir_flat.specs.Splice.{shared_steps, splice}
-use Rattle.ir_flat.specs.Lone.{MayRun, alone_after, alone_trail}
+use Rattle.ir_flat.specs.Trails.{alone_trail}
 use Rattle.ir_flat.proofs.CallerLemmas.{length_of_start_cells, start_cell_has_zero_fields, start_cell_has_first_words, no_thread_inside_at_start, guest_start_is_idle, splice_is_run_with_trails}
 use Rattle.ir_log.specs.Logged.{Logged}
 use Rattle.ir_log.specs.Logging as logging
@@ -35,7 +36,7 @@ use Rattle.ir_trace.specs.Absent.{absent}
 use Rattle.ir_record.specs.Gathered.{IsThreadTrace}
 use Rattle.ir_record.specs.Progress.{no_log}
 use Rattle.ir_record.specs.Worlds.{answers_at, Answered, answers_in}
-use Rattle.ir_record.specs.Recording.{IsRecordingOfSome}
+use Rattle.ir_record.specs.Recordings.{IsRecordingOfSome}
 use Rattle.ir_record.specs.Working.{Work, IsWorking}
 use Rattle.ir_record.proofs.Telling.{StandAtEnd, emitted_there, printed_there, answered_there}
 
@@ -64,8 +65,8 @@ take_of_empty : (k : ℕ) → take {A = ℕ} k [] ≡ []
 take_of_empty zero = refl
 take_of_empty (suc k) = refl
 
-missing_object_has_zero_words : (g : Guest) (o j : ℕ) → IsGuest g → object_count g ≤ o → get_or (first_words g o) j 0 ≡ 0
-missing_object_has_zero_words g o j guest past = element_of_padded (take (object_words g) (drop (object_words g * o) g.words)) j
+first_words_of_missing_object_are_zero : (g : Guest) (o j : ℕ) → IsGuest g → object_count g ≤ o → get_or (first_words g o) j 0 ≡ 0
+first_words_of_missing_object_are_zero g o j guest past = element_of_padded (take (object_words g) (drop (object_words g * o) g.words)) j
     ∙ ap (λ ws. get_or (take (object_words g) ws) j 0)
     (drop_past_length_is_empty (object_words g * o) g.words (words_end_before_missing_object g.form (length g.words) o guest.whole_objects past))
     ∙ ap (λ ws. get_or ws j 0) (take_of_empty (object_words g))
@@ -83,7 +84,7 @@ start_tables_have_start_objects g budget profile guest = fun_ext (λ o. λ i. re
       | inl l ↦ ap (λ ws. get_or ws j 0) (start_cell_has_first_words g 0 (object_count g) o l ∙ ap (first_words g) (let e : 0 + o ≡ o = omega arith in e))
       | inr past ↦ ap (λ c. get_or c.words j 0) (get_or_past (start_cells g 0 (object_count g)) o empty
           (let n = length_of_start_cells g 0 (object_count g) in omega (arith, n, past)))
-          ∙ sym (missing_object_has_zero_words g o j guest past)
+          ∙ sym (first_words_of_missing_object_are_zero g o j guest past)
     ]
 
 -- ---- the workers at the end
@@ -196,10 +197,9 @@ module _ {g : Guest} {budget : ℕ} {profile : Profile} {before : List (List Ans
         logged = own_log;
         answered = λ t l. (over.working t l).answered ∙ ap (λ z. answers_at before t ++ answers_in z) (own_log t l);
       } in
-      let size = over.size in
-      record {
-        run = run;
-        of = record {
+      let size = over.size in (
+        run,
+        record {
           emitted = emitted_there stand (λ t. ap (λ x. shared_ask (ask_of g.code x)) (k.threads t) ∙ (part t).done)
               trace counted limit same_profile all traces;
           printed = printed_there stand outputs
@@ -210,5 +210,5 @@ module _ {g : Guest} {budget : ℕ} {profile : Profile} {before : List (List Ans
               (ap (λ z. length z) given ∙ length-map ws (λ w. w.answers) ∙ size)
               (λ t l. ap (λ z. slice_get z t) given ∙ slice_get-map (λ w. w.answers) ws t
               ∙ ap (option_map (λ w. w.answers)) (slice_get-get_or ws t no_work (omega (arith, l, size))));
-        };
-      }
+        },
+      )

@@ -1,10 +1,8 @@
 -- What callers may cite of recordings.
 -- worlds that are asked
-pub use Rattle.ir_record.proofs.Asking.{asked_world_has_not_failed, answers_after_world_set, none_failed_after_world_set, set_world_is_first_failed, none_failed_with_world_added, length_with_world_added}
--- a recording by an order is one of some run
-pub use Rattle.ir_record.proofs.ByOrder.{recording_by_order_is_of_some, turns_of_some, order_of_plain, plain_of_order}
+pub use Rattle.ir_record.proofs.Asking.{asked_world_has_not_failed, answers_with_one_added_after_world_set, none_failed_after_world_set, set_world_is_first_failed, none_failed_with_world_added, length_with_world_added}
 -- turns in which tries may be refused
-pub use Rattle.ir_record.proofs.Refusing.{plain_turns-append, in_turns-run, in_turn-plain_turns, plain_turns-in_turn, by_order-plain_turns, plain_turns-by_order}
+pub use Rattle.ir_record.proofs.Refusing.{plain_turns-append, is_run_if_in_turns, in_plain_turns_if_in_turn, in_turn_if_in_plain_turns, by_plain_turns_if_by_order, by_order_if_by_plain_turns}
 -- each step leaves fewer
 pub use Rattle.ir_record.proofs.Tally.{HoldFewObjects, step_leaves_all_fewer, steps_of_thread_leave_all_fewer}
 pub use Rattle.ir_record.proofs.Running.{hold_few_objects_if_flat}

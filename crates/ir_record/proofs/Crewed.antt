@@ -4,7 +4,8 @@ use Rattle.std.proofs.Common.{◌≡◌, ℕ, zero, suc, ◌+◌, ◌<◌, Bool,
 use Rattle.std.proofs.lemmas.List.{length-replicate, length-map}
 use Rattle.std.specs.List.{AllByRecursion}
 use Rattle.atomic_table.specs.Seated.{TableId}
-use Rattle.ir_image.specs.Guest.{Guest, object_count, IsGuest}
+use Rattle.ir_image.specs.Guest.{Guest, object_count}
+use Rattle.ir_image.specs.Bounds.{IsGuest}
 use Rattle.ir_runs.specs.declared.env_kind.EnvKind.{EnvKind}
 use Rattle.ir_thread.specs.Permitted.{Permits}
 use Rattle.ir_thread.specs.State.{held_at, ask_of, thread_machine}
@@ -20,10 +21,10 @@ use Rattle.ir_record.specs.Worlds.{answers_at, Answered, answers_in, NoneFailed,
 use Rattle.ir_record.specs.Recording.{WentOn, EachWentOn}
 use Rattle.ir_record.specs.Threads.{IsNew, AreNew, IsOver, AreTraces, HasRoom, IsSeatOf, views_of, Pairs}
 use Rattle.ir_record.specs.Working.{Work, work_of, IsWorking, IsReadyWorker, RanToEnd}
-use Rattle.ir_record.specs.declared.room.Room.{Room}
-use Rattle.ir_record.specs.declared.worker.Worker.{Worker}
+use Rattle.ir_record.specs.declared.by_threads.buffers.Buffers.{Buffers}
+use Rattle.ir_record.specs.declared.by_threads.worker.Worker.{Worker}
 use Rattle.ir_record.proofs.ByThreads.{AllWorkDone, work_at, tracks_of}
-use Rattle.ir_record.proofs.Working.{worked_by_no_replies, answers_ignore_object_labels}
+use Rattle.ir_record.proofs.Working.{worked_by_no_replies, logged_answers_are_alone_answers}
 
 -- ---- before the first step
 
@@ -41,7 +42,7 @@ new_worker_is_working answers g budget profile t id w new = record {
   few = let e = ap (λ x. x.events) new.thread in omega arith;
   room = ap (λ l. l.room) new.log;
   count = ap (λ l. length l.events) new.log ∙ sym (ap (λ x. x.events) new.thread);
-  events_fit = subst (λ l. AllByRecursion (Rattle.ir_trace.specs.Recorded.IsEvent profile (object_count g)) l.events) (sym new.log) tt;
+  events_fit = subst (λ l. AllByRecursion (Rattle.ir_trace.specs.Bounds.IsEvent profile (object_count g)) l.events) (sym new.log) tt;
   answered = sym (ap (λ l. answers w.world ++ answers_in (map Rattle.ir_log.specs.Logging.label_of l.events))
       new.log ∙ append-nil (answers w.world));
 }
@@ -131,7 +132,7 @@ module _ {W O : Type 0} (answers : W → List Answered) (broken : W → Bool) (o
       let i = (p.0.stays (works 0)).still budget profile t (answers v.world) (new_worker_is_working answers g budget profile t id v new.0) in (
         record {
           ended = (subst (Permits w.thread) (p.0.done (works 0)) (ask_of_permitted g.code w.thread)).0;
-          events_fit = subst (λ z. AllByRecursion (Rattle.ir_trace.specs.Recorded.IsEvent profile z) w.log.events) (sym n) i.events_fit;
+          events_fit = subst (λ z. AllByRecursion (Rattle.ir_trace.specs.Bounds.IsEvent profile z) w.log.events) (sym n) i.events_fit;
         },
         over_end objects (suc t) vs ws n new.1 p.1 (λ u. works (suc u)),
       )
@@ -167,11 +168,11 @@ module _ {W O : Type 0} (answers : W → List Answered) (broken : W → Bool) (o
   origins_end (v ∷ vs) [] p = absurd p
   origins_end (v ∷ vs) (w ∷ ws) p = λ i. p.0.same_origin i ∷ origins_end vs ws p.1 i
 
-answers_at_are_of_work : {W : Type 0} (answers : W → List Answered) (ws : List (Worker W)) (t : ℕ)
+answers_at_are_answers_of_work : {W : Type 0} (answers : W → List Answered) (ws : List (Worker W)) (t : ℕ)
     → answers_at (map answers (map (λ w. w.world) ws)) t ≡ (work_at (map (work_of answers) ws) t).answers
-answers_at_are_of_work answers [] t = refl
-answers_at_are_of_work answers (w ∷ ws) zero = refl
-answers_at_are_of_work answers (w ∷ ws) (suc t) = answers_at_are_of_work answers ws t
+answers_at_are_answers_of_work answers [] t = refl
+answers_at_are_answers_of_work answers (w ∷ ws) zero = refl
+answers_at_are_answers_of_work answers (w ∷ ws) (suc t) = answers_at_are_answers_of_work answers ws t
 
 -- the workers of a guest with these worlds, before their first step and after their last
 pub record HaveRun {W O : Type 0} (answers : W → List Answered) (broken : W → Bool) (origin : W → O) (g : Guest) (budget : ℕ)
@@ -190,7 +191,7 @@ module _ {W O : Type 0} {answers : W → List Answered} {broken : W → Bool} {o
   pub threads_there : length ws ≡ length g.entries
   threads_there = same_count ∙ sym (length-map vs (λ w. w.world)) ∙ ap (λ z. length z) ran.same ∙ ran.each
 
-  pub room_there : {room : Room W} {n m : ℕ} → HasRoom n room → n ≡ length vs → m ≡ length ws → HasRoom m room
+  pub room_there : {room : Buffers W} {n m : ℕ} → HasRoom n room → n ≡ length vs → m ≡ length ws → HasRoom m room
   room_there {room} {n} {m} h was now = subst (λ z. HasRoom z room) (was ∙ sym same_count ∙ sym now) h
 
   pub worlds_there : AreSameWorlds origin worlds (map (λ w. w.world) ws)
@@ -253,7 +254,7 @@ module _ {W O : Type 0} {answers : W → List Answered} {broken : W → Bool} {o
         asks = λ f. ((asks f).0, ap (ask_of g.code) w.now ∙ (asks f).1);
         answered = e ∙ i.answered ∙ ap (λ z. answers_at (map answers worlds) t ++ z)
             (ap answers_in (sym w.logged)
-            ∙ answers_ignore_object_labels (thread_machine g.code) (thread.start_state g t budget profile) w.replies i.track);
+            ∙ logged_answers_are_alone_answers (thread_machine g.code) (thread.start_state g t budget profile) w.replies i.track);
       }
 
   pub each_there : EachWentOn answers broken g budget profile worlds (map (λ w. w.world) ws)
@@ -264,7 +265,7 @@ module _ {W O : Type 0} {answers : W → List Answered} {broken : W → Bool} {o
           (answers_at (map answers (map (λ w. w.world) ws)) t)
       by false e =
           let r = end_of t l (ap (λ z. get_or z t false) (sym (map_map broken (λ w. w.world) ws)) ∙ e) in
-          went_on t (work_at (map (work_of answers) ws) t) _ _ r.0 (λ f. r.1) (λ f. absurd (cc (e, f))) (answers_at_are_of_work answers ws t)
+          went_on t (work_at (map (work_of answers) ws) t) _ _ r.0 (λ f. r.1) (λ f. absurd (cc (e, f))) (answers_at_are_answers_of_work answers ws t)
       by true e =
           let r = stop_of t l (ap (λ z. get_or z t false) (sym (map_map broken (λ w. w.world) ws)) ∙ e) in
           went_on t r.0 _ _ r.1 (λ f. absurd (cc (e, f))) (λ f. r.2) r.3
@@ -274,10 +275,10 @@ pub views_are_tracks_of_work : {W : Type 0} (answers : W → List Answered) (ws 
 views_are_tracks_of_work answers [] = refl
 views_are_tracks_of_work answers (w ∷ ws) = ap (λ z. w.seat.me.0 ++ z) (views_are_tracks_of_work answers ws)
 
-pub trace_at_worker_place : {W : Type 0} (answers : W → List Answered) (ws : List (Worker W)) (rs : List RecordedThread) → AreTraces ws rs → (t : ℕ)
+pub trace_at_place_is_of_its_worker : {W : Type 0} (answers : W → List Answered) (ws : List (Worker W)) (rs : List RecordedThread) → AreTraces ws rs → (t : ℕ)
     → t < length ws → IsThreadTrace (work_at (map (work_of answers) ws) t).thread (work_at (map (work_of answers) ws) t).log
     (get_or rs t absent)
-trace_at_worker_place answers [] rs h t l = absurd (omega arith)
-trace_at_worker_place answers (w ∷ ws) [] h t l = absurd h
-trace_at_worker_place answers (w ∷ ws) (r ∷ rs) h zero l = h.0
-trace_at_worker_place answers (w ∷ ws) (r ∷ rs) h (suc t) l = trace_at_worker_place answers ws rs h.1 t (omega (arith, l))
+trace_at_place_is_of_its_worker answers [] rs h t l = absurd (omega arith)
+trace_at_place_is_of_its_worker answers (w ∷ ws) [] h t l = absurd h
+trace_at_place_is_of_its_worker answers (w ∷ ws) (r ∷ rs) h zero l = h.0
+trace_at_place_is_of_its_worker answers (w ∷ ws) (r ∷ rs) h (suc t) l = trace_at_place_is_of_its_worker answers ws rs h.1 t (omega (arith, l))

@@ -19,14 +19,15 @@ use Rattle.ir_flat.proofs.CallerLemmas.{start_thread_is_fresh, length_of_start_t
 use Rattle.ir_runs.proofs.CallerLemmas.{idle_after_run}
 use Rattle.ir_log.specs.Logged.{Logged}
 use Rattle.ir_log.specs.Logging.{label_of}
-use Rattle.ir_trace.specs.Recorded.{Recorded, IsEvent}
+use Rattle.ir_trace.specs.Recorded.{Recorded}
+use Rattle.ir_trace.specs.Bounds.{IsEvent}
 use Rattle.ir_record.specs.Gathered.{AreThreadTraces}
 use Rattle.ir_record.specs.Progress.{Progress, TookTurns, IsReady, log_at, no_log}
 use Rattle.ir_record.specs.Refusing.{Turn, plain_turns}
 use Rattle.ir_record.specs.Worlds.{answers_at, Answered, NoneFailed}
-use Rattle.ir_record.specs.Recording.{IsRecordingByTurns}
+use Rattle.ir_record.specs.Recordings.{IsRecordingByTurns}
 use Rattle.ir_record.proofs.Profiles.{profile_after_run, profile_of_start_thread}
-use Rattle.ir_record.proofs.Refusing.{in_turns-run}
+use Rattle.ir_record.proofs.Refusing.{is_run_if_in_turns}
 use Rattle.ir_record.proofs.Telling.{StandAtEnd, emitted_there, printed_there, answered_there}
 
 -- ---- the start
@@ -48,7 +49,7 @@ recording_start_is_ready guest budget profile answers failed size works =
     → log_at (replicate (length guest.entries) new_log) t ≡ new_log =
     λ t l. get_or-replicate (length guest.entries) t new_log no_log (omega (arith, l, n)) in
     record {
-      tape = record {
+      has_logs = record {
         one_each = length-replicate (length guest.entries) new_log ∙ sym n;
         rooms = λ t l. ap (λ z. z.room) (own t l);
         counts = λ t l. ap (λ z. length z.events) (own t l) ∙ sym (start_thread_is_fresh guest budget profile 0 (length guest.entries) t).events;
@@ -61,15 +62,15 @@ recording_start_is_ready guest budget profile answers failed size works =
 
 -- ---- the end
 
-done_is_decidable : (q : machine.Ask) → (q ≡ machine.Done) ⊎ (q ≢ machine.Done)
-done_is_decidable machine.Private = inr (λ e. cc e)
-done_is_decidable (machine.Env k) = inr (λ e. cc e)
-done_is_decidable (machine.Enter o a) = inr (λ e. cc e)
-done_is_decidable (machine.Try o) = inr (λ e. cc e)
-done_is_decidable (machine.Leave o a) = inr (λ e. cc e)
-done_is_decidable (machine.Get o i) = inr (λ e. cc e)
-done_is_decidable (machine.Put o i w) = inr (λ e. cc e)
-done_is_decidable machine.Done = inl refl
+ask_is_done_or_not : (q : machine.Ask) → (q ≡ machine.Done) ⊎ (q ≢ machine.Done)
+ask_is_done_or_not machine.Private = inr (λ e. cc e)
+ask_is_done_or_not (machine.Env k) = inr (λ e. cc e)
+ask_is_done_or_not (machine.Enter o a) = inr (λ e. cc e)
+ask_is_done_or_not (machine.Try o) = inr (λ e. cc e)
+ask_is_done_or_not (machine.Leave o a) = inr (λ e. cc e)
+ask_is_done_or_not (machine.Get o i) = inr (λ e. cc e)
+ask_is_done_or_not (machine.Put o i w) = inr (λ e. cc e)
+ask_is_done_or_not machine.Done = inl refl
 
 -- where none of the guest's threads has a step, all threads are done
 done_if_no_thread_has_step : (guest : Guest) (budget : ℕ) (profile : Profile) (run : List Step) → IsRun (thread_machine guest.code) (tables (start_flat guest budget profile)) run
@@ -78,7 +79,7 @@ done_if_no_thread_has_step : (guest : Guest) (budget : ℕ) (profile : Profile) 
     → IsDone (thread_machine guest.code) (end (thread_machine guest.code) (tables (start_flat guest budget profile)) run)
 done_if_no_thread_has_step guest budget profile run ok none t =
     let s : State thread.ThreadState = end (thread_machine guest.code) (tables (start_flat guest budget profile)) run in
-    elim (done_is_decidable (asked (thread_machine guest.code) s t)) [
+    elim (ask_is_done_or_not (asked (thread_machine guest.code) s t)) [
       | inl e ↦ e
       | inr ne ↦ absurd (stuck (nothing_is_stuck guest budget profile run ok t ne))
     ]
@@ -118,7 +119,7 @@ module _ {guest : Guest} {budget : ℕ} {profile : Profile} {turns : List Turn} 
       ∙ profile_of_start_thread guest budget profile 0 (length guest.entries) t (let n = threads_there in omega (arith, l, n))
 
   run_of_it : IsRun (thread_machine guest.code) (tables (start_flat guest budget profile)) o.took.run
-  run_of_it = in_turns-run (thread_machine guest.code) (tables (start_flat guest budget profile))
+  run_of_it = is_run_if_in_turns (thread_machine guest.code) (tables (start_flat guest budget profile))
       (turns ++ plain_turns (rounds (length guest.entries) o.count)) o.took.run o.took.in_turns
 
   done_there : IsDone (thread_machine guest.code) (end (thread_machine guest.code) (tables (start_flat guest budget profile)) o.took.run)
@@ -152,12 +153,11 @@ module _ {guest : Guest} {budget : ℕ} {profile : Profile} {turns : List Turn} 
       → (answers : List (List Answered)) → answers ≡ b.answers → IsRecordingByTurns guest budget profile turns before trace outputs answers
   recorded_there failed ready trace objects limit same traces outputs printed answers given =
       let n : length b.flat.threads ≡ length guest.entries = threads_there in
-      let logs : length b.logs ≡ length guest.entries = ready.tape.one_each ∙ n in
-      let size : length answers ≡ length guest.entries = ap (λ z. length z) given ∙ ready.worlds ∙ n in
-      record {
-        run = o.took.run;
-        by_turns = record { count = o.count; in_turns = o.took.in_turns; done = done_there };
-        of = record {
+      let logs : length b.logs ≡ length guest.entries = ready.has_logs.one_each ∙ n in
+      let size : length answers ≡ length guest.entries = ap (λ z. length z) given ∙ ready.worlds ∙ n in (
+        o.took.run,
+        record { count = o.count; in_turns = o.took.in_turns; done = done_there },
+        record {
           emitted = emitted_there at_end done_there trace (objects ∙ objects_there) limit same (traces.count ∙ logs) (λ t l. traces.each t (omega (arith, l, logs)));
           printed = printed_there at_end outputs
               (ap (λ z. length z) printed ∙ length-map b.flat.threads (λ x. x.output) ∙ n)
@@ -165,8 +165,8 @@ module _ {guest : Guest} {budget : ℕ} {profile : Profile} {turns : List Turn} 
               ∙ ap (option_map (λ x. x.output)) (slice_get-get_or b.flat.threads t idle (omega (arith, l, n))));
           answered = answered_there at_end answers size
               (λ t l. slice_get-get_or answers t [] (omega (arith, l, size)) ∙ ap (λ z. Some (answers_at z t)) given);
-        };
-      }
+        },
+      )
 
 -- the recording that was made is one before the first step
 pub made_recording_is_start : (guest : Guest) (budget : ℕ) (profile : Profile) (answers : List (List Answered)) {f : Flat} {logs : List Logged}

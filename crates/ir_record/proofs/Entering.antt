@@ -15,11 +15,11 @@ use Rattle.ir_flat.proofs.CallerLemmas.{events_added_by}
 use Rattle.ir_log.specs.Logged.{Logged}
 use Rattle.ir_log.specs.Logging.{label_of}
 use Rattle.ir_log.specs.declared.event.Event.{Event}
-use Rattle.ir_trace.specs.Recorded.{IsEvent}
-use Rattle.ir_record.specs.Progress.{TookIf, IsTape, IsQuiet, log_at, labels_at}
+use Rattle.ir_trace.specs.Bounds.{IsEvent}
+use Rattle.ir_record.specs.Progress.{TookIf, HasLogs, IsQuiet, log_at, labels_at}
 use Rattle.ir_record.specs.Worlds.{answers_at, Answered, answers_in}
-use Rattle.ir_record.proofs.Steps.{OneStep, turn_taken_by_step, turn_without_step_changes_nothing, ask_not_try_enters_if_free}
-use Rattle.ir_record.proofs.Logs.{tape_after_unlogged_step, tape_after_event_pushed, labels_after_event_pushed, labels_of_other_thread_after_set}
+use Rattle.ir_record.proofs.Steps.{OneStep, turn_taken_by_step, turn_without_step_changes_nothing, enters_if_free_unless_ask_is_try}
+use Rattle.ir_record.proofs.Logs.{has_logs_after_unlogged_step, has_logs_after_event_pushed, labels_after_event_pushed, labels_of_other_thread_after_set}
 use Rattle.ir_record.proofs.Running.{hold_few_objects_if_flat}
 
 -- whether a step can be taken is no matter of its result, unless it calls the environment
@@ -56,25 +56,25 @@ pub no_step_if_quiet_step_cannot : (f : Flat) (t : ℕ) → IsQuiet (ask_of f.co
 no_step_if_quiet_step_cannot f t quiet never = no_step_if_zero_result_cannot f t (quiet_ask_ignores_result (ask_of f.code (thread_of f t)) quiet) never
 
 -- there is room to log the entry
-pub room_to_log_entry : (f : Flat) (t o : ℕ) (a : Access) → ask_of f.code (thread_of f t) ≡ Enter o a → (thread_of f t).events < most_events
-room_to_log_entry f t o a is = (subst (Permits (thread_of f t)) is (ask_of_permitted f.code (thread_of f t))).1
+pub event_count_is_below_limit_at_entry : (f : Flat) (t o : ℕ) (a : Access) → ask_of f.code (thread_of f t) ≡ Enter o a → (thread_of f t).events < most_events
+event_count_is_below_limit_at_entry f t o a is = (subst (Permits (thread_of f t)) is (ask_of_permitted f.code (thread_of f t))).1
 
 -- what is known where the step was taken, and where it was not
-pub on_ok_holds_if_not_error : {X E : Type 0} (result : Result X E) (b : Bool) (P : Type 0) → b ≡ is_err result → b ≡ false → OnOk result P → P
-on_ok_holds_if_not_error (Ok x) b P e h p = p
-on_ok_holds_if_not_error (Err x) b P e h p = absurd (cc (e, h))
+pub ok_fact_if_is_err_is_false : {X E : Type 0} (result : Result X E) (b : Bool) (P : Type 0) → b ≡ is_err result → b ≡ false → OnOk result P → P
+ok_fact_if_is_err_is_false (Ok x) b P e h p = p
+ok_fact_if_is_err_is_false (Err x) b P e h p = absurd (cc (e, h))
 
-pub on_err_holds_if_error : {X E : Type 0} (result : Result X E) (b : Bool) (P : Type 0) → b ≡ is_err result → b ≡ true → OnErr result P → P
-on_err_holds_if_error (Ok x) b P e h p = absurd (cc (e, h))
-on_err_holds_if_error (Err x) b P e h p = p
+pub error_fact_if_is_err_is_true : {X E : Type 0} (result : Result X E) (b : Bool) (P : Type 0) → b ≡ is_err result → b ≡ true → OnErr result P → P
+error_fact_if_is_err_is_true (Ok x) b P e h p = absurd (cc (e, h))
+error_fact_if_is_err_is_true (Err x) b P e h p = p
 
-pub on_err_holds_if_not_ok : {X E : Type 0} (result : Result X E) (b : Bool) (P : Type 0) → b ≡ is_ok result → b ≡ false → OnErr result P → P
-on_err_holds_if_not_ok (Ok x) b P e h p = absurd (cc (e, h))
-on_err_holds_if_not_ok (Err x) b P e h p = p
+pub error_fact_if_is_ok_is_false : {X E : Type 0} (result : Result X E) (b : Bool) (P : Type 0) → b ≡ is_ok result → b ≡ false → OnErr result P → P
+error_fact_if_is_ok_is_false (Ok x) b P e h p = absurd (cc (e, h))
+error_fact_if_is_ok_is_false (Err x) b P e h p = p
 
 -- a step was taken that emits k, and this event was logged of it, which is no answer
 pub record OneEventLogged (f g : Flat) (logs more : List Logged) (t r : ℕ) (k : Label) (e : Event) : Type 0 where
-  pub tape : IsTape f logs
+  pub has_logs : HasLogs f logs
   pub flat : IsFlat f
   pub below : t < length f.threads
   pub one : events_added_by (ask_of f.code (thread_of f t)) ≡ 1
@@ -92,15 +92,15 @@ pub record OneEventLogged (f g : Flat) (logs more : List Logged) (t r : ℕ) (k 
   pub pushed : new ≡ record (log_at logs t) { events = (log_at logs t).events ++ e ∷ [] }
   pub logs_are : more ≡ set logs t new
 
-pub tape_after_logged_event : (f g : Flat) (logs more : List Logged) (t r : ℕ) (k : Label) (e : Event) → OneEventLogged f g logs more t r k e → IsTape g more
-tape_after_logged_event f g logs more t r k e x =
-    subst (IsTape g) (sym x.logs_are) (tape_after_event_pushed f g logs t r e x.new x.tape x.below x.taken x.threads x.objects x.one x.fits x.pushed)
+pub has_logs_after_logged_event : (f g : Flat) (logs more : List Logged) (t r : ℕ) (k : Label) (e : Event) → OneEventLogged f g logs more t r k e → HasLogs g more
+has_logs_after_logged_event f g logs more t r k e x =
+    subst (HasLogs g) (sym x.logs_are) (has_logs_after_event_pushed f g logs t r e x.new x.has_logs x.below x.taken x.threads x.objects x.one x.fits x.pushed)
 
 -- the step that it is of
-pub event_step : (f g : Flat) (logs more : List Logged) (t r : ℕ) (k : Label) (e : Event) → OneEventLogged f g logs more t r k e
+pub one_step_if_one_event_logged : (f g : Flat) (logs more : List Logged) (t r : ℕ) (k : Label) (e : Event) → OneEventLogged f g logs more t r k e
     → (answers : List (List Answered))
     → OneStep t r k (record { flat = f; logs = logs; answers = answers }) (record { flat = g; logs = more; answers = answers })
-event_step f g logs more t r k e x answers = record {
+one_step_if_one_event_logged f g logs more t r k e x answers = record {
   below = x.below;
   few = hold_few_objects_if_flat f x.flat;
   can = x.can;
@@ -110,7 +110,7 @@ event_step f g logs more t r k e x answers = record {
   objects = x.objects;
   emits = x.emits;
   own_log = subst (λ z. labels_at z t ≡ labels_at logs t ++ logged k []) (sym x.logs_are)
-      (labels_after_event_pushed logs t e x.new (omega (arith, x.below, x.tape.one_each)) x.pushed
+      (labels_after_event_pushed logs t e x.new (omega (arith, x.below, x.has_logs.one_each)) x.pushed
       ∙ ap (λ z. labels_at logs t ++ z) (ap (λ z. z ∷ []) x.event ∙ sym x.once));
   own_answers = sym (append-nil (answers_at answers t)) ∙ ap (λ z. answers_at answers t ++ z) (sym x.unanswered);
   other_logs = λ u ne. subst (λ z. labels_at z u ≡ labels_at logs u) (sym x.logs_are) (labels_of_other_thread_after_set logs t u x.new ne);
@@ -122,12 +122,12 @@ pub turn_taken_by_logged_event : (f g : Flat) (logs more : List Logged) (t r : �
     → TookIf true (t ∷ []) (record { flat = f; logs = logs; answers = answers }) (record { flat = g; logs = more; answers = answers })
 turn_taken_by_logged_event f g logs more t r k e x enters answers =
     turn_taken_by_step t r k (record { flat = f; logs = logs; answers = answers }) (record { flat = g; logs = more; answers = answers })
-    (event_step f g logs more t r k e x answers) enters
+    (one_step_if_one_event_logged f g logs more t r k e x answers) enters
 
 -- what a step emits, by what is asked
-pub label_is_of_ask : (f : Flat) (t r : ℕ) (q : Ask) → ask_of f.code (thread_of f t) ≡ q
+pub label_is_emitted_by_ask : (f : Flat) (t r : ℕ) (q : Ask) → ask_of f.code (thread_of f t) ≡ q
     → label (machine f) (tables f) (t, r) ≡ emitted (act_of (shared_ask q) r) ((tables f).objects (target (act_of (shared_ask q) r)))
-label_is_of_ask f t r q is = ap (λ z. emitted (act_of (shared_ask z) r) ((tables f).objects (target (act_of (shared_ask z) r)))) is
+label_is_emitted_by_ask f t r q is = ap (λ z. emitted (act_of (shared_ask z) r) ((tables f).objects (target (act_of (shared_ask z) r)))) is
 
 -- what an entry emits is logged, and is no answer
 pub entry_logs_itself : (o : ℕ) (a : Access) (v : ℕ) (b : Object) → logged (emitted (machine.Entry o a v) b) [] ≡ emitted (machine.Entry o a v) b
@@ -141,7 +141,7 @@ entry_logs_no_answer o Writing v b = refl
 
 -- a step was taken that nothing is logged of
 pub record QuietStep (f g : Flat) (logs : List Logged) (t : ℕ) : Type 0 where
-  pub tape : IsTape f logs
+  pub has_logs : HasLogs f logs
   pub flat : IsFlat f
   pub below : t < length f.threads
   pub quiet : IsQuiet (ask_of f.code (thread_of f t))
@@ -151,17 +151,17 @@ pub record QuietStep (f g : Flat) (logs : List Logged) (t : ℕ) : Type 0 where
   pub threads : length g.threads ≡ length f.threads
   pub objects : length g.objects ≡ length f.objects
 
-quiet_ask_adds_nothing : (q : Ask) → IsQuiet q → events_added_by q ≡ 0
-quiet_ask_adds_nothing Private k = refl
-quiet_ask_adds_nothing (Env kind) k = absurd k
-quiet_ask_adds_nothing (Enter o a) k = absurd k
-quiet_ask_adds_nothing (Try o) k = absurd k
-quiet_ask_adds_nothing (Leave o a) k = refl
-quiet_ask_adds_nothing (Get o i) k = refl
-quiet_ask_adds_nothing (Put o i w) k = refl
-quiet_ask_adds_nothing Print k = refl
-quiet_ask_adds_nothing (End e) k = refl
-quiet_ask_adds_nothing Done k = refl
+quiet_ask_adds_no_events : (q : Ask) → IsQuiet q → events_added_by q ≡ 0
+quiet_ask_adds_no_events Private k = refl
+quiet_ask_adds_no_events (Env kind) k = absurd k
+quiet_ask_adds_no_events (Enter o a) k = absurd k
+quiet_ask_adds_no_events (Try o) k = absurd k
+quiet_ask_adds_no_events (Leave o a) k = refl
+quiet_ask_adds_no_events (Get o i) k = refl
+quiet_ask_adds_no_events (Put o i w) k = refl
+quiet_ask_adds_no_events Print k = refl
+quiet_ask_adds_no_events (End e) k = refl
+quiet_ask_adds_no_events Done k = refl
 
 quiet_step_logs_nothing : (q : Ask) (b : Object) → IsQuiet q → logged (emitted (act_of (shared_ask q) 0) b) [] ≡ []
 quiet_step_logs_nothing Private b k = refl
@@ -187,8 +187,8 @@ quiet_ask_is_no_try Print k o e = cc e
 quiet_ask_is_no_try (End x) k o e = cc e
 quiet_ask_is_no_try Done k o e = cc e
 
-pub tape_after_quiet_step : (f g : Flat) (logs : List Logged) (t : ℕ) → QuietStep f g logs t → IsTape g logs
-tape_after_quiet_step f g logs t x = tape_after_unlogged_step f g logs t 0 x.tape x.taken x.threads x.objects (quiet_ask_adds_nothing (ask_of f.code (thread_of f t)) x.quiet)
+pub has_logs_after_quiet_step : (f g : Flat) (logs : List Logged) (t : ℕ) → QuietStep f g logs t → HasLogs g logs
+has_logs_after_quiet_step f g logs t x = has_logs_after_unlogged_step f g logs t 0 x.has_logs x.taken x.threads x.objects (quiet_ask_adds_no_events (ask_of f.code (thread_of f t)) x.quiet)
 
 pub turn_taken_by_quiet_step : (f g : Flat) (logs : List Logged) (t : ℕ) → QuietStep f g logs t → (answers : List (List Answered))
     → TookIf true (t ∷ []) (record { flat = f; logs = logs; answers = answers }) (record { flat = g; logs = logs; answers = answers })
@@ -208,7 +208,7 @@ turn_taken_by_quiet_step f g logs t x answers =
       own_answers = sym (append-nil (answers_at answers t)) ∙ ap (λ z. answers_at answers t ++ answers_in z) (sym none);
       other_logs = λ u ne. refl;
       other_answers = λ u ne. refl;
-    }) (ask_not_try_enters_if_free f t 0 (ask_of f.code (thread_of f t)) refl (quiet_ask_is_no_try (ask_of f.code (thread_of f t)) x.quiet))
+    }) (enters_if_free_unless_ask_is_try f t 0 (ask_of f.code (thread_of f t)) refl (quiet_ask_is_no_try (ask_of f.code (thread_of f t)) x.quiet))
 
 -- where the thread waits, or is done, nothing changes
 pub turn_passed_by_waiting : (f g : Flat) (logs : List Logged) (t : ℕ) → HasNone (machine f) (tables f) t → g ≡ f → (answers : List (List Answered))
@@ -216,23 +216,23 @@ pub turn_passed_by_waiting : (f g : Flat) (logs : List Logged) (t : ℕ) → Has
 turn_passed_by_waiting f g logs t none same answers = turn_without_step_changes_nothing t (record { flat = f; logs = logs; answers = answers })
     (record { flat = g; logs = logs; answers = answers }) none (ap (λ z. record { flat = z; logs = logs; answers = answers }) same)
 
-pub tape_after_waiting : (f g : Flat) (logs : List Logged) → IsTape f logs → g ≡ f → IsTape g logs
-tape_after_waiting f g logs tape same = subst (λ z. IsTape z logs) (sym same) tape
+pub has_logs_after_waiting : (f g : Flat) (logs : List Logged) → HasLogs f logs → g ≡ f → HasLogs g logs
+has_logs_after_waiting f g logs has_logs same = subst (λ z. HasLogs z logs) (sym same) has_logs
 
 -- a step that nothing is logged of, if there is one
 pub record QuietTurn (f g : Flat) (logs : List Logged) (t : ℕ) (moved : Bool) : Type 0 where
   pub took : (answers : List (List Answered)) → TookIf moved (t ∷ []) (record { flat = f; logs = logs; answers = answers })
       (record { flat = g; logs = logs; answers = answers })
-  pub tape : IsTape g logs
+  pub has_logs : HasLogs g logs
 
 pub quiet_turn_by_result : {X E : Type 0} (result : Result X E) (f g : Flat) (logs : List Logged) (t : ℕ) (moved : Bool) → moved ≡ is_ok result
-    → IsTape f logs → IsFlat f → t < length f.threads → IsQuiet (ask_of f.code (thread_of f t))
+    → HasLogs f logs → IsFlat f → t < length f.threads → IsQuiet (ask_of f.code (thread_of f t))
     → OnOk result (Can (machine f) (tables f) (t, 0)) → OnOk result (tables g ≡ after (machine f) (tables f) (t, 0)) → g.code ≡ f.code
     → length g.threads ≡ length f.threads → length g.objects ≡ length f.objects
     → OnErr result (Can (machine f) (tables f) (t, 0) → ⊥) → OnErr result (g ≡ f) → QuietTurn f g logs t moved
-quiet_turn_by_result (Ok x) f g logs t moved e tape flat l quiet can taken code threads objects never same =
+quiet_turn_by_result (Ok x) f g logs t moved e has_logs flat l quiet can taken code threads objects never same =
     let going : QuietStep f g logs t = record {
-      tape = tape;
+      has_logs = has_logs;
       flat = flat;
       below = l;
       quiet = quiet;
@@ -243,10 +243,10 @@ quiet_turn_by_result (Ok x) f g logs t moved e tape flat l quiet can taken code 
       threads = threads;
       objects = objects;
     } in
-    subst (QuietTurn f g logs t) (sym e) (record { took = turn_taken_by_quiet_step f g logs t going; tape = tape_after_quiet_step f g logs t going })
-quiet_turn_by_result (Err x) f g logs t moved e tape flat l quiet can taken code threads objects never same =
+    subst (QuietTurn f g logs t) (sym e) (record { took = turn_taken_by_quiet_step f g logs t going; has_logs = has_logs_after_quiet_step f g logs t going })
+quiet_turn_by_result (Err x) f g logs t moved e has_logs flat l quiet can taken code threads objects never same =
     subst (QuietTurn f g logs t) (sym e) (record {
       took = turn_passed_by_waiting f g logs t (no_step_if_quiet_step_cannot f t quiet never) same;
-      tape =
-          tape_after_waiting f g logs tape same;
+      has_logs =
+          has_logs_after_waiting f g logs has_logs same;
     })

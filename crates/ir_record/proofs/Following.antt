@@ -5,18 +5,19 @@ use Rattle.std.proofs.lemmas.List.Concat.{flat_map-append}
 use Rattle.ir_thread.specs.State.{ask_of, shared_ask}
 use Rattle.ir_runs.specs.Machine.{act_of, target, Admits}
 use Rattle.ir_flat.specs.Flat.{Flat, tables, machine, idle}
-use Rattle.ir_runs.specs.Run.{end, InTurn, HasNone}
+use Rattle.ir_runs.specs.Run.{end, HasNone}
+use Rattle.ir_runs.specs.Orders.{InTurn}
 use Rattle.ir_record.specs.Failures.{StoppedAt, StoppedTurns}
 use Rattle.ir_record.specs.Progress.{Progress, Took, TookIf, TookTurns}
 use Rattle.ir_record.specs.Refusing.{Turn, plain_turns}
 use Rattle.ir_record.specs.Worlds.{Answered}
 use Rattle.ir_record.specs.Recording.{order_of_turns, turns_of_items}
 use Rattle.ir_record.specs.declared.item.Item.{Item}
-use Rattle.ir_record.specs.declared.turn.Failed.{Failed}
+use Rattle.ir_record.specs.declared.in_order.turn.Failed.{Failed}
 use Rattle.ir_record.specs.declared.turns.Turns.{Turns}
 use Rattle.ir_record.proofs.Refusing.{plain_turns-append}
-use Rattle.ir_record.proofs.Steps.{took_no_turns, took_both_orders, turn_without_step_changes_nothing, plain_took, turns_both, no_turns, turns_none}
-use Rattle.ir_record.proofs.Stopped.{plain_stopped}
+use Rattle.ir_record.proofs.Steps.{took_no_turns, took_both_orders, turn_without_step_changes_nothing, took_plain_turns_if_took_order, took_turns_of_append, took_turns_of_empty, took_turn_of_thread_without_step}
+use Rattle.ir_record.proofs.Stopped.{stopped_in_plain_turns_if_in_order}
 
 -- what is no thread has no step
 pub missing_thread_has_no_step : (f : Flat) (t : ℕ) → length f.threads ≤ t → HasNone (machine f) (tables f) t
@@ -51,25 +52,25 @@ turns_of_thread_add_up t j k n a b c e p q = subst (λ order. Took order a c) (r
     (took_both_orders (replicate j t) (replicate k t) a b c p q)
 
 -- the turns so far, and those that are left
-pub turns_left_without_step : (t count left : ℕ) (a b : Progress) → left ≤ count → Took (replicate (count - left) t) a b
+pub took_whole_order_if_no_step_left : (t count left : ℕ) (a b : Progress) → left ≤ count → Took (replicate (count - left) t) a b
     → HasNone (machine b.flat) (tables b.flat) t → Took (replicate count t) a b
-turns_left_without_step t count left a b l p none = turns_of_thread_add_up t (count - left) left count a b b (omega (arith, l)) p (turns_without_step_change_nothing t left b none)
+took_whole_order_if_no_step_left t count left a b l p none = turns_of_thread_add_up t (count - left) left count a b b (omega (arith, l)) p (turns_without_step_change_nothing t left b none)
 
 -- private steps and a turn more
-pub turns_with_private_steps_added : (t count left ran : ℕ) (a b c d : Progress) (moved : Bool) → left ≤ count → 0 < left → ran ≤ left - 1
+pub turns_so_far_with_private_steps_and_turn_added : (t count left ran : ℕ) (a b c d : Progress) (moved : Bool) → left ≤ count → 0 < left → ran ≤ left - 1
     → Took (replicate (count - left) t) a b → Took (replicate ran t) b c → TookIf moved (t ∷ []) c d
     → Took (replicate (count - (left - (ran + 1))) t) a d
-turns_with_private_steps_added t count left ran a b c d moved l some few p q r =
+turns_so_far_with_private_steps_and_turn_added t count left ran a b c d moved l some few p q r =
     let both : Took (replicate (count - left + ran) t) a c = turns_of_thread_add_up t (count - left) ran (count - left + ran) a b c refl p q in
     turns_of_thread_add_up t (count - left + ran) 1 (count - (left - (ran + 1))) a c d (omega (arith, l, some, few)) both r.took
 
 -- the order up to an entry, that entry, and others that are the same
-order_with_repeated_entry : (xs : List ℕ) (at more t : ℕ) → at < length xs → get_or xs at 0 ≡ t → take more (drop (suc at) xs) ≡ replicate more t
+take_extended_by_equal_elements : (xs : List ℕ) (at more t : ℕ) → at < length xs → get_or xs at 0 ≡ t → take more (drop (suc at) xs) ≡ replicate more t
     → take at xs ++ replicate (suc more) t ≡ take (at + suc more) xs
-order_with_repeated_entry [] at more t l first same = absurd (omega arith)
-order_with_repeated_entry (x ∷ xs) zero more t l first same = ap (λ z. z ∷ replicate more t) (sym first) ∙ ap (λ z. x ∷ z) (sym same)
+take_extended_by_equal_elements [] at more t l first same = absurd (omega arith)
+take_extended_by_equal_elements (x ∷ xs) zero more t l first same = ap (λ z. z ∷ replicate more t) (sym first) ∙ ap (λ z. x ∷ z) (sym same)
     ∙ ap (λ n. take n (x ∷ xs)) (let e : suc more ≡ 0 + suc more = omega arith in e)
-order_with_repeated_entry (x ∷ xs) (suc at) more t l first same = ap (λ z. x ∷ z) (order_with_repeated_entry xs at more t (omega arith) first same)
+take_extended_by_equal_elements (x ∷ xs) (suc at) more t l first same = ap (λ z. x ∷ z) (take_extended_by_equal_elements xs at more t (omega arith) first same)
     ∙ ap (λ n. take n (x ∷ xs)) (let e : suc (at + suc more) ≡ suc at + suc more = omega arith in e)
 
 -- these turns, and then those of one thread more
@@ -78,31 +79,31 @@ order_of_turns_with_last turns x = flat_map-append (λ (t : Turns). replicate t.
     ∙ ap (λ (z : List ℕ). order_of_turns turns ++ z) (append-nil (replicate x.count x.thread))
 
 -- the turns of all entries that are the same
-pub written_order_with_turns_added : (order : List ℕ) (at more t : ℕ) (turns new : List Turns) → at < length order → t ≡ get_or order at 0
+pub order_of_turns_is_longer_prefix_if_turns_added : (order : List ℕ) (at more t : ℕ) (turns new : List Turns) → at < length order → t ≡ get_or order at 0
     → take more (take (length order - (at + 1)) (drop (at + 1) order)) ≡ replicate more t
     → order_of_turns turns ≡ take at order → new ≡ turns ++ record { thread = t; count = more + 1 } ∷ []
     → order_of_turns new ≡ take (at + (more + 1)) order
-written_order_with_turns_added order at more t turns new l first same before e =
+order_of_turns_is_longer_prefix_if_turns_added order at more t turns new l first same before e =
     let rest : take (length order - (at + 1)) (drop (at + 1) order) ≡ drop (suc at) order =
     take_all (length order - (at + 1)) (drop (at + 1) order) (let n = length-drop (at + 1) order in omega (arith, n))
     ∙ ap (λ k. drop k order) (let e : at + 1 ≡ suc at = omega arith in e) in
     ap order_of_turns e ∙ order_of_turns_with_last turns (record { thread = t; count = more + 1 })
     ∙ ap (λ (z : List ℕ). z ++ replicate (more + 1) t) before
     ∙ ap (λ k. take at order ++ replicate k t) (let e : more + 1 ≡ suc more = omega arith in e)
-    ∙ order_with_repeated_entry order at more t l (sym first) (ap (take more) (sym rest) ∙ same)
+    ∙ take_extended_by_equal_elements order at more t l (sym first) (ap (take more) (sym rest) ∙ same)
     ∙ ap (λ k. take k order) (let e : at + suc more ≡ at + (more + 1) = omega arith in e)
 
-pub written_order_within_length : (order : List ℕ) (at more : ℕ) → at < length order
+pub longer_prefix_is_within_order : (order : List ℕ) (at more : ℕ) → at < length order
     → more ≤ length (take (length order - (at + 1)) (drop (at + 1) order)) → at + (more + 1) ≤ length order
-written_order_within_length order at more l h =
+longer_prefix_is_within_order order at more l h =
     let n = length-drop (at + 1) order in
     let rest : length (take (length order - (at + 1)) (drop (at + 1) order)) ≡ length (drop (at + 1) order) =
     ap (λ xs. length xs) (take_all (length order - (at + 1)) (drop (at + 1) order) (omega (arith, n))) in
     omega (arith, l, h, n, rest)
 
 -- the turns of items, and those of one more
-pub items_last : (items : List Item) (x : Item) → turns_of_items (items ++ x ∷ []) ≡ turns_of_items items ++ replicate x.count (x.thread, x.refused)
-items_last items x = flat_map-append (λ (i : Item). replicate i.count (i.thread, i.refused)) items (x ∷ [])
+pub turns_of_items_with_last : (items : List Item) (x : Item) → turns_of_items (items ++ x ∷ []) ≡ turns_of_items items ++ replicate x.count (x.thread, x.refused)
+turns_of_items_with_last items x = flat_map-append (λ (i : Item). replicate i.count (i.thread, i.refused)) items (x ∷ [])
     ∙ ap (λ (z : List Turn). turns_of_items items ++ z) (append-nil (replicate x.count (x.thread, x.refused)))
 
 pub followed_turns_with_item_added : (items : List Item) (at : ℕ) (none : Item) (a b c : Progress) → at < length items
@@ -111,17 +112,17 @@ pub followed_turns_with_item_added : (items : List Item) (at : ℕ) (none : Item
     → TookTurns (turns_of_items (take (at + 1) items)) a c
 followed_turns_with_item_added items at none a b c l p q =
     let x : Item = get_or items at none in
-    subst (λ z. TookTurns z a c) (sym (ap turns_of_items (take_more items at none l) ∙ items_last (take at items) x))
-    (turns_both (turns_of_items (take at items)) (replicate x.count (x.thread, x.refused)) a b c p q)
+    subst (λ z. TookTurns z a c) (sym (ap turns_of_items (take_more items at none l) ∙ turns_of_items_with_last (take at items) x))
+    (took_turns_of_append (turns_of_items (take at items)) (replicate x.count (x.thread, x.refused)) a b c p q)
 
 -- the turns of the items before one, its own, and those of the items after it
-pub order_of_turns_splits_at_item : (items : List Item) (at : ℕ) (none : Item) → at < length items
+pub turns_of_items_splits_at_item : (items : List Item) (at : ℕ) (none : Item) → at < length items
     → (turns_of_items (take at items) ++ replicate (get_or items at none).count ((get_or items at none).thread, (get_or items at none).refused))
     ++ turns_of_items (drop (at + 1) items) ≡ turns_of_items items
-order_of_turns_splits_at_item items at none l =
+turns_of_items_splits_at_item items at none l =
     let x : Item = get_or items at none in
     ap (λ (z : List Turn). z ++ turns_of_items (drop (at + 1) items))
-    (sym (ap turns_of_items (take_more items at none l) ∙ items_last (take at items) x))
+    (sym (ap turns_of_items (take_more items at none l) ∙ turns_of_items_with_last (take at items) x))
     ∙ sym (flat_map-append (λ (i : Item). replicate i.count (i.thread, i.refused)) (take (at + 1) items) (drop (at + 1) items))
     ∙ ap turns_of_items (take-append-drop (at + 1) items)
 
@@ -134,74 +135,74 @@ plain_turns-replicate zero t = refl
 plain_turns-replicate (suc n) t = ap (λ z. (t, false) ∷ z) (plain_turns-replicate n t)
 
 -- the turns of an item in which no try is refused that may enter
-plain_item : (n t : ℕ) (refused : Bool) (a b : Progress) → refused ≡ false → Took (replicate n t) a b → TookTurns (replicate n (t, refused)) a b
-plain_item n t refused a b e k = subst (λ f. TookTurns (replicate n (t, f)) a b) (sym e)
-    (subst (λ z. TookTurns z a b) (plain_turns-replicate n t) (plain_took (replicate n t) a b k))
+took_turns_of_plain_item : (n t : ℕ) (refused : Bool) (a b : Progress) → refused ≡ false → Took (replicate n t) a b → TookTurns (replicate n (t, refused)) a b
+took_turns_of_plain_item n t refused a b e k = subst (λ f. TookTurns (replicate n (t, f)) a b) (sym e)
+    (subst (λ z. TookTurns z a b) (plain_turns-replicate n t) (took_plain_turns_if_took_order (replicate n t) a b k))
 
-plain_item_stopped : (n t : ℕ) (refused : Bool) (p : Progress) (named : ℕ) (answers : List (List Answered)) → refused ≡ false
+stopped_in_turns_of_plain_item : (n t : ℕ) (refused : Bool) (p : Progress) (named : ℕ) (answers : List (List Answered)) → refused ≡ false
     → StoppedAt (replicate n t) (tables p.flat) p named answers → StoppedTurns (replicate n (t, refused)) p named answers
-plain_item_stopped n t refused p named answers e k = subst (λ f. StoppedTurns (replicate n (t, f)) p named answers) (sym e)
-    (subst (λ z. StoppedTurns z p named answers) (plain_turns-replicate n t) (plain_stopped (replicate n t) p named answers k))
+stopped_in_turns_of_plain_item n t refused p named answers e k = subst (λ f. StoppedTurns (replicate n (t, f)) p named answers) (sym e)
+    (subst (λ z. StoppedTurns z p named answers) (plain_turns-replicate n t) (stopped_in_plain_turns_if_in_order (replicate n t) p named answers k))
 
 -- as many turns, and one more
-pub turn_more : (one : Turn) (count left : ℕ) (a b c : Progress) → left ≤ count → 0 < left → TookTurns (replicate (count - left) one) a b
+pub took_repeated_turns_with_one_more : (one : Turn) (count left : ℕ) (a b c : Progress) → left ≤ count → 0 < left → TookTurns (replicate (count - left) one) a b
     → TookTurns (one ∷ []) b c → TookTurns (replicate (count - (left - 1)) one) a c
-turn_more one count left a b c l some p q = subst (λ z. TookTurns z a c)
+took_repeated_turns_with_one_more one count left a b c l some p q = subst (λ z. TookTurns z a c)
     (replicate-append-replicate (count - left) 1 one ∙ ap (λ k. replicate k one) (let e : count - left + 1 ≡ count - (left - 1) = omega (arith, l, some) in e))
-    (turns_both (replicate (count - left) one) (one ∷ []) a b c p q)
+    (took_turns_of_append (replicate (count - left) one) (one ∷ []) a b c p q)
 
 -- many turns of a thread that has no step
-turns_without_step : (t k : ℕ) (refused : Bool) (a : Progress) → HasNone (machine a.flat) (tables a.flat) t
+took_repeated_turns_of_thread_without_step : (t k : ℕ) (refused : Bool) (a : Progress) → HasNone (machine a.flat) (tables a.flat) t
     → TookTurns (replicate k (t, refused)) a a
-turns_without_step t zero refused a none = no_turns a
-turns_without_step t (suc k) refused a none = turns_both ((t, refused) ∷ []) (replicate k (t, refused)) a a a (turns_none t refused a none)
-    (turns_without_step t k refused a none)
+took_repeated_turns_of_thread_without_step t zero refused a none = took_turns_of_empty a
+took_repeated_turns_of_thread_without_step t (suc k) refused a none = took_turns_of_append ((t, refused) ∷ []) (replicate k (t, refused)) a a a (took_turn_of_thread_without_step t refused a none)
+    (took_repeated_turns_of_thread_without_step t k refused a none)
 
 -- the turns so far, and those that are left, in which the thread has no step
-pub turns_left_none : (t count left : ℕ) (refused : Bool) (a b : Progress) → left ≤ count → TookTurns (replicate (count - left) (t, refused)) a b
+pub took_all_turns_if_no_step_left : (t count left : ℕ) (refused : Bool) (a b : Progress) → left ≤ count → TookTurns (replicate (count - left) (t, refused)) a b
     → HasNone (machine b.flat) (tables b.flat) t → TookTurns (replicate count (t, refused)) a b
-turns_left_none t count left refused a b l p none = subst (λ z. TookTurns z a b)
+took_all_turns_if_no_step_left t count left refused a b l p none = subst (λ z. TookTurns z a b)
     (replicate-append-replicate (count - left) left (t, refused)
     ∙ ap (λ k. replicate k (t, refused)) (let e : count - left + left ≡ count = omega (arith, l) in e))
-    (turns_both (replicate (count - left) (t, refused)) (replicate left (t, refused)) a b b p (turns_without_step t left refused b none))
+    (took_turns_of_append (replicate (count - left) (t, refused)) (replicate left (t, refused)) a b b p (took_repeated_turns_of_thread_without_step t left refused b none))
 
 -- and those that are left
-pub turns_whole : (one : Turn) (count left : ℕ) → left ≤ count → 0 < left
+pub replicate_splits_around_element : (one : Turn) (count left : ℕ) → left ≤ count → 0 < left
     → (replicate (count - left) one ++ one ∷ []) ++ replicate (left - 1) one ≡ replicate count one
-turns_whole one count left l some = ap (λ z. z ++ replicate (left - 1) one) (replicate-append-replicate (count - left) 1 one)
+replicate_splits_around_element one count left l some = ap (λ z. z ++ replicate (left - 1) one) (replicate-append-replicate (count - left) 1 one)
     ∙ replicate-append-replicate (count - left + 1) (left - 1) one
     ∙ ap (λ k. replicate k one) (let e : count - left + 1 + (left - 1) ≡ count = omega (arith, l, some) in e)
 
 -- the items of turns, and one more
-pub items_more : (order : List Turns) (at : ℕ) (none : Turns) (items new : List Item) → at < length order
+pub turns_of_items_is_longer_prefix_if_item_added : (order : List Turns) (at : ℕ) (none : Turns) (items new : List Item) → at < length order
     → turns_of_items items ≡ plain_turns (order_of_turns (take at order))
     → new ≡ items ++ record { thread = (get_or order at none).thread; count = (get_or order at none).count; refused = false } ∷ []
     → turns_of_items new ≡ plain_turns (order_of_turns (take (at + 1) order))
-items_more order at none items new l before e =
+turns_of_items_is_longer_prefix_if_item_added order at none items new l before e =
     let x : Turns = get_or order at none in
     let item : Item = record { thread = x.thread; count = x.count; refused = false } in
-    ap turns_of_items e ∙ items_last items item
+    ap turns_of_items e ∙ turns_of_items_with_last items item
     ∙ ap (λ (z : List Turn). z ++ replicate x.count (x.thread, false)) before
     ∙ ap (λ (z : List Turn). plain_turns (order_of_turns (take at order)) ++ z) (sym (plain_turns-replicate x.count x.thread))
     ∙ sym (plain_turns-append (order_of_turns (take at order)) (replicate x.count x.thread))
     ∙ ap plain_turns (sym (ap order_of_turns (take_more order at none l) ∙ order_of_turns_with_last (take at order) x))
 
 -- the same of what a call hands back
-pub plain_result : {A E : Type 0} (r : Result A E) (n t : ℕ) (refused : Bool) (a b : Progress) → refused ≡ false
+pub on_ok_took_turns_of_plain_item : {A E : Type 0} (r : Result A E) (n t : ℕ) (refused : Bool) (a b : Progress) → refused ≡ false
     → OnOk r (Took (replicate n t) a b) → OnOk r (TookTurns (replicate n (t, refused)) a b)
-plain_result (Ok x) n t refused a b e h = plain_item n t refused a b e h
-plain_result (Err x) n t refused a b e h = tt
+on_ok_took_turns_of_plain_item (Ok x) n t refused a b e h = took_turns_of_plain_item n t refused a b e h
+on_ok_took_turns_of_plain_item (Err x) n t refused a b e h = tt
 
-pub plain_failure : {A : Type 0} (r : Result A Failed) (n t : ℕ) (refused : Bool) (p : Progress) (answers : List (List Answered)) → refused ≡ false
+pub if_err_stopped_in_turns_of_plain_item : {A : Type 0} (r : Result A Failed) (n t : ℕ) (refused : Bool) (p : Progress) (answers : List (List Answered)) → refused ≡ false
     → IfErr r (λ f. StoppedAt (replicate n t) (tables p.flat) p f.thread answers)
     → IfErr r (λ f. StoppedTurns (replicate n (t, refused)) p f.thread answers)
-plain_failure (Ok x) n t refused p answers e h = tt
-plain_failure (Err x) n t refused p answers e h = plain_item_stopped n t refused p x.thread answers e h
+if_err_stopped_in_turns_of_plain_item (Ok x) n t refused p answers e h = tt
+if_err_stopped_in_turns_of_plain_item (Err x) n t refused p answers e h = stopped_in_turns_of_plain_item n t refused p x.thread answers e h
 
 -- one entry more that is the same
-pub repeats_with_entry_added : (order : List ℕ) (index entry x : ℕ) → index < length order → x ≡ get_or order index x → x ≡ entry
+pub take_is_replicate_step : (order : List ℕ) (index entry x : ℕ) → index < length order → x ≡ get_or order index x → x ≡ entry
     → take index order ≡ replicate index entry → take (index + 1) order ≡ replicate (index + 1) entry
-repeats_with_entry_added order index entry x l is same e =
+take_is_replicate_step order index entry x l is same e =
     subst (λ n. take n order ≡ replicate n entry) (let s : suc index ≡ index + 1 = omega arith in s) (go order index l (sym is) e)
   where
     go : (xs : List ℕ) (i : ℕ) → i < length xs → get_or xs i x ≡ x → take i xs ≡ replicate i entry

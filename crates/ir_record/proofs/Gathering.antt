@@ -3,13 +3,13 @@ use Rattle.std.proofs.Common.{◌≡◌, ℕ, zero, suc, ◌+◌, ◌<◌, List,
 use Rattle.std.proofs.lemmas.Bool.{cases_eq}
 use Rattle.std.proofs.lemmas.List.{get_or_append_left, get_or_default, get_or-map, length-map}
 use Rattle.std.proofs.Math.Seq.{get_or-append_seam}
+use Rattle.ir_lemmas.proofs.CallerLemmas.{map_of_append_item}
 use Rattle.ir_thread.specs.State as thread
 use Rattle.ir_flat.specs.Flat.{Flat, thread_of, idle}
 use Rattle.ir_log.specs.Logged.{Logged}
 use Rattle.ir_trace.specs.Recorded.{RecordedThread}
 use Rattle.ir_trace.specs.Absent.{absent}
 use Rattle.ir_record.specs.Gathered.{IsThreadTrace, AreThreadTraces}
-use Rattle.ir_record.proofs.Logs.{map_of_append_item}
 use Rattle.ir_record.specs.Progress.{log_at, no_log}
 
 -- the next of a list

@@ -8,12 +8,13 @@ use Rattle.ir_runs.specs.Machine.{Machine, Private, Quiet}
 use Rattle.ir_thread.specs.State as thread
 use Rattle.ir_flat.specs.Alone.{WentAlone}
 use Rattle.ir_flat.specs.Flat.{Flat, tables, machine, IsFlat}
-use Rattle.ir_runs.specs.Run.{State, Step, Can, after, label, end, join_if, events, log, EntersIfFree, InTurn, rounds, HasNone}
+use Rattle.ir_runs.specs.Run.{State, Step, Can, after, label, end, join_if, events, log, EntersIfFree, rounds, HasNone}
+use Rattle.ir_runs.specs.Orders.{InTurn}
 use Rattle.ir_runs.proofs.CallerLemmas.{log_append, end_append, turns_append}
 use Rattle.ir_record.specs.Ahead.{lead, IsAhead, all_ahead, NoneAhead, Went, WentIf}
 use Rattle.ir_record.specs.Progress.{Progress, Took, TookIf, all_left, labels_at}
 use Rattle.ir_record.specs.Worlds.{answers_at, answers_in}
-use Rattle.ir_record.proofs.Joining.{range_with_last_number, rounds_with_round_added, append_non_empty_by_first, append_non_empty_by_second, no_step_in_empty_turns}
+use Rattle.ir_record.proofs.Joining.{range_with_last_number, rounds_with_round_added, append_non_empty_by_first, append_non_empty_by_second, threads_have_no_step_if_turns_are_empty}
 use Rattle.ir_record.proofs.Leading.{private_step_can_be_taken, private_step_is_quiet, ahead_after_lead_is_spent, can_step_if_can_later, enters_if_free_if_later_does, private_step_enters_if_free, no_step_if_none_later, label_same_as_later, ahead_after_step_of_both, ahead_by_private_steps, state_is_ahead_by_nothing, state_ahead_by_nothing_is_same}
 use Rattle.ir_record.proofs.Running.{hold_few_objects_if_flat}
 use Rattle.ir_record.proofs.Steps.{answers_in_append}
@@ -27,10 +28,10 @@ all_ahead_after_set (x ∷ xs) zero k l = omega arith
 all_ahead_after_set (x ∷ xs) (suc t) k l = let rest = all_ahead_after_set xs t k (omega (arith, l)) in omega (arith, rest)
 
 -- a place that is read, whatever the default is
-pub lead_is_read_value : (xs : List ℕ) (t v : ℕ) → t < length xs → v ≡ get_or xs t v → lead xs t ≡ v
-lead_is_read_value [] t v l is = absurd (omega (arith, l))
-lead_is_read_value (x ∷ xs) zero v l is = sym is
-lead_is_read_value (x ∷ xs) (suc t) v l is = lead_is_read_value xs t v (omega (arith, l)) is
+pub lead_is_looked_up_element : (xs : List ℕ) (t v : ℕ) → t < length xs → v ≡ get_or xs t v → lead xs t ≡ v
+lead_is_looked_up_element [] t v l is = absurd (omega (arith, l))
+lead_is_looked_up_element (x ∷ xs) zero v l is = sym is
+lead_is_looked_up_element (x ∷ xs) (suc t) v l is = lead_is_looked_up_element xs t v (omega (arith, l)) is
 
 -- ---- what one step logs
 
@@ -75,9 +76,9 @@ turn_of_thread_ahead_is_spent s a c t k l is h =
     }
 
 -- a turn in which nothing is taken
-empty_turn_has_no_step : {T : Type 0} (m : Machine T) (s : State T) (t : ℕ) (run : List Step) → InTurn m s (t ∷ []) run → run ≡ [] → HasNone m s t
-empty_turn_has_no_step m s t run (inl none) z = none.0
-empty_turn_has_no_step m s t run (inr some) z = absurd (cc (some.2, z))
+thread_has_no_step_if_turn_is_empty : {T : Type 0} (m : Machine T) (s : State T) (t : ℕ) (run : List Step) → InTurn m s (t ∷ []) run → run ≡ [] → HasNone m s t
+thread_has_no_step_if_turn_is_empty m s t run (inl none) z = none.0
+thread_has_no_step_if_turn_is_empty m s t run (inr some) z = absurd (cc (some.2, z))
 
 pub passed_turn_changes_nothing : (a b : Progress) (t : ℕ) (moved : Bool) → moved ≡ false → TookIf moved (t ∷ []) a b → tables b.flat ≡ tables a.flat
 passed_turn_changes_nothing a b t moved e k = k.took.ends ∙ ap (end (machine a.flat) (tables a.flat)) (k.none e)
@@ -86,21 +87,21 @@ pub no_step_after_passed_turn : (a b : Progress) (t : ℕ) (moved : Bool) → mo
     → HasNone (machine b.flat) (tables b.flat) t
 no_step_after_passed_turn a b t moved e k =
     let before : HasNone (machine a.flat) (tables a.flat) t =
-    empty_turn_has_no_step (machine a.flat) (tables a.flat) t k.took.run k.took.turns (k.none e) in
+    thread_has_no_step_if_turn_is_empty (machine a.flat) (tables a.flat) t k.took.run k.took.turns (k.none e) in
     subst (λ s. HasNone (machine b.flat) s t) (sym (passed_turn_changes_nothing a b t moved e k))
     (subst (λ code. HasNone (thread_machine code) (tables a.flat) t) (sym k.took.code) before)
 
 -- a thread that is not ahead has no step
-pub turn_of_thread_without_step : (s : State thread.ThreadState) (a b : Progress) (c : List ℕ) (t : ℕ) (moved : Bool) → moved ≡ false → lead c t ≡ 0
+pub went_without_step_in_passed_turn : (s : State thread.ThreadState) (a b : Progress) (c : List ℕ) (t : ℕ) (moved : Bool) → moved ≡ false → lead c t ≡ 0
     → IsAhead (machine a.flat) c s (tables a.flat) → TookIf moved (t ∷ []) a b → WentIf false (t ∷ []) s a c b c
-turn_of_thread_without_step s a b c t moved e is h k =
+went_without_step_in_passed_turn s a b c t moved e is h k =
     let none : k.took.run ≡ [] = k.none e in
     record {
       went = record {
         run = [];
         turns = inl (
           no_step_if_none_later (machine a.flat) c s (tables a.flat) t is h
-              (empty_turn_has_no_step (machine a.flat) (tables a.flat) t k.took.run k.took.turns none),
+              (thread_has_no_step_if_turn_is_empty (machine a.flat) (tables a.flat) t k.took.run k.took.turns none),
           refl,
         );
         ahead = subst (IsAhead (machine a.flat) c s) (sym (passed_turn_changes_nothing a b t moved e k)) h;
@@ -117,10 +118,10 @@ turn_of_thread_without_step s a b c t moved e is h k =
     }
 
 -- its step, and private steps after it
-pub turn_with_private_steps_after : (s : State thread.ThreadState) (a b : Progress) (g : Flat) (c : List ℕ) (t k : ℕ) → t < length c → t < length a.flat.threads
+pub went_by_turn_and_private_steps : (s : State thread.ThreadState) (a b : Progress) (g : Flat) (c : List ℕ) (t k : ℕ) → t < length c → t < length a.flat.threads
     → IsFlat b.flat → lead c t ≡ 0 → IsAhead (machine a.flat) c s (tables a.flat) → TookIf true (t ∷ []) a b
     → WentAlone b.flat g t k → WentIf true (t ∷ []) s a c (record b { flat = g }) (set c t k)
-turn_with_private_steps_after s a b g c t k l below flat is h took w = by_turn took.took.turns
+went_by_turn_and_private_steps s a b g c t k l below flat is h took w = by_turn took.took.turns
   where
     here : (r : ℕ) (rest : List Step) → took.took.run ≡ (t, r) ∷ rest → Can (machine a.flat) (tables a.flat) (t, r)
         → EntersIfFree (machine a.flat) (tables a.flat) (t, r) → rest ≡ []
@@ -250,20 +251,20 @@ none_ahead_of_append [] more ahead h g = g
 none_ahead_of_append (t ∷ order) more ahead h g = (h.0, none_ahead_of_append order more ahead h.1 g)
 
 -- turns, and one that takes a step
-pub turns_then_turn_with_step : (moved : Bool) (order more : List ℕ) (s : State thread.ThreadState) (a b e : Progress) (c d f : List ℕ)
+pub went_on_with_step_after_turns : (moved : Bool) (order more : List ℕ) (s : State thread.ThreadState) (a b e : Progress) (c d f : List ℕ)
     (p : WentIf moved order s a c b d) → WentIf true more (reached p.went) b d e f → WentIf true (order ++ more) s a c e f
 unfolding went_through_both_orders
-turns_then_turn_with_step moved order more s a b e c d f p q = record {
+went_on_with_step_after_turns moved order more s a b e c d f p q = record {
   went = went_through_both_orders order more s a b e c d f p.went q.went;
   some = λ _. append_non_empty_by_second p.went.run q.went.run (q.some refl);
   none = λ m. absurd cc;
 }
 
 -- turns, and one that takes none
-pub turns_then_turn_without_step : (moved : Bool) (order more : List ℕ) (s : State thread.ThreadState) (a b e : Progress) (c d f : List ℕ)
+pub went_on_without_step_after_turns : (moved : Bool) (order more : List ℕ) (s : State thread.ThreadState) (a b e : Progress) (c d f : List ℕ)
     (p : WentIf moved order s a c b d) → WentIf false more (reached p.went) b d e f → WentIf moved (order ++ more) s a c e f
 unfolding went_through_both_orders
-turns_then_turn_without_step moved order more s a b e c d f p q = record {
+went_on_without_step_after_turns moved order more s a b e c d f p q = record {
   went = went_through_both_orders order more s a b e c d f p.went q.went;
   some = λ m. append_non_empty_by_first p.went.run q.went.run (p.some m);
   none = λ m.
@@ -282,16 +283,16 @@ pub round_with_turn_added : (was now ahead_after_step_of_both : Bool) (t : ℕ) 
     → (ahead_after_step_of_both ≡ false → now ≡ was) → WentIf now (range_with_len 0 (t + 1)) s a c e f
 round_with_turn_added was now true t s a b e c d f p q taken same =
     subst (λ z. WentIf z (range_with_len 0 (t + 1)) s a c e f) (sym (taken refl))
-    (subst (λ order. WentIf true order s a c e f) (range_from_zero_with_last t) (turns_then_turn_with_step was (range_with_len 0 t) (t ∷ []) s a b e c d f p q))
+    (subst (λ order. WentIf true order s a c e f) (range_from_zero_with_last t) (went_on_with_step_after_turns was (range_with_len 0 t) (t ∷ []) s a b e c d f p q))
 round_with_turn_added was now false t s a b e c d f p q taken same =
     subst (λ z. WentIf z (range_with_len 0 (t + 1)) s a c e f) (sym (same refl))
-    (subst (λ order. WentIf was order s a c e f) (range_from_zero_with_last t) (turns_then_turn_without_step was (range_with_len 0 t) (t ∷ []) s a b e c d f p q))
+    (subst (λ order. WentIf was order s a c e f) (range_from_zero_with_last t) (went_on_without_step_after_turns was (range_with_len 0 t) (t ∷ []) s a b e c d f p q))
 
 -- ---- rounds
 
 -- what some rounds make of a recording
-abbrev pub Rounding : ℕ → Progress → Progress → List ℕ → Type 0
-Rounding n a b ahead = (count : ℕ) × Went (rounds n count) (tables a.flat) a (replicate n 0) b ahead
+abbrev pub WentRounds : ℕ → Progress → Progress → List ℕ → Type 0
+WentRounds n a b ahead = (count : ℕ) × Went (rounds n count) (tables a.flat) a (replicate n 0) b ahead
 
 lead_of_zeros_is_zero : (n t : ℕ) → lead (replicate n 0) t ≡ 0
 lead_of_zeros_is_zero n t = elim (cases_lt t n) [
@@ -304,7 +305,7 @@ all_ahead_of_zeros_is_zero : (n : ℕ) → all_ahead (replicate n 0) ≡ 0
 all_ahead_of_zeros_is_zero zero = refl
 all_ahead_of_zeros_is_zero (suc n) = let rest = all_ahead_of_zeros_is_zero n in omega (arith, rest)
 
-pub no_rounds_change_nothing : (n : ℕ) (a : Progress) → Rounding n a a (replicate n 0)
+pub no_rounds_change_nothing : (n : ℕ) (a : Progress) → WentRounds n a a (replicate n 0)
 no_rounds_change_nothing n a = (0, went_without_turns (tables a.flat) a (replicate n 0) (state_is_ahead_by_nothing (machine a.flat) (replicate n 0) (tables a.flat) (lead_of_zeros_is_zero n)))
 
 lead_zero_if_none_ahead : (from n : ℕ) (ahead : List ℕ) → NoneAhead (range_with_len from n) ahead → (t : ℕ) → from ≤ t → t < from + n → lead ahead t ≡ 0
@@ -316,12 +317,12 @@ lead_zero_if_none_ahead from (suc n) ahead h t low high = elim (cases_eq t from)
 
 -- rounds, and one more, which takes a step if moved
 pub record OneMoreRound (moved : Bool) (a b e : Progress) (d f : List ℕ) : Type 0 where
-  pub first : Rounding (length a.flat.threads) a b d
+  pub first : WentRounds (length a.flat.threads) a b d
   pub places : length d ≡ length b.flat.threads
   pub next : WentIf moved (range_with_len 0 (length a.flat.threads)) (reached first.1) b d e f
 
 -- the round that was taken leads on from where the rounds before it lead
-pub one_more_round_after_rounds : {moved : Bool} {a b e : Progress} {d f : List ℕ} → Rounding (length a.flat.threads) a b d → length d ≡ length b.flat.threads
+pub one_more_round_after_rounds : {moved : Bool} {a b e : Progress} {d f : List ℕ} → WentRounds (length a.flat.threads) a b d → length d ≡ length b.flat.threads
     → ((s : State thread.ThreadState) → IsAhead (machine b.flat) d s (tables b.flat)
     → WentIf moved (range_with_len 0 (length b.flat.threads)) s b d e f) → OneMoreRound moved a b e d f
 one_more_round_after_rounds {moved} {a} {b} {e} {d} {f} p places q = record {
@@ -332,7 +333,7 @@ one_more_round_after_rounds {moved} {a} {b} {e} {d} {f} p places q = record {
 }
 
 module _ {moved : Bool} {a b e : Progress} {d f : List ℕ} (r : OneMoreRound moved a b e d f) where
-  pub round_more : Rounding (length a.flat.threads) a e f
+  pub round_more : WentRounds (length a.flat.threads) a e f
   round_more = (
     suc r.first.0,
     subst (λ order. Went order (tables a.flat) a (replicate (length a.flat.threads) 0) e f) (rounds_with_round_added (length a.flat.threads) r.first.0)
@@ -353,7 +354,7 @@ module _ {moved : Bool} {a b e : Progress} {d f : List ℕ} (r : OneMoreRound mo
   -- then what was recorded is that of the rounds
   pub caught : moved ≡ false → (count : ℕ) × Took (rounds (length a.flat.threads) count) a e
   caught is =
-      let p : Rounding (length a.flat.threads) a e f = round_more in (
+      let p : WentRounds (length a.flat.threads) a e f = round_more in (
         p.0,
         record {
           run = p.1.run;
@@ -378,7 +379,7 @@ module _ {moved : Bool} {a b e : Progress} {d f : List ℕ} (r : OneMoreRound mo
       let nobody : InTurn (machine b.flat) s (range_with_len 0 n) [] =
       subst (InTurn (machine b.flat) s (range_with_len 0 n)) nothing w.turns in
       let there : HasNone (machine b.flat) s t =
-      no_step_in_empty_turns (machine b.flat) s 0 n nobody t (omega arith) (omega (arith, l, w.threads, r.first.1.threads)) in
+      threads_have_no_step_if_turns_are_empty (machine b.flat) s 0 n nobody t (omega arith) (omega (arith, l, w.threads, r.first.1.threads)) in
       let same : tables e.flat ≡ s = state_ahead_by_nothing_is_same (machine b.flat) f (reached w) (tables e.flat) (none_ahead is) w.ahead
       ∙ ap (end (machine b.flat) s) nothing in
       subst (λ z. HasNone (machine e.flat) z t) (sym same) (subst (λ k. HasNone (thread_machine k) s t) (sym w.code) there)

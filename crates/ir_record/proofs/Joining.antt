@@ -3,8 +3,9 @@ use Rattle.std.proofs.Common.{◌≡◌, ℕ, zero, suc, ◌+◌, ◌<◌, ◌�
 use Rattle.std.proofs.lemmas.Bool.{cases_eq}
 use Rattle.std.specs.List.{range_with_len}
 use Rattle.ir_runs.specs.Machine.{Machine}
-use Rattle.ir_runs.specs.Run.{State, InTurn, rounds, HasNone}
-use Rattle.ir_record.specs.Progress.{Progress, Took, TookTurns, IsReady, IsTape}
+use Rattle.ir_runs.specs.Run.{State, rounds, HasNone}
+use Rattle.ir_runs.specs.Orders.{InTurn}
+use Rattle.ir_record.specs.Progress.{Progress, Took, TookTurns, IsReady, HasLogs}
 use Rattle.ir_record.specs.Refusing.{Turn}
 
 pub append_non_empty_by_first : {X : Type 0} (xs ys : List X) → 0 < length xs → 0 < length (xs ++ ys)
@@ -20,14 +21,14 @@ range_with_last_number from (suc n) = ap (λ xs. from ∷ xs)
     (ap (λ k. range_with_len (from + 1) n ++ k ∷ []) (let e : from + suc n ≡ from + 1 + n = omega arith in e) ∙ range_with_last_number (from + 1) n)
 
 -- turns in which no thread takes a step
-pub no_step_in_empty_turns : {T : Type 0} (m : Machine T) (s : State T) (from n : ℕ) → InTurn m s (range_with_len from n) [] → (t : ℕ) → from ≤ t
+pub threads_have_no_step_if_turns_are_empty : {T : Type 0} (m : Machine T) (s : State T) (from n : ℕ) → InTurn m s (range_with_len from n) [] → (t : ℕ) → from ≤ t
     → t < from + n → HasNone m s t
-no_step_in_empty_turns m s from zero h t low high = absurd (omega arith)
-no_step_in_empty_turns m s from (suc n) (inl none) t low high = elim (cases_eq t from) [
+threads_have_no_step_if_turns_are_empty m s from zero h t low high = absurd (omega arith)
+threads_have_no_step_if_turns_are_empty m s from (suc n) (inl none) t low high = elim (cases_eq t from) [
   | inl e ↦ subst (HasNone m s) (sym e) none.0
-  | inr ne ↦ no_step_in_empty_turns m s (from + 1) n none.1 t (omega (arith, low, ne)) (omega (arith, high))
+  | inr ne ↦ threads_have_no_step_if_turns_are_empty m s (from + 1) n none.1 t (omega (arith, low, ne)) (omega (arith, high))
 ]
-no_step_in_empty_turns m s from (suc n) (inr some) t low high = absurd (cc some.2)
+threads_have_no_step_if_turns_are_empty m s from (suc n) (inr some) t low high = absurd (cc some.2)
 
 -- rounds, and a round more
 pub rounds_with_round_added : (n count : ℕ) → rounds n count ++ range_with_len 0 n ≡ rounds n (suc count)
@@ -42,13 +43,13 @@ rounds_add_up n (suc first) more = append_assoc (range_with_len 0 n) (rounds n f
     ∙ ap (rounds n) (let e : suc (first + more) ≡ suc first + more = omega arith in e)
 
 -- what holds before turns holds after them
-pub ready_after_turns : (order : List ℕ) (a b : Progress) (was : List Bool) → IsReady a was → Took order a b → IsTape b.flat b.logs
+pub ready_after_took_order : (order : List ℕ) (a b : Progress) (was : List Bool) → IsReady a was → Took order a b → HasLogs b.flat b.logs
     → b.answers ≡ a.answers → IsReady b was
-ready_after_turns order a b was ready took tape same =
-    record { tape = tape; worlds = ap (λ xs. length xs) same ∙ ready.worlds ∙ sym took.threads; works = ready.works }
+ready_after_took_order order a b was ready took has_logs same =
+    record { has_logs = has_logs; worlds = ap (λ xs. length xs) same ∙ ready.worlds ∙ sym took.threads; works = ready.works }
 
 -- the same of turns in which tries may be refused
-pub turns_ready : (turns : List Turn) (a b : Progress) (was : List Bool) → IsReady a was → TookTurns turns a b → IsTape b.flat b.logs
+pub ready_after_took_turns : (turns : List Turn) (a b : Progress) (was : List Bool) → IsReady a was → TookTurns turns a b → HasLogs b.flat b.logs
     → b.answers ≡ a.answers → IsReady b was
-turns_ready turns a b was ready took tape same =
-    record { tape = tape; worlds = ap (λ xs. length xs) same ∙ ready.worlds ∙ sym took.moved.threads; works = ready.works }
+ready_after_took_turns turns a b was ready took has_logs same =
+    record { has_logs = has_logs; worlds = ap (λ xs. length xs) same ∙ ready.worlds ∙ sym took.moved.threads; works = ready.works }

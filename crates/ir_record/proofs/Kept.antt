@@ -7,22 +7,23 @@ use Rattle.ir_thread.specs.declared.ask.Ask.TheVariants.{Done}
 use Rattle.ir_flat.specs.Alone.{WentAlone}
 use Rattle.ir_flat.specs.Flat.{Flat, IsFlat, thread_of, tables, machine}
 use Rattle.ir_runs.specs.Machine.{Machine}
-use Rattle.ir_runs.specs.Run.{State, Step, end, InTurn}
+use Rattle.ir_runs.specs.Run.{State, Step, end}
+use Rattle.ir_runs.specs.Orders.{InTurn}
 use Rattle.ir_record.specs.Ahead.{AreAsks}
 use Rattle.ir_record.specs.Progress.{Progress, TookIf}
 use Rattle.ir_record.proofs.Leading.{thread_after_step_of_other, other_thread_after_repeated_steps}
 
 -- a place that is read, whatever the default is
-pub kept_ask_is_read_value : (xs : List Ask) (t : ℕ) (v : Ask) → t < length xs → v ≡ get_or xs t v → get_or xs t Done ≡ v
-kept_ask_is_read_value [] t v l is = absurd (omega (arith, l))
-kept_ask_is_read_value (x ∷ xs) zero v l is = sym is
-kept_ask_is_read_value (x ∷ xs) (suc t) v l is = kept_ask_is_read_value xs t v (omega (arith, l)) is
+pub kept_ask_is_looked_up_element : (xs : List Ask) (t : ℕ) (v : Ask) → t < length xs → v ≡ get_or xs t v → get_or xs t Done ≡ v
+kept_ask_is_looked_up_element [] t v l is = absurd (omega (arith, l))
+kept_ask_is_looked_up_element (x ∷ xs) zero v l is = sym is
+kept_ask_is_looked_up_element (x ∷ xs) (suc t) v l is = kept_ask_is_looked_up_element xs t v (omega (arith, l)) is
 
 -- the asks of the first threads, and one more
-pub asks_with_one_set : (asks : List Ask) (f : Flat) (t : ℕ) (v : Ask) → t < length asks → v ≡ ask_of f.code (thread_of f t)
+pub kept_asks_are_of_threads_step : (asks : List Ask) (f : Flat) (t : ℕ) (v : Ask) → t < length asks → v ≡ ask_of f.code (thread_of f t)
     → ((u : ℕ) → u < t → get_or asks u Done ≡ ask_of f.code (thread_of f u)) → (u : ℕ) → u < t + 1
     → get_or (set asks t v) u Done ≡ ask_of f.code (thread_of f u)
-asks_with_one_set asks f t v below is before u l = elim (cases_eq u t) [
+kept_asks_are_of_threads_step asks f t v below is before u l = elim (cases_eq u t) [
   | inl e ↦ subst (λ z. get_or (set asks t v) z Done ≡ ask_of f.code (thread_of f z)) (sym e) (get_or-set_same asks t v Done below ∙ is)
   | inr ne ↦ get_or-set_other asks t u v Done ne ∙ before u (omega (arith, l, ne))
 ]

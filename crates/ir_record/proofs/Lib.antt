@@ -18,7 +18,7 @@ mod Leading
 mod Kept
 mod Going
 mod Skipping
-mod Passing
+mod RoundResults
 mod Telling
 mod Ended
 mod Stopped
@@ -27,5 +27,4 @@ mod WorkerSteps
 mod ByThreads
 mod Manning
 mod Crewed
-mod ByOrder
 pub mod CallerLemmas

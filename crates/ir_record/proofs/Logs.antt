@@ -3,6 +3,7 @@ use Rattle.std.proofs.Common.{◌≡◌, ◌≢◌, ℕ, ◌+◌, ◌<◌, List,
 use Rattle.std.proofs.lemmas.Bool.{cases_eq}
 use Rattle.std.proofs.lemmas.List.{get_or_default}
 use Rattle.std.specs.List.{AllByRecursion}
+use Rattle.ir_lemmas.proofs.CallerLemmas.{all_by_recursion_after_push, map_of_append_item}
 use Rattle.ir_thread.specs.State.{ask_of, most_events}
 use Rattle.ir_runs.proofs.CallerLemmas.{upd_at_own_place, upd_at_other_place}
 use Rattle.ir_flat.specs.Flat.{Flat, thread_of, tables, machine}
@@ -11,14 +12,9 @@ use Rattle.ir_flat.proofs.CallerLemmas.{events_added_by, events_after_ask, moved
 use Rattle.ir_log.specs.Logged.{Logged}
 use Rattle.ir_log.specs.Logging.{label_of}
 use Rattle.ir_log.specs.declared.event.Event.{Event}
-use Rattle.ir_trace.specs.Recorded.{IsEvent}
-use Rattle.ir_record.specs.Progress.{IsTape, no_log, log_at, labels_at}
+use Rattle.ir_trace.specs.Bounds.{IsEvent}
+use Rattle.ir_record.specs.Progress.{HasLogs, no_log, log_at, labels_at}
 use Rattle.ir_record.proofs.Profiles.{events_fit_if_limits_same, thread_profile_after_step}
-
--- a step that there is, is taken
-pub on_ok_holds_if_can : {X E : Type 0} (result : Result X E) (P Q : Type 0) → P → OnErr result (P → ⊥) → OnOk result Q → Q
-on_ok_holds_if_can (Ok x) P Q p err ok = ok
-on_ok_holds_if_can (Err e) P Q p err ok = absurd (err p)
 
 -- what a thread counts of its events after a step
 pub event_count_after_own_step : (f g : Flat) (t r : ℕ) → tables g ≡ after (machine f) (tables f) (t, r)
@@ -35,62 +31,54 @@ event_count_after_step_of_other f g t r u taken ne =
     ∙ ap (λ x. x.events) (upd_at_other_place (thread_of f) t u (moved_thread f.code (tables f) (t, r)) ne)
 
 -- a step that logs nothing
-pub tape_after_unlogged_step : (f g : Flat) (logs : List Logged) (t r : ℕ) → IsTape f logs → tables g ≡ after (machine f) (tables f) (t, r)
+pub has_logs_after_unlogged_step : (f g : Flat) (logs : List Logged) (t r : ℕ) → HasLogs f logs → tables g ≡ after (machine f) (tables f) (t, r)
     → length g.threads ≡ length f.threads → length g.objects ≡ length f.objects
-    → events_added_by (ask_of f.code (thread_of f t)) ≡ 0 → IsTape g logs
-tape_after_unlogged_step f g logs t r tape taken threads objects none = record {
-  one_each = tape.one_each ∙ sym threads;
-  rooms = λ u l. tape.rooms u (omega (arith, l, threads));
-  counts = λ u l. tape.counts u (omega (arith, l, threads)) ∙ sym (elim (cases_eq u t) [
+    → events_added_by (ask_of f.code (thread_of f t)) ≡ 0 → HasLogs g logs
+has_logs_after_unlogged_step f g logs t r has_logs taken threads objects none = record {
+  one_each = has_logs.one_each ∙ sym threads;
+  rooms = λ u l. has_logs.rooms u (omega (arith, l, threads));
+  counts = λ u l. has_logs.counts u (omega (arith, l, threads)) ∙ sym (elim (cases_eq u t) [
     | inl e ↦ subst (λ z. (thread_of g z).events ≡ (thread_of f z).events) (sym e)
         (let own = event_count_after_own_step f g t r taken in omega (arith, own, none))
     | inr ne ↦ event_count_after_step_of_other f g t r u taken ne
   ]);
   events_fit = λ u l. events_fit_if_limits_same (thread_of f u).profile (thread_of g u).profile (length f.objects) (length g.objects) (log_at logs u).events
-      (thread_profile_after_step f g t r u taken) objects (tape.events_fit u (omega (arith, l, threads)));
+      (thread_profile_after_step f g t r u taken) objects (has_logs.events_fit u (omega (arith, l, threads)));
 }
 
-pub all_by_recursion_after_push : {X : Type 0} (P : X → Type 0) (xs : List X) (x : X) → AllByRecursion P xs → P x → AllByRecursion P (xs ++ x ∷ [])
-all_by_recursion_after_push P [] x h p = (p, tt)
-all_by_recursion_after_push P (y ∷ xs) x h p = (h.0, all_by_recursion_after_push P xs x h.1 p)
-
 -- a step that logs an event
-pub tape_after_event_pushed : (f g : Flat) (logs : List Logged) (t r : ℕ) (e : Event) (new : Logged) → IsTape f logs → t < length f.threads
+pub has_logs_after_event_pushed : (f g : Flat) (logs : List Logged) (t r : ℕ) (e : Event) (new : Logged) → HasLogs f logs → t < length f.threads
     → tables g ≡ after (machine f) (tables f) (t, r) → length g.threads ≡ length f.threads → length g.objects ≡ length f.objects
     → events_added_by (ask_of f.code (thread_of f t)) ≡ 1 → IsEvent (thread_of f t).profile (length f.objects) e
-    → new ≡ record (log_at logs t) { events = (log_at logs t).events ++ e ∷ [] } → IsTape g (set logs t new)
-tape_after_event_pushed f g logs t r e new tape below taken threads objects one fits is =
-    let here : log_at (set logs t new) t ≡ new = get_or-set_same logs t new no_log (omega (arith, below, tape.one_each)) in
+    → new ≡ record (log_at logs t) { events = (log_at logs t).events ++ e ∷ [] } → HasLogs g (set logs t new)
+has_logs_after_event_pushed f g logs t r e new has_logs below taken threads objects one fits is =
+    let here : log_at (set logs t new) t ≡ new = get_or-set_same logs t new no_log (omega (arith, below, has_logs.one_each)) in
     let there : (u : ℕ) → u ≢ t → log_at (set logs t new) u ≡ log_at logs u = λ u ne. get_or-set_other logs t u new no_log ne in
     let longer : length new.events ≡ length (log_at logs t).events + 1 = ap (λ l. length l.events) is
     ∙ length-append (log_at logs t).events (e ∷ []) in
     record {
-      one_each = length-set logs t new ∙ tape.one_each ∙ sym threads;
+      one_each = length-set logs t new ∙ has_logs.one_each ∙ sym threads;
       rooms = λ u l. elim (cases_eq u t) [
         | inl same ↦ subst (λ z. (log_at (set logs t new) z).room ≡ most_events) (sym same)
-            (ap (λ z. z.room) here ∙ ap (λ z. z.room) is ∙ tape.rooms t below)
-        | inr ne ↦ ap (λ z. z.room) (there u ne) ∙ tape.rooms u (omega (arith, l, threads))
+            (ap (λ z. z.room) here ∙ ap (λ z. z.room) is ∙ has_logs.rooms t below)
+        | inr ne ↦ ap (λ z. z.room) (there u ne) ∙ has_logs.rooms u (omega (arith, l, threads))
       ];
       counts = λ u l. elim (cases_eq u t) [
         | inl same ↦ subst (λ z. length (log_at (set logs t new) z).events ≡ (thread_of g z).events) (sym same)
             (ap (λ z. length z.events) here ∙ longer
-            ∙ (let own = event_count_after_own_step f g t r taken in let was = tape.counts t below in omega (arith, own, was, one)))
-        | inr ne ↦ ap (λ z. length z.events) (there u ne) ∙ tape.counts u (omega (arith, l, threads))
+            ∙ (let own = event_count_after_own_step f g t r taken in let was = has_logs.counts t below in omega (arith, own, was, one)))
+        | inr ne ↦ ap (λ z. length z.events) (there u ne) ∙ has_logs.counts u (omega (arith, l, threads))
             ∙ sym (event_count_after_step_of_other f g t r u taken ne)
       ];
       events_fit = λ u l. events_fit_if_limits_same (thread_of f u).profile (thread_of g u).profile (length f.objects) (length g.objects)
           (log_at (set logs t new) u).events (thread_profile_after_step f g t r u taken) objects (elim (cases_eq u t) [
             | inl same ↦ subst (λ z. AllByRecursion (IsEvent (thread_of f z).profile (length f.objects)) (log_at (set logs t new) z).events)
                 (sym same) (subst (λ z. AllByRecursion (IsEvent (thread_of f t).profile (length f.objects)) z.events) (sym (here ∙ is))
-                (all_by_recursion_after_push (IsEvent (thread_of f t).profile (length f.objects)) (log_at logs t).events e (tape.events_fit t below) fits))
+                (all_by_recursion_after_push (IsEvent (thread_of f t).profile (length f.objects)) (log_at logs t).events e (has_logs.events_fit t below) fits))
             | inr ne ↦ subst (λ z. AllByRecursion (IsEvent (thread_of f u).profile (length f.objects)) z.events) (sym (there u ne))
-                (tape.events_fit u (omega (arith, l, threads)))
+                (has_logs.events_fit u (omega (arith, l, threads)))
           ]);
     }
-
-pub map_of_append_item : {A B : Type 0} (f : A → B) (xs : List A) (x : A) → map f (xs ++ x ∷ []) ≡ map f xs ++ f x ∷ []
-map_of_append_item f [] x = refl
-map_of_append_item f (y ∷ xs) x = ap (λ z. f y ∷ z) (map_of_append_item f xs x)
 
 -- the labels in a log with an event more
 pub labels_after_event_pushed : (logs : List Logged) (t : ℕ) (e : Event) (new : Logged) → t < length logs
@@ -103,14 +91,14 @@ pub labels_of_other_thread_after_set : (logs : List Logged) (t u : ℕ) (new : L
 labels_of_other_thread_after_set logs t u new ne = ap (λ z. map label_of z.events) (get_or-set_other logs t u new no_log ne)
 
 -- there is room for an event
-pub log_has_room_for_event : (f : Flat) (logs : List Logged) (t : ℕ) (l : Logged) → IsTape f logs → t < length f.threads → l ≡ log_at logs t
+pub log_has_room_for_event : (f : Flat) (logs : List Logged) (t : ℕ) (l : Logged) → HasLogs f logs → t < length f.threads → l ≡ log_at logs t
     → (thread_of f t).events < most_events → length l.events < l.room
-log_has_room_for_event f logs t l tape below is can =
-    let count : length l.events ≡ (thread_of f t).events = ap (λ z. length z.events) is ∙ tape.counts t below in
-    let room : l.room ≡ most_events = ap (λ z. z.room) is ∙ tape.rooms t below in
+log_has_room_for_event f logs t l has_logs below is can =
+    let count : length l.events ≡ (thread_of f t).events = ap (λ z. length z.events) is ∙ has_logs.counts t below in
+    let room : l.room ≡ most_events = ap (λ z. z.room) is ∙ has_logs.rooms t below in
     omega (arith, count, room, can)
 
 -- the log that was read
-pub found_log_is_log_at : (f : Flat) (logs : List Logged) (t : ℕ) (l : Logged) → IsTape f logs → t < length f.threads → l ≡ get_or logs t l
+pub found_log_is_log_at : (f : Flat) (logs : List Logged) (t : ℕ) (l : Logged) → HasLogs f logs → t < length f.threads → l ≡ get_or logs t l
     → l ≡ log_at logs t
-found_log_is_log_at f logs t l tape below e = e ∙ get_or_default logs t l no_log (omega (arith, below, tape.one_each))
+found_log_is_log_at f logs t l has_logs below e = e ∙ get_or_default logs t l no_log (omega (arith, below, has_logs.one_each))

@@ -4,6 +4,7 @@ use Rattle.std.proofs.Common.{◌≡◌, ℕ, suc, ◌+◌, ◌<◌, ◌≤◌, 
 use Rattle.std.proofs.lemmas.Bool.{cases_lt}
 use Rattle.std.proofs.lemmas.List.{length-map, get_or_past, get_or-map}
 use Rattle.std.specs.List.{AllByRecursion}
+use Rattle.ir_lemmas.proofs.CallerLemmas.{take_length_of_append}
 use Rattle.atomic_table.specs.Seated.{TableId}
 use Rattle.atomic_table.specs.declared.shared.Seat.{Seat}
 use Rattle.ir_image.specs.Guest.{Guest}
@@ -12,7 +13,7 @@ use Rattle.ir_crew.specs.Rule.{View}
 use Rattle.ir_trace.specs.Recorded.{RecordedThread}
 use Rattle.ir_record.specs.Gathered.{IsThreadTrace}
 use Rattle.ir_record.specs.Threads.{IsNew, AreNew, AreTraces, views_of, Pairs}
-use Rattle.ir_record.specs.declared.worker.Worker.{Worker}
+use Rattle.ir_record.specs.declared.by_threads.worker.Worker.{Worker}
 
 pub new_workers_with_one_added : {W : Type 0} (g : Guest) (budget : ℕ) (profile : Profile) (id : TableId) (t n : ℕ) (ws : List (Worker W)) (w : Worker W)
     → AreNew g budget profile id t ws → n ≡ t + length ws → IsNew g budget profile id n w → AreNew g budget profile id t (ws ++ w ∷ [])
@@ -20,11 +21,11 @@ new_workers_with_one_added g budget profile id t n [] w h e new = (subst (λ z. 
 new_workers_with_one_added g budget profile id t n (x ∷ ws) w h e new = (h.0, new_workers_with_one_added g budget profile id (suc t) n ws w h.1 (omega (arith, e)) new)
 
 -- the first seat, and those left
-pub first_seat_and_rest : (id : TableId) (t : ℕ) (ss rest : List (Seat (Unit {0}) View)) (s : Seat (Unit {0}) View) → 0 < length ss
+pub first_seat_is_new_and_rest_are_seats : (id : TableId) (t : ℕ) (ss rest : List (Seat (Unit {0}) View)) (s : Seat (Unit {0}) View) → 0 < length ss
     → s ≡ get_or ss 0 s → rest ≡ take 0 ss ++ drop 1 ss → AreSeats id t ss
     → ((s.table_id ≡ id) × (s.me ≡ (record { thread = t; steps = [] } ∷ [], []))) × AreSeats id (suc t) rest
-first_seat_and_rest id t [] rest s l is left h = absurd (omega arith)
-first_seat_and_rest id t (x ∷ ss) rest s l is left h =
+first_seat_is_new_and_rest_are_seats id t [] rest s l is left h = absurd (omega arith)
+first_seat_is_new_and_rest_are_seats id t (x ∷ ss) rest s l is left h =
     ((ap (λ z. z.table_id) is ∙ h.0.0, ap (λ z. z.me) is ∙ h.0.1), subst (AreSeats id (suc t)) (sym left) h.1)
 
 pub rest_of_seats_is_one_shorter : {A : Type 0} (ss rest : List A) → 0 < length ss → rest ≡ take 0 ss ++ drop 1 ss → length rest + 1 ≡ length ss
@@ -38,28 +39,24 @@ worker_traces_with_one_added [] (q ∷ rs) w r h i = absurd h
 worker_traces_with_one_added (x ∷ ws) [] w r h i = absurd h
 worker_traces_with_one_added (x ∷ ws) (q ∷ rs) w r h i = (h.0, worker_traces_with_one_added ws rs w r h.1 i)
 
-pub traces_count_workers : {W : Type 0} (ws : List (Worker W)) (rs : List RecordedThread) → AreTraces ws rs → length rs ≡ length ws
-traces_count_workers [] [] h = refl
-traces_count_workers [] (q ∷ rs) h = absurd h
-traces_count_workers (x ∷ ws) [] h = absurd h
-traces_count_workers (x ∷ ws) (q ∷ rs) h = ap suc (traces_count_workers ws rs h.1)
+pub traces_are_as_many_as_workers : {W : Type 0} (ws : List (Worker W)) (rs : List RecordedThread) → AreTraces ws rs → length rs ≡ length ws
+traces_are_as_many_as_workers [] [] h = refl
+traces_are_as_many_as_workers [] (q ∷ rs) h = absurd h
+traces_are_as_many_as_workers (x ∷ ws) [] h = absurd h
+traces_are_as_many_as_workers (x ∷ ws) (q ∷ rs) h = ap suc (traces_are_as_many_as_workers ws rs h.1)
 
-pub all_holds_of_middle_item : {X : Type 0} (P : X → Type 0) (xs ys : List X) (x : X) → AllByRecursion P (xs ++ x ∷ ys) → P x
-all_holds_of_middle_item P [] ys x h = h.0
-all_holds_of_middle_item P (y ∷ xs) ys x h = all_holds_of_middle_item P xs ys x h.1
-
-pub all_splits_off_last : {X : Type 0} (P : X → Type 0) (xs : List X) (x : X) → AllByRecursion P (xs ++ x ∷ []) → AllByRecursion P xs × P x
-all_splits_off_last P [] x h = (tt, h.0)
-all_splits_off_last P (y ∷ xs) x h = let r = all_splits_off_last P xs x h.1 in ((h.0, r.0), r.1)
+pub middle_element_has_property_of_all : {X : Type 0} (P : X → Type 0) (xs ys : List X) (x : X) → AllByRecursion P (xs ++ x ∷ ys) → P x
+middle_element_has_property_of_all P [] ys x h = h.0
+middle_element_has_property_of_all P (y ∷ xs) ys x h = middle_element_has_property_of_all P xs ys x h.1
 
 pub views_with_seat_added : (ss : List (Seat (Unit {0}) View)) (s : Seat (Unit {0}) View) → views_of (ss ++ s ∷ []) ≡ views_of ss ++ s.me.0
 views_with_seat_added [] s = append-nil s.me.0
 views_with_seat_added (x ∷ ss) s = ap (λ z. x.me.0 ++ z) (views_with_seat_added ss s) ∙ sym (append_assoc x.me.0 (views_of ss) s.me.0)
 
 -- a seat more is joined
-pub views_after_seat_joined : (old rest : List (Seat (Unit {0}) View)) (s all new : Seat (Unit {0}) View) (whole : View) → views_of old ++ all.me.0 ≡ whole
+pub views_stay_whole_after_seat_joined : (old rest : List (Seat (Unit {0}) View)) (s all new : Seat (Unit {0}) View) (whole : View) → views_of old ++ all.me.0 ≡ whole
     → old ≡ rest ++ s ∷ [] → new.me ≡ (s.me.0 ++ all.me.0, []) → views_of rest ++ new.me.0 ≡ whole
-views_after_seat_joined old rest s all new whole h e is =
+views_stay_whole_after_seat_joined old rest s all new whole h e is =
     ap (λ z. views_of rest ++ z.0) is ∙ sym (append_assoc (views_of rest) s.me.0 all.me.0)
     ∙ ap (λ z. z ++ all.me.0) (sym (views_with_seat_added rest s) ∙ ap views_of (sym e)) ∙ h
 
@@ -99,10 +96,6 @@ pairs_if_each_place_pairs P [] [] e h = tt
 pairs_if_each_place_pairs P [] (y ∷ ys) e h = absurd (omega (arith, e))
 pairs_if_each_place_pairs P (x ∷ xs) [] e h = absurd (omega (arith, e))
 pairs_if_each_place_pairs P (x ∷ xs) (y ∷ ys) e h = (h 0 x (omega arith), pairs_if_each_place_pairs P xs ys (omega (arith, e)) (λ i d l. h (suc i) d (omega (arith, l))))
-
-take_length_of_append : {A : Type 0} (xs ys : List A) → take (length xs) (xs ++ ys) ≡ xs
-take_length_of_append [] ys = refl
-take_length_of_append (x ∷ xs) ys = ap (λ z. x ∷ z) (take_length_of_append xs ys)
 
 -- what is left in a list of which a part was changed in place
 pub take_of_overwritten_list : {A : Type 0} (new old : List A) (n : ℕ) → n ≡ length old → length new ≡ length old

@@ -14,7 +14,7 @@ use Rattle.ir_runs.specs.Run.{State, Step, act, after, end}
 use Rattle.ir_flat.specs.Flat.{Flat, thread_of, tables, machine, idle, start_threads}
 use Rattle.ir_flat.proofs.CallerLemmas.{moved_thread, threads_after_step}
 use Rattle.ir_log.specs.declared.event.Event.{Event}
-use Rattle.ir_trace.specs.Recorded.{IsEvent}
+use Rattle.ir_trace.specs.Bounds.{IsEvent}
 
 -- whatever a thread asks
 pub profile_after_ask : (code : List ℕ) (x : thread.ThreadState) (q : Ask) (r : Reply) → (after_ask code x q r).profile ≡ x.profile

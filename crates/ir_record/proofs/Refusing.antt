@@ -1,19 +1,20 @@
 -- Turns in which tries may be refused.
-use Rattle.std.proofs.Common.{◌≡◌, ℕ, Bool, false, List, [], ◌∷◌, ◌++◌, map, refl, sym, ap, ◌∙◌, subst, inl, inr}
+use Rattle.std.proofs.Common.{◌≡◌, ℕ, false, List, [], ◌∷◌, ◌++◌, sym, ap, subst, inl, inr}
 use Rattle.std.proofs.lemmas.List.{map-append}
 use Rattle.ir_runs.specs.Machine.{Machine}
-use Rattle.ir_runs.specs.Run.{State, Step, after, IsRun, end, InTurn, rounds, IsByOrder}
+use Rattle.ir_runs.specs.Run.{State, Step, after, IsRun, end, rounds}
+use Rattle.ir_runs.specs.Orders.{InTurn, IsByOrder}
 use Rattle.ir_record.specs.Refusing.{Turn, plain_turns, InTurns, IsByTurns}
 
 pub plain_turns-append : (xs ys : List ℕ) → plain_turns (xs ++ ys) ≡ plain_turns xs ++ plain_turns ys
 plain_turns-append xs ys = map-append (λ t. (t, false)) xs ys
 
 -- turns make a run
-pub in_turns-run : {T : Type 0} (m : Machine T) (s : State T) (turns : List Turn) (run : List Step) → InTurns m s turns run → IsRun m s run
-in_turns-run m s [] run e = subst (IsRun m s) (sym e) tt
-in_turns-run m s ((t, refused) ∷ turns) run (inl none) = in_turns-run m s turns run none.1
-in_turns-run m s ((t, refused) ∷ turns) run (inr some) =
-    subst (IsRun m s) (sym some.2) (some.3, in_turns-run m (after m s (t, some.0)) turns some.1 some.5)
+pub is_run_if_in_turns : {T : Type 0} (m : Machine T) (s : State T) (turns : List Turn) (run : List Step) → InTurns m s turns run → IsRun m s run
+is_run_if_in_turns m s [] run e = subst (IsRun m s) (sym e) tt
+is_run_if_in_turns m s ((t, refused) ∷ turns) run (inl none) = is_run_if_in_turns m s turns run none.1
+is_run_if_in_turns m s ((t, refused) ∷ turns) run (inr some) =
+    subst (IsRun m s) (sym some.2) (some.3, is_run_if_in_turns m (after m s (t, some.0)) turns some.1 some.5)
 
 -- turns, and then others
 pub in_turns-append : {T : Type 0} (m : Machine T) (s : State T) (turns more : List Turn) (run rest : List Step) → InTurns m s turns run
@@ -31,56 +32,34 @@ in_turns-append m s ((t, refused) ∷ turns) more run rest (inr some) h = inr (
 
 -- ---- turns in which no try is refused that may enter
 
-pub in_turn-plain_turns : {T : Type 0} (m : Machine T) (s : State T) (order : List ℕ) (run : List Step) → InTurn m s order run
+pub in_plain_turns_if_in_turn : {T : Type 0} (m : Machine T) (s : State T) (order : List ℕ) (run : List Step) → InTurn m s order run
     → InTurns m s (plain_turns order) run
-in_turn-plain_turns m s [] run e = e
-in_turn-plain_turns m s (t ∷ order) run (inl none) = inl (none.0, in_turn-plain_turns m s order run none.1)
-in_turn-plain_turns m s (t ∷ order) run (inr some) =
-    inr (some.0, some.1, some.2, some.3, some.4, in_turn-plain_turns m (after m s (t, some.0)) order some.1 some.5)
+in_plain_turns_if_in_turn m s [] run e = e
+in_plain_turns_if_in_turn m s (t ∷ order) run (inl none) = inl (none.0, in_plain_turns_if_in_turn m s order run none.1)
+in_plain_turns_if_in_turn m s (t ∷ order) run (inr some) =
+    inr (some.0, some.1, some.2, some.3, some.4, in_plain_turns_if_in_turn m (after m s (t, some.0)) order some.1 some.5)
 
-pub plain_turns-in_turn : {T : Type 0} (m : Machine T) (s : State T) (order : List ℕ) (run : List Step) → InTurns m s (plain_turns order) run
+pub in_turn_if_in_plain_turns : {T : Type 0} (m : Machine T) (s : State T) (order : List ℕ) (run : List Step) → InTurns m s (plain_turns order) run
     → InTurn m s order run
-plain_turns-in_turn m s [] run e = e
-plain_turns-in_turn m s (t ∷ order) run (inl none) = inl (none.0, plain_turns-in_turn m s order run none.1)
-plain_turns-in_turn m s (t ∷ order) run (inr some) =
-    inr (some.0, some.1, some.2, some.3, some.4, plain_turns-in_turn m (after m s (t, some.0)) order some.1 some.5)
+in_turn_if_in_plain_turns m s [] run e = e
+in_turn_if_in_plain_turns m s (t ∷ order) run (inl none) = inl (none.0, in_turn_if_in_plain_turns m s order run none.1)
+in_turn_if_in_plain_turns m s (t ∷ order) run (inr some) =
+    inr (some.0, some.1, some.2, some.3, some.4, in_turn_if_in_plain_turns m (after m s (t, some.0)) order some.1 some.5)
 
-pub by_order-plain_turns : {T : Type 0} (m : Machine T) (s : State T) (n : ℕ) (order : List ℕ) (run : List Step) → IsByOrder m s n order run
+pub by_plain_turns_if_by_order : {T : Type 0} (m : Machine T) (s : State T) (n : ℕ) (order : List ℕ) (run : List Step) → IsByOrder m s n order run
     → IsByTurns m s n (plain_turns order) run
-by_order-plain_turns m s n order run h = record {
+by_plain_turns_if_by_order m s n order run h = record {
   count = h.count;
   in_turns = subst (λ z. InTurns m s z run) (plain_turns-append order (rounds n h.count))
-      (in_turn-plain_turns m s (order ++ rounds n h.count) run h.turns);
+      (in_plain_turns_if_in_turn m s (order ++ rounds n h.count) run h.turns);
   done = h.done;
 }
 
-pub plain_turns-by_order : {T : Type 0} (m : Machine T) (s : State T) (n : ℕ) (order : List ℕ) (run : List Step) → IsByTurns m s n (plain_turns order) run
+pub by_order_if_by_plain_turns : {T : Type 0} (m : Machine T) (s : State T) (n : ℕ) (order : List ℕ) (run : List Step) → IsByTurns m s n (plain_turns order) run
     → IsByOrder m s n order run
-plain_turns-by_order m s n order run h = record {
+by_order_if_by_plain_turns m s n order run h = record {
   count = h.count;
-  turns = plain_turns-in_turn m s (order ++ rounds n h.count) run
+  turns = in_turn_if_in_plain_turns m s (order ++ rounds n h.count) run
       (subst (λ z. InTurns m s z run) (sym (plain_turns-append order (rounds n h.count))) h.in_turns);
   done = h.done;
 }
-
--- the threads of turns
-abbrev pub threads_of : List Turn → List ℕ
-threads_of turns = map (λ t. t.0) turns
-
-threads_of-plain_turns : (order : List ℕ) → threads_of (plain_turns order) ≡ order
-threads_of-plain_turns [] = refl
-threads_of-plain_turns (t ∷ order) = ap (λ z. t ∷ z) (threads_of-plain_turns order)
-
--- a turn among turns in which no try is refused, and those before it
-pub plain_parts : (order : List ℕ) (taken : List Turn) (t : ℕ) (refused : Bool) (left : List Turn) → plain_turns order ≡ taken ++ (t, refused) ∷ left
-    → (order ≡ threads_of taken ++ t ∷ threads_of left) × (taken ≡ plain_turns (threads_of taken))
-plain_parts order [] t refused left e = (sym (threads_of-plain_turns order) ∙ ap threads_of e, refl)
-plain_parts [] (x ∷ taken) t refused left e = absurd (cc e)
-plain_parts (u ∷ order) ((v, f) ∷ taken) t refused left e =
-    let first : ◌≡◌ {A = Turn} (u, false) (v, f) = cc e in
-    let rest : plain_turns order ≡ taken ++ (t, refused) ∷ left = cc e in
-    let below = plain_parts order taken t refused left rest in
-    let same : u ≡ v = ap (λ (z : Turn). z.0) first in (
-      ap (λ z. z ∷ order) same ∙ ap (λ z. v ∷ z) below.0,
-      ap (λ z. z ∷ taken) (sym first) ∙ ap (λ z. (u, false) ∷ z) below.1 ∙ ap (λ z. (z, false) ∷ plain_turns (threads_of taken)) same,
-    )

@@ -6,9 +6,10 @@ use Rattle.ir_thread.specs.State.{shared_ask}
 use Rattle.ir_runs.specs.Machine.{Machine, Private}
 use Rattle.ir_flat.specs.Alone.{WentAlone}
 use Rattle.ir_flat.specs.Flat.{Flat, thread_of, tables, machine, idle, IsFlat}
-use Rattle.ir_runs.specs.Run.{State, Step, after, IsRun, end, InTurn}
+use Rattle.ir_runs.specs.Run.{State, Step, after, IsRun, end}
+use Rattle.ir_runs.specs.Orders.{InTurn}
 use Rattle.ir_log.specs.Logged.{Logged}
-use Rattle.ir_record.specs.Progress.{Took, IsTape, log_at, labels_at, all_left}
+use Rattle.ir_record.specs.Progress.{Took, HasLogs, log_at, labels_at, all_left}
 use Rattle.ir_record.specs.Worlds.{answers_at, Answered, answers_in}
 use Rattle.ir_flat.proofs.CallerLemmas.{tallies_along_run}
 use Rattle.ir_record.proofs.Profiles.{events_fit_if_limits_same, profile_after_run}
@@ -55,15 +56,15 @@ turns_taken_by_private_steps f g logs t k flat l w answers = record {
       omega (arith, size, less, same);
 }
 
-pub tape_after_private_steps : (f g : Flat) (logs : List Logged) (t k : ℕ) → WentAlone f g t k → IsTape f logs → IsTape g logs
-tape_after_private_steps f g logs t k w tape = record {
-  one_each = tape.one_each ∙ sym w.threads;
-  rooms = λ u l. tape.rooms u (omega (arith, l, w.threads));
-  counts = λ u l. tape.counts u (omega (arith, l, w.threads)) ∙ sym (
+pub has_logs_after_private_steps : (f g : Flat) (logs : List Logged) (t k : ℕ) → WentAlone f g t k → HasLogs f logs → HasLogs g logs
+has_logs_after_private_steps f g logs t k w has_logs = record {
+  one_each = has_logs.one_each ∙ sym w.threads;
+  rooms = λ u l. has_logs.rooms u (omega (arith, l, w.threads));
+  counts = λ u l. has_logs.counts u (omega (arith, l, w.threads)) ∙ sym (
       ap (λ s. (s.now u).events) w.ends ∙ (tallies_along_run f.code (tables f) (replicate k (t, 0)) w.runs u).events
       ∙ ap (λ z. (thread_of f u).events + length z) (w.quiet u)
       ∙ (let e : (thread_of f u).events + 0 ≡ (thread_of f u).events = omega arith in e));
   events_fit = λ u l. events_fit_if_limits_same (thread_of f u).profile (thread_of g u).profile (length f.objects) (length g.objects) (log_at logs u).events
       (ap (λ s. (s.now u).profile) w.ends ∙ profile_after_run f.code (tables f) (replicate k (t, 0)) u) w.objects
-      (tape.events_fit u (omega (arith, l, w.threads)));
+      (has_logs.events_fit u (omega (arith, l, w.threads)));
 }

@@ -6,7 +6,7 @@ use Rattle.ir_flat.specs.Flat.{tables}
 use Rattle.ir_runs.specs.Run.{State, rounds}
 use Rattle.ir_record.specs.Failures.{StoppedAt}
 use Rattle.ir_record.specs.Worlds.{Answered}
-use Rattle.ir_record.specs.declared.turn.Failed.{Failed}
+use Rattle.ir_record.specs.declared.in_order.turn.Failed.{Failed}
 use Rattle.ir_record.specs.Progress.{Progress, Took, TookIf, all_left}
 use Rattle.ir_record.proofs.Following.{turns_of_thread_add_up}
 
@@ -16,14 +16,14 @@ rounds_of_one_thread zero = refl
 rounds_of_one_thread (suc count) = ap (λ z. 0 ∷ z) (rounds_of_one_thread count)
 
 -- turns of a thread, then private steps and a turn more
-pub turns_of_thread_with_turn : (t n ran : ℕ) (a b c d : Progress) (moved : Bool) → Took (replicate n t) a b → Took (replicate ran t) b c
+pub turns_with_private_steps_and_turn_added : (t n ran : ℕ) (a b c d : Progress) (moved : Bool) → Took (replicate n t) a b → Took (replicate ran t) b c
     → TookIf moved (t ∷ []) c d → Took (replicate (n + ran + 1) t) a d
-turns_of_thread_with_turn t n ran a b c d moved p q r =
+turns_with_private_steps_and_turn_added t n ran a b c d moved p q r =
     turns_of_thread_add_up t (n + ran) 1 (n + ran + 1) a c d refl (turns_of_thread_add_up t n ran (n + ran) a b c refl p q) r.took
 
 -- as many turns, and one more
-pub turns_with_last : (t n : ℕ) → replicate n t ++ t ∷ [] ≡ replicate (n + 1) t
-turns_with_last t n = replicate-append-replicate n 1 t
+pub replicate_with_one_more : (t n : ℕ) → replicate n t ++ t ∷ [] ≡ replicate (n + 1) t
+replicate_with_one_more t n = replicate-append-replicate n 1 t
 
 -- a turn with a step leaves fewer steps
 pub fewer_left_after_turn_alone : (ran : ℕ) (b c d : Progress) (moved : Bool) → moved ≡ true → length b.flat.threads ≡ 1
@@ -37,20 +37,20 @@ fewer_left_after_turn_alone ran b c d moved is one q r =
     omega (arith, x, y, s)
 
 -- the turns are rounds
-pub rounds_taken_alone : {A E : Type 0} (r : Result A E) (n : ℕ) (a b : Progress) → n ≡ 1 → OnOk r ((count : ℕ) × Took (replicate count 0) a b)
+pub rounds_taken_if_turns_of_only_thread_taken : {A E : Type 0} (r : Result A E) (n : ℕ) (a b : Progress) → n ≡ 1 → OnOk r ((count : ℕ) × Took (replicate count 0) a b)
     → OnOk r ((count : ℕ) × Took (rounds n count) a b)
-rounds_taken_alone (Ok x) n a b one p = (
+rounds_taken_if_turns_of_only_thread_taken (Ok x) n a b one p = (
   p.0,
   subst (λ k. Took (rounds k p.0) a b) (sym one) (subst (λ order. Took order a b) (sym (rounds_of_one_thread p.0)) p.1),
 )
-rounds_taken_alone (Err e) n a b one p = tt
+rounds_taken_if_turns_of_only_thread_taken (Err e) n a b one p = tt
 
 -- turns that end because a world failed are of rounds that do
-pub rounds_stopped_alone : {A : Type 0} (r : Result A Failed) (n : ℕ) (s : State thread.ThreadState) (p : Progress) (answers : List (List Answered))
+pub rounds_stopped_if_turns_of_only_thread_stopped : {A : Type 0} (r : Result A Failed) (n : ℕ) (s : State thread.ThreadState) (p : Progress) (answers : List (List Answered))
     → n ≡ 1 → IfErr r (λ f. (count : ℕ) × StoppedAt (replicate count 0) s p f.thread answers)
     → IfErr r (λ f. (count : ℕ) × StoppedAt (rounds n count) s p f.thread answers)
-rounds_stopped_alone (Ok x) n s p answers one h = tt
-rounds_stopped_alone (Err f) n s p answers one h = (
+rounds_stopped_if_turns_of_only_thread_stopped (Ok x) n s p answers one h = tt
+rounds_stopped_if_turns_of_only_thread_stopped (Err f) n s p answers one h = (
   h.0,
   subst (λ k. StoppedAt (rounds k h.0) s p f.thread answers) (sym one)
       (subst (λ order. StoppedAt order s p f.thread answers) (sym (rounds_of_one_thread h.0)) h.1),

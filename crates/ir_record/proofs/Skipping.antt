@@ -9,7 +9,7 @@ use Rattle.ir_runs.specs.Machine.{Machine}
 use Rattle.ir_runs.specs.Run.{State, rounds, HasNone}
 use Rattle.ir_record.specs.Ahead.{lead, IsAhead, CanSkip, all_ahead, Went}
 use Rattle.ir_record.specs.Progress.{Progress, all_left}
-use Rattle.ir_record.proofs.Going.{range_from_zero_with_last, went_without_turns, went_through_both_orders, turn_of_thread_ahead_is_spent, turn_of_thread_without_step, ahead_of_reached_state, reached, Rounding, OneMoreRound, round_more, fewer_left}
+use Rattle.ir_record.proofs.Going.{range_from_zero_with_last, went_without_turns, went_through_both_orders, turn_of_thread_ahead_is_spent, went_without_step_in_passed_turn, ahead_of_reached_state, reached, WentRounds, OneMoreRound, round_more, fewer_left}
 use Rattle.ir_record.proofs.Joining.{rounds_add_up}
 use Rattle.ir_record.proofs.Steps.{turn_without_step_changes_nothing}
 
@@ -48,7 +48,7 @@ skipped_turn_lowers_lead s a c t l some h = by_lead (lead c t) refl some
     by_lead (suc k) is some = (turn_of_thread_ahead_is_spent s a c t k l is h).went
     by_lead zero is (inl some) = absurd (omega (arith, some))
     by_lead zero is (inr none) = subst (Went (t ∷ []) s a c a) (sym (ap (set c t) (sym is) ∙ set-get_or c t 0))
-        (turn_of_thread_without_step s a a c t false refl is h (turn_without_step_changes_nothing t a a none refl)).went
+        (went_without_step_in_passed_turn s a a c t false refl is h (turn_without_step_changes_nothing t a a none refl)).went
 
 -- a round of them
 skipped_round_lowers_leads : (t : ℕ) (s : State thread.ThreadState) (a : Progress) (c : List ℕ) → t ≤ length c → CanSkip (machine a.flat) t 1 c (tables a.flat)
@@ -112,7 +112,7 @@ rounds_skipped_with_given_leads n k s a c d size size' enough each h =
 
 -- a round that was taken after some, and further rounds that were skipped
 pub record RoundThenSkips (moved : Bool) (a b e : Progress) (d h : List ℕ) : Type 0 where
-  pub rounding : Rounding (length a.flat.threads) a e h
+  pub rounding : WentRounds (length a.flat.threads) a e h
   pub fewer : moved ≡ true → all_left (length e.flat.threads) (tables e.flat).now + all_ahead h
       < all_left (length b.flat.threads) (tables b.flat).now + all_ahead d
 
@@ -121,7 +121,7 @@ pub round_then_skipped_rounds : {moved : Bool} {a b e : Progress} {d f h : List 
     → ((t : ℕ) → t < length f → lead h t ≡ lead f t - k) → RoundThenSkips moved a b e d h
 round_then_skipped_rounds {moved} {a} {b} {e} {d} {f} {h} k r places size enough each =
     let n : ℕ = length a.flat.threads in
-    let p : Rounding n a e f = round_more r in
+    let p : WentRounds n a e f = round_more r in
     let count : length f ≡ n = places ∙ p.1.threads in
     let w : Went (rounds n k) (reached p.1) e f e h = rounds_skipped_with_given_leads n k (reached p.1) e f h count (size ∙ count)
     (subst (λ m. CanSkip (machine e.flat) m k f (tables e.flat)) p.1.threads enough) (λ t l. each t (omega (arith, l, count)))

@@ -6,12 +6,13 @@ use Rattle.ir_thread.specs.declared.ask.Ask.{Ask}
 use Rattle.ir_runs.specs.Machine as machine
 use Rattle.ir_runs.specs.Machine.{Label, Quiet, Answer, In, Out, Refused, logged}
 use Rattle.ir_flat.specs.Flat.{Flat, thread_of, tables, machine}
-use Rattle.ir_runs.specs.Run.{Step, Can, asked, after, label, end, join_if, events, log, EntersIfFree, InTurn, HasNone}
+use Rattle.ir_runs.specs.Run.{Step, Can, asked, after, label, end, join_if, events, log, EntersIfFree, HasNone}
+use Rattle.ir_runs.specs.Orders.{InTurn}
 use Rattle.ir_runs.proofs.CallerLemmas.{log_append, end_append, turns_append}
 use Rattle.ir_record.specs.Progress.{Progress, Moved, Took, TookIf, TookTurns, all_left, labels_at}
 use Rattle.ir_record.specs.Refusing.{Turn, plain_turns, InTurns}
 use Rattle.ir_record.specs.Worlds.{answers_at, answers_in}
-use Rattle.ir_record.proofs.Refusing.{in_turn-plain_turns, in_turns-append}
+use Rattle.ir_record.proofs.Refusing.{in_plain_turns_if_in_turn, in_turns-append}
 use Rattle.ir_record.proofs.Tally.{HoldFewObjects, step_leaves_all_fewer}
 
 -- ---- what a step logs
@@ -25,9 +26,9 @@ log_of_step_of_other f t r u ne = ap (λ b. events (join_if b (thread_of f u, la
 -- ---- turns that were taken
 
 -- what is no try enters nothing
-pub ask_not_try_enters_if_free : (f : Flat) (t r : ℕ) (q : Ask) → ask_of f.code (thread_of f t) ≡ q → ((o : ℕ) → shared_ask q ≢ machine.Try o)
+pub enters_if_free_unless_ask_is_try : (f : Flat) (t r : ℕ) (q : Ask) → ask_of f.code (thread_of f t) ≡ q → ((o : ℕ) → shared_ask q ≢ machine.Try o)
     → EntersIfFree (machine f) (tables f) (t, r)
-ask_not_try_enters_if_free f t r q is never o tries can = absurd (never o (sym (ap shared_ask is) ∙ tries))
+enters_if_free_unless_ask_is_try f t r q is never o tries can = absurd (never o (sym (ap shared_ask is) ∙ tries))
 
 -- nothing happens in the turn of a thread that has no step
 pub turn_without_step_changes_nothing : (t : ℕ) (a b : Progress) → HasNone (machine a.flat) (tables a.flat) t → b ≡ a → TookIf false (t ∷ []) a b
@@ -62,8 +63,8 @@ pub record OneStep (t r : ℕ) (k : Label) (a b : Progress) : Type 0 where
   pub other_logs : (u : ℕ) → u ≢ t → labels_at b.logs u ≡ labels_at a.logs u
   pub other_answers : (u : ℕ) → u ≢ t → answers_at b.answers u ≡ answers_at a.answers u
 
-unfoldable pub moved_by : (t r : ℕ) (k : Label) (a b : Progress) → OneStep t r k a b → Moved ((t, r) ∷ []) a b
-moved_by t r k a b s = record {
+unfoldable pub moved_if_one_step : (t r : ℕ) (k : Label) (a b : Progress) → OneStep t r k a b → Moved ((t, r) ∷ []) a b
+moved_if_one_step t r k a b s = record {
   ends = s.taken;
   code = s.code;
   threads = s.threads;
@@ -88,7 +89,7 @@ moved_by t r k a b s = record {
 unfoldable pub took_turn_by_step : (t r : ℕ) (k : Label) (a b : Progress) → OneStep t r k a b → EntersIfFree (machine a.flat) (tables a.flat) (t, r)
     → Took (t ∷ []) a b
 took_turn_by_step t r k a b s enters =
-    let m : Moved ((t, r) ∷ []) a b = moved_by t r k a b s in
+    let m : Moved ((t, r) ∷ []) a b = moved_if_one_step t r k a b s in
     record {
       run = (t, r) ∷ [];
       turns = inr (r, [], refl, s.can, enters, refl);
@@ -112,11 +113,11 @@ turn_taken_by_step t r k a b s enters = record {
 }
 
 -- in a turn in which a try is refused
-pub took_refused : (t : ℕ) (k : Label) (a b : Progress) → OneStep t 0 k a b → TookTurns ((t, true) ∷ []) a b
-took_refused t k a b s = record {
+pub took_refused_turn_by_step : (t : ℕ) (k : Label) (a b : Progress) → OneStep t 0 k a b → TookTurns ((t, true) ∷ []) a b
+took_refused_turn_by_step t k a b s = record {
   run = (t, 0) ∷ [];
   in_turns = inr (0, [], refl, s.can, (λ o tries. refl), refl);
-  moved = moved_by t 0 k a b s;
+  moved = moved_if_one_step t 0 k a b s;
 }
 
 answers_in_logged : (k : Label) (ys : List Label) → answers_in (logged k ys) ≡ answers_in (logged k []) ++ answers_in ys
@@ -186,8 +187,8 @@ moved_both first next a b c p q =
     }
 
 -- the steps of turns
-pub moved_of : {order : List ℕ} {a b : Progress} (k : Took order a b) → Moved k.run a b
-moved_of k = record {
+pub moved_if_took : {order : List ℕ} {a b : Progress} (k : Took order a b) → Moved k.run a b
+moved_if_took k = record {
   ends = k.ends;
   code = k.code;
   threads = k.threads;
@@ -199,7 +200,7 @@ moved_of k = record {
 
 unfoldable pub took_both_orders : (order more : List ℕ) (a b c : Progress) → Took order a b → Took more b c → Took (order ++ more) a c
 took_both_orders order more a b c p q =
-    let m : Moved (p.run ++ q.run) a c = moved_both p.run q.run a b c (moved_of p) (moved_of q) in
+    let m : Moved (p.run ++ q.run) a c = moved_both p.run q.run a b c (moved_if_took p) (moved_if_took q) in
     record {
       run = p.run ++ q.run;
       turns = turns_append (machine a.flat) (tables a.flat) order more p.run q.run p.turns
@@ -217,29 +218,29 @@ took_both_orders order more a b c p q =
 -- ---- turns in which tries may be refused
 
 -- turns in which no try is refused that may enter
-pub plain_took : (order : List ℕ) (a b : Progress) → Took order a b → TookTurns (plain_turns order) a b
-plain_took order a b k = record {
+pub took_plain_turns_if_took_order : (order : List ℕ) (a b : Progress) → Took order a b → TookTurns (plain_turns order) a b
+took_plain_turns_if_took_order order a b k = record {
   run = k.run;
-  in_turns = in_turn-plain_turns (machine a.flat) (tables a.flat) order k.run k.turns;
-  moved = moved_of k;
+  in_turns = in_plain_turns_if_in_turn (machine a.flat) (tables a.flat) order k.run k.turns;
+  moved = moved_if_took k;
 }
 
 -- where the thread asks no try, refusing its tries changes nothing
-pub refuses_nothing : (t : ℕ) (a b : Progress) → ((o : ℕ) → asked (machine a.flat) (tables a.flat) t ≢ machine.Try o) → Took (t ∷ []) a b
+pub took_refused_turn_if_ask_is_no_try : (t : ℕ) (a b : Progress) → ((o : ℕ) → asked (machine a.flat) (tables a.flat) t ≢ machine.Try o) → Took (t ∷ []) a b
     → TookTurns ((t, true) ∷ []) a b
-refuses_nothing t a b never k = record { run = k.run; in_turns = refusing k.run k.turns; moved = moved_of k }
+took_refused_turn_if_ask_is_no_try t a b never k = record { run = k.run; in_turns = refusing k.run k.turns; moved = moved_if_took k }
   where
     refusing : (run : List Step) → InTurn (machine a.flat) (tables a.flat) (t ∷ []) run
         → InTurns (machine a.flat) (tables a.flat) ((t, true) ∷ []) run
     refusing run (inl none) = inl none
     refusing run (inr some) = inr (some.0, some.1, some.2, some.3, (λ o tries. absurd (never o tries)), some.5)
 
-pub no_turns : (a : Progress) → TookTurns [] a a
-no_turns a = plain_took [] a a (took_no_turns a)
+pub took_turns_of_empty : (a : Progress) → TookTurns [] a a
+took_turns_of_empty a = took_plain_turns_if_took_order [] a a (took_no_turns a)
 
 -- a turn of what has no step
-pub turns_none : (t : ℕ) (refused : Bool) (a : Progress) → HasNone (machine a.flat) (tables a.flat) t → TookTurns ((t, refused) ∷ []) a a
-turns_none t refused a none = record { run = []; in_turns = inl (none, refl); moved = still }
+pub took_turn_of_thread_without_step : (t : ℕ) (refused : Bool) (a : Progress) → HasNone (machine a.flat) (tables a.flat) t → TookTurns ((t, refused) ∷ []) a a
+took_turn_of_thread_without_step t refused a none = record { run = []; in_turns = inl (none, refl); moved = still }
   where
     still : Moved [] a a
     still = record {
@@ -252,8 +253,8 @@ turns_none t refused a none = record { run = []; in_turns = inl (none, refl); mo
       fewer = omega arith;
     }
 
-pub turns_both : (turns more : List Turn) (a b c : Progress) → TookTurns turns a b → TookTurns more b c → TookTurns (turns ++ more) a c
-turns_both turns more a b c p q = record {
+pub took_turns_of_append : (turns more : List Turn) (a b c : Progress) → TookTurns turns a b → TookTurns more b c → TookTurns (turns ++ more) a c
+took_turns_of_append turns more a b c p q = record {
   run = p.run ++ q.run;
   in_turns = in_turns-append (machine a.flat) (tables a.flat) turns more p.run q.run p.in_turns
       (subst (λ s. InTurns (machine a.flat) s more q.run) p.moved.ends

@@ -10,7 +10,8 @@ use Rattle.ir_thread.specs.State as thread
 use Rattle.ir_runs.specs.Machine as machine
 use Rattle.ir_flat.specs.Flat.{Flat, thread_of, tables, machine, start_flat}
 use Rattle.ir_flat.proofs.CallerLemmas.{length_of_start_threads}
-use Rattle.ir_runs.specs.Run.{State, Step, asked, end, log, InTurn, rounds}
+use Rattle.ir_runs.specs.Run.{State, Step, asked, end, log, rounds}
+use Rattle.ir_runs.specs.Orders.{InTurn}
 use Rattle.ir_runs.proofs.CallerLemmas.{log_append, end_append, turns_append}
 use Rattle.ir_log.specs.Logged.{Logged}
 use Rattle.ir_record.specs.Ahead.{Went}
@@ -18,10 +19,10 @@ use Rattle.ir_record.specs.Failures.{IsUnanswered, StoppedAt, StoppedTurns}
 use Rattle.ir_record.specs.Progress.{Progress, Took, TookTurns, IsReady}
 use Rattle.ir_record.specs.Refusing.{Turn, plain_turns, InTurns}
 use Rattle.ir_record.specs.Worlds.{answers_at, Answered, answers_in}
-use Rattle.ir_record.specs.Recording.{StoppedInOrder, StoppedInTurns}
+use Rattle.ir_record.specs.Recording.{StoppedInTurns}
 use Rattle.ir_record.proofs.Ended.{start, made_recording_is_start, new_log}
 use Rattle.ir_record.proofs.Going.{reached, range_from_zero_with_last}
-use Rattle.ir_record.proofs.Refusing.{plain_turns-append, in_turns-append, in_turn-plain_turns, plain_turns-in_turn, threads_of, plain_parts}
+use Rattle.ir_record.proofs.Refusing.{plain_turns-append, in_turns-append, in_plain_turns_if_in_turn}
 use Rattle.ir_record.proofs.Steps.{log_same_on_first_machine, answers_in_append}
 
 -- the error that a `?` hands on
@@ -116,24 +117,24 @@ range_splits_at_number t n l = ap (λ z. z ++ range_with_len (t + 1) (n - (t + 1
     ∙ range_splits_in_two 0 (t + 1) (n - (t + 1)) ∙ ap (range_with_len 0) (let e : t + 1 + (n - (t + 1)) ≡ n = omega (arith, l) in e)
 
 -- the turns of one thread before the last one that was taken, that one, and those after it
-pub turns_split_at_last_taken : (t count left ran : ℕ) → left ≤ count → 0 < left → ran ≤ left - 1
+pub replicate_splits_around_later_element : (t count left ran : ℕ) → left ≤ count → 0 < left → ran ≤ left - 1
     → (replicate (count - left + ran) t ++ t ∷ []) ++ replicate (left - (ran + 1)) t ≡ replicate count t
-turns_split_at_last_taken t count left ran l some few = ap (λ z. z ++ replicate (left - (ran + 1)) t) (replicate-append-replicate (count - left + ran) 1 t)
+replicate_splits_around_later_element t count left ran l some few = ap (λ z. z ++ replicate (left - (ran + 1)) t) (replicate-append-replicate (count - left + ran) 1 t)
     ∙ replicate-append-replicate (count - left + ran + 1) (left - (ran + 1)) t
     ∙ ap (λ k. replicate k t) (let e : count - left + ran + 1 + (left - (ran + 1)) ≡ count = omega (arith, l, some, few) in e)
 
 -- ---- turns in which tries may be refused
 
 -- turns in which no try is refused that may enter
-pub plain_stopped : (order : List ℕ) (p : Progress) (named : ℕ) (answers : List (List Answered)) → StoppedAt order (tables p.flat) p named answers
+pub stopped_in_plain_turns_if_in_order : (order : List ℕ) (p : Progress) (named : ℕ) (answers : List (List Answered)) → StoppedAt order (tables p.flat) p named answers
     → StoppedTurns (plain_turns order) p named answers
-plain_stopped order p named answers h = record {
+stopped_in_plain_turns_if_in_order order p named answers h = record {
   taken = plain_turns h.taken;
   refused = false;
   left = plain_turns h.left;
   so_far = ap plain_turns h.so_far ∙ plain_turns-append h.taken (named ∷ h.left);
   run = h.run;
-  in_turns = in_turn-plain_turns (machine p.flat) (tables p.flat) h.taken h.run h.turns;
+  in_turns = in_plain_turns_if_in_turn (machine p.flat) (tables p.flat) h.taken h.run h.turns;
   kind = h.kind;
   asks = h.asks;
   worlds = h.worlds;
@@ -141,9 +142,9 @@ plain_stopped order p named answers h = record {
 }
 
 -- a turn in which the thread asks its world
-pub turn_stopped : (t : ℕ) (refused : Bool) (p : Progress) (named : ℕ) (answers : List (List Answered)) (failed : List Bool) → IsReady p failed
+pub stopped_turns_at_own_turn : (t : ℕ) (refused : Bool) (p : Progress) (named : ℕ) (answers : List (List Answered)) (failed : List Bool) → IsReady p failed
     → IsUnanswered t p named answers → StoppedTurns ((t, refused) ∷ []) p named answers
-turn_stopped t refused p named answers failed ready h =
+stopped_turns_at_own_turn t refused p named answers failed ready h =
     let s : StoppedAt (t ∷ []) (tables p.flat) p named answers = stopped_at_own_turn t (tables p.flat) p named answers failed ready refl h in
     record {
       taken = [];
@@ -159,9 +160,9 @@ turn_stopped t refused p named answers failed ready h =
     }
 
 -- more turns
-pub turns_stopped_within : (turns more whole : List Turn) (p : Progress) (named : ℕ) (answers : List (List Answered)) → turns ++ more ≡ whole
+pub stopped_in_longer_turns : (turns more whole : List Turn) (p : Progress) (named : ℕ) (answers : List (List Answered)) → turns ++ more ≡ whole
     → StoppedTurns turns p named answers → StoppedTurns whole p named answers
-turns_stopped_within turns more whole p named answers e h = record {
+stopped_in_longer_turns turns more whole p named answers e h = record {
   taken = h.taken;
   refused = h.refused;
   left = h.left ++ more;
@@ -175,9 +176,9 @@ turns_stopped_within turns more whole p named answers e h = record {
 }
 
 -- turns, and then others
-pub turns_stopped_after : (turns more : List Turn) (a b : Progress) (named : ℕ) (answers : List (List Answered)) → TookTurns turns a b
+pub stopped_turns_after_turns : (turns more : List Turn) (a b : Progress) (named : ℕ) (answers : List (List Answered)) → TookTurns turns a b
     → StoppedTurns more b named answers → StoppedTurns (turns ++ more) a named answers
-turns_stopped_after turns more a b named answers p h =
+stopped_turns_after_turns turns more a b named answers p h =
     let both : (t : ℕ) → log (machine a.flat) (tables a.flat) (p.run ++ h.run) t ≡ log (machine a.flat) (tables a.flat) p.run t
     ++ log (machine b.flat) (tables b.flat) h.run t =
     λ t. log_append (machine a.flat) (tables a.flat) p.run h.run t
@@ -230,23 +231,4 @@ stopped_in_order_from_start {guest} {budget} {profile} {turns} {before} {answers
         threads = h.worlds ∙ size;
         each = λ t l. slice_get-get_or answers t [] (omega (arith, l, h.worlds, size)) ∙ ap Some (h.answered t (omega (arith, l, size)));
       };
-    }
-
--- where no try is refused that may enter, it stopped by the order
-pub stopped_by_order : (guest : Guest) (budget : ℕ) (profile : Profile) (order : List ℕ) (named : ℕ) (before answers : List (List Answered))
-    → StoppedInTurns guest budget profile (plain_turns order) named before answers → StoppedInOrder guest budget profile order named before answers
-stopped_by_order guest budget profile order named before answers h =
-    let rest = rounds (length guest.entries) h.count in
-    let parts = plain_parts (order ++ rest) h.taken named h.refused h.left (plain_turns-append order rest ∙ h.so_far) in
-    record {
-      count = h.count;
-      taken = threads_of h.taken;
-      left = threads_of h.left;
-      so_far = parts.0;
-      run = h.run;
-      turns = plain_turns-in_turn (machine (start_flat guest budget profile)) (tables (start_flat guest budget profile)) (threads_of h.taken) h.run
-          (subst (λ z. InTurns (machine (start_flat guest budget profile)) (tables (start_flat guest budget profile)) z h.run) parts.1 h.in_turns);
-      kind = h.kind;
-      asks = h.asks;
-      answered = h.answered;
     }

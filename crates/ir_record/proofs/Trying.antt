@@ -15,13 +15,13 @@ use Rattle.ir_log.specs.Logged.{Logged}
 use Rattle.ir_log.specs.Logging.{label_of}
 use Rattle.ir_log.specs.declared.event.Event.{Event}
 use Rattle.ir_log.specs.declared.event.Event.TheVariants as event
-use Rattle.ir_trace.specs.Recorded.{IsEvent}
-use Rattle.ir_record.specs.Progress.{IsTape, log_at}
-use Rattle.ir_record.proofs.Entering.{OneEventLogged, label_is_of_ask, entry_logs_itself, entry_logs_no_answer}
+use Rattle.ir_trace.specs.Bounds.{IsEvent}
+use Rattle.ir_record.specs.Progress.{HasLogs, log_at}
+use Rattle.ir_record.proofs.Entering.{OneEventLogged, label_is_emitted_by_ask, entry_logs_itself, entry_logs_no_answer}
 
 -- there is room to log a try
-pub room_to_log_try : (f : Flat) (t o : ℕ) → ask_of f.code (thread_of f t) ≡ Try o → (thread_of f t).events < most_events
-room_to_log_try f t o is = (subst (Permits (thread_of f t)) is (ask_of_permitted f.code (thread_of f t))).1
+pub event_count_is_below_limit_at_try : (f : Flat) (t o : ℕ) → ask_of f.code (thread_of f t) ≡ Try o → (thread_of f t).events < most_events
+event_count_is_below_limit_at_try f t o is = (subst (Permits (thread_of f t)) is (ask_of_permitted f.code (thread_of f t))).1
 
 -- a try may always be refused
 pub refused_try_can_be_taken : (f : Flat) (t o : ℕ) → ask_of f.code (thread_of f t) ≡ Try o → Can (machine_of f) (tables f) (t, 0)
@@ -30,7 +30,7 @@ refused_try_can_be_taken f t o is = subst (λ q. Admits (machine_of f) (act_of (
 
 -- a try was taken with this result, and this event was logged of it
 pub record TryLogged (f g : Flat) (logs more : List Logged) (t o r : ℕ) (e : Event) : Type 0 where
-  pub tape : IsTape f logs
+  pub has_logs : HasLogs f logs
   pub flat : IsFlat f
   pub below : t < length f.threads
   pub asked : ask_of f.code (thread_of f t) ≡ Try o
@@ -44,18 +44,18 @@ pub record TryLogged (f g : Flat) (logs more : List Logged) (t o r : ℕ) (e : E
   pub logs_are : more ≡ set logs t new
 
 -- what an entry of object o for writing emits now
-abbrev pub entry_label : Flat → ℕ → Label
-entry_label f o = emitted (machine.Entry o Writing 0) ((tables f).objects o)
+abbrev pub write_entry_label : Flat → ℕ → Label
+write_entry_label f o = emitted (machine.Entry o Writing 0) ((tables f).objects o)
 
 -- it entered
-pub entering_try_logs_one_event : (f g : Flat) (logs more : List Logged) (t o : ℕ) (e : Event) → TryLogged f g logs more t o 1 e → label_of e ≡ entry_label f o
-    → ((profile : Profile) → IsEvent profile (length f.objects) e) → OneEventLogged f g logs more t 1 (entry_label f o) e
+pub entering_try_logs_one_event : (f g : Flat) (logs more : List Logged) (t o : ℕ) (e : Event) → TryLogged f g logs more t o 1 e → label_of e ≡ write_entry_label f o
+    → ((profile : Profile) → IsEvent profile (length f.objects) e) → OneEventLogged f g logs more t 1 (write_entry_label f o) e
 entering_try_logs_one_event f g logs more t o e x emits fits = record {
-  tape = x.tape;
+  has_logs = x.has_logs;
   flat = x.flat;
   below = x.below;
   one = ap events_added_by x.asked;
-  emits = label_is_of_ask f t 1 (Try o) x.asked;
+  emits = label_is_emitted_by_ask f t 1 (Try o) x.asked;
   event = emits;
   once = entry_logs_itself o Writing 0 ((tables f).objects o);
   unanswered = entry_logs_no_answer o Writing 0 ((tables f).objects o);
@@ -74,11 +74,11 @@ entering_try_logs_one_event f g logs more t o e x emits fits = record {
 pub refused_try_logs_one_event : (f g : Flat) (logs more : List Logged) (t o : ℕ) → TryLogged f g logs more t o 0 (event.Try o)
     → OneEventLogged f g logs more t 0 (Refused o) (event.Try o)
 refused_try_logs_one_event f g logs more t o x = record {
-  tape = x.tape;
+  has_logs = x.has_logs;
   flat = x.flat;
   below = x.below;
   one = ap events_added_by x.asked;
-  emits = label_is_of_ask f t 0 (Try o) x.asked;
+  emits = label_is_emitted_by_ask f t 0 (Try o) x.asked;
   event = refl;
   once = refl;
   unanswered = refl;

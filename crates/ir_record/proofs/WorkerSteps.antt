@@ -3,13 +3,15 @@ use Rattle.ir_thread.specs.declared.profile.Profile.{Profile}
 use Rattle.std.proofs.Common.{◌≡◌, ◌≢◌, ℕ, zero, suc, ◌+◌, ◌<◌, ◌≤◌, Bool, true, false, eqb, List, [], ◌∷◌, ◌++◌, map, length, Option, Some, None, refl, sym, ap, ◌∙◌, subst, arith, append-nil, append_assoc, length-append, eq-eqb, ne_eqb}
 use Rattle.std.proofs.lemmas.List.{length-map}
 use Rattle.std.specs.List.{AllByRecursion}
+use Rattle.ir_lemmas.proofs.CallerLemmas.{all_of_append}
 use Rattle.atomic_table.specs.Seated.{TableId}
 use Rattle.ir_image.specs.Guest.{Guest, object_count, most_object_words}
 use Rattle.ir_thread.specs.Permitted.{run_of, step_of, Permits}
 use Rattle.ir_thread.specs.State.{held_at, ask_of, after_ask, after_reply, most_events, shared_ask, reply_of, thread_machine}
 use Rattle.ir_runs.specs.Machine as machine
 use Rattle.ir_runs.specs.Lawful as lawful
-use Rattle.ir_runs.specs.Machine.{Act, act_of, Machine, is_shared, Label, Quiet, Answer, In, Out, logged}
+use Rattle.ir_runs.specs.Machine.{Act, act_of, Machine, Label, Quiet, Answer, In, Out, logged}
+use Rattle.ir_runs.specs.Shared.{is_shared}
 use Rattle.ir_runs.specs.Lawful.{held_after}
 use Rattle.ir_thread.specs.Private.{PrivateSteps}
 use Rattle.ir_thread.specs.State as thread
@@ -23,13 +25,14 @@ use Rattle.ir_thread.specs.declared.profile.Profile.TheVariants.{Two}
 use Rattle.ir_thread.proofs.CallerLemmas.{ask_of_permitted, thread_machine_is_lawful}
 use Rattle.ir_object.specs.Order.{Shared, keep_if, inside_if, inside_after}
 use Rattle.ir_object.proofs.CallerLemmas.{inside_after_step}
-use Rattle.ir_flat.specs.Lone.{MayReply, alone_label}
+use Rattle.ir_flat.specs.Flat.{MayReply}
+use Rattle.ir_flat.specs.Trails.{alone_label}
 use Rattle.ir_flat.proofs.CallerLemmas.{events_added_by, events_after_ask, length_of_held_after_ask}
 use Rattle.ir_log.specs.Logged.{Logged}
 use Rattle.ir_log.specs.Logging as logging
 use Rattle.ir_log.specs.declared.event.Event.{Event}
 use Rattle.ir_log.specs.declared.event.Event.TheVariants as event
-use Rattle.ir_trace.specs.Recorded.{IsEvent}
+use Rattle.ir_trace.specs.Bounds.{IsEvent}
 use Rattle.ir_crew.specs.Plays.{M, IsAlone, history, did, inside_by}
 use Rattle.ir_crew.specs.Rule.{shared_by, shared_of, label_of, one_if_entry, entries}
 use Rattle.ir_crew.specs.declared.deed.Deed.{Deed}
@@ -37,7 +40,7 @@ use Rattle.ir_crew.specs.declared.deed.Deed.TheVariants.{Leave}
 use Rattle.ir_crew.specs.declared.deed.ObjectStep.{ObjectStep}
 use Rattle.ir_crew.proofs.CallerLemmas.{entries_with_step_added, track, step_of_deed, target_of_deed}
 use Rattle.ir_record.specs.Worlds.{Answered, answers_in}
-use Rattle.ir_record.specs.declared.worker.Worker.{Worker}
+use Rattle.ir_record.specs.declared.by_threads.worker.Worker.{Worker}
 use Rattle.ir_record.specs.Working.{Work, IsWorking, StillWorks, IsOwn, IsInside, IsSeated, Stays}
 use Rattle.ir_record.proofs.Profiles.{profile_after_ask}
 use Rattle.ir_record.proofs.Working.{worked_with_reply_added, held_after_own_act, held_after_is_inside_if}
@@ -54,20 +57,16 @@ answers_in_append (In o a v l ∷ xs) ys = answers_in_append xs ys
 answers_in_append (Rattle.ir_runs.specs.Machine.Refused o ∷ xs) ys = answers_in_append xs ys
 answers_in_append (Out o a v ∷ xs) ys = answers_in_append xs ys
 
-all_of_append : {X : Type 0} (P : X → Type 0) (xs ys : List X) → AllByRecursion P xs → AllByRecursion P ys → AllByRecursion P (xs ++ ys)
-all_of_append P [] ys p q = q
-all_of_append P (x ∷ xs) ys p q = (p.0, all_of_append P xs ys p.1 q)
-
 -- how a thread is inside an object after a step, which is an object step if b
-inside_after_kept_step : (q : Act) (v o : ℕ) (h : ℕ → Option Access) (xs : List Shared) (b : Bool) → is_shared q ≡ b → inside_after o None xs ≡ h o
+inside_after_step_is_held_after : (q : Act) (v o : ℕ) (h : ℕ → Option Access) (xs : List Shared) (b : Bool) → is_shared q ≡ b → inside_after o None xs ≡ h o
     → inside_after o None (xs ++ keep_if b (q, v) []) ≡ held_after q h o
-inside_after_kept_step q v o h xs false is e = ap (inside_after o None) (append-nil xs) ∙ e ∙ sym (held_after_own_act q h o is)
-inside_after_kept_step q v o h xs true is e = inside_after_step o None xs (q, v) ∙ ap (inside_if (eqb o (Rattle.ir_runs.specs.Machine.target q)) q) e
+inside_after_step_is_held_after q v o h xs false is e = ap (inside_after o None) (append-nil xs) ∙ e ∙ sym (held_after_own_act q h o is)
+inside_after_step_is_held_after q v o h xs true is e = inside_after_step o None xs (q, v) ∙ ap (inside_if (eqb o (Rattle.ir_runs.specs.Machine.target q)) q) e
     ∙ sym (held_after_is_inside_if q h o is)
 
-entries_with_kept_step : (q : Act) (v : ℕ) (xs : List Shared) (b : Bool) → entries (xs ++ keep_if b (q, v) []) ≤ entries xs + one_if_entry q
-entries_with_kept_step q v xs false = let e = ap entries (append-nil xs) in omega (arith, e)
-entries_with_kept_step q v xs true = let e = entries_with_step_added xs (q, v) in omega (arith, e)
+appended_act_adds_at_most_its_entry : (q : Act) (v : ℕ) (xs : List Shared) (b : Bool) → entries (xs ++ keep_if b (q, v) []) ≤ entries xs + one_if_entry q
+appended_act_adds_at_most_its_entry q v xs false = let e = ap entries (append-nil xs) in omega (arith, e)
+appended_act_adds_at_most_its_entry q v xs true = let e = entries_with_step_added xs (q, v) in omega (arith, e)
 
 -- only entries that are logged are entries
 entry_count_within_events_added : (q : Ask) (v : ℕ) → one_if_entry (act_of (shared_ask q) v) ≤ events_added_by q
@@ -87,8 +86,8 @@ entry_count_within_events_added ask.Done v = omega arith
 -- ---- one step of the thread
 
 -- the object steps, and the labels and the number of the events, are those of what is asked, with this result
-abbrev pub AreOfAsk : Ask → ℕ → List ObjectStep → List Event → Type 0
-AreOfAsk q v es evs = ◌≡◌ {A = List Shared × List Label × ℕ} (map shared_of es, map logging.label_of evs, length evs) (
+abbrev pub AreObjectStepsAndEventsOfAsk : Ask → ℕ → List ObjectStep → List Event → Type 0
+AreObjectStepsAndEventsOfAsk q v es evs = ◌≡◌ {A = List Shared × List Label × ℕ} (map shared_of es, map logging.label_of evs, length evs) (
   keep_if (is_shared (act_of (shared_ask q) v)) (act_of (shared_ask q) v, v) [],
   logged (alone_label (act_of (shared_ask q) v) (map label_of es)) [],
   events_added_by q,
@@ -98,7 +97,7 @@ AreOfAsk q v es evs = ◌≡◌ {A = List Shared × List Label × ℕ} (map shar
 record IsStep (g : Guest) (w w' : Work) (q : Ask) (v : ℕ) (es : List ObjectStep) (evs : List Event) : Type 0 where
   asked : ask_of g.code w.thread ≡ q
   may : MayReply (thread_machine g.code) (act_of (shared_ask q) v) v
-  of : AreOfAsk q v es evs
+  of : AreObjectStepsAndEventsOfAsk q v es evs
   fit : AllByRecursion (IsEvent w.thread.profile (object_count g)) evs
   took : w'.thread ≡ after_reply g.code w.thread (reply_of q v)
   log : w'.log ≡ record w.log { events = w.log.events ++ evs }
@@ -134,17 +133,17 @@ working_after_step g budget profile t before w w' q v es evs i s view =
         now = more.now ∙ next;
         steps_are = more.steps_are ∙ ap (λ z. map shared_of i.track ++ keep_if (is_shared z) (z, v) []) is ∙ sym steps;
         logged = ap (λ z. Rattle.ir_runs.specs.Run.events
-            (Rattle.ir_flat.specs.Lone.alone_trail m (thread.start_state g t budget profile) more.replies z))
+            (Rattle.ir_flat.specs.Trails.alone_trail m (thread.start_state g t budget profile) more.replies z))
             (map_of_append label_of i.track es) ∙ more.logged ∙ ap (λ z. map logging.label_of w.log.events ++ logged (alone_label z (map label_of es)) []) is
             ∙ ap (λ (z : List Shared × List Label × ℕ). map logging.label_of w.log.events ++ z.1) (sym s.of) ∙ sym labels;
       };
       held = λ o. ap (inside_after o None) steps
-          ∙ inside_after_kept_step a v o (held_at w.thread.held) (map shared_of i.track) (is_shared a) refl (i.held o)
+          ∙ inside_after_step_is_held_after a v o (held_at w.thread.held) (map shared_of i.track) (is_shared a) refl (i.held o)
           ∙ ap (λ z. held_after z (held_at w.thread.held) o) (sym is) ∙ sym ((thread_machine_is_lawful g.code).takes w.thread v o)
           ∙ ap (λ z. held_at z.held o) next;
       places = ap (λ z. length z.held) after ∙ length_of_held_after_ask g.code w.thread q (reply_of q v) ∙ i.places;
       few =
-          let here = entries_with_kept_step a v (map shared_of i.track) (is_shared a) in
+          let here = appended_act_adds_at_most_its_entry a v (map shared_of i.track) (is_shared a) in
           let same = ap entries steps in
           let one = entry_count_within_events_added q v in
           let was = i.few in
@@ -168,9 +167,9 @@ working_after_step g budget profile t before w w' q v es evs i s view =
 -- ---- the kinds of steps
 
 -- none or one
-abbrev pub listed : {A : Type 0} → Option A → List A
-listed None = []
-listed (Some x) = x ∷ []
+abbrev pub list_of_option : {A : Type 0} → Option A → List A
+list_of_option None = []
+list_of_option (Some x) = x ∷ []
 
 -- what the object step, if it is one, makes of the seat's view
 abbrev pub me_after_object_step : Option ObjectStep → M → M
@@ -178,7 +177,7 @@ me_after_object_step None me = me
 me_after_object_step (Some step) me = (did me.0 step.object step.deed, me.1)
 
 me_after_object_step_is_track : (t : ℕ) (step : Option ObjectStep) (steps : List ObjectStep) (me : M) → me ≡ (track t steps ∷ [], [])
-    → me_after_object_step step me ≡ (track t (steps ++ listed step) ∷ [], [])
+    → me_after_object_step step me ≡ (track t (steps ++ list_of_option step) ∷ [], [])
 me_after_object_step_is_track t None steps me is = is ∙ (λ i. (track t (sym (append-nil steps) i) ∷ [], []))
 me_after_object_step_is_track t (Some step) steps me is = ap (λ (z : M). (did z.0 step.object step.deed, z.1)) is
 
@@ -187,7 +186,7 @@ abbrev pub log_after_event : Option Event → Logged → Logged
 log_after_event None log = log
 log_after_event (Some e) log = record log { events = log.events ++ e ∷ [] }
 
-log_after_event_is_append : (e : Option Event) (log : Logged) → log_after_event e log ≡ record log { events = log.events ++ listed e }
+log_after_event_is_append : (e : Option Event) (log : Logged) → log_after_event e log ≡ record log { events = log.events ++ list_of_option e }
 log_after_event_is_append None log = λ i. record log { events = sym (append-nil log.events) i }
 log_after_event_is_append (Some e) log = refl
 
@@ -196,7 +195,7 @@ abbrev pub answers_after_event : Option Event → List Answered → List Answere
 answers_after_event (Some (event.Answer kind value)) answers = answers ++ (kind, value) ∷ []
 answers_after_event e answers = answers
 
-answers_after_event_is_append : (e : Option Event) (answers : List Answered) → answers_after_event e answers ≡ answers ++ answers_in (map logging.label_of (listed e))
+answers_after_event_is_append : (e : Option Event) (answers : List Answered) → answers_after_event e answers ≡ answers ++ answers_in (map logging.label_of (list_of_option e))
 answers_after_event_is_append None answers = sym (append-nil answers)
 answers_after_event_is_append (Some (event.Answer kind value)) answers = refl
 answers_after_event_is_append (Some (event.Read o version)) answers = sym (append-nil answers)
@@ -205,11 +204,11 @@ answers_after_event_is_append (Some (event.Try o)) answers = sym (append-nil ans
 
 -- a step of a thread with this code: what it asks, its result, its object step and its event, which fits
 pub still_works_after_step : {g : Guest} {w w' : Work} {code : List ℕ} → code ≡ g.code → (q : Ask) (v : ℕ) (step : Option ObjectStep) (e : Option Event)
-    → MayReply (thread_machine g.code) (act_of (shared_ask q) v) v → AreOfAsk q v (listed step) (listed e)
-    → AllByRecursion (IsEvent w.thread.profile (object_count g)) (listed e) → ask_of code w.thread ≡ q → w'.me ≡ me_after_object_step step w.me
+    → MayReply (thread_machine g.code) (act_of (shared_ask q) v) v → AreObjectStepsAndEventsOfAsk q v (list_of_option step) (list_of_option e)
+    → AllByRecursion (IsEvent w.thread.profile (object_count g)) (list_of_option e) → ask_of code w.thread ≡ q → w'.me ≡ me_after_object_step step w.me
     → w'.thread ≡ after_reply code w.thread (reply_of q v) → w'.log ≡ log_after_event e w.log → w'.answers ≡ answers_after_event e w.answers → StillWorks g w w'
 still_works_after_step {g} {w} {w'} same q v step e may of fit asked me took log answers budget profile t before i =
-    working_after_step g budget profile t before w w' q v (listed step) (listed e) i
+    working_after_step g budget profile t before w w' q v (list_of_option step) (list_of_option e) i
     (record {
       asked = subst (λ z. ask_of z w.thread ≡ q) same asked;
       may = may;
@@ -224,7 +223,7 @@ still_works_after_step {g} {w} {w'} same q v step e may of fit asked me took log
 -- a step that concerns no other thread
 record IsOwnStep (code : List ℕ) (q : Ask) : Type 0 where
   may : MayReply (thread_machine code) (act_of (shared_ask q) 0) 0
-  of : AreOfAsk q 0 [] []
+  of : AreObjectStepsAndEventsOfAsk q 0 [] []
   reply : Go ≡ reply_of q 0
 
 own_ask_is_own_step : (code : List ℕ) (q : Ask) → IsOwn q → IsOwnStep code q
@@ -354,9 +353,9 @@ seat_alone_after_deed me me' o d e h = subst (λ (z : M). IsAlone z.0) (sym e) (
     go (k ∷ l ∷ ks) h = h
 
 -- how the seat's one thread is inside an object after a step
-inside_after_deed : (me me' : M) (o p : ℕ) (d : Deed) → me' ≡ (did me.0 o d, me.1) → IsAlone me.0
+inside_after_deed_is_inside_if : (me me' : M) (o p : ℕ) (d : Deed) → me' ≡ (did me.0 o d, me.1) → IsAlone me.0
     → inside_by p (history me'.0) ≡ inside_if (eqb p o) (shared_by o d).0 (inside_by p (history me.0))
-inside_after_deed me me' o p d e h = ap (λ (z : M). inside_by p (history z.0)) e ∙ go me.0 h
+inside_after_deed_is_inside_if me me' o p d e h = ap (λ (z : M). inside_by p (history z.0)) e ∙ go me.0 h
   where
     go : (v : _) → IsAlone v → inside_by p (history (did v o d)) ≡ inside_if (eqb p o) (shared_by o d).0 (inside_by p (history v))
     go [] h = absurd h
@@ -368,11 +367,11 @@ inside_after_deed me me' o p d e h = ap (λ (z : M). inside_by p (history z.0)) 
 -- a step on another object
 pub inside_after_deed_elsewhere : (me me' : M) (o p : ℕ) (d : Deed) → me' ≡ (did me.0 o d, me.1) → IsAlone me.0 → p ≢ o
     → inside_by p (history me'.0) ≡ inside_by p (history me.0)
-inside_after_deed_elsewhere me me' o p d e h ne = inside_after_deed me me' o p d e h
+inside_after_deed_elsewhere me me' o p d e h ne = inside_after_deed_is_inside_if me me' o p d e h
     ∙ ap (λ b. inside_if b (shared_by o d).0 (inside_by p (history me.0))) (ne_eqb p o ne)
 
 -- a leave
 pub outside_after_leave : (me me' : M) (o p : ℕ) (a : Access) (v : ℕ) → me' ≡ (did me.0 o (Leave a v), me.1) → IsAlone me.0 → p ≡ o
     → inside_by p (history me'.0) ≡ None
-outside_after_leave me me' o p a v e h same = inside_after_deed me me' o p (Leave a v) e h
+outside_after_leave me me' o p a v e h same = inside_after_deed_is_inside_if me me' o p (Leave a v) e h
     ∙ ap (λ b. inside_if b (shared_by o (Leave a v)).0 (inside_by p (history me.0))) (eq-eqb p o same)

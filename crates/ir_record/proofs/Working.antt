@@ -1,19 +1,22 @@
 -- A thread alone, with one step more.
 use Rattle.std.proofs.Common.{◌≡◌, ℕ, Bool, true, false, cond, eqb, List, [], ◌∷◌, ◌++◌, map, length, Option, Some, None, refl, sym, ap, ◌∙◌, subst, arith}
-use Rattle.ir_runs.specs.Machine.{Act, act_of, Silent, Result, Entry, Refusal, Exit, Load, Store, Never, Machine, upd, target, is_shared, Label, logged}
+use Rattle.ir_runs.specs.Machine.{Act, act_of, Silent, Result, Entry, Refusal, Exit, Load, Store, Never, Machine, upd, target, Label, logged}
+use Rattle.ir_runs.specs.Shared.{is_shared}
 use Rattle.ir_runs.specs.Lawful.{held_after}
 use Rattle.ir_runs.specs.declared.access.Access.{Access}
 use Rattle.ir_object.specs.Order.{Shared, keep_if, inside_then, inside_if}
 use Rattle.ir_runs.specs.Run.{events}
 use Rattle.ir_flat.specs.Splice.{shared_steps}
-use Rattle.ir_flat.specs.Lone.{MayReply, MayRun, alone_after, alone_label, labels_left, alone_trail}
+use Rattle.ir_flat.specs.Flat.{MayReply, MayRun, alone_after}
+use Rattle.ir_flat.specs.Trails.{alone_label, labels_left, alone_trail}
 use Rattle.ir_runs.proofs.CallerLemmas.{events_append}
 use Rattle.ir_crew.specs.Rule.{label_by, label_of}
 use Rattle.ir_crew.specs.declared.deed.Deed.{Deed}
 use Rattle.ir_crew.specs.declared.deed.Deed.TheVariants.{Enter, Try, Leave, Get, Put}
 use Rattle.ir_crew.specs.declared.deed.ObjectStep.{ObjectStep}
 use Rattle.ir_record.specs.Working.{Worked}
-use Rattle.ir_record.specs.Worlds.{answers_in}
+use Rattle.ir_record.specs.Recording.{answer_if, alone_answers}
+use Rattle.ir_record.specs.Worlds.{Answered, answers_in}
 
 may_run_with_reply_added : {T : Type 0} (m : Machine T) (x : T) (vs : List ℕ) (v : ℕ) → MayRun m x vs → MayReply m (act_of (m.ask (alone_after m x vs)) v) v
     → MayRun m x (vs ++ v ∷ [])
@@ -24,16 +27,16 @@ alone_after_with_reply_added : {T : Type 0} (m : Machine T) (x : T) (vs : List �
 alone_after_with_reply_added m x [] v = refl
 alone_after_with_reply_added m x (u ∷ vs) v = alone_after_with_reply_added m (m.take x u) vs v
 
-keep_if_of_append : {A : Type 0} (b : Bool) (x : A) (xs ys : List A) → keep_if b x (xs ++ ys) ≡ keep_if b x xs ++ ys
-keep_if_of_append true x xs ys = refl
-keep_if_of_append false x xs ys = refl
+keep_if_prepends_to_first_of_append : {A : Type 0} (b : Bool) (x : A) (xs ys : List A) → keep_if b x (xs ++ ys) ≡ keep_if b x xs ++ ys
+keep_if_prepends_to_first_of_append true x xs ys = refl
+keep_if_prepends_to_first_of_append false x xs ys = refl
 
 shared_steps_with_reply_added : {T : Type 0} (m : Machine T) (x : T) (vs : List ℕ) (v : ℕ)
     → shared_steps m x (vs ++ v ∷ []) ≡ shared_steps m x vs ++ keep_if (is_shared (act_of (m.ask (alone_after m x vs)) v))
     (act_of (m.ask (alone_after m x vs)) v, v) []
 shared_steps_with_reply_added m x [] v = refl
 shared_steps_with_reply_added m x (u ∷ vs) v = ap (keep_if (is_shared (act_of (m.ask x) u)) (act_of (m.ask x) u, u)) (shared_steps_with_reply_added m (m.take x u) vs v)
-    ∙ keep_if_of_append (is_shared (act_of (m.ask x) u)) (act_of (m.ask x) u, u) (shared_steps m (m.take x u) vs) _
+    ∙ keep_if_prepends_to_first_of_append (is_shared (act_of (m.ask x) u)) (act_of (m.ask x) u, u) (shared_steps m (m.take x u) vs) _
 
 own_act_label_ignores_labels : (q : Act) (ks ls : List Label) → is_shared q ≡ false → alone_label q ks ≡ alone_label q ls
 own_act_label_ignores_labels Silent ks ls e = refl
@@ -149,25 +152,25 @@ deed_logs_no_answer o (Get i w) es = refl
 deed_logs_no_answer o (Put i w) es = refl
 
 -- f labels is what is logged of the steps after this one when object steps report these labels
-answers_ignore_object_labels_step : (q : Act) (f : List Label → List Label) (track : List ObjectStep)
-    → ((later : List ObjectStep) → answers_in (f (map label_of later)) ≡ answers_in (f []))
-    → answers_in (logged (alone_label q (map label_of track)) (f (labels_left (is_shared q) (map label_of track))))
-    ≡ answers_in (logged (alone_label q []) (f (labels_left (is_shared q) [])))
-answers_ignore_object_labels_step Silent f track rest = rest track
-answers_ignore_object_labels_step (Result k v) f track rest = ap (λ z. (k, v) ∷ z) (rest track)
-answers_ignore_object_labels_step (Refusal o) f track rest = rest track
-answers_ignore_object_labels_step Never f track rest = rest track
-answers_ignore_object_labels_step (Entry o a v) f [] rest = refl
-answers_ignore_object_labels_step (Entry o a v) f (e ∷ track) rest = deed_logs_no_answer e.object e.deed (f (map label_of track)) ∙ rest track
-answers_ignore_object_labels_step (Exit o a) f [] rest = refl
-answers_ignore_object_labels_step (Exit o a) f (e ∷ track) rest = deed_logs_no_answer e.object e.deed (f (map label_of track)) ∙ rest track
-answers_ignore_object_labels_step (Load o i) f [] rest = refl
-answers_ignore_object_labels_step (Load o i) f (e ∷ track) rest = deed_logs_no_answer e.object e.deed (f (map label_of track)) ∙ rest track
-answers_ignore_object_labels_step (Store o i w) f [] rest = refl
-answers_ignore_object_labels_step (Store o i w) f (e ∷ track) rest = deed_logs_no_answer e.object e.deed (f (map label_of track)) ∙ rest track
+logged_answers_are_alone_answers_step : (q : Act) (f : List Label → List Label) (track : List ObjectStep) (others : List Answered)
+    → ((later : List ObjectStep) → answers_in (f (map label_of later)) ≡ others)
+    → answers_in (logged (alone_label q (map label_of track)) (f (labels_left (is_shared q) (map label_of track)))) ≡ answer_if q others
+logged_answers_are_alone_answers_step Silent f track others rest = rest track
+logged_answers_are_alone_answers_step (Result k v) f track others rest = ap (λ z. (k, v) ∷ z) (rest track)
+logged_answers_are_alone_answers_step (Refusal o) f track others rest = rest track
+logged_answers_are_alone_answers_step Never f track others rest = rest track
+logged_answers_are_alone_answers_step (Entry o a v) f [] others rest = rest []
+logged_answers_are_alone_answers_step (Entry o a v) f (e ∷ track) others rest = deed_logs_no_answer e.object e.deed (f (map label_of track)) ∙ rest track
+logged_answers_are_alone_answers_step (Exit o a) f [] others rest = rest []
+logged_answers_are_alone_answers_step (Exit o a) f (e ∷ track) others rest = deed_logs_no_answer e.object e.deed (f (map label_of track)) ∙ rest track
+logged_answers_are_alone_answers_step (Load o i) f [] others rest = rest []
+logged_answers_are_alone_answers_step (Load o i) f (e ∷ track) others rest = deed_logs_no_answer e.object e.deed (f (map label_of track)) ∙ rest track
+logged_answers_are_alone_answers_step (Store o i w) f [] others rest = rest []
+logged_answers_are_alone_answers_step (Store o i w) f (e ∷ track) others rest = deed_logs_no_answer e.object e.deed (f (map label_of track)) ∙ rest track
 
-pub answers_ignore_object_labels : {T : Type 0} (m : Machine T) (x : T) (vs : List ℕ) (track : List ObjectStep)
-    → answers_in (events (alone_trail m x vs (map label_of track))) ≡ answers_in (events (alone_trail m x vs []))
-answers_ignore_object_labels m x [] track = refl
-answers_ignore_object_labels m x (v ∷ vs) track = answers_ignore_object_labels_step (act_of (m.ask x) v) (λ ks. events (alone_trail m (m.take x v) vs ks)) track
-    (answers_ignore_object_labels m (m.take x v) vs)
+-- the answers that a thread alone logs are those of its replies, whatever its object steps report
+pub logged_answers_are_alone_answers : {T : Type 0} (m : Machine T) (x : T) (vs : List ℕ) (track : List ObjectStep)
+    → answers_in (events (alone_trail m x vs (map label_of track))) ≡ alone_answers m x vs
+logged_answers_are_alone_answers m x [] track = refl
+logged_answers_are_alone_answers m x (v ∷ vs) track = logged_answers_are_alone_answers_step (act_of (m.ask x) v)
+    (λ ks. events (alone_trail m (m.take x v) vs ks)) track (alone_answers m (m.take x v) vs) (logged_answers_are_alone_answers m (m.take x v) vs)

@@ -7,7 +7,8 @@ use Rattle.ir_thread.specs.State.{ask_of}
 use Rattle.ir_thread.specs.declared.ask.Ask as ask
 use Rattle.ir_thread.specs.declared.ask.Ask.TheVariants.{Done}
 use Rattle.ir_flat.specs.Flat.{Flat, IsFlat, thread_of, tables, machine}
-use Rattle.ir_runs.specs.Run.{State, Step, end, log, InTurn, HasNone}
+use Rattle.ir_runs.specs.Run.{State, Step, end, log, HasNone}
+use Rattle.ir_runs.specs.Orders.{InTurn}
 use Rattle.ir_record.specs.Progress.{Progress, all_left, labels_at}
 use Rattle.ir_record.specs.Worlds.{answers_at, answers_in}
 
@@ -41,6 +42,11 @@ pub record AreAsks (asks : List ask.Ask) (f : Flat) : Type 0 where
   pub flat : IsFlat f
   pub places : length asks ≡ length f.threads
   pub asked : (t : ℕ) → t < length f.threads → slice_index_or asks t Done ≡ ask_of f.code (thread_of f t)
+
+-- each thread has a place for how many steps it is ahead, and one for what it asks
+pub record HasPlaces (numbers : List ℕ) (kept : List ask.Ask) (f : Flat) : Type 0 where
+  pub leads : length numbers ≡ length f.threads
+  pub asks : AreAsks kept f
 
 -- none of these threads is ahead
 abbrev pub NoneAhead : List ℕ → List ℕ → Type 0

@@ -6,7 +6,8 @@ use Rattle.ir_thread.specs.declared.ask.Ask.TheVariants as ask
 use Rattle.ir_runs.specs.Machine as machine
 use Rattle.ir_runs.specs.declared.env_kind.EnvKind.{EnvKind}
 use Rattle.ir_flat.specs.Flat.{thread_of, tables, machine}
-use Rattle.ir_runs.specs.Run.{State, Step, asked, end, log, InTurn}
+use Rattle.ir_runs.specs.Run.{State, Step, asked, end, log}
+use Rattle.ir_runs.specs.Orders.{InTurn}
 use Rattle.ir_record.specs.Progress.{Progress}
 use Rattle.ir_record.specs.Refusing.{Turn, InTurns}
 use Rattle.ir_record.specs.Worlds.{answers_at, Answered, answers_in}

@@ -1,11 +1,12 @@
 pub mod Worlds
 pub mod Refusing
 pub mod Recording
+pub mod Recordings
 pub mod Recorders
 pub mod Progress
 pub mod Gathered
 pub mod Ahead
-pub mod Noting
+pub mod RoundResults
 pub mod Working
 pub mod Threads
 pub mod Failures

@@ -9,13 +9,14 @@ use Rattle.ir_thread.specs.declared.end.End.{End}
 use Rattle.ir_thread.specs.declared.ask.Ask as ask
 use Rattle.ir_thread.specs.declared.ask.Ask.TheVariants as asks
 use Rattle.ir_flat.specs.Flat.{Flat, thread_of, tables, machine}
-use Rattle.ir_runs.specs.Run.{Step, end, log, InTurn}
+use Rattle.ir_runs.specs.Run.{Step, end, log}
+use Rattle.ir_runs.specs.Orders.{InTurn}
 use Rattle.ir_log.specs.Logged.{Logged}
 use Rattle.ir_log.specs.Logging.{label_of}
-use Rattle.ir_trace.specs.Recorded.{IsEvent}
+use Rattle.ir_trace.specs.Bounds.{IsEvent}
 use Rattle.ir_record.specs.Refusing.{Turn, InTurns}
 use Rattle.ir_record.specs.Worlds.{Answered, answers_in, NoneFailed, answers_at}
-use Rattle.ir_record.specs.declared.tape.Tape.{Tape}
+use Rattle.ir_record.specs.declared.in_order.logged_guest.LoggedGuest.{LoggedGuest}
 
 -- a guest that is recorded: its threads and objects, the threads' logs, and the answers of their worlds
 pub record Progress : Type 0 where
@@ -23,9 +24,9 @@ pub record Progress : Type 0 where
   pub logs : List Logged
   pub answers : List (List Answered)
 
--- the same of a tape, and the answers of the worlds
-abbrev pub progress : Tape → List (List Answered) → Progress
-progress tape answers = record { flat = tape.flat; logs = tape.logs.items; answers = answers }
+-- the same of a guest with its logs, and the answers of the worlds
+abbrev pub progress : LoggedGuest → List (List Answered) → Progress
+progress guest answers = record { flat = guest.flat; logs = guest.logs.items; answers = answers }
 
 -- the log of no thread
 abbrev pub no_log : Logged
@@ -95,7 +96,7 @@ IsQuiet (asks.Try object) = ⊥
 IsQuiet _ = ⊤
 
 -- each thread has a log with room for all that it may log, and its events are there
-pub record IsTape (f : Flat) (logs : List Logged) : Type 0 where
+pub record HasLogs (f : Flat) (logs : List Logged) : Type 0 where
   pub one_each : length logs ≡ length f.threads
   pub rooms : (t : ℕ) → t < length f.threads → (log_at logs t).room ≡ most_events
   pub counts : (t : ℕ) → t < length f.threads → length (log_at logs t).events ≡ (thread_of f t).events
@@ -104,6 +105,6 @@ pub record IsTape (f : Flat) (logs : List Logged) : Type 0 where
 
 -- what holds before each turn: each thread has its log and its world, and no world has failed
 pub record IsReady (p : Progress) (failed : List Bool) : Type 0 where
-  pub tape : IsTape p.flat p.logs
+  pub has_logs : HasLogs p.flat p.logs
   pub worlds : length p.answers ≡ length p.flat.threads
   pub works : NoneFailed failed

@@ -1,25 +1,33 @@
 -- The recorder in order, by what its worlds have answered and whether they have failed.
-use Rattle.std.specs.Prelude.{ℕ, List, map, Bool}
+use Rattle.std.specs.Prelude.{ℕ, List, map, Bool, OnOk, IfErr}
+use Rattle.std.specs.declared.result.Result.{Result}
 use Rattle.ir_runs.specs.Run.{State}
 use Rattle.ir_thread.specs.State as thread
 use Rattle.ir_record.specs.Failures.{IsUnanswered, StoppedAt, StoppedTurns}
 use Rattle.ir_record.specs.Progress.{Progress, progress, IsReady}
 use Rattle.ir_record.specs.Refusing.{Turn}
-use Rattle.ir_record.specs.Worlds.{Answered, IsFirstFailed}
-use Rattle.ir_record.specs.declared.recorder.Recorder.{Recorder}
-use Rattle.ir_record.specs.declared.turn.Failed.{Failed}
+use Rattle.ir_record.specs.Worlds.{Answered, IsFirstFailed, AreSameWorlds}
+use Rattle.ir_record.specs.declared.in_order.recorder.Recorder.{Recorder}
+use Rattle.ir_record.specs.declared.in_order.turn.Failed.{Failed}
 
 -- the guest that it records, the threads' logs, and the answers of their worlds
 abbrev pub progress_of : {W : Type 0} → (W → List Answered) → Recorder W → Progress
-progress_of answers r = progress r.tape (map answers r.worlds.items)
+progress_of answers r = progress r.guest (map answers r.worlds.items)
 
 -- it may take a turn
-abbrev pub CanGoOn : {W : Type 0} → (W → List Answered) → (W → Bool) → Recorder W → Type 0
-CanGoOn answers broken r = IsReady (progress_of answers r) (map broken r.worlds.items)
+abbrev pub CanContinue : {W : Type 0} → (W → List Answered) → (W → Bool) → Recorder W → Type 0
+CanContinue answers broken r = IsReady (progress_of answers r) (map broken r.worlds.items)
 
 -- the world of the thread that is named has failed, and none of a lower thread
 abbrev pub NamesFirst : {W : Type 0} → (W → Bool) → List W → Failed → Type 0
 NamesFirst broken worlds f = IsFirstFailed (map broken worlds) f.thread
+
+-- what each call that takes turns keeps: it may take another turn, or the first world that has failed is named; and its worlds are the same
+pub record StaysReady {W O A : Type 0} (answers : W → List Answered) (broken : W → Bool) (origin : W → O) (old new : Recorder W)
+    (result : Result A Failed) : Type 0 where
+  pub ready : OnOk result (CanContinue answers broken new)
+  pub failed : IfErr result (NamesFirst broken new.worlds.items)
+  pub same_worlds : AreSameWorlds origin old.worlds.items new.worlds.items
 
 -- thread t asks its world, which is the one that failed; these are the worlds afterwards
 abbrev pub StopsAtOnce : {W : Type 0} → (W → List Answered) → ℕ → Recorder W → List W → Failed → Type 0

@@ -4,12 +4,10 @@ use Rattle.std.specs.Prelude.{◌≡◌, ℕ, ◌<◌, ◌++◌, List, [], ◌�
 use Rattle.ir_image.specs.Guest.{Guest, object_count}
 use Rattle.ir_thread.specs.State.{start_state, ask_of, thread_machine}
 use Rattle.ir_thread.specs.declared.ask.Ask.TheVariants as ask
-use Rattle.ir_flat.specs.Flat.{start_flat, tables, machine}
-use Rattle.ir_flat.specs.Lone.{MayRun, alone_after, alone_trail}
-use Rattle.ir_runs.specs.Machine.{Env}
-use Rattle.ir_runs.specs.Run.{Step, asked, events, log, end, InTurn, IsByOrder, rounds}
+use Rattle.ir_flat.specs.Flat.{start_flat, tables, machine, MayRun, alone_after}
+use Rattle.ir_runs.specs.Machine.{Act, act_of, Result, Env, Machine}
+use Rattle.ir_runs.specs.Run.{Step, asked, log, end, rounds, IsWhole}
 use Rattle.ir_runs.specs.declared.env_kind.EnvKind.{EnvKind}
-use Rattle.ir_runs.specs.Verdicts.{IsWhole}
 use Rattle.ir_trace.specs.Recorded.{Recorded, trace_of}
 use Rattle.ir_record.specs.Worlds.{answers_at, Answered, answers_in, NoneFailed, IsFirstFailed, AreSameWorlds}
 use Rattle.ir_record.specs.declared.outputs.Outputs.{Outputs}
@@ -36,8 +34,7 @@ pub record AreOutputs (guest : Guest) (budget : ℕ) (profile : Profile) (run : 
 -- what the world of each thread had answered, and then the answers that the run logged of it
 pub record AreAnswers (guest : Guest) (budget : ℕ) (profile : Profile) (run : List Step) (before answers : List (List Answered)) : Type 0 where
   pub threads : length answers ≡ length guest.entries
-  pub each : (t : ℕ) → t < length guest.entries
-      → slice_get answers t ≡ Some (answers_at before t ++ answers_in
+  pub each : (t : ℕ) → t < length guest.entries → slice_get answers t ≡ Some (answers_at before t ++ answers_in
       (log (machine (start_flat guest budget profile)) (tables (start_flat guest budget profile)) run t))
 
 -- the trace, the outputs and the worlds' answers of this run of the guest, which is complete
@@ -46,26 +43,6 @@ pub record IsRecordingOf (guest : Guest) (budget : ℕ) (profile : Profile) (run
   pub emitted : IsTraceOf guest budget profile run trace
   pub printed : AreOutputs guest budget profile run outputs
   pub answered : AreAnswers guest budget profile run before answers
-
--- the same of some run of the guest
-pub record IsRecordingOfSome (guest : Guest) (budget : ℕ) (profile : Profile) (before : List (List Answered)) (trace : Recorded) (outputs : List (List ℕ))
-    (answers : List (List Answered)) : Type 0 where
-  pub run : List Step
-  pub of : IsRecordingOf guest budget profile run before trace outputs answers
-
--- the same of the run of the guest by the order
-pub record IsRecordingInOrder (guest : Guest) (budget : ℕ) (profile : Profile) (order : List ℕ) (before : List (List Answered)) (trace : Recorded)
-    (outputs : List (List ℕ)) (answers : List (List Answered)) : Type 0 where
-  pub run : List Step
-  pub by_order : IsByOrder (machine (start_flat guest budget profile)) (tables (start_flat guest budget profile)) (length guest.entries) order run
-  pub of : IsRecordingOf guest budget profile run before trace outputs answers
-
--- the same of the run of the guest by turns, in which tries may be refused
-pub record IsRecordingByTurns (guest : Guest) (budget : ℕ) (profile : Profile) (turns : List Turn) (before : List (List Answered)) (trace : Recorded)
-    (outputs : List (List ℕ)) (answers : List (List Answered)) : Type 0 where
-  pub run : List Step
-  pub by_turns : IsByTurns (machine (start_flat guest budget profile)) (tables (start_flat guest budget profile)) (length guest.entries) turns run
-  pub of : IsRecordingOf guest budget profile run before trace outputs answers
 
 -- ---- what a call that records hands back, of worlds by what they have answered, whether they have failed and what they were made with
 
@@ -77,19 +54,16 @@ each_world f outputs = map (λ o. f o.world) outputs.each.items
 abbrev pub printed_by : {W : Type 0} → Outputs W → List (List ℕ)
 printed_by outputs = map (λ o. o.bytes.items) outputs.each.items
 
--- the run of the guest by the order, which is complete: its trace, what its threads printed, and what their worlds answered
-abbrev pub IsRecordedInOrder : {W : Type 0} → (W → List Answered) → Guest → ℕ → Profile → List ℕ → List W → Recorded × Outputs W → Type 0
-IsRecordedInOrder answers guest budget profile order before r =
-    IsRecordingInOrder guest budget profile order (map answers before) r.0 (printed_by r.1) (each_world answers r.1)
-
--- the same of the run of the guest by turns, in which tries may be refused
+-- the complete run by turns, in which tries may be refused, is recorded: its trace, what its threads printed, and what their worlds answered
 abbrev pub IsRecordedInTurns : {W : Type 0} → (W → List Answered) → Guest → ℕ → Profile → List Turn → List W → Recorded × Outputs W → Type 0
-IsRecordedInTurns answers guest budget profile turns before r =
-    IsRecordingByTurns guest budget profile turns (map answers before) r.0 (printed_by r.1) (each_world answers r.1)
+IsRecordedInTurns answers guest budget profile turns before r = (run : List Step)
+    × IsByTurns (machine (start_flat guest budget profile)) (tables (start_flat guest budget profile)) (length guest.entries) turns run
+    × IsRecordingOf guest budget profile run (map answers before) r.0 (printed_by r.1) (each_world answers r.1)
 
 -- the same of one complete run of the guest
 abbrev pub IsRecordedByThreads : {W : Type 0} → (W → List Answered) → Guest → ℕ → Profile → List W → Recorded × Outputs W → Type 0
-IsRecordedByThreads answers guest budget profile before r = IsRecordingOfSome guest budget profile (map answers before) r.0 (printed_by r.1) (each_world answers r.1)
+IsRecordedByThreads answers guest budget profile before r = (run : List Step)
+    × IsRecordingOf guest budget profile run (map answers before) r.0 (printed_by r.1) (each_world answers r.1)
 
 -- no world that is handed back has failed
 abbrev pub AllWork : {W : Type 0} → (W → Bool) → Recorded × Outputs W → Type 0
@@ -98,29 +72,6 @@ AllWork broken r = NoneFailed (each_world broken r.1)
 -- the worlds that are handed back are those that were handed in
 abbrev pub AreHandedBack : {W O : Type 0} → (W → O) → List W → Recorded × Outputs W → Type 0
 AreHandedBack origin before r = each_world origin r.1 ≡ map origin before
-
--- the turns by the order, and by rounds after it, were taken until the one of the thread whose world failed, which asks its world there.
--- They are a run of the guest, and each world answered what it had answered, and then the answers that this run logged of it
-pub record StoppedInOrder (guest : Guest) (budget : ℕ) (profile : Profile) (order : List ℕ) (failed : ℕ) (before after : List (List Answered)) :
-    Type 0 where
-  pub count : ℕ
-  pub taken : List ℕ
-  pub left : List ℕ
-  pub so_far : order ++ rounds (length guest.entries) count ≡ taken ++ failed ∷ left
-  pub run : List Step
-  pub turns : InTurn (machine (start_flat guest budget profile)) (tables (start_flat guest budget profile)) taken run
-  pub kind : EnvKind
-  pub asks : asked (machine (start_flat guest budget profile))
-      (end (machine (start_flat guest budget profile)) (tables (start_flat guest budget profile)) run) failed ≡ Env kind
-  pub answered : AreAnswers guest budget profile run before after
-
--- out of memory; or a world has failed, those of lower threads have not, the worlds that were handed in are handed back, and they answered
--- what the run by the order asked until then
-abbrev pub IsFailureInOrder : {W O : Type 0} → (W → List Answered) → (W → Bool) → (W → O) → Guest → ℕ → Profile → List ℕ → List W → RecordErr W
-    → Type 0
-IsFailureInOrder answers broken origin guest budget profile order before NoMem = ⊤
-IsFailureInOrder answers broken origin guest budget profile order before (World thread worlds) = IsFirstFailed (map broken worlds.items) thread
-    × AreSameWorlds origin before worlds.items × StoppedInOrder guest budget profile order thread (map answers before) (map answers worlds.items)
 
 -- the turns, in which tries may be refused, and rounds after them, were taken until the one of the thread whose world failed, which asks its world
 -- there. They are a run of the guest, and each world answered what it had answered, and then the answers that this run logged of it
@@ -138,24 +89,32 @@ pub record StoppedInTurns (guest : Guest) (budget : ℕ) (profile : Profile) (tu
       (end (machine (start_flat guest budget profile)) (tables (start_flat guest budget profile)) run) failed ≡ Env kind
   pub answered : AreAnswers guest budget profile run before after
 
--- out of memory; or a world has failed, as in order
+-- out of memory; or a world has failed, none of a lower thread has, the worlds are handed back, and they answered what the turns asked until then
 abbrev pub IsFailureInTurns : {W O : Type 0} → (W → List Answered) → (W → Bool) → (W → O) → Guest → ℕ → Profile → List Turn → List W → RecordErr W
     → Type 0
 IsFailureInTurns answers broken origin guest budget profile turns before NoMem = ⊤
 IsFailureInTurns answers broken origin guest budget profile turns before (World thread worlds) = IsFirstFailed (map broken worlds.items) thread
     × AreSameWorlds origin before worlds.items × StoppedInTurns guest budget profile turns thread (map answers before) (map answers worlds.items)
 
+-- what the environment answers in an act, and the answers after it
+abbrev pub answer_if : Act → List Answered → List Answered
+answer_if (Result kind value) others = (kind, value) ∷ others
+answer_if q others = others
+
+-- the calls of the environment that a thread makes alone, with their answers, if these are its replies
+abbrev pub alone_answers : {T : Type 0} → Machine T → T → List ℕ → List Answered
+alone_answers m x [] = []
+alone_answers m x (v ∷ vs) = answer_if (act_of (m.ask x) v) (alone_answers m (m.take x v) vs)
+
 -- thread t of the guest, alone, is done after these replies, or where its world failed asks it; its world answered what it had answered, and
 -- then those of the replies that are answers of the environment
 pub record WentOn (guest : Guest) (budget : ℕ) (profile : Profile) (t : ℕ) (failed : Bool) (before after : List Answered) : Type 0 where
   pub replies : List ℕ
   pub may : MayRun (thread_machine guest.code) (start_state guest t budget profile) replies
-  pub done : failed ≡ false
-      → ask_of guest.code (alone_after (thread_machine guest.code) (start_state guest t budget profile) replies) ≡ ask.Done
+  pub done : failed ≡ false → ask_of guest.code (alone_after (thread_machine guest.code) (start_state guest t budget profile) replies) ≡ ask.Done
   pub asks : failed ≡ true → (kind : EnvKind)
       × (ask_of guest.code (alone_after (thread_machine guest.code) (start_state guest t budget profile) replies) ≡ ask.Env kind)
-  pub answered : after ≡ before ++ answers_in
-      (events (alone_trail (thread_machine guest.code) (start_state guest t budget profile) replies []))
+  pub answered : after ≡ before ++ alone_answers (thread_machine guest.code) (start_state guest t budget profile) replies
 
 -- each thread went on, to its end or until its world failed
 abbrev pub EachWentOn : {W : Type 0} → (W → List Answered) → (W → Bool) → Guest → ℕ → Profile → List W → List W → Type 0
@@ -163,7 +122,8 @@ EachWentOn answers broken guest budget profile before after = (t : ℕ) → t < 
     → WentOn guest budget profile t (slice_index_or (map broken after) t false) (answers_at (map answers before) t)
     (answers_at (map answers after) t)
 
--- the same of a recording by threads, in which the others go on where a world has failed
+-- out of memory; or a world has failed and none of a lower thread has, the worlds are handed back, and each thread went on by itself, to its
+-- end or until its world failed. That what they did together is a run isn't said
 abbrev pub IsFailure : {W O : Type 0} → (W → List Answered) → (W → Bool) → (W → O) → Guest → ℕ → Profile → List W → RecordErr W → Type 0
 IsFailure answers broken origin guest budget profile before NoMem = ⊤
 IsFailure answers broken origin guest budget profile before (World thread worlds) = IsFirstFailed (map broken worlds.items) thread

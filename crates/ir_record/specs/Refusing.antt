@@ -19,8 +19,7 @@ Tries m s false e = EntersIfFree m s e
 -- each turn takes one step of its thread, or none where that thread has none; a try in it is refused, or enters where it can
 abbrev pub InTurns : {T : Type 0} → Machine T → State T → List Turn → List Step → Type 0
 InTurns m s [] run = run ≡ []
-InTurns m s ((t, refused) ∷ turns) run =
-    (HasNone m s t × InTurns m s turns run)
+InTurns m s ((t, refused) ∷ turns) run = (HasNone m s t × InTurns m s turns run)
     ⊎ ((r : ℕ) × (rest : List Step) × (run ≡ (t, r) ∷ rest) × Can m s (t, r) × Tries m s refused (t, r)
     × InTurns m (after m s (t, r)) turns rest)
 

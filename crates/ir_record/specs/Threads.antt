@@ -9,10 +9,11 @@ use Rattle.ir_image.specs.Guest.{Guest}
 use Rattle.ir_thread.specs.State.{most_events, most_output}
 use Rattle.ir_thread.specs.State as thread
 use Rattle.ir_crew.specs.Rule.{View}
-use Rattle.ir_trace.specs.Recorded.{RecordedThread, IsEvent}
+use Rattle.ir_trace.specs.Recorded.{RecordedThread}
+use Rattle.ir_trace.specs.Bounds.{IsEvent}
 use Rattle.ir_record.specs.Gathered.{IsThreadTrace}
-use Rattle.ir_record.specs.declared.room.Room.{Room}
-use Rattle.ir_record.specs.declared.worker.Worker.{Worker}
+use Rattle.ir_record.specs.declared.by_threads.buffers.Buffers.{Buffers}
+use Rattle.ir_record.specs.declared.by_threads.worker.Worker.{Worker}
 
 -- the worker of thread t before its first step
 pub record IsNew {W : Type 0} (g : Guest) (budget : ℕ) (profile : Profile) (id : TableId) (t : ℕ) (w : Worker W) : Type 0 where
@@ -43,18 +44,18 @@ pub record IsEmptyFor {A : Type 0} (n : ℕ) (v : Vec A) : Type 0 where
   pub empty : v.items ≡ []
   pub room : n ≤ vec_capacity v
 
--- n empty lists, each with room for all that a thread may print
-pub record AreRooms (n : ℕ) (vs : List (Vec ℕ)) : Type 0 where
+-- n empty buffers, each with room for all that a thread may print
+pub record AreOutputBuffers (n : ℕ) (vs : List (Vec ℕ)) : Type 0 where
   pub count : length vs ≡ n
   pub each : AllByRecursion (IsEmptyFor most_output) vs
 
 -- room for what n workers hand back
-pub record HasRoom {W : Type 0} (n : ℕ) (r : Room W) : Type 0 where
-  pub seats : IsEmptyFor n r.seats
-  pub traces : IsEmptyFor n r.traces
-  pub outputs : IsEmptyFor n r.outputs
-  pub bytes : AreRooms n r.bytes.items
-  pub worlds : IsEmptyFor n r.worlds
+pub record HasRoom {W : Type 0} (n : ℕ) (b : Buffers W) : Type 0 where
+  pub seats : IsEmptyFor n b.seats
+  pub traces : IsEmptyFor n b.traces
+  pub outputs : IsEmptyFor n b.outputs
+  pub bytes : AreOutputBuffers n b.bytes.items
+  pub worlds : IsEmptyFor n b.worlds
 
 -- a seat of this table that holds nothing else
 pub record IsSeatOf (id : TableId) (s : Seat (Unit {0}) View) : Type 0 where

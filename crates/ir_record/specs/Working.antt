@@ -19,12 +19,13 @@ use Rattle.ir_crew.specs.declared.deed.ObjectStep.{ObjectStep}
 use Rattle.ir_crew.specs.declared.table.Crew.{Crew}
 use Rattle.ir_runs.specs.Run.{events}
 use Rattle.ir_flat.specs.Splice.{shared_steps}
-use Rattle.ir_flat.specs.Lone.{MayRun, alone_after, alone_trail}
+use Rattle.ir_flat.specs.Flat.{MayRun, alone_after}
+use Rattle.ir_flat.specs.Trails.{alone_trail}
 use Rattle.ir_log.specs.Logged.{Logged}
 use Rattle.ir_log.specs.Logging.{label_of}
-use Rattle.ir_trace.specs.Recorded.{IsEvent}
+use Rattle.ir_trace.specs.Bounds.{IsEvent}
 use Rattle.ir_record.specs.Worlds.{Answered, answers_in}
-use Rattle.ir_record.specs.declared.worker.Worker.{Worker}
+use Rattle.ir_record.specs.declared.by_threads.worker.Worker.{Worker}
 
 -- x alone, after some replies, is y; these are its object steps with what they emitted, and this is logged of its steps
 pub record Worked {T : Type 0} (m : Machine T) (x y : T) (steps : List Shared) (labels log : List Label) : Type 0 where

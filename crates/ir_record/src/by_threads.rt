@@ -5,10 +5,10 @@ ghost use Rattle.ir_thread.specs.State.{IsAllowed, most_budget};
 ghost use Rattle.ir_record.specs.Recording.{IsRecordedByThreads, AllWork, AreHandedBack, IsFailure};
 ghost use Rattle.ir_record.specs.Worlds.{NoneFailed};
 
-use crate::handing_back::{gathered, joined, room, worlds_of};
+use crate::by_threads::results::{gathered, joined, new_buffers, worlds_of};
+use crate::by_threads::workers::{first_failed, new_workers, run_workers};
 use crate::outputs::Outputs;
 use crate::record_err::RecordErr;
-use crate::workers::{first_failed, new_workers, run_workers};
 use crate::world::World;
 use ir_crew::Crew;
 use ir_image::{Image, MOST_OBJECT_WORDS};
@@ -18,6 +18,12 @@ use ir_trace::Trace;
 use std::alloc::{AllocError, Global};
 use std::sync::Wait;
 use std::thread::Threads;
+
+pub mod buffers;
+mod results;
+pub mod worker;
+mod worker_steps;
+mod workers;
 
 // `count` objects, to be written over.
 fn blanks(alloc: Global, count: usize) -> Result<Vec<Object>, AllocError>
@@ -69,17 +75,17 @@ pub fn record<R: Threads + Wait + Sync, W: World + Drop + Send, G: Gate + Sync>(
 {
     let (crew, seats) = Crew::open(alloc, image)?;
     let mut workers = new_workers(alloc, image, seats, worlds, budget, profile)?;
-    let room = room(alloc, workers.len())?;
+    let buffers = new_buffers(alloc, workers.len())?;
     let mut objects = blanks(alloc, image.object_count())?;
     // From here on nothing takes memory.
     run_workers(rt, &crew, image.code(), gate, &mut workers);
     if let Some(thread) = first_failed(workers.as_slice()) {
         return Err(RecordErr::World {
             thread: thread as u8,
-            worlds: worlds_of(room, workers),
+            worlds: worlds_of(buffers, workers),
         });
     }
-    let (seats, trace, outputs) = gathered(room, objects.len() as u8, budget, profile, workers);
+    let (seats, trace, outputs) = gathered(buffers, objects.len() as u8, budget, profile, workers);
     let seat = joined(&crew, seats);
     crew.close(seat, objects.as_mut_slice());
     Ok((trace, outputs))

@@ -5,24 +5,37 @@ ghost use Rattle.ir_thread.specs.State.{IsAllowed, most_budget};
 ghost use Rattle.ir_flat.specs.Flat.{tables, machine};
 ghost use Rattle.ir_runs.specs.Run.{HasNone, rounds};
 ghost use Rattle.ir_record.specs.Progress.{TookTurns, Took};
-ghost use Rattle.ir_record.specs.Recorders.{progress_of, CanGoOn, NamesFirst, StopsInTurns, StopsIn};
-ghost use Rattle.ir_record.specs.Recording.{IsRecordedInOrder, IsRecordedInTurns, AllWork, AreHandedBack, IsFailureInOrder, IsFailureInTurns, order_of_turns, turns_of_items};
+ghost use Rattle.ir_record.specs.Recorders.{progress_of, CanContinue, StopsInTurns, StaysReady};
+ghost use Rattle.ir_record.specs.Recording.{IsRecordedInTurns, AllWork, AreHandedBack, IsFailureInTurns, order_of_turns, turns_of_items};
 ghost use Rattle.ir_record.specs.Refusing.{plain_turns};
-ghost use Rattle.ir_record.specs.Worlds.{NoneFailed, AreSameWorlds};
+ghost use Rattle.ir_record.specs.Worlds.{NoneFailed};
 
-use crate::gather::outputs;
-use crate::item::{Item, items_of};
+use crate::in_order::conversion::{items_of, turns_of};
+use crate::in_order::logged_guest::LoggedGuest;
+use crate::in_order::recorder::Recorder;
+use crate::in_order::results::outputs;
+use crate::in_order::turn::Failed;
+use crate::item::Item;
 use crate::outputs::Outputs;
 use crate::record_err::RecordErr;
-use crate::recorder::Recorder;
-use crate::tape::Tape;
-use crate::turn::Failed;
-use crate::turns::{Turns, turns_of};
+use crate::turns::Turns;
 use crate::world::World;
 use ir_image::Image;
 use ir_thread::{Ask, Profile};
 use ir_trace::Trace;
 use std::alloc::Global;
+
+mod conversion;
+pub mod logged_guest;
+mod order;
+pub mod recorder;
+mod results;
+pub mod round_result;
+mod rounds;
+mod single_thread;
+mod start;
+mod step;
+pub mod turn;
 
 impl<W: World> Recorder<'_, W> {
     // The turns of the order, and then rounds until no thread has a step.
@@ -33,15 +46,13 @@ impl<W: World> Recorder<'_, W> {
         ahead: &mut Vec<u64>,
         asks: &mut Vec<Ask>,
     ) -> Result<(), Failed>
-        requires ready { CanGoOn W.answers W.broken self.old }
-        requires level { ahead.old.items ≡ replicate (length self.old.tape.flat.threads) 0 }
-        requires asks { length asks.old.items ≡ length self.old.tape.flat.threads }
-        ensures took { OnOk result ((count : ℕ) × TookTurns (turns_of_items order.now ++ plain_turns (rounds (length self.old.tape.flat.threads) count)) (progress_of W.answers self.old) (progress_of W.answers self.new)) }
-        ensures over { OnOk result ((t : ℕ) → t < length self.new.tape.flat.threads → HasNone (machine self.new.tape.flat) (tables self.new.tape.flat) t) }
-        ensures ready { OnOk result (CanGoOn W.answers W.broken self.new) }
-        ensures failed { IfErr result (NamesFirst W.broken self.new.worlds.items) }
-        ensures stopped { IfErr result (λ f. (count : ℕ) × StopsInTurns W.answers (turns_of_items order.now ++ plain_turns (rounds (length self.old.tape.flat.threads) count)) self.old self.new.worlds.items f) }
-        ensures kept { AreSameWorlds W.origin self.old.worlds.items self.new.worlds.items }
+        requires ready { CanContinue W.answers W.broken self.old }
+        requires level { ahead.old.items ≡ replicate (length self.old.guest.flat.threads) 0 }
+        requires asks { length asks.old.items ≡ length self.old.guest.flat.threads }
+        ensures took { OnOk result ((count : ℕ) × TookTurns (turns_of_items order.now ++ plain_turns (rounds (length self.old.guest.flat.threads) count)) (progress_of W.answers self.old) (progress_of W.answers self.new)) }
+        ensures over { OnOk result ((t : ℕ) → t < length self.new.guest.flat.threads → HasNone (machine self.new.guest.flat) (tables self.new.guest.flat) t) }
+        ensures stopped { IfErr result (λ f. (count : ℕ) × StopsInTurns W.answers (turns_of_items order.now ++ plain_turns (rounds (length self.old.guest.flat.threads) count)) self.old self.new.worlds.items f) }
+        ensures stays { StaysReady W.answers W.broken W.origin self.old self.new result }
     {
         self.follow(order)?;
         self.rounds(ahead, asks)?;
@@ -74,20 +85,20 @@ pub fn record_with_refusals<W: World + Drop>(
     ensures failed { IfErr result (IsFailureInTurns W.answers W.broken W.origin image.now budget profile (turns_of_items order.now) worlds.items) }
 {
     let mut recorder = Recorder {
-        tape: Tape::start(alloc, image, budget, profile)?,
+        guest: LoggedGuest::start(alloc, image, budget, profile)?,
         worlds,
     };
-    let mut ahead = vec![in alloc; 0; recorder.tape.flat.threads().len()]?;
-    let mut asks = vec![in alloc; Ask::Done; recorder.tape.flat.threads().len()]?;
+    let mut ahead = vec![in alloc; 0; recorder.guest.flat.threads().len()]?;
+    let mut asks = vec![in alloc; Ask::Done; recorder.guest.flat.threads().len()]?;
     if let Err(Failed { thread }) = recorder.record(order, &mut ahead, &mut asks) {
         return Err(RecordErr::World {
             thread,
             worlds: recorder.worlds,
         });
     }
-    let Recorder { tape, worlds } = recorder;
-    let outputs = outputs(alloc, tape.flat.threads(), worlds)?;
-    let trace = tape.into_trace(alloc, budget, profile)?;
+    let Recorder { guest, worlds } = recorder;
+    let outputs = outputs(alloc, guest.flat.threads(), worlds)?;
+    let trace = guest.into_trace(alloc, budget, profile)?;
     Ok((trace, outputs))
 }
 
@@ -109,11 +120,11 @@ pub fn record_in_turns<W: World + Drop>(
     requires each { vec_len worlds ≡ length image.now.entries }
     requires works { NoneFailed (map W.broken worlds.items) }
     // The run by the order, which is complete: its trace, what its threads printed, and what their worlds answered.
-    ensures recorded { IfOk result (IsRecordedInOrder W.answers image.now budget profile (order_of_turns order.now) worlds.items) }
+    ensures recorded { IfOk result (IsRecordedInTurns W.answers image.now budget profile (plain_turns (order_of_turns order.now)) worlds.items) }
     ensures works { IfOk result (AllWork W.broken) }
     // The worlds are those that were handed in.
     ensures origins { IfOk result (AreHandedBack W.origin worlds.items) }
-    ensures failed { IfErr result (IsFailureInOrder W.answers W.broken W.origin image.now budget profile (order_of_turns order.now) worlds.items) }
+    ensures failed { IfErr result (IsFailureInTurns W.answers W.broken W.origin image.now budget profile (plain_turns (order_of_turns order.now)) worlds.items) }
 {
     let items = items_of(alloc, order)?;
     record_with_refusals(alloc, image, items.as_slice(), worlds, budget, profile)
@@ -140,11 +151,11 @@ pub fn record_in_order<W: World + Drop>(
     requires each { vec_len worlds ≡ length image.now.entries }
     requires works { NoneFailed (map W.broken worlds.items) }
     // The run by the order, which is complete: its trace, what its threads printed, and what their worlds answered.
-    ensures recorded { IfOk result (IsRecordedInOrder W.answers image.now budget profile order.now worlds.items) }
+    ensures recorded { IfOk result (IsRecordedInTurns W.answers image.now budget profile (plain_turns order.now) worlds.items) }
     ensures works { IfOk result (AllWork W.broken) }
     // The worlds are those that were handed in.
     ensures origins { IfOk result (AreHandedBack W.origin worlds.items) }
-    ensures failed { IfErr result (IsFailureInOrder W.answers W.broken W.origin image.now budget profile order.now worlds.items) }
+    ensures failed { IfErr result (IsFailureInTurns W.answers W.broken W.origin image.now budget profile (plain_turns order.now) worlds.items) }
 {
     let turns = turns_of(alloc, order)?;
     record_in_turns(alloc, image, turns.as_slice(), worlds, budget, profile)

@@ -4,7 +4,7 @@ use Rattle.std.specs.Prelude.{Option, Some, None, Ok, replicate}
 use Rattle.std.specs.Option.{is_some}
 use Rattle.ir_image.specs.Guest.{Guest, guest_at}
 use Rattle.ir_trace.specs.Recorded.{Recorded}
-use Rattle.ir_record.specs.Recording.{IsRecordingByTurns, IsRecordingOfSome}
+use Rattle.ir_record.specs.Recordings.{IsRecordingByTurns, IsRecordingOfSome}
 use Rattle.ir_record.specs.Refusing.{Turn}
 use Rattle.ir_record.specs.Worlds.{Answered}
 use Rattle.ir_record_run.specs.Order.{order_of}

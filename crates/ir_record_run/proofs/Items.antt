@@ -30,9 +30,9 @@ item_of_unspelled_parts_is_none threads thread bs (a ∷ []) none e some =
 item_of_unspelled_parts_is_none threads thread bs (a ∷ b ∷ parts) none e some = refl
 
 -- an item with a mark
-pub item_of_marked_parts : (threads : ℕ) (item thread count : List ℕ) → slice_split (λ b. b == 120) item ≡ thread ∷ slice_split (λ b. b == 120) count
+pub item_of_counted_parts_is_turns : (threads : ℕ) (item thread count : List ℕ) → slice_split (λ b. b == 120) item ≡ thread ∷ slice_split (λ b. b == 120) count
     → item_of threads item ≡ turns (turn_of threads thread) (number_within 1 most_turns count)
-item_of_marked_parts threads item thread count e = ap (item_by threads) e ∙ elim (cases_Bool (all_ascii_digits count)) [
+item_of_counted_parts_is_turns threads item thread count e = ap (item_by threads) e ∙ elim (cases_Bool (all_ascii_digits count)) [
   | inl all ↦ ap (λ (z : List (List ℕ)). item_by threads (thread ∷ z))
       (split_without_mark_is_one_part 120 count (not_in_digits decimal_numeral_model count 120 all (λ r. omega (arith, r))))
   | inr other ↦
@@ -43,41 +43,41 @@ item_of_marked_parts threads item thread count e = ap (item_by threads) e ∙ el
 ]
 
 -- an item without
-pub item_of_unmarked_part : (threads : ℕ) (item thread : List ℕ) → slice_split (λ b. b == 120) item ≡ thread ∷ []
+pub item_of_uncounted_part_is_one_turn : (threads : ℕ) (item thread : List ℕ) → slice_split (λ b. b == 120) item ≡ thread ∷ []
     → item_of threads item ≡ turns (turn_of threads thread) (Some 1)
-item_of_unmarked_part threads item thread e = ap (item_by threads) e
+item_of_uncounted_part_is_one_turn threads item thread e = ap (item_by threads) e
 
 pub spelled_item_is_turns : (threads : ℕ) (item thread count : List ℕ) (t : Turn) (n : ℕ) → slice_split (λ b. b == 120) item ≡ thread
     ∷ slice_split (λ b. b == 120) count → turn_of threads thread ≡ Some t → number_within 1 most_turns count ≡ Some n
     → Some (replicate n t) ≡ item_of threads item
-spelled_item_is_turns threads item thread count t n e a b = sym (item_of_marked_parts threads item thread count e
+spelled_item_is_turns threads item thread count t n e a b = sym (item_of_counted_parts_is_turns threads item thread count e
     ∙ ap (λ (z : Option Turn). turns z (number_within 1 most_turns count)) a ∙ ap (turns (Some t)) b)
 
 pub unspelled_item_is_none : (threads : ℕ) (item thread count : List ℕ) → slice_split (λ b. b == 120) item ≡ thread ∷ slice_split (λ b. b == 120) count
     → number_within 1 most_turns count ≡ None → None ≡ item_of threads item
-unspelled_item_is_none threads item thread count e b = sym (item_of_marked_parts threads item thread count e ∙ ap (turns (turn_of threads thread)) b
+unspelled_item_is_none threads item thread count e b = sym (item_of_counted_parts_is_turns threads item thread count e ∙ ap (turns (turn_of threads thread)) b
     ∙ turns_without_count_are_none (turn_of threads thread))
 
 -- ---- a turn and its mark
 
 -- a text with the mark at its end
-pub with_mark : (threads : ℕ) (text thread rest : List ℕ) → slice_split (λ b. b == 33) text ≡ thread ∷ slice_split (λ b. b == 33) rest → rest ≡ []
+pub turn_of_text_ending_in_mark_is_refused : (threads : ℕ) (text thread rest : List ℕ) → slice_split (λ b. b == 33) text ≡ thread ∷ slice_split (λ b. b == 33) rest → rest ≡ []
     → turn_of threads text ≡ turn (number_within 0 (threads - 1) thread) true
-with_mark threads text thread rest e none = ap (turn_by threads) (e ∙ ap (λ z. thread ∷ slice_split (λ b. b == 33) z) none)
+turn_of_text_ending_in_mark_is_refused threads text thread rest e none = ap (turn_by threads) (e ∙ ap (λ z. thread ∷ slice_split (λ b. b == 33) z) none)
 
 -- a text with the mark before something else
-by_more : (threads : ℕ) (thread bs : List ℕ) (parts : List (List ℕ)) → bs ≢ [] → join_with_byte 33 parts ≡ bs → 1 ≤ length parts
+turn_of_parts_is_none_if_more_follows_mark : (threads : ℕ) (thread bs : List ℕ) (parts : List (List ℕ)) → bs ≢ [] → join_with_byte 33 parts ≡ bs → 1 ≤ length parts
     → turn_by threads (thread ∷ parts) ≡ None
-by_more threads thread bs [] some e long = absurd (omega (arith, long))
-by_more threads thread bs ([] ∷ []) some e long = absurd (some (sym e))
-by_more threads thread bs ((b ∷ part) ∷ []) some e long = refl
-by_more threads thread bs ([] ∷ next ∷ parts) some e long = refl
-by_more threads thread bs ((b ∷ part) ∷ next ∷ parts) some e long = refl
+turn_of_parts_is_none_if_more_follows_mark threads thread bs [] some e long = absurd (omega (arith, long))
+turn_of_parts_is_none_if_more_follows_mark threads thread bs ([] ∷ []) some e long = absurd (some (sym e))
+turn_of_parts_is_none_if_more_follows_mark threads thread bs ((b ∷ part) ∷ []) some e long = refl
+turn_of_parts_is_none_if_more_follows_mark threads thread bs ([] ∷ next ∷ parts) some e long = refl
+turn_of_parts_is_none_if_more_follows_mark threads thread bs ((b ∷ part) ∷ next ∷ parts) some e long = refl
 
-pub mark_within : (threads : ℕ) (text thread rest : List ℕ) → slice_split (λ b. b == 33) text ≡ thread ∷ slice_split (λ b. b == 33) rest
+pub turn_of_text_is_none_if_more_follows_mark : (threads : ℕ) (text thread rest : List ℕ) → slice_split (λ b. b == 33) text ≡ thread ∷ slice_split (λ b. b == 33) rest
     → rest ≢ [] → turn_of threads text ≡ None
-mark_within threads text thread rest e some = ap (turn_by threads) e
-    ∙ by_more threads thread rest (slice_split (λ b. b == 33) rest) some (join_with_byte-slice_split 33 rest)
+turn_of_text_is_none_if_more_follows_mark threads text thread rest e some = ap (turn_by threads) e
+    ∙ turn_of_parts_is_none_if_more_follows_mark threads thread rest (slice_split (λ b. b == 33) rest) some (join_with_byte-slice_split 33 rest)
     (omega (arith, length-slice_split (λ b. b == 33) rest))
 
 -- ---- items in turn

@@ -6,7 +6,7 @@ use Rattle.ir_image.specs.Guest.{Guest, guest_at}
 use Rattle.ir_thread.specs.State.{end_number, end_code}
 use Rattle.ir_thread.specs.declared.profile.Profile.{Profile}
 use Rattle.ir_trace.specs.Recorded.{RecordedThread, Recorded}
-use Rattle.ir_record.specs.Recording.{IsRecordingByTurns, IsRecordingOfSome}
+use Rattle.ir_record.specs.Recordings.{IsRecordingByTurns, IsRecordingOfSome}
 use Rattle.ir_record.specs.Refusing.{Turn}
 use Rattle.ir_record.specs.Worlds.{Answered}
 use Rattle.ir_record_run.specs.Order.{order_of}

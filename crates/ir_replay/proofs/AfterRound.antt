@@ -101,20 +101,20 @@ workers_are_after_round id k target vs ws h p = all_by_number_if_implied (λ t w
     (IsAfterRound id k target) ws (λ t w l x. worker_is_after_round id k target t x.0 w x.1 x.2)
     (all_by_number_through_pairs (IsAssigned id k target) (HasWorked id k target) vs ws h p)
 
-pub workers_after_round_of_table : (id : TableId) (k : Plan) (target : List ℕ) (ws : List Worker) → AllByNumber (IsAfterRound id k target) ws
+pub workers_after_round_are_of_table : (id : TableId) (k : Plan) (target : List ℕ) (ws : List Worker) → AllByNumber (IsAfterRound id k target) ws
     → AllByRecursion (IsOfTable id) ws
-workers_after_round_of_table id k target ws h = all_if_all_by_number (IsAfterRound id k target) (IsOfTable id) ws
+workers_after_round_are_of_table id k target ws h = all_if_all_by_number (IsAfterRound id k target) (IsOfTable id) ws
     (λ t w l p. record { table = p.ready.table; slots = p.ready.slots }) h
 
 -- ---- where the threads are
 
-views_at_cut_of_append : (p : Cut) (v w : View) → AreAt p (v ++ w) → AreAt p v × AreAt p w
-views_at_cut_of_append p [] w h = (tt, h)
-views_at_cut_of_append p (q ∷ v) w h = let r = views_at_cut_of_append p v w h.1 in ((h.0, r.0), r.1)
+parts_are_at_cut_if_append_is : (p : Cut) (v w : View) → AreAt p (v ++ w) → AreAt p v × AreAt p w
+parts_are_at_cut_if_append_is p [] w h = (tt, h)
+parts_are_at_cut_if_append_is p (q ∷ v) w h = let r = parts_are_at_cut_if_append_is p v w h.1 in ((h.0, r.0), r.1)
 
-views_of_workers_at_cut : (p : Cut) (ws : List Worker) → AreAt p (views_of ws) → AllByNumber (λ t w. AreAt p w.seat.me.0) ws
-views_of_workers_at_cut p [] h = tt
-views_of_workers_at_cut p (w ∷ ws) h = let r = views_at_cut_of_append p (views_of ws) w.seat.me.0 h in (r.1, views_of_workers_at_cut p ws r.0)
+worker_views_are_at_cut_if_joined_views_are : (p : Cut) (ws : List Worker) → AreAt p (views_of ws) → AllByNumber (λ t w. AreAt p w.seat.me.0) ws
+worker_views_are_at_cut_if_joined_views_are p [] h = tt
+worker_views_are_at_cut_if_joined_views_are p (w ∷ ws) h = let r = parts_are_at_cut_if_append_is p (views_of ws) w.seat.me.0 h in (r.1, worker_views_are_at_cut_if_joined_views_are p ws r.0)
 
 seated_thread_is_ahead : (k : Plan) (p : Cut) (v : View) (x : thread.ThreadState) (t : ℕ) → IsSeated k v x → AreAt p v → x.number ≡ t
     → IsAhead (trace_in k) t (p t) x
@@ -150,7 +150,7 @@ thread_at_number_after_round id k target p ws h at t l =
     (λ n w. IsThreadAfterRound k target p n (slice_index_or xs n idle)) ws
     (λ n w less x. subst (IsThreadAfterRound k target p n) x.1 (thread_of_worker_after_round id k target p n w x.0.0 x.0.1))
     (all_by_number_of_both (λ n w. IsAfterRound id k target n w × AreAt p w.seat.me.0) (λ n w. w.thread ≡ slice_index_or xs n idle) ws
-    (all_by_number_of_both (IsAfterRound id k target) (λ n w. AreAt p w.seat.me.0) ws h (views_of_workers_at_cut p ws at))
+    (all_by_number_of_both (IsAfterRound id k target) (λ n w. AreAt p w.seat.me.0) ws h (worker_views_are_at_cut_if_joined_views_are p ws at))
     (threads_of_workers_by_number ws [] xs (append-nil xs))) in
     (property_at_number (λ n w. IsThreadAfterRound k target p n (slice_index_or xs n idle)) ws all t l).1
 
@@ -159,12 +159,12 @@ steps_of_missing_thread_zero xs t l = ap (λ (x : thread.ThreadState). x.steps) 
 
 -- ---- the guest after the round
 
-abbrev after_round : List Worker → List Cell → Standing
-after_round ws cells = record { threads = backwards (threads_of ws); objects = cells }
+abbrev standing_after_round : List Worker → List Cell → Standing
+standing_after_round ws cells = record { threads = backwards (threads_of ws); objects = cells }
 
 standing_after_round_is_between : (id : TableId) (k : Plan) (target : List ℕ) (ws : List Worker) (cells : List Cell) → StandsBelowTarget (trace_in k) target k.opened.value
     → length ws ≡ length k.opened.value.threads → AllByNumber (IsAfterRound id k target) ws → IsClosed k (views_of ws) cells
-    → IsBetween (trace_in k) target k.opened.value (after_round ws cells)
+    → IsBetween (trace_in k) target k.opened.value (standing_after_round ws cells)
 standing_after_round_is_between id k target ws cells h size p c =
     let xs : List thread.ThreadState = backwards (threads_of ws) in
     let back : length xs ≡ length ws = length_of_backward_threads ws in
@@ -201,9 +201,9 @@ equal_or_some_increase (suc n) a b up = elim (cases_lt (a n) (b n)) [
 
 standing_after_round_goes : (id : TableId) (k : Plan) (target : List ℕ) (ws : List Worker) (cells : List Cell) → StandsBelowTarget (trace_in k) target k.opened.value
     → length ws ≡ length k.opened.value.threads → AllByNumber (IsAfterRound id k target) ws → IsClosed k (views_of ws) cells
-    → IsBetween (trace_in k) target k.opened.value (after_round ws cells) → Goes (trace_in k) target k.opened.value (after_round ws cells)
+    → IsBetween (trace_in k) target k.opened.value (standing_after_round ws cells) → Goes (trace_in k) target k.opened.value (standing_after_round ws cells)
 standing_after_round_goes id k target ws cells h size p c b t less =
-    let new : Flat = flat_in (trace_in k) (after_round ws cells) in
+    let new : Flat = flat_in (trace_in k) (standing_after_round ws cells) in
     let there = h.stands.at.threads in
     let whole = h.size in
     elim (equal_or_some_increase (length target) (opened_at k) (positions new) b.above) [
@@ -217,14 +217,14 @@ standing_after_round_goes id k target ws cells h size p c b t less =
           absurd (omega (arith, at, less))
     ]
 
-pub standing_left_by_round : (id : TableId) (k : Plan) (f : FittedTrace) (target : List ℕ) (s new : Standing) (ws : List Worker) (cells : List Cell)
+pub standing_after_round_is_between_and_goes : (id : TableId) (k : Plan) (f : FittedTrace) (target : List ℕ) (s new : Standing) (ws : List Worker) (cells : List Cell)
     → trace_in k ≡ f → k.opened.value ≡ s → StandsBelowTarget f target s → length ws ≡ length s.threads → AllByNumber (IsAfterRound id k target) ws
     → IsClosed k (views_of ws) cells → new ≡ record { threads = backwards (threads_of ws); objects = cells }
     → IsBetween f target s new × Goes f target s new
-standing_left_by_round id k f target s new ws cells for is h size p c e =
+standing_after_round_is_between_and_goes id k f target s new ws cells for is h size p c e =
     let start : StandsBelowTarget (trace_in k) target k.opened.value = stands_below_target_in_plan k f target s for is h in
     let long : length ws ≡ length k.opened.value.threads = size ∙ ap (λ (z : Standing). length z.threads) (sym is) in
-    let b : IsBetween (trace_in k) target k.opened.value (after_round ws cells) = standing_after_round_is_between id k target ws cells start long p c in
+    let b : IsBetween (trace_in k) target k.opened.value (standing_after_round ws cells) = standing_after_round_is_between id k target ws cells start long p c in
     subst (λ (z : FittedTrace × Standing). IsBetween z.0 target z.1 new × Goes z.0 target z.1 new) (λ i. (for i, is i))
     (subst (λ z. IsBetween (trace_in k) target k.opened.value z × Goes (trace_in k) target k.opened.value z) (sym e)
     (b, standing_after_round_goes id k target ws cells start long p c b))

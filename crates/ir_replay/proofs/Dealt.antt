@@ -1,6 +1,7 @@
 -- Lists that are taken from their ends.
 use Rattle.std.proofs.Common.{◌≡◌, ℕ, ◌+◌, List, [], ◌∷◌, ◌++◌, length, take, drop, refl, sym, ap, ◌∙◌, length-append, append-nil, append_assoc}
 use Rattle.std.specs.List.{AllByRecursion}
+use Rattle.ir_lemmas.proofs.CallerLemmas.{take_length_of_append}
 use Rattle.atomic_table.specs.declared.shared.Seat.{Seat}
 use Rattle.ir_thread.specs.State as thread
 use Rattle.ir_weave.specs.Woven.{View}
@@ -57,16 +58,8 @@ joined_threads_with_next_worker old rest w xs ys whole h e is =
     ∙ ap (λ z. xs ++ z) (sym (backwards_of_push (threads_of rest) w.thread) ∙ ap backwards (sym (threads_of_push rest w))
     ∙ ap (λ z. backwards (threads_of z)) (sym e)) ∙ h
 
-pub all_splits_off_last : {X : Type 0} (P : X → Type 0) (xs : List X) (x : X) → AllByRecursion P (xs ++ x ∷ []) → AllByRecursion P xs × P x
-all_splits_off_last P [] x h = (tt, h.0)
-all_splits_off_last P (y ∷ xs) x h = let r = all_splits_off_last P xs x h.1 in ((h.0, r.0), r.1)
-
 pub length_after_push : {X : Type 0} (xs ys : List X) (x : X) → xs ≡ ys ++ x ∷ [] → length xs ≡ length ys + 1
 length_after_push xs ys x e = ap (λ z. length z) e ∙ length-append ys (x ∷ [])
-
-take_length_of_append : {A : Type 0} (xs ys : List A) → take (length xs) (xs ++ ys) ≡ xs
-take_length_of_append [] ys = refl
-take_length_of_append (x ∷ xs) ys = ap (λ z. x ∷ z) (take_length_of_append xs ys)
 
 -- a list that was changed in place
 pub take_of_overwritten_list : {A : Type 0} (new old : List A) (n : ℕ) → n ≡ length old → length new ≡ length old

@@ -90,20 +90,20 @@ standing_at_reached_target f target aim s state same under reached is flat =
     (subst (λ z. IsStateAt f (cut_of z) s) same (subst (λ p. IsStateAt f p s) (λ i t. reached t i) under.state))
 
 -- the state after steps from another
-pub standing_after_steps_is_between : (f : FittedTrace) (target aim : List ℕ) (old state : Standing) (first s : Flat) → first ≡ flat_in f old → aim ≡ target
+pub standing_is_between_if_under_and_not_lower : (f : FittedTrace) (target aim : List ℕ) (old state : Standing) (first s : Flat) → first ≡ flat_in f old → aim ≡ target
     → IsUnder f aim s → ((t : ℕ) → positions first t ≤ positions s t) → state ≡ record { threads = s.threads; objects = s.objects }
     → IsFlat s → IsBetween f target old state
-standing_after_steps_is_between f target aim old state first s was same under above is flat =
+standing_is_between_if_under_and_not_lower f target aim old state first s was same under above is flat =
     subst (IsBetween f target old) (sym is) (record {
       stands = standing_of_flat_state f (positions s) s (record { threads = s.threads; objects = s.objects }) refl flat under.state;
       above = λ t. subst (λ z. positions z t ≤ positions s t) was (above t);
       below = λ t. subst (λ z. positions s t ≤ cut_of z t) same (under.below t);
     })
 
-pub standing_after_steps_goes : (f : FittedTrace) (target aim : List ℕ) (old state : Standing) (first s : Flat) → first ≡ flat_in f old → aim ≡ target
+pub standing_goes_if_fewer_steps_left : (f : FittedTrace) (target aim : List ℕ) (old state : Standing) (first s : Flat) → first ≡ flat_in f old → aim ≡ target
     → ((t : ℕ) → positions first t < cut_of aim t → steps_left aim s < steps_left aim first)
     → state ≡ record { threads = s.threads; objects = s.objects } → Goes f target old state
-standing_after_steps_goes f target aim old state first s was same h is =
+standing_goes_if_fewer_steps_left f target aim old state first s was same h is =
     subst (Goes f target old) (sym is) (subst (λ (z : List ℕ × Flat). (t : ℕ) → positions z.1 t < cut_of z.0 t
     → steps_left z.0 s < steps_left z.0 z.1) (λ i. (same i, was i)) h)
 
@@ -119,15 +119,15 @@ standing_between_at_target f target old s b size there =
 
 -- ---- one thread that has gone on alone
 
-pub standing_after_thread_alone : (f : FittedTrace) (aim : List ℕ) (s : Flat) (state : Standing) → IsUnder f aim s
+pub standing_under_target_stands : (f : FittedTrace) (aim : List ℕ) (s : Flat) (state : Standing) → IsUnder f aim s
     → state ≡ record { threads = s.threads; objects = s.objects } → IsFlat s → StandsAt f (positions (flat_in f state)) state
-standing_after_thread_alone f aim s state under is flat =
+standing_under_target_stands f aim s state under is flat =
     subst (λ (z : Standing). StandsAt f (positions (flat_in f z)) z) (sym is)
     (standing_of_flat_state f (positions s) s (record { threads = s.threads; objects = s.objects }) refl flat under.state)
 
-pub positions_after_thread_alone_below_target : (f : FittedTrace) (target aim : List ℕ) (s : Flat) (state : Standing) → aim ≡ target → IsUnder f aim s
+pub standing_under_target_is_not_past_it : (f : FittedTrace) (target aim : List ℕ) (s : Flat) (state : Standing) → aim ≡ target → IsUnder f aim s
     → state ≡ record { threads = s.threads; objects = s.objects } → (u : ℕ) → positions (flat_in f state) u ≤ cut_of target u
-positions_after_thread_alone_below_target f target aim s state same under is u =
+standing_under_target_is_not_past_it f target aim s state same under is u =
     subst (λ (z : List ℕ × Standing). positions (flat_in f z.1) u ≤ cut_of z.0 u) (λ i. (same i, sym is i)) (under.below u)
 
 pub has_gone_in_standings : (f : FittedTrace) (old state : Standing) (first s : Flat) (t n : ℕ) → first ≡ flat_in f old → HasGone first s t n

@@ -123,9 +123,9 @@ watch_at_start_if_built copies f rows found t k w is sorted first = record {
   opened = λ i d l. absurd (let n = ap (λ (xs : List Open). length xs) is.opened in omega (arith, l, n));
 }
 
-pub found_at_start_if_built : (copies : Bool) (f : FittedTrace) (rows : List StaleWrite) (found : List Found) (t : ℕ) (w : Watch) → IsBuilt copies f rows found (length rows) t w
+pub rows_are_found_at_start_if_built : (copies : Bool) (f : FittedTrace) (rows : List StaleWrite) (found : List Found) (t : ℕ) (w : Watch) → IsBuilt copies f rows found (length rows) t w
     → IsFound copies f rows found t w
-found_at_start_if_built copies f rows found t w is r x there own = elim (is.covered r x (slice_get_within rows r x there) there own) [
+rows_are_found_at_start_if_built copies f rows found t w is r x there own = elim (is.covered r x (slice_get_within rows r x there) there own) [
   | inr known ↦ inr known
   | inl p ↦ inl (inl p)
 ]

@@ -10,7 +10,7 @@ use Rattle.ir_thread.specs.declared.ask.Ask.TheVariants as ask
 use Rattle.ir_thread.specs.declared.ask.Reply.{Reply}
 use Rattle.ir_thread.specs.declared.ask.Reply.TheVariants.{Value}
 use Rattle.ir_walk.specs.Calls.{AllSuit}
-use Rattle.ir_rests.proofs.Same.{suits_same_call}
+use Rattle.ir_rests.proofs.Same.{reply_suits_same_call}
 use Rattle.ir_rests.specs.WhatIf.{hold_after, answer, answer_by, same_call, difference, is_other_value, is_writing, is_private, or_later, what_if}
 use Rattle.ir_walk.specs.declared.exchange.Exchange.{Exchange}
 use Rattle.ir_rests.specs.declared.hold.Hold.{Hold}
@@ -67,27 +67,27 @@ what_if_at_call code o fresh h left x c cs not = ap (λ (b : Bool). if b then wh
     else or_later (difference h o (ask_of code x) c.asked)
     (what_if code o fresh (hold_after o c h) left (after_reply code x (answer h o fresh c)) cs)) (is_private_false_unless_private (ask_of code x) not)
 
-what_if_without_fuel : (code : List ℕ) (o : ℕ) (fresh : List ℕ) (h : Hold) (x : ThreadState) (c : Exchange) (cs : List Exchange)
+what_if_is_way_without_fuel : (code : List ℕ) (o : ℕ) (fresh : List ℕ) (h : Hold) (x : ThreadState) (c : Exchange) (cs : List Exchange)
     → what_if code o fresh h 0 x (c ∷ cs) ≡ Some reason.Way
 unfolding what_if
-what_if_without_fuel code o fresh h x c cs = refl
+what_if_is_way_without_fuel code o fresh h x c cs = refl
 
-what_if_without_calls : (code : List ℕ) (o : ℕ) (fresh : List ℕ) (h : Hold) (fuel : ℕ) (x : ThreadState) → what_if code o fresh h fuel x [] ≡ None
+what_if_is_none_without_calls : (code : List ℕ) (o : ℕ) (fresh : List ℕ) (h : Hold) (fuel : ℕ) (x : ThreadState) → what_if code o fresh h fuel x [] ≡ None
 unfolding what_if
-what_if_without_calls code o fresh h fuel x = refl
+what_if_is_none_without_calls code o fresh h fuel x = refl
 
 -- ---- in the loop: what came of the calls from place n on, with so many steps left
 
 -- the steps are spent on private ones
-pub what_if_spent_on_private_steps : (code : List ℕ) (o : ℕ) (fresh : List ℕ) (h : Hold) (n taken left : ℕ) (x y : ThreadState) (cs : List Exchange) (c : Exchange)
+pub what_if_is_way_if_spent_on_private_steps : (code : List ℕ) (o : ℕ) (fresh : List ℕ) (h : Hold) (n taken left : ℕ) (x y : ThreadState) (cs : List Exchange) (c : Exchange)
     (whole : Option Reason) → whole ≡ what_if code o fresh h left x (drop n cs) → n < length cs → PrivateSteps code taken x y → taken ≡ left
     → Some reason.Way ≡ whole
-what_if_spent_on_private_steps code o fresh h n taken left x y cs c whole e l steps all =
+what_if_is_way_if_spent_on_private_steps code o fresh h n taken left x y cs c whole e l steps all =
     let k : left - taken ≡ 0 = omega (arith, all) in
     sym (e ∙ ap (what_if code o fresh h left x) (drop_more cs n c l)
     ∙ what_if_after_private_steps code o fresh h taken left x y (get_or cs n c) (drop (n + 1) cs) (omega (arith, all)) steps
     ∙ ap (λ (j : ℕ). what_if code o fresh h j y (get_or cs n c ∷ drop (n + 1) cs)) k
-    ∙ what_if_without_fuel code o fresh h y (get_or cs n c) (drop (n + 1) cs))
+    ∙ what_if_is_way_without_fuel code o fresh h y (get_or cs n c) (drop (n + 1) cs))
 
 what_if_at_later_call : (code : List ℕ) (o : ℕ) (fresh : List ℕ) (h : Hold) (n taken left : ℕ) (x y : ThreadState) (cs : List Exchange) (c : Exchange)
     (whole : Option Reason) → whole ≡ what_if code o fresh h left x (drop n cs) → n < length cs → PrivateSteps code taken x y → taken < left
@@ -128,10 +128,10 @@ what_if_goes_on_after_call code o fresh h g n taken left x y z cs c asked reply 
     (λ i. (sym holds i, sym (next ∙ ap (after_reply code y) answered) i))
 
 -- no call is left
-pub what_if_with_no_call_left : (code : List ℕ) (o : ℕ) (fresh : List ℕ) (h : Hold) (n left : ℕ) (x : ThreadState) (cs : List Exchange) (whole : Option Reason)
+pub what_if_is_none_with_no_call_left : (code : List ℕ) (o : ℕ) (fresh : List ℕ) (h : Hold) (n left : ℕ) (x : ThreadState) (cs : List Exchange) (whole : Option Reason)
     → whole ≡ what_if code o fresh h left x (drop n cs) → length cs ≤ n → None ≡ whole
-what_if_with_no_call_left code o fresh h n left x cs whole e all =
-    sym (e ∙ ap (what_if code o fresh h left x) (drop_all n cs all) ∙ what_if_without_calls code o fresh h left x)
+what_if_is_none_with_no_call_left code o fresh h n left x cs whole e all =
+    sym (e ∙ ap (what_if code o fresh h left x) (drop_all n cs all) ∙ what_if_is_none_without_calls code o fresh h left x)
 
 -- ---- replies that fit
 
@@ -164,7 +164,7 @@ pub answer_suits_ask_if_no_difference : (h : Hold) (o : ℕ) (fresh : List ℕ) 
     → AllSuit (drop n cs) → difference h o asked (get_or cs n c).asked ≡ None → reply ≡ answer h o fresh (get_or cs n c) → Suits asked reply
 answer_suits_ask_if_no_difference h o fresh n cs c asked reply l all same answered =
     let first : AllSuit (get_or cs n c ∷ drop (n + 1) cs) = subst AllSuit (drop_more cs n c l) all in
-    suits_same_call asked (get_or cs n c).asked reply
+    reply_suits_same_call asked (get_or cs n c).asked reply
     (test_true_if_choice_is_none (same_call asked (get_or cs n c).asked) (if is_writing h && is_other_value o asked (get_or cs n c).asked then Some reason.Value else None) same)
     (subst (Suits (get_or cs n c).asked) (sym answered) (answer_by_suits_if_reply_suits h o fresh (get_or cs n c).asked (get_or cs n c).reply first.0))
 

@@ -3,7 +3,7 @@ use Rattle.std.proofs.Common.{◌+◌, ◌<◌, ℕ, length, refl, arith}
 use Rattle.ir_log.specs.declared.event.Event.TheVariants.{Read, Write}
 use Rattle.ir_fit.specs.Fit.{FittedTrace, HasRun}
 use Rattle.ir_fit.specs.Within.{IsFitted}
-use Rattle.ir_fit.proofs.CallerLemmas.{entry_positions_rise}
+use Rattle.ir_fit.proofs.CallerLemmas.{event_positions_rise}
 use Rattle.ir_past.specs.Past.{IsRow}
 use Rattle.ir_past.specs.declared.stale_write.StaleWrite.{StaleWrite}
 use Rattle.ir_events.specs.Events.{entry_of}
@@ -28,7 +28,7 @@ row_entries_are_placed f h x row =
       there = event.thread;
       read = read;
       event = event;
-      rises = entry_positions_rise f h x.thread event.thread x.read x.event stale.later event.event;
+      rises = event_positions_rise f h x.thread event.thread x.read x.event stale.later event.event;
     }
 
 -- the positions of a row

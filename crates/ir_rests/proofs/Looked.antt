@@ -23,10 +23,10 @@ pub gets_true_at_call : (o i : ℕ) (h : Hold) (n : ℕ) (cs : List Exchange) (c
 gets_true_at_call o i h n cs c whole e l is = disjunction_true_if_left_true _ _ whole (e ∙ gets_of_drop_step o i h n cs c l) is
 
 -- it doesn't
-pub gets_step : (o i : ℕ) (h g : Hold) (n : ℕ) (cs : List Exchange) (c : Exchange) (whole : Bool) → whole ≡ gets o i h (drop n cs)
+pub gets_step_unless_call_gets : (o i : ℕ) (h g : Hold) (n : ℕ) (cs : List Exchange) (c : Exchange) (whole : Bool) → whole ≡ gets o i h (drop n cs)
     → n < length cs → (is_reading h && is_get o i (get_or cs n c).asked) ≡ false → g ≡ hold_after o (get_or cs n c) h
     → whole ≡ gets o i g (drop (n + 1) cs)
-gets_step o i h g n cs c whole e l missed same = disjunction_is_right_if_left_false _ _ whole (e ∙ gets_of_drop_step o i h n cs c l) missed
+gets_step_unless_call_gets o i h g n cs c whole e l missed same = disjunction_is_right_if_left_false _ _ whole (e ∙ gets_of_drop_step o i h n cs c l) missed
     ∙ ap (λ (x : Hold). gets o i x (drop (n + 1) cs)) (sym same)
 
 -- no call is left
@@ -46,10 +46,10 @@ pub puts_true_at_call : (o : ℕ) (h : Hold) (n : ℕ) (cs : List Exchange) (c :
 puts_true_at_call o h n cs c whole e l is = disjunction_true_if_left_true _ _ whole (e ∙ puts_of_drop_step o h n cs c l) is
 
 -- it doesn't
-pub puts_step : (o : ℕ) (h g : Hold) (n : ℕ) (cs : List Exchange) (c : Exchange) (whole : Bool) → whole ≡ puts o h (drop n cs)
+pub puts_step_unless_call_puts : (o : ℕ) (h g : Hold) (n : ℕ) (cs : List Exchange) (c : Exchange) (whole : Bool) → whole ≡ puts o h (drop n cs)
     → n < length cs → (is_writing h && is_put o (get_or cs n c).asked) ≡ false → g ≡ hold_after o (get_or cs n c) h
     → whole ≡ puts o g (drop (n + 1) cs)
-puts_step o h g n cs c whole e l missed same = disjunction_is_right_if_left_false _ _ whole (e ∙ puts_of_drop_step o h n cs c l) missed
+puts_step_unless_call_puts o h g n cs c whole e l missed same = disjunction_is_right_if_left_false _ _ whole (e ∙ puts_of_drop_step o h n cs c l) missed
     ∙ ap (λ (x : Hold). puts o x (drop (n + 1) cs)) (sym same)
 
 -- no call is left
@@ -82,16 +82,16 @@ least_below_stays is i n (suc more) e =
 found_or_finds_next : (x : Option ℕ) (b : Bool) (n : ℕ) → x ≡ None → b ≡ true → found_or x b n ≡ Some n
 found_or_finds_next x b n none here = ap (λ (z : Option ℕ × Bool). found_or z.0 z.1 n) (λ i. (none i, here i))
 
-found_or_passes_next : (x : Option ℕ) (b : Bool) (n : ℕ) → x ≡ None → b ≡ false → found_or x b n ≡ None
-found_or_passes_next x b n none here = ap (λ (z : Option ℕ × Bool). found_or z.0 z.1 n) (λ i. (none i, here i))
+found_or_skips_next : (x : Option ℕ) (b : Bool) (n : ℕ) → x ≡ None → b ≡ false → found_or x b n ≡ None
+found_or_skips_next x b n none here = ap (λ (z : Option ℕ × Bool). found_or z.0 z.1 n) (λ i. (none i, here i))
 
 -- the next number is one, and none below it
-pub least_below_if_number_passes : (is : ℕ → Bool) (i n : ℕ) → least_below is i ≡ None → is i ≡ true → i < n → least_below is n ≡ Some i
-least_below_if_number_passes is i n none here l =
+pub least_below_is_first_fulfilling_number : (is : ℕ → Bool) (i n : ℕ) → least_below is i ≡ None → is i ≡ true → i < n → least_below is n ≡ Some i
+least_below_is_first_fulfilling_number is i n none here l =
     let more : n ≡ i + 1 + (n - (i + 1)) = omega (arith, l) in
     ap (least_below is) more
     ∙ least_below_stays is i (i + 1) (n - (i + 1)) (least_below_successor is i ∙ found_or_finds_next (least_below is i) (is i) i none here)
 
 -- it isn't
 pub least_below_successor_is_none : (is : ℕ → Bool) (i : ℕ) → least_below is i ≡ None → is i ≡ false → least_below is (i + 1) ≡ None
-least_below_successor_is_none is i none here = least_below_successor is i ∙ found_or_passes_next (least_below is i) (is i) i none here
+least_below_successor_is_none is i none here = least_below_successor is i ∙ found_or_skips_next (least_below is i) (is i) i none here

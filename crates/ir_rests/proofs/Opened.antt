@@ -24,7 +24,7 @@ use Rattle.ir_rests.specs.declared.hold.Hold.TheVariants.{Reading}
 use Rattle.ir_thread.specs.State.{ThreadState}
 use Rattle.ir_rests.specs.declared.span.Span.{Span}
 use Rattle.ir_rests.specs.declared.kept.Open.{Open}
-use Rattle.ir_walk.proofs.CallerLemmas.{calls_in_split_at_middle, all_suit_of_append, words_of_held_object_at_standing}
+use Rattle.ir_walk.proofs.CallerLemmas.{calls_in_split_at_middle, all_suit_in_append_if_in_both, words_of_held_object_at_standing}
 use Rattle.ir_rests.proofs.Entered.{row_object_held_behind_read, row_object_held_behind_write}
 
 -- ---- behind its read entry
@@ -100,7 +100,7 @@ open_row_after_calls copies f rows t from k old mid new calls o more are up with
         ∙ (λ i. o.kept.calls run whole i ++ (are.same run whole ∙ ap (λ u. calls_in f.guest.code (thread_at f run u) from (k - from)) (sym o.of.thread)) i)
         ∙ sym (calls_in_split_at_middle f.guest.code (thread_at f run o.of.row.thread) (behind_read f o.of.row) from k
         (let a = o.past in let b = o.of.span.read in omega (arith, a, b)) up);
-    suit = subst AllSuit (sym (calls' ∙ more.calls)) (all_suit_of_append old.kept.calls.items calls o.kept.suit are.suit);
+    suit = subst AllSuit (sym (calls' ∙ more.calls)) (all_suit_in_append_if_in_both old.kept.calls.items calls o.kept.suit are.suit);
   };
   past = let a = o.past in let b = ap (λ (s : Span). s.read) (same ∙ more.span) in omega (arith, a, b, up);
   before = let b = ap (λ (s : Span). s.end) (same ∙ more.span) in omega (arith, b, within);

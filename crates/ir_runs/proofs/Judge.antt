@@ -7,7 +7,7 @@ use Rattle.ir_runs.specs.declared.access.Access.{Access}
 use Rattle.ir_runs.specs.declared.env_kind.EnvKind.{EnvKind}
 use Rattle.ir_runs.specs.declared.env_kind.EnvKind.TheVariants.{Clock, Random, Input}
 use Rattle.ir_runs.specs.declared.access.Access.TheVariants.{Reading, Writing}
-use Rattle.ir_runs.specs.Run.{act, State, Step, Can, after, label, IsRun, end, trail, IsDone, events, log, count, At}
+use Rattle.ir_runs.specs.Run.{act, State, Step, Can, after, label, IsRun, end, trail, IsDone, events, log, count, At, IsWhole}
 use Rattle.ir_runs.specs.Bounds.{IsStart, IsIdle, NoneTakes}
 use Rattle.ir_runs.proofs.Good.{StateInvariant}
 use Rattle.ir_runs.proofs.Append.{trail_append, append_of_runs_is_run}
@@ -18,7 +18,7 @@ use Rattle.ir_runs.proofs.Same.{BeginsRun, thread_after_step_of_other}
 use Rattle.ir_runs.specs.Alike.{Reaches}
 use Rattle.ir_runs.specs.declared.thread_verdict.ThreadVerdict.{ThreadVerdict}
 use Rattle.ir_runs.specs.declared.thread_verdict.ThreadVerdict.TheVariants.{Same, Disagrees, Starves}
-use Rattle.ir_runs.specs.Verdicts.{Suits, Agrees, Awaits, Judged, IsVerdict, IsWhole, Check, unlogged, Fits, Follows, IsMaximal, left_log, left_steps, ends_at, ends_now, Meets, closing}
+use Rattle.ir_runs.specs.Verdicts.{Suits, Agrees, Awaits, Judged, IsVerdict, Check, unlogged, Fits, Follows, IsMaximal, left_log, left_steps, ends_at, ends_now, Meets, closing}
 use Rattle.ir_runs.specs.Coherent.{IsCoherent}
 use Rattle.ir_runs.specs.Events.{IsEvent, HoldsEvents, IsLive}
 

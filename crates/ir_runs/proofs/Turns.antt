@@ -1,7 +1,8 @@
 -- Turns one after the other.
 use Rattle.std.proofs.Common.{ℕ, List, [], ◌∷◌, ◌++◌, refl, sym, ap, subst, inl, inr, append-nil}
 use Rattle.ir_runs.specs.Machine.{Machine}
-use Rattle.ir_runs.specs.Run.{State, Step, Can, after, IsRun, end, EntersIfFree, InTurn, HasNone}
+use Rattle.ir_runs.specs.Run.{State, Step, Can, after, IsRun, end, EntersIfFree, HasNone}
+use Rattle.ir_runs.specs.Orders.{InTurn}
 
 -- turns make a run
 pub turns_are_run : {T : Type 0} (m : Machine T) (s : State T) (order : List ℕ) (run : List Step) → InTurn m s order run → IsRun m s run

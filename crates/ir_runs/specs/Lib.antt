@@ -1,5 +1,7 @@
 pub mod Machine
+pub mod Shared
 pub mod Run
+pub mod Orders
 pub mod Alike
 pub mod Verdicts
 pub mod Standing

@@ -1,5 +1,5 @@
 -- A thread as a machine that asks and is answered, whatever it computes.
-use Rattle.std.specs.Prelude.{ℕ, suc, zero, Bool, cond, eqb, Option, ◌≡◌, ◌≢◌, true, Some, None, false, List, ◌∷◌}
+use Rattle.std.specs.Prelude.{ℕ, suc, zero, Bool, cond, eqb, Option, ◌≡◌, ◌≢◌, true, Some, None, List, ◌∷◌}
 use Rattle.ir_runs.specs.declared.access.Access.{Access}
 use Rattle.ir_runs.specs.declared.access.Access.TheVariants.{Writing, Reading}
 use Rattle.ir_runs.specs.declared.env_kind.EnvKind.{EnvKind}
@@ -44,7 +44,7 @@ pub record Machine (T : Type 0) : Type 0 where
   pub ask : T → Ask
   -- the thread after its next step, with this reply
   pub take : T → ℕ → T
-  -- which objects it holds
+  -- which objects it holds; only proofs look at it
   pub held : T → ℕ → Option Access
   -- which results suit a call of the environment
   pub fits : EnvKind → ℕ → Bool
@@ -67,7 +67,7 @@ pub record Object : Type 0 where
   pub inside : ℕ → Option Access
   pub words : ℕ → ℕ
 
--- the object that an act enters, leaves, reads or writes; any other act leaves object 0 as it is
+-- the object that an act enters, leaves, reads or writes; any other act has object 0, which it doesn't change
 abbrev pub target : Act → ℕ
 target (Entry o a v) = o
 target (Exit o a) = o
@@ -114,14 +114,6 @@ emitted (Entry o Writing v) b = In o Writing b.version b.left
 emitted (Refusal o) b = Refused o
 emitted (Exit o a) b = Out o a b.version
 emitted q b = Quiet
-
--- whether the act enters, leaves, reads or writes an object
-abbrev pub is_shared : Act → Bool
-is_shared (Entry o a v) = true
-is_shared (Exit o a) = true
-is_shared (Load o i) = true
-is_shared (Store o i w) = true
-is_shared q = false
 
 -- es, with what is logged of the label before it: results, entries and refused tries
 abbrev pub logged : Label → List Label → List Label

@@ -1,6 +1,6 @@
--- Threads and objects, one step at a time: runs, cuts of a run, and runs by an order of the threads.
-use Rattle.std.specs.Prelude.{◌≡◌, ℕ, zero, suc, Bool, true, false, eqb, List, [], ◌∷◌, length, pred, ◌<◌, ◌≤◌, cond, ltb, ◌++◌, ◌⊎◌}
-use Rattle.ir_runs.specs.Machine.{Ask, Done, Act, act_of, Machine, upd, Object, target, Admits, acted, reply, emitted, Label, logged, In, Out, Try}
+-- Threads and objects, one step at a time: runs, cuts of a run, and rounds over the threads.
+use Rattle.std.specs.Prelude.{◌≡◌, ℕ, zero, suc, Bool, true, false, eqb, List, [], ◌∷◌, length, pred, ◌<◌, ◌≤◌, cond, ltb, ◌++◌}
+use Rattle.ir_runs.specs.Machine.{Ask, Done, Act, act_of, Machine, upd, Object, target, Admits, acted, reply, emitted, Label, logged, In, Out, Try, Trace}
 use Rattle.ir_runs.specs.declared.access.Access.TheVariants.{Reading, Writing}
 use Rattle.std.specs.List.{range_with_len}
 
@@ -87,6 +87,14 @@ th m s run t k = thread_in (trail m s run t) k ((end m s run).now t)
 abbrev pub IsDone : {T : Type 0} → Machine T → State T → Type 0
 IsDone m s = (t : ℕ) → asked m s t ≡ Done
 
+-- a complete run of n threads with this trace
+pub record IsWhole {T : Type 0} (m : Machine T) (s : State T) (n : ℕ) (tr : Trace) (run : List Step) : Type 0 where
+  pub runs : IsRun m s run
+  pub done : IsDone m (end m s run)
+  pub steps : (t : ℕ) → t < n → count m s run t ≡ tr.steps t
+  pub logs : (t : ℕ) → t < n → log m s run t ≡ tr.logs t
+  pub ends : (t : ℕ) → t < n → m.ended ((end m s run).now t) ≡ tr.ends t
+
 -- x is at place k of the list
 abbrev pub At : {A : Type 0} → List A → ℕ → A → Type 0
 At [] k x = ⊥
@@ -95,10 +103,9 @@ At (y ∷ ys) (suc k) x = At ys k x
 
 -- step k of thread t emits this
 abbrev pub Emits : {T : Type 0} → Machine T → State T → List Step → ℕ → ℕ → Label → Type 0
-Emits {T} m s run t k emitted = (x : T) × At (trail m s run t) k (x, emitted)
+Emits {T} m s run t k l = (x : T) × At (trail m s run t) k (x, l)
 
--- what emits the second needs what emits the first: an entry needs the writer's leave that made its version, an entry for writing each
--- reader's leave of its version
+-- what emits the second needs what emits the first: an entry the writer's leave that made its version, one for writing each reader's leave too
 abbrev pub IsNeededBy : Label → Label → Type 0
 IsNeededBy (Out o Writing w) (In p a v l) = (o ≡ p) × (v ≡ suc w)
 IsNeededBy (Out o Reading w) (In p Writing v l) = (o ≡ p) × (v ≡ w)
@@ -126,7 +133,7 @@ part (e ∷ run) p = join_if (ltb 0 (p e.0)) e (part run (λ u. cond (eqb u e.0)
 abbrev pub object_at : {T : Type 0} → Machine T → State T → List Step → Cut → ℕ → Object
 object_at m s run p o = (end m s (part run p)).objects o
 
--- the consistent cut at or above p with t at k or more that lies below every other such
+-- the consistent cut at or above p with t at k or more that lies below every other such (t is then exactly there: `least_exact` of ir_cut)
 pub record IsLeast {T : Type 0} (m : Machine T) (s : State T) (run : List Step) (p : Cut) (t k : ℕ) (q : Cut) : Type 0 where
   pub cut : IsCut m s run q
   pub consistent : Consistent m s run q
@@ -150,21 +157,7 @@ HasNone m s t = (r : ℕ) → Can m s (t, r) → ⊥
 abbrev pub EntersIfFree : {T : Type 0} → Machine T → State T → Step → Type 0
 EntersIfFree m s e = (o : ℕ) → asked m s e.0 ≡ Try o → Can m s (e.0, 1) → e.1 ≡ 1
 
--- each entry of the order takes one step of its thread, or none where that thread is done or must wait; a try enters where it can
-abbrev pub InTurn : {T : Type 0} → Machine T → State T → List ℕ → List Step → Type 0
-InTurn m s [] run = run ≡ []
-InTurn m s (t ∷ order) run =
-    (HasNone m s t × InTurn m s order run)
-    ⊎ ((r : ℕ) × (rest : List Step) × (run ≡ (t, r) ∷ rest) × Can m s (t, r) × EntersIfFree m s (t, r)
-    × InTurn m (after m s (t, r)) order rest)
-
 -- `count` rounds over the first n threads, from 0 upwards
 abbrev pub rounds : ℕ → ℕ → List ℕ
 rounds n zero = []
 rounds n (suc count) = range_with_len 0 n ++ rounds n count
-
--- the run by an order: its entries in turn, and then rounds over the n threads until all are done
-pub record IsByOrder {T : Type 0} (m : Machine T) (s : State T) (n : ℕ) (order : List ℕ) (run : List Step) : Type 0 where
-  pub count : ℕ
-  pub turns : InTurn m s (order ++ rounds n count) run
-  pub done : IsDone m (end m s run)

@@ -1,8 +1,8 @@
--- Traces: which runs follow one, and what is said of each thread where such a run has gone as far as any can; read entries of a trace.
+-- What is said of the threads of a trace that no run has: which traces are accepted doesn't rest on it. Also the read entries of a log.
 use Rattle.std.specs.Prelude.{◌≡◌, ◌≢◌, ℕ, ◌<◌, ◌≤◌, List, ◌∷◌, Option, length, Some, None, suc, pred, [], ◌++◌, zero, ◌+◌, cond, eqb}
 use Rattle.ir_runs.specs.Machine.{Ask, Env, Enter, Try, Done, Machine, Label, Answer, In, Refused, Trace, Quiet, Out, logged}
 use Rattle.ir_runs.specs.declared.access.Access.TheVariants.{Writing, Reading}
-use Rattle.ir_runs.specs.Run.{State, Step, IsRun, IsDone, end, trail, log, count}
+use Rattle.ir_runs.specs.Run.{State, Step, IsRun, end, trail, log, count}
 use Rattle.ir_runs.specs.declared.thread_verdict.ThreadVerdict.{ThreadVerdict}
 use Rattle.ir_runs.specs.declared.thread_verdict.ThreadVerdict.TheVariants.{Same, Disagrees, Starves}
 
@@ -21,8 +21,7 @@ abbrev pub sum_below : ℕ → (ℕ → ℕ) → ℕ
 sum_below zero f = 0
 sum_below (suc n) f = f n + sum_below n f
 
--- what a step of one thread needs of the trace beside its event, as where it ends: by the thread before it and by the steps and the log
--- that are left
+-- a rule on a thread's next step by the steps and the log that are left to it; in each contract it is `closing`
 abbrev pub Check : Type 0 → Type 1
 Check T = T → ℕ → List Label → Type 0
 
@@ -43,7 +42,7 @@ abbrev pub left_steps : {T : Type 0} → List (T × Label) → ℕ → ℕ
 left_steps [] n = n
 left_steps (x ∷ xs) n = left_steps xs (pred n)
 
--- these steps of one thread follow what is left to it: n steps and a log
+-- these steps of one thread follow what is left to it, n steps and a log: a label that is logged is the first of the log that is left
 abbrev pub Fits : {T : Type 0} → Check T → ℕ → List Label → List (T × Label) → Type 0
 Fits E n es [] = Unit {0}
 Fits E n es (x ∷ xs) = (0 < n) × (logged x.1 (unlogged x.1 es) ≡ es) × E x.0 n es × Fits E (pred n) (unlogged x.1 es) xs
@@ -96,8 +95,7 @@ Awaits (Enter o a) es = Unit {0}
 Awaits (Try o) (In p c v l ∷ es) = Unit {0}
 Awaits _ _ = ⊥
 
--- the verdict on a thread whose state is x, with n steps and the log es left, after i events and k steps; stuck says that no run takes it
--- further
+-- the verdict on a thread whose state is x, with n steps and the log es left, after i events and k steps; stuck says that no run takes it further
 abbrev pub Judged : {T : Type 0} → Machine T → Option (ℕ × ℕ) → Type 0 → T → ℕ → List Label → ℕ → ℕ → ThreadVerdict → Type 0
 Judged m fin stuck x n es i k Same = m.ask x ≡ Done
 Judged m fin stuck x n es i k (Disagrees j h) = (m.ask x ≢ Done) × (Agrees m fin x n es → ⊥) × (j ≡ i) × (h ≡ k)
@@ -108,11 +106,3 @@ abbrev pub IsVerdict : {T : Type 0} → Machine T → State T → Trace → List
 IsVerdict m s tr run t v = Judged m (tr.ends t)
     ((further : List Step) → Follows (closing m tr) m s tr further → count m s further t ≤ count m s run t) ((end m s run).now t)
     (left_steps (trail m s run t) (tr.steps t)) (left_log (trail m s run t) (tr.logs t)) (length (log m s run t)) (count m s run t) v
-
--- a complete run of n threads with this trace
-pub record IsWhole {T : Type 0} (m : Machine T) (s : State T) (n : ℕ) (tr : Trace) (run : List Step) : Type 0 where
-  pub runs : IsRun m s run
-  pub done : IsDone m (end m s run)
-  pub steps : (t : ℕ) → t < n → count m s run t ≡ tr.steps t
-  pub logs : (t : ℕ) → t < n → log m s run t ≡ tr.logs t
-  pub ends : (t : ℕ) → t < n → m.ended ((end m s run).now t) ≡ tr.ends t

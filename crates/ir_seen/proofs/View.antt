@@ -71,36 +71,36 @@ view_asks_same_or_spent code s = by s.ended
     by (Some e) = inl refl
     by None = same_or_spent_for_budget (nat_le s.budget s.steps) _ _ (same_or_spent_for_outcome s (outcome_of code s.core))
 
-printed_by_view : (s : ThreadState) (c : Option Call) → call_output c (view s) ≡ call_output c s
-printed_by_view s None = refl
-printed_by_view s (Some call.End) = refl
-printed_by_view s (Some call.PutByte) = refl
-printed_by_view s (Some call.PutNumber) = refl
-printed_by_view s (Some (call.Env kind)) = refl
-printed_by_view s (Some (call.Enter access)) = refl
-printed_by_view s (Some call.Leave) = refl
-printed_by_view s (Some call.Get) = refl
-printed_by_view s (Some call.Put) = refl
-printed_by_view s (Some call.OwnNumber) = refl
-printed_by_view s (Some call.TryWrite) = refl
+call_output_ignores_view : (s : ThreadState) (c : Option Call) → call_output c (view s) ≡ call_output c s
+call_output_ignores_view s None = refl
+call_output_ignores_view s (Some call.End) = refl
+call_output_ignores_view s (Some call.PutByte) = refl
+call_output_ignores_view s (Some call.PutNumber) = refl
+call_output_ignores_view s (Some (call.Env kind)) = refl
+call_output_ignores_view s (Some (call.Enter access)) = refl
+call_output_ignores_view s (Some call.Leave) = refl
+call_output_ignores_view s (Some call.Get) = refl
+call_output_ignores_view s (Some call.Put) = refl
+call_output_ignores_view s (Some call.OwnNumber) = refl
+call_output_ignores_view s (Some call.TryWrite) = refl
 
 -- a view's step is the view of the thread's
-view_after_ask : (code : List ℕ) (s : ThreadState) (q : Ask) (r : Reply) → view (after_ask code (view s) q r) ≡ view (after_ask code s q r)
-view_after_ask code s ask.Private r = refl
-view_after_ask code s (ask.Env kind) r = refl
-view_after_ask code s (ask.Enter object access) r = refl
-view_after_ask code s (ask.Try object) r = refl
-view_after_ask code s (ask.Leave object access) r = refl
-view_after_ask code s (ask.Get object index) r = refl
-view_after_ask code s (ask.Put object index value) r = refl
-view_after_ask code s ask.Print r = ap (λ p. view (record (after_ask code s ask.Print r) { output = s.output ++ p })) (printed_by_view s (call_at s))
-view_after_ask code s (ask.End e) r = refl
-view_after_ask code s ask.Done r = refl
+view_after_ask_ignores_earlier_view : (code : List ℕ) (s : ThreadState) (q : Ask) (r : Reply) → view (after_ask code (view s) q r) ≡ view (after_ask code s q r)
+view_after_ask_ignores_earlier_view code s ask.Private r = refl
+view_after_ask_ignores_earlier_view code s (ask.Env kind) r = refl
+view_after_ask_ignores_earlier_view code s (ask.Enter object access) r = refl
+view_after_ask_ignores_earlier_view code s (ask.Try object) r = refl
+view_after_ask_ignores_earlier_view code s (ask.Leave object access) r = refl
+view_after_ask_ignores_earlier_view code s (ask.Get object index) r = refl
+view_after_ask_ignores_earlier_view code s (ask.Put object index value) r = refl
+view_after_ask_ignores_earlier_view code s ask.Print r = ap (λ p. view (record (after_ask code s ask.Print r) { output = s.output ++ p })) (call_output_ignores_view s (call_at s))
+view_after_ask_ignores_earlier_view code s (ask.End e) r = refl
+view_after_ask_ignores_earlier_view code s ask.Done r = refl
 
 seen_take_is_view_of_take : (code : List ℕ) (s : ThreadState) → IsLive code s → (r : ℕ) → (seen_machine code).take (view s) r ≡ view ((thread_machine code).take s r)
 unfolding after_reply
 seen_take_is_view_of_take code s live r =
-    ap (λ q. view (after_ask code (view s) q (reply_of q r))) live ∙ view_after_ask code s (ask_of code s) (reply_of (ask_of code s) r)
+    ap (λ q. view (after_ask code (view s) q (reply_of q r))) live ∙ view_after_ask_ignores_earlier_view code s (ask_of code s) (reply_of (ask_of code s) r)
 
 -- who asks nothing has ended
 ask_done_if_shared_ask_done : (q : Ask) → shared_ask q ≡ machine.Done → q ≡ ask.Done

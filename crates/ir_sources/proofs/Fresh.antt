@@ -4,17 +4,10 @@ use Rattle.std.specs.Prelude.{replicate}
 use Rattle.std.specs.List.{range_with_len}
 use Rattle.std.proofs.lemmas.List.{length-map}
 use Rattle.std.proofs.lemmas.List.FromFn.{map-range_with_len_more, length-map-range_with_len}
+use Rattle.ir_lemmas.proofs.CallerLemmas.{map_of_append_item, replicate_append_one}
 use Rattle.ir_record.specs.Worlds.{Answered}
 use Rattle.ir_sources.specs.Sources.{MadeWith, made_with, is_counted, seed_of, origin_of, origins, IsAnswered}
 use Rattle.ir_sources.specs.declared.time.Time.{Time}
-
-map_of_append_item : {A B : Type 0} (f : A → B) (xs : List A) (x : A) → map f (xs ++ x ∷ []) ≡ map f xs ++ f x ∷ []
-map_of_append_item f [] x = refl
-map_of_append_item f (y ∷ xs) x = ap (λ z. f y ∷ z) (map_of_append_item f xs x)
-
-replicate_append_one : {A : Type 0} (n : ℕ) (x : A) → replicate n x ++ x ∷ [] ≡ replicate (suc n) x
-replicate_append_one zero x = refl
-replicate_append_one (suc n) x = ap (λ z. x ∷ z) (replicate_append_one n x)
 
 -- one world more
 pub origins_step : {W : Type 0} (made : W → MadeWith) (old new : List W) (w : W) (counted : Bool) (random : ℕ) (file : List ℕ) (n : ℕ)

@@ -8,7 +8,7 @@ pub use Rattle.ir_states.proofs.Closed.{goes_ahead_from_alike_state, arrives_alo
 -- a finished search has the outcomes, all and no others
 pub use Rattle.ir_states.proofs.Finished.{counting_run_arrives, end_alike_to_arrived_node, is_done_from_alike_state, finds, found, exact}
 -- what a search has met by levels
-pub use Rattle.ir_states.proofs.Within.{outcome_within_switches_is_done_node, Levels, OpenBy, more_levels, IsFollowed, covers_after_first_level, covers_after_next_level, path_append, last_thread_of, changes_after_turn_appended}
+pub use Rattle.ir_states.proofs.Within.{outcome_within_switches_is_done_node, Levels, OpenBy, levels_with_one_added, IsFollowed, covers_after_first_level, covers_after_next_level, path_append, last_thread_of, changes_after_turn_appended}
 -- hangs
 pub use Rattle.ir_states.proofs.Hangs.{Completes, back, hangs, lost_node_has_no_way, done_node_has_way, node_has_way_if_next_has}
 -- states that look the same are alike

@@ -2,7 +2,8 @@
 use Rattle.std.proofs.Common.{◌≡◌, ◌≢◌, ℕ, suc, zero, false, List, [], ◌∷◌, ◌++◌, refl, sym, ap, ◌∙◌, subst, inl, inr, ◌⊎◌, append-nil}
 use Rattle.std.proofs.lemmas.Bool.{cases_eq}
 use Rattle.ir_runs.specs.Machine.{Ask, Private, Env, Enter, Try, Leave, Get, Put, Done, act_of, Machine, Object, target, Admits}
-use Rattle.ir_runs.specs.Run.{State, Step, asked, act, after, IsRun, end, IsDone, InTurn, IsByOrder}
+use Rattle.ir_runs.specs.Run.{State, Step, asked, act, after, IsRun, end, IsDone}
+use Rattle.ir_runs.specs.Orders.{InTurn, IsByOrder}
 use Rattle.ir_runs.proofs.CallerLemmas.{after_same_if_act_same, thread_after_step_of_other}
 use Rattle.ir_states.specs.Counting.{Answers, IsAnswered, Counts, is_own, IsAtRest, GoesAhead}
 use Rattle.ir_states.specs.Nodes.{LeadsTo}

@@ -3,4 +3,5 @@ mod Rowed
 mod Shared
 mod Looks
 mod Stored
+mod Placed
 pub mod CallerLemmas

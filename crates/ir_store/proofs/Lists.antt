@@ -1,9 +1,10 @@
 -- Lists that are compared, and numbers in a table.
 use Rattle.std.proofs.Common.{◌≡◌, ◌⊎◌, inl, inr, ◌<◌, ◌≤◌, ◌+◌, ℕ, zero, suc, List, [], ◌∷◌, ◌++◌, length, take, get_or, map, refl, sym, ap, ◌∙◌, subst, arith, Some}
-use Rattle.std.specs.Prelude.{slice_get, Result, Ok, Err, OnErr, IfOk, drop}
+use Rattle.std.specs.Prelude.{slice_get, Result, Ok, Err, OnErr, OnOk, IfOk, drop}
 use Rattle.std.specs.List.{AllByRecursion}
 use Rattle.std.proofs.lemmas.List.{take_more, take_all, map_push}
 use Rattle.std.proofs.lemmas.Option.{slice_get-get_or, get_or_from_slice_get, slice_get_within}
+use Rattle.ir_lemmas.proofs.CallerLemmas.{all_by_recursion_after_push}
 use Rattle.ir_store.specs.Table.{Keeps}
 
 -- what is equal so far, and one element more
@@ -14,21 +15,6 @@ equal_prefix_step xs ys n d here there before is =
 
 pub equal_prefixes_are_whole_lists : {X : Type 0} (xs ys : List X) (n : ℕ) → length xs ≤ n → length ys ≤ n → take n xs ≡ take n ys → xs ≡ ys
 equal_prefixes_are_whole_lists xs ys n few few' e = sym (take_all n xs few) ∙ e ∙ take_all n ys few'
-
--- what is so of each element is so of the one at a place
-pub element_of_all_by_recursion : {X : Type 0} (P : X → Type 0) (xs : List X) (n : ℕ) (d : X) → AllByRecursion P xs → n < length xs → P (get_or xs n d)
-element_of_all_by_recursion P [] n d all lt = absurd (omega (arith, lt))
-element_of_all_by_recursion P (x ∷ xs) zero d all lt = all.0
-element_of_all_by_recursion P (x ∷ xs) (suc n) d all lt = element_of_all_by_recursion P xs n d all.1 (omega (arith, lt))
-
-pub found_element_of_all_by_recursion : {X : Type 0} (P : X → Type 0) (xs : List X) (n : ℕ) (x : X) → AllByRecursion P xs → slice_get xs n ≡ Some x → P x
-found_element_of_all_by_recursion P [] n x all e = absurd (cc e)
-found_element_of_all_by_recursion P (y ∷ xs) zero x all e = subst P (cc e) all.0
-found_element_of_all_by_recursion P (y ∷ xs) (suc n) x all e = found_element_of_all_by_recursion P xs n x all.1 e
-
-pub all_by_recursion_after_push : {X : Type 0} (P : X → Type 0) (xs : List X) (y : X) → AllByRecursion P xs → P y → AllByRecursion P (xs ++ y ∷ [])
-all_by_recursion_after_push P [] y all is = (is, tt)
-all_by_recursion_after_push P (x ∷ xs) y all is = (all.0, all_by_recursion_after_push P xs y all.1 is)
 
 pub all_by_recursion_weaker : {X : Type 0} (P Q : X → Type 0) (xs : List X) → ((x : X) → P x → Q x) → AllByRecursion P xs → AllByRecursion Q xs
 all_by_recursion_weaker P Q [] each all = tt
@@ -46,21 +32,6 @@ pub keeps_after_push : {X : Type 0} (old : List X) (s : X) → Keeps old (old ++
 keeps_after_push [] s n x e = absurd (cc e)
 keeps_after_push (y ∷ old) s zero x e = e
 keeps_after_push (y ∷ old) s (suc n) x e = keeps_after_push old s n x e
-
-pub slice_get_of_pushed : {X : Type 0} (old : List X) (s : X) → slice_get (old ++ s ∷ []) (length old) ≡ Some s
-slice_get_of_pushed [] s = refl
-slice_get_of_pushed (y ∷ old) s = slice_get_of_pushed old s
-
--- an element is an old one or the last
-pub slice_get_after_push_cases : {X : Type 0} (old : List X) (s : X) (n : ℕ) (x : X) → slice_get (old ++ s ∷ []) n ≡ Some x
-    → (slice_get old n ≡ Some x) ⊎ ((n ≡ length old) × (s ≡ x))
-slice_get_after_push_cases [] s zero x e = inr (refl, cc e)
-slice_get_after_push_cases [] s (suc n) x e = absurd (cc e)
-slice_get_after_push_cases (y ∷ old) s zero x e = inl e
-slice_get_after_push_cases (y ∷ old) s (suc n) x e = elim (slice_get_after_push_cases old s n x e) [
-  | inl is ↦ inl is
-  | inr p ↦ inr (ap suc p.0, p.1)
-]
 
 -- what was kept stays
 pub kept_element_is_equal : {X : Type 0} (old new : List X) (d : X) → Keeps old new → (n : ℕ) → n < length old → get_or new n d ≡ get_or old n d
@@ -87,20 +58,12 @@ pub map_equal_if_functions_equal : {X Y : Type 0} (f g : X → Y) (P : X → Typ
 map_equal_if_functions_equal f g P [] each all = refl
 map_equal_if_functions_equal f g P (x ∷ xs) each all = λ i. each x all.0 i ∷ map_equal_if_functions_equal f g P xs each all.1 i
 
-pub length_map : {X Y : Type 0} (f : X → Y) (xs : List X) → length (map f xs) ≡ length xs
-length_map f [] = refl
-length_map f (x ∷ xs) = ap suc (length_map f xs)
-
-pub if_ok_weaker : {A E : Type 0} (P Q : A → Type 0) (result : Result A E) → ((x : A) → P x → Q x) → IfOk result P → IfOk result Q
-if_ok_weaker P Q (Ok x) each h = each x h
-if_ok_weaker P Q (Err e) each h = tt
-
 pub drop_begins_with_element : {X : Type 0} (xs : List X) (i : ℕ) (d : X) → i < length xs → drop i xs ≡ get_or xs i d ∷ drop (suc i) xs
 drop_begins_with_element [] i d lt = absurd (omega (arith, lt))
 drop_begins_with_element (x ∷ xs) zero d lt = refl
 drop_begins_with_element (x ∷ xs) (suc i) d lt = drop_begins_with_element xs i d (omega (arith, lt))
 
--- what holds, holds at an error
-pub on_err_if_holds : {A E P : Type 0} (result : Result A E) → P → OnErr result P
-on_err_if_holds (Ok x) h = tt
-on_err_if_holds (Err e) h = h
+-- what follows from what holds at an error, or on success
+pub on_err_weaker : {A E P Q : Type 0} (result : Result A E) → (P → Q) → OnErr result P → OnErr result Q
+on_err_weaker (Ok x) f h = tt
+on_err_weaker (Err e) f h = f h

@@ -3,6 +3,7 @@ use Rattle.std.proofs.Common.{◌≡◌, ◌<◌, ◌+◌, ◌++◌, Bool, true,
 use Rattle.std.specs.Prelude.{slice_get, ◌&&◌, drop}
 use Rattle.std.specs.List.{AllByRecursion, slice_index_or}
 use Rattle.std.proofs.lemmas.Option.{same_Some, slice_get-get_or}
+use Rattle.ir_lemmas.proofs.CallerLemmas.{found_element_of_all_by_recursion}
 use Rattle.ir_mach.specs.Core.{memory_size}
 use Rattle.ir_freeze.specs.Frozen.{end_bytes, going_bytes, frozen, is_over}
 use Rattle.ir_freeze.specs.Twins.{AreTwins, TellsApart, IsBounded}
@@ -13,7 +14,7 @@ use Rattle.ir_flat.specs.Room.{empty}
 use Rattle.ir_store.specs.declared.spot.Spot.{Spot}
 use Rattle.ir_store.specs.Nodes.{LookSame, cell_in}
 use Rattle.ir_store.specs.Table.{idle_beside, LooksLike, AreLooks, all_over, threads_at}
-use Rattle.ir_store.proofs.Lists.{found_element_of_all_by_recursion, drop_begins_with_element}
+use Rattle.ir_store.proofs.Lists.{drop_begins_with_element}
 
 -- the mark is no part of the bytes of a thread that is over
 over_thread_has_bytes_without_mark : (start : List ℕ) (x : ThreadState) (m n : List ℕ) → is_over x ≡ true → frozen start x m ≡ frozen start x n

@@ -5,16 +5,17 @@ use Rattle.std.specs.Option.{option_map}
 use Rattle.std.specs.List.{AllByRecursion}
 use Rattle.std.proofs.lemmas.List.{map_push}
 use Rattle.std.proofs.lemmas.Option.{slice_get-map, slice_get_read, slice_get_within, get_or_from_slice_get}
+use Rattle.ir_lemmas.proofs.CallerLemmas.{all_by_recursion_after_push, slice_get_after_push_cases, added_element_is_last, length_of_map}
 use Rattle.ir_sources.specs.Sources.{Source}
 use Rattle.ir_thread.specs.State.{ThreadState}
 use Rattle.ir_store.specs.Table.{Keeps, LooksLike, AreLooks}
-use Rattle.ir_store.proofs.Lists.{keeps_after_push, slice_get_of_pushed, slice_get_after_push_cases, all_by_recursion_after_push, length_map}
+use Rattle.ir_store.proofs.Lists.{keeps_after_push}
 
-pub read_row_is_mapped_element : {R X : Type 0} (f : R → X) (rows : List R) (row : R) (n : ℕ) (x : X) → n < length (map f rows) → row ≡ get_or rows n row
+pub looked_up_row_is_element_of_mapped_rows : {R X : Type 0} (f : R → X) (rows : List R) (row : R) (n : ℕ) (x : X) → n < length (map f rows) → row ≡ get_or rows n row
     → x ≡ f row → slice_get (map f rows) n ≡ Some x
-read_row_is_mapped_element f rows row n x lt at is =
+looked_up_row_is_element_of_mapped_rows f rows row n x lt at is =
     slice_get-map f rows n
-    ∙ ap (option_map f) (slice_get_read rows (length rows) n row refl (subst (λ k. n < k) (length_map f rows) lt) at)
+    ∙ ap (option_map f) (slice_get_read rows (length rows) n row refl (subst (λ k. n < k) (length_of_map f rows) lt) at)
     ∙ ap Some (sym is)
 
 -- what is so of all rows, and of one more that is put or not
@@ -51,7 +52,7 @@ looks_after_thread_pushed start items looks x k size all is n j y stands at = el
     old_less xs n z e same = let l = slice_get_within xs n z e in omega (arith, l, same)
 
     new_one : (k ≡ length items) ⊎ LooksLike start items k x → LooksLike start (items ++ x ∷ []) k x
-    new_one (inl e) = record { kept = x; at = ap (slice_get (items ++ x ∷ [])) e ∙ slice_get_of_pushed items x; bytes = refl; source = λ going. refl }
+    new_one (inl e) = record { kept = x; at = ap (slice_get (items ++ x ∷ [])) e ∙ added_element_is_last items x; bytes = refl; source = λ going. refl }
     new_one (inr like) = looks_like_if_kept start items (items ++ x ∷ []) k x (keeps_after_push items x) like
 
 pub looks_after_row_put : {R : Type 0} (f : R → ThreadState × Source) (g : R → ℕ) (start : List ℕ) (rows new : List R) (row : R)
@@ -63,11 +64,11 @@ looks_after_row_put f g start rows new row all is either = elim either [
   | inr e ↦ subst (λ l. AreLooks start (map f l) (map g l)) (sym e)
       (subst (λ l. AreLooks start l (map g (rows ++ row ∷ []))) (sym (map_push f rows row))
       (subst (AreLooks start (map f rows ++ f row ∷ [])) (sym (map_push g rows row))
-      (looks_after_thread_pushed start (map f rows) (map g rows) (f row) (g row) (length_map g rows ∙ sym (length_map f rows)) all is)))
+      (looks_after_thread_pushed start (map f rows) (map g rows) (f row) (g row) (length_of_map g rows ∙ sym (length_of_map f rows)) all is)))
 ]
 
 -- the element of the row that is read
-pub read_row_is_element_or : {R X : Type 0} (f : R → X) (rows : List R) (row : R) (n : ℕ) (d : X) → n < length (map f rows) → row ≡ get_or rows n row
+pub looked_up_row_is_get_or_of_mapped_rows : {R X : Type 0} (f : R → X) (rows : List R) (row : R) (n : ℕ) (d : X) → n < length (map f rows) → row ≡ get_or rows n row
     → f row ≡ get_or (map f rows) n d
-read_row_is_element_or f rows row n d lt at =
-    sym (get_or_from_slice_get (map f rows) n (f row) d (read_row_is_mapped_element f rows row n (f row) lt at refl))
+looked_up_row_is_get_or_of_mapped_rows f rows row n d lt at =
+    sym (get_or_from_slice_get (map f rows) n (f row) d (looked_up_row_is_element_of_mapped_rows f rows row n (f row) lt at refl))

@@ -5,14 +5,15 @@ use Rattle.std.specs.List.{AllByRecursion}
 use Rattle.std.specs.Option.{option_map}
 use Rattle.std.proofs.lemmas.List.{map-set}
 use Rattle.std.proofs.lemmas.Option.{same_Some, slice_get-map, slice_get-get_or}
+use Rattle.ir_lemmas.proofs.CallerLemmas.{element_of_all_by_recursion, length_of_map}
 use Rattle.ir_flat.specs.Flat.{idle, cell_of}
 use Rattle.ir_flat.specs.Room.{empty}
 use Rattle.ir_sources.specs.Sources.{Source}
 use Rattle.ir_thread.specs.State.{ThreadState}
 use Rattle.ir_store.specs.declared.spot.Spot.{Spot}
 use Rattle.ir_store.specs.Nodes.{SourcedFlat, sourced_thread, with_turn, Shared, Node, cell_in, sourced_in, IsNode, AreKept}
+use Rattle.ir_store.specs.Places.{no_node}
 use Rattle.ir_store.specs.Table.{no_source, idle_beside, beside_at}
-use Rattle.ir_store.proofs.Lists.{element_of_all_by_recursion, length_map}
 
 -- what is at a place of a list of what elements give
 pub mapped_element_at_place : {X Y : Type 0} (f : X → Y) (xs : List X) (i : ℕ) (x d : X) (y : Y) → i < length xs → x ≡ get_or xs i d
@@ -33,24 +34,31 @@ beside_at_is_element items numbers t d lt = λ i. (
   get_or_map (λ n. (get_or items n idle_beside).1) numbers t d no_source lt i,
 )
 
+-- the state of a number
+pub state_at_place : (shared : Shared) (nodes : List Node) (v : ℕ) → v < length (map (sourced_in shared) nodes)
+    → slice_get (map (sourced_in shared) nodes) v ≡ Some (sourced_in shared (get_or nodes v no_node))
+state_at_place shared nodes v less =
+    slice_get-map (sourced_in shared) nodes v
+    ∙ ap (option_map (sourced_in shared)) (slice_get-get_or nodes v no_node (subst (λ k. v < k) (length_of_map (sourced_in shared) nodes) less))
+
 -- a state, and the one that its number is of
 module _ (shared : Shared) (nodes : List Node) (kept : AreKept shared nodes) (v : ℕ) (node : Node)
-    (less : v < length (map (sourced_in shared) nodes)) (is : node ≡ get_or nodes v node) (s : SourcedFlat)
+    (less : v < length (map (sourced_in shared) nodes)) (is : node ≡ get_or nodes v no_node) (s : SourcedFlat)
     (at : slice_get (map (sourced_in shared) nodes) v ≡ Some s) where
   pub node_less : v < length nodes
-  node_less = subst (λ k. v < k) (length_map (sourced_in shared) nodes) less
+  node_less = subst (λ k. v < k) (length_of_map (sourced_in shared) nodes) less
 
   pub node_is : IsNode shared node
-  node_is = subst (IsNode shared) (sym is) (element_of_all_by_recursion (IsNode shared) nodes v node kept node_less)
+  node_is = subst (IsNode shared) (sym is) (element_of_all_by_recursion (IsNode shared) nodes v no_node kept node_less)
 
   pub state_is : sourced_in shared node ≡ s
-  state_is = mapped_element_at_place (sourced_in shared) nodes v node node s node_less is at
+  state_is = mapped_element_at_place (sourced_in shared) nodes v node no_node s node_less is at
 
   pub node_threads : length node.threads ≡ length s.flat.threads
-  node_threads = sym (length_map (λ n. (get_or shared.threads n idle_beside).0) node.threads) ∙ ap (λ (z : SourcedFlat). length z.flat.threads) state_is
+  node_threads = sym (length_of_map (λ n. (get_or shared.threads n idle_beside).0) node.threads) ∙ ap (λ (z : SourcedFlat). length z.flat.threads) state_is
 
   pub node_objects : length node.objects ≡ length s.flat.objects
-  node_objects = sym (length_map (cell_in shared.words) node.objects) ∙ ap (λ (z : SourcedFlat). length z.flat.objects) state_is
+  node_objects = sym (length_of_map (cell_in shared.words) node.objects) ∙ ap (λ (z : SourcedFlat). length z.flat.objects) state_is
 
   pub thread_is : (t n d : ℕ) → t < length node.threads → n ≡ get_or node.threads t d → get_or shared.threads n idle_beside ≡ sourced_thread s t
   thread_is t n d lt e =
@@ -74,8 +82,3 @@ module _ (shared : Shared) (nodes : List Node) (kept : AreKept shared nodes) (v 
         sources = map-set (λ k. (get_or shared.threads k idle_beside).1) node.threads t n i;
       })
       ∙ ap (λ (z : SourcedFlat). with_turn z t (get_or shared.threads n idle_beside) o (cell_in shared.words spot)) state_is
-
-pub all_by_recursion_after_set : {X : Type 0} (P : X → Type 0) (xs : List X) (i : ℕ) (x : X) → AllByRecursion P xs → P x → AllByRecursion P (set xs i x)
-all_by_recursion_after_set P [] i x all is = tt
-all_by_recursion_after_set P (y ∷ xs) zero x all is = (is, all.1)
-all_by_recursion_after_set P (y ∷ xs) (suc i) x all is = (all.0, all_by_recursion_after_set P xs i x all.1 is)

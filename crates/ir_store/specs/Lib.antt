@@ -1,3 +1,4 @@
 pub mod Rows
 pub mod Table
 pub mod Nodes
+pub mod Places

@@ -63,12 +63,13 @@ fn same_spots(first: &[Spot], second: &[Spot]) -> bool
     true
 }
 
-/// Whether two states look the same, as far as that is known.
-pub fn same_looks(table: &Table<'_>, first: &Node<'_>, second: &Node<'_>) -> bool
+/// Whether a state looks the same as the one of these numbers, as far as that is known.
+pub fn same_looks(table: &Table<'_>, first: &Node<'_>, threads: &[u32], objects: &[Spot]) -> bool
     requires first { AreIn table.now.items first.now.threads }
-    requires second { AreIn table.now.items second.now.threads }
-    ensures { result ≡ true → (words : List (List ℕ)) → AreSameLooks (sourced_in (record { threads = table.now.items; words = words }) first.now) (sourced_in (record { threads = table.now.items; words = words }) second.now) }
+    requires second { AreIn table.now.items threads.now }
+    ensures { result ≡ true → (words : List (List ℕ)) (code : List ℕ) → AreSameLooks (sourced_in (record { threads = table.now.items; words = words }) first.now)
+        (sourced_in (record { threads = table.now.items; words = words }) (record { code = code; threads = threads.now; objects = objects.now })) }
 {
-    same_threads(table, first.threads.as_slice(), second.threads.as_slice())
-        && same_spots(first.objects.as_slice(), second.objects.as_slice())
+    same_threads(table, first.threads.as_slice(), threads)
+        && same_spots(first.objects.as_slice(), objects)
 }

@@ -1,6 +1,6 @@
 //! Numbers in four bytes.
 
-ghost use Rattle.std.specs.Prelude.{◌≡◌, IfOk};
+ghost use Rattle.std.specs.Prelude.{◌≡◌, ◌≤◌, ◌^◌, IfOk, IfErr};
 
 use std::alloc::AllocError;
 
@@ -9,7 +9,8 @@ use std::alloc::AllocError;
 /// # Errors
 /// It is above 2^32 - 1.
 pub fn short(n: usize) -> Result<u32, AllocError>
-    ensures { IfOk result (λ m. m ≡ n) }
+    ensures same { IfOk result (λ m. m ≡ n) }
+    ensures large { IfErr result (λ _. 2 ^ 32 ≤ n) }
 {
     if n > u32::MAX as usize {
         return Err(AllocError);

@@ -6,17 +6,14 @@ use crate::number::short;
 use ir_object::Word;
 use std::alloc::AllocError;
 
-// One more than the largest half of a word.
-const HALF: u64 = 0x1_0000_0000;
-
 /// An object in 12 bytes: its word, and the number of its contents.
 #[derive(Clone, Copy, Debug, PartialEq, Eq)]
 pub struct Spot {
     /// The number of its contents.
     pub words: u32,
-    /// The lower half of its word.
+    /// The lower half of its word: all but the version.
     pub low: u32,
-    /// The upper half of its word.
+    /// The upper half of its word: the version.
     pub high: u32,
 }
 
@@ -33,8 +30,8 @@ impl Spot {
     {
         Ok(Spot {
             words: short(words)?,
-            low: (word.bits % HALF) as u32,
-            high: (word.bits / HALF) as u32,
+            low: (word.bits % Word::VERSION) as u32,
+            high: (word.bits / Word::VERSION) as u32,
         })
     }
 
@@ -43,7 +40,7 @@ impl Spot {
         ensures { result.bits ≡ word_in self }
     {
         Word {
-            bits: self.high as u64 * HALF + self.low as u64,
+            bits: self.high as u64 * Word::VERSION + self.low as u64,
         }
     }
 }

@@ -10,10 +10,10 @@ ghost use Rattle.ir_store.specs.Table.{HaveForm, all_over, idle_beside};
 
 use crate::compare::{hash_of, same_looks};
 use crate::hints::Hints;
+use crate::kept::Kept;
 use crate::node::Node;
 use crate::number::short;
 use crate::objects::{object_at, objects_at, spot_of, spots_of};
-use crate::put::put;
 use crate::sourced::{SourcedFlat, SourcedThread};
 use crate::spot::Spot;
 use crate::table::Table;
@@ -30,7 +30,7 @@ pub struct Store<'a> {
     alloc: Global,
     table: Table<'a>,
     words: Words,
-    nodes: Vec<Node<'a>>,
+    nodes: Kept<'a>,
     hints: Hints,
 }
 
@@ -38,13 +38,13 @@ impl<'a> Model for Store<'a> {
     ghost Value = { Stored };
 
     ghost view = { λ s. record {
-      items = map (sourced_in (record { threads = s.table.items; words = s.words })) s.nodes.items;
+      items = map (sourced_in (record { threads = s.table.items; words = s.words })) s.nodes;
       form = s.table.form;
       shared = record { threads = s.table.items; words = s.words };
-      nodes = s.nodes.items;
+      nodes = s.nodes;
     } };
 
-    ghost invariant = { λ s. AreKept (record { threads = s.table.items; words = s.words }) s.nodes.items };
+    ghost invariant = { λ s. AreKept (record { threads = s.table.items; words = s.words }) s.nodes };
 }
 
 impl<'a> Store<'a> {
@@ -61,7 +61,7 @@ impl<'a> Store<'a> {
             alloc,
             table: Table::new(alloc, form, start)?,
             words: Words::new(alloc),
-            nodes: Vec::new(alloc),
+            nodes: Kept::new(alloc),
             hints: Hints::new(alloc),
         })
     }
@@ -83,12 +83,12 @@ impl<'a> Store<'a> {
         ensures form { IfOk result (λ s. HaveForm self.now.form s.flat.threads) }
         ensures sourced { IfOk result (λ s. IsSourced s) }
     {
-        let node = &self.nodes[v];
-        let threads = self.table.threads(node.threads.as_slice())?;
-        let sources = self.table.sources(node.threads.as_slice())?;
-        let objects = objects_at(self.alloc, &self.words, node.objects.as_slice())?;
+        let numbers = self.nodes.threads(v);
+        let threads = self.table.threads(numbers)?;
+        let sources = self.table.sources(numbers)?;
+        let objects = objects_at(self.alloc, &self.words, self.nodes.objects(v))?;
         Ok(SourcedFlat {
-            flat: Flat::new(node.code, threads, objects),
+            flat: Flat::new(self.nodes.code(v), threads, objects),
             sources,
         })
     }
@@ -101,8 +101,7 @@ impl<'a> Store<'a> {
         ensures thread { (s : SourcedFlat) → slice_get self.now.items v ≡ Some s → slice_index_or self.now.shared.threads result idle_beside ≡ sourced_thread s t }
         ensures sourced { (s : SourcedFlat) → slice_get self.now.items v ≡ Some s → IsSourced s }
     {
-        let node = &self.nodes[v];
-        node.threads[t] as usize
+        self.nodes.thread(v, t) as usize
     }
 
     /// An object of a state, by numbers.
@@ -111,9 +110,9 @@ impl<'a> Store<'a> {
         ensures within { IfSome result (λ spot. spot.words < length self.now.shared.words) }
         ensures object { IfSome result (λ spot. (s : SourcedFlat) → slice_get self.now.items v ≡ Some s → (o < length s.flat.objects) × (cell_in self.now.shared.words spot ≡ cell_of s.flat o)) }
     {
-        let node = &self.nodes[v];
-        if o < node.objects.len() {
-            Some(node.objects[o])
+        let objects = self.nodes.objects(v);
+        if o < objects.len() {
+            Some(objects[o])
         } else {
             None
         }
@@ -196,13 +195,12 @@ impl<'a> Store<'a> {
         ensures state { IfOk result (λ node. (s : SourcedFlat) → slice_get self.now.items v ≡ Some s → sourced_in self.now.shared node ≡ with_turn s t (slice_index_or self.now.shared.threads thread idle_beside) o (cell_in self.now.shared.words spot)) }
     {
         let number = short(thread)?;
-        let node = &self.nodes[v];
-        let mut threads = Vec::from_slice(self.alloc, node.threads.as_slice())?;
+        let mut threads = Vec::from_slice(self.alloc, self.nodes.threads(v))?;
         threads[t] = number;
-        let mut objects = Vec::from_slice(self.alloc, node.objects.as_slice())?;
+        let mut objects = Vec::from_slice(self.alloc, self.nodes.objects(v))?;
         objects[o] = spot;
         Ok(Node {
-            code: node.code,
+            code: self.nodes.code(v),
             threads,
             objects,
         })
@@ -213,8 +211,7 @@ impl<'a> Store<'a> {
         requires { v < length self.now.items }
         ensures { (s : SourcedFlat) → slice_get self.now.items v ≡ Some s → result ≡ all_over s.flat.threads }
     {
-        let node = &self.nodes[v];
-        self.table.all_over(node.threads.as_slice())
+        self.table.all_over(self.nodes.threads(v))
     }
 
     /// A state by numbers, of which the new ones are added.
@@ -250,7 +247,8 @@ impl<'a> Store<'a> {
     {
         let hash = hash_of(&self.table, node);
         let v = self.hints.number(hash, self.nodes.len())?;
-        if same_looks(&self.table, node, &self.nodes[v]) {
+        let threads = self.nodes.threads(v);
+        if same_looks(&self.table, node, threads, self.nodes.objects(v)) {
             Some(v)
         } else {
             None
@@ -270,6 +268,6 @@ impl<'a> Store<'a> {
     {
         let hash = hash_of(&self.table, &node);
         self.hints.note(hash, self.nodes.len())?;
-        put(&mut self.nodes, node)
+        self.nodes.push(node)
     }
 }

@@ -34,7 +34,7 @@ split_lines_of_other_byte (x ∷ bytes) b e = ap (λ (k : SplitBytes). split_by_
     ∙ split_by_test_before_other_byte (eqb x 10) x (split_lines bytes).whole (split_lines bytes).rest b
 
 -- only the prefix of a line is kept
-pub take_of_append_to_take : (n : ℕ) (xs ys : List ℕ) → take n (take n xs ++ ys) ≡ take n (xs ++ ys)
-take_of_append_to_take zero xs ys = refl
-take_of_append_to_take (suc n) [] ys = refl
-take_of_append_to_take (suc n) (x ∷ xs) ys = ap (λ (zs : List ℕ). x ∷ zs) (take_of_append_to_take n xs ys)
+pub take_of_append_ignores_inner_take : (n : ℕ) (xs ys : List ℕ) → take n (take n xs ++ ys) ≡ take n (xs ++ ys)
+take_of_append_ignores_inner_take zero xs ys = refl
+take_of_append_ignores_inner_take (suc n) [] ys = refl
+take_of_append_ignores_inner_take (suc n) (x ∷ xs) ys = ap (λ (zs : List ℕ). x ∷ zs) (take_of_append_ignores_inner_take n xs ys)

@@ -11,9 +11,9 @@ use Rattle.ir_stream.specs.declared.serving.Fault.TheVariants.{Read, Write, TooL
 use Rattle.ir_stream.specs.Answers.{SplitBytes, split_lines, last_line, lines_of, Replying, LinesAnswered, RepliedPrefix, through, some_quits, ReadsUpTo}
 use Rattle.ir_stream.specs.Written.{most_kept_bytes, Wrote, WroteInPart, Replied}
 use Rattle.ir_stream.specs.Endings.{served_after, IfEnded, LeadsTo}
-use Rattle.ir_stream.proofs.Cuts.{split_lines_of_line_feed, split_lines_of_other_byte, take_of_append_to_take}
-use Rattle.ir_stream.proofs.Replies.{last_line_of_nonempty, answered_append, answered_no_lines, answered_one_line, answered_last_line_if_prefix_answered, some_quits_of_append, some_quits_of_one_line, some_quits_of_no_lines, through_of_append, through_of_last_line, through_of_one_line, some_quits_by_line_prefix}
-use Rattle.ir_stream.proofs.Hearing.{property_of_all_consumed, leads_quit, leads_end, leads_long}
+use Rattle.ir_stream.proofs.Cuts.{split_lines_of_line_feed, split_lines_of_other_byte, take_of_append_ignores_inner_take}
+use Rattle.ir_stream.proofs.Replies.{last_line_of_nonempty, answered_append, answered_no_lines, answered_one_line, answered_last_line_if_prefix_answered, some_quits_of_append_after_no_quit, some_quits_of_one_line, some_quits_of_no_lines, through_of_append_after_no_quit, through_keeps_last_line, through_of_one_line, some_quits_of_last_line_ignores_take}
+use Rattle.ir_stream.proofs.Hearing.{input_has_property_if_each_continuation_has, leads_quit, leads_end, leads_long}
 
 -- after these bytes: what is left, what was written, the machine and the line that has begun
 pub record IsSessionAt {S : Type 0} (R : Replying S) (quits : List ℕ → Bool) (s0 : S) (input w0 left written : Option (List ℕ)) (s : S)
@@ -75,7 +75,7 @@ module _ {S : Type 0} (R : Replying S) (quits : List ℕ → Bool)
           text = at.text;
           answered = subst P (sym k) at.answered;
           grown = at.grown;
-          begun = kept ∙ ap (λ (r : List ℕ). take most_kept_bytes (r ++ b ∷ [])) at.begun ∙ take_of_append_to_take most_kept_bytes (split_lines at.bytes).rest (b ∷ [])
+          begun = kept ∙ ap (λ (r : List ℕ). take most_kept_bytes (r ++ b ∷ [])) at.begun ∙ take_of_append_ignores_inner_take most_kept_bytes (split_lines at.bytes).rest (b ∷ [])
               ∙ ap (λ (c : SplitBytes). take most_kept_bytes c.rest) (sym k);
           quiet = ap (λ (c : SplitBytes). some_quits quits c.whole) k ∙ at.quiet;
         }
@@ -131,7 +131,7 @@ module _ {S : Type 0} (R : Replying S) (quits : List ℕ → Bool)
           grown = Appends-trans w0 written written' at.text p.text at.grown p.grown;
           begun = ap (λ (c : SplitBytes). take most_kept_bytes c.rest) (sym k);
           quiet = ap (λ (c : SplitBytes). some_quits quits c.whole) k
-              ∙ some_quits_of_append quits (split_lines at.bytes).whole ((split_lines at.bytes).rest ∷ []) at.quiet ∙ some_quits_of_one_line quits (split_lines at.bytes).rest
+              ∙ some_quits_of_append_after_no_quit quits (split_lines at.bytes).whole ((split_lines at.bytes).rest ∷ []) at.quiet ∙ some_quits_of_one_line quits (split_lines at.bytes).rest
               ∙ sym same_quits ∙ q;
         }
 
@@ -151,7 +151,7 @@ module _ {S : Type 0} (R : Replying S) (quits : List ℕ → Bool)
 
       pub quit_known : (next : S) (written' : Option (List ℕ)) → Consumes left left' (10 ∷ []) → Replied R s line next written written'
           → quits line ≡ true → IfSome input (LeadsTo R quits s0 limit (Ok Quit) w0 written')
-      quit_known next written' took p q = property_of_all_consumed input left' (at.bytes ++ 10 ∷ []) (LeadsTo R quits s0 limit (Ok Quit) w0 written')
+      quit_known next written' took p q = input_has_property_if_each_continuation_has input left' (at.bytes ++ 10 ∷ []) (LeadsTo R quits s0 limit (Ok Quit) w0 written')
           (Consumes-trans input left left' at.bytes (10 ∷ []) at.parts took)
           (λ (r : List ℕ). subst (LeadsTo R quits s0 limit (Ok Quit) w0 written') (sym (append_assoc at.bytes (10 ∷ []) r))
           (leads_quit R quits s0 limit w0 written' at.bytes at.quiet r short (sym same_quits ∙ q) (fed_wrote next written' p)))
@@ -172,7 +172,7 @@ module _ {S : Type 0} (R : Replying S) (quits : List ℕ → Bool)
             taken = Consumes-trans input left left' at.bytes (10 ∷ []) at.parts took;
             within = omega (arith, length-append at.bytes (10 ∷ []), at.count);
             holds = (
-              ap (through quits) lines ∙ through_of_append quits (split_lines at.bytes).whole ((split_lines at.bytes).rest ∷ []) at.quiet
+              ap (through quits) lines ∙ through_of_append_after_no_quit quits (split_lines at.bytes).whole ((split_lines at.bytes).rest ∷ []) at.quiet
                   ∙ ap (λ (t : List (List ℕ)). (split_lines at.bytes).whole ++ t) (through_of_one_line quits (split_lines at.bytes).rest) ∙ sym lines,
               λ some. absurd (some none),
               subst P (sym lines) (fed_part written' p),
@@ -191,7 +191,7 @@ module _ {S : Type 0} (R : Replying S) (quits : List ℕ → Bool)
 
       last_quits : some_quits quits (last_line line) ≡ some_quits quits (last_line (split_lines at.bytes).rest)
       last_quits = ap (λ (l : List ℕ). some_quits quits (last_line l)) at.begun
-          ∙ some_quits_by_line_prefix quits 1024 (split_lines at.bytes).rest long_quits
+          ∙ some_quits_of_last_line_ignores_take quits 1024 (split_lines at.bytes).rest long_quits
 
       -- the answers with that to what the input ended in
       all : (text : List ℕ) (last : S) → LinesAnswered R s (last_line line) text last → LinesAnswered R s0 (lines_of at.bytes) (at.text ++ text) last
@@ -250,8 +250,8 @@ module _ {S : Type 0} (R : Replying S) (quits : List ℕ → Bool)
               taken = ended_bytes;
               within = omega (arith, at.count);
               holds = (
-                through_of_append quits (split_lines at.bytes).whole (last_line (split_lines at.bytes).rest) at.quiet
-                    ∙ ap (λ (t : List (List ℕ)). (split_lines at.bytes).whole ++ t) (through_of_last_line quits (split_lines at.bytes).rest),
+                through_of_append_after_no_quit quits (split_lines at.bytes).whole (last_line (split_lines at.bytes).rest) at.quiet
+                    ∙ ap (λ (t : List (List ℕ)). (split_lines at.bytes).whole ++ t) (through_keeps_last_line quits (split_lines at.bytes).rest),
                 λ _. gone,
                 subst P (sym (ended_line some)) (fed_part written' p),
               );
@@ -299,5 +299,5 @@ module _ {S : Type 0} (R : Replying S) (quits : List ℕ → Bool)
     }
 
     pub long_known : IfSome input (LeadsTo R quits s0 limit (Err TooLong) w0 written)
-    long_known = property_of_all_consumed input left at.bytes (LeadsTo R quits s0 limit (Err TooLong) w0 written) at.parts
+    long_known = input_has_property_if_each_continuation_has input left at.bytes (LeadsTo R quits s0 limit (Err TooLong) w0 written) at.parts
         (λ (r : List ℕ). leads_long R quits s0 limit w0 written at.bytes at.quiet r at.count so_far)

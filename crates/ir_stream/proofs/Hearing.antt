@@ -12,14 +12,14 @@ use Rattle.ir_stream.specs.Answers.{SplitBytes, split_lines, last_line, lines_of
 use Rattle.ir_stream.specs.Written.{Wrote}
 use Rattle.ir_stream.specs.Endings.{served_after, LeadsTo}
 use Rattle.ir_stream.proofs.Cuts.{split_lines_of_line_feed}
-use Rattle.ir_stream.proofs.Replies.{some_quits_of_append, some_quits_if_first_quits, through_of_append, through_if_first_quits, through_of_last_line, through_if_none_quits}
+use Rattle.ir_stream.proofs.Replies.{some_quits_of_append_after_no_quit, some_quits_if_first_quits, through_of_append_after_no_quit, through_if_first_quits, through_keeps_last_line, through_keeps_lines_if_none_quits}
 
 -- whatever stays with the reader
-pub property_of_all_consumed : (old new : Option (List ℕ)) (bytes : List ℕ) (P : List ℕ → Type 0) → Consumes old new bytes
+pub input_has_property_if_each_continuation_has : (old new : Option (List ℕ)) (bytes : List ℕ) (P : List ℕ → Type 0) → Consumes old new bytes
     → ((rest : List ℕ) → P (bytes ++ rest)) → IfSome old P
-property_of_all_consumed None new bytes P c h = tt
-property_of_all_consumed (Some x) None bytes P c h = absurd c
-property_of_all_consumed (Some x) (Some y) bytes P c h = subst P (sym c) (h y)
+input_has_property_if_each_continuation_has None new bytes P c h = tt
+input_has_property_if_each_continuation_has (Some x) None bytes P c h = absurd c
+input_has_property_if_each_continuation_has (Some x) (Some y) bytes P c h = subst P (sym c) (h y)
 
 heard_lines_below_limit : (limit : ℕ) (input : List ℕ) → length input < limit → heard limit input ≡ lines_of input
 heard_lines_below_limit limit input h = ap (λ (b : Bool). cond b (lines_of input) (split_lines (take limit input)).whole) (lt-ltb (length input) limit h)
@@ -71,9 +71,9 @@ module _ {S : Type 0} (R : Replying S) (quits : List ℕ → Bool) (s : S) (limi
   leads_quit left below q wrote =
       let f = heard_lines_of_feed limit bytes left below in
       let some : some_quits quits (heard limit (bytes ++ 10 ∷ left)) ≡ true = ap (some_quits quits) f.1
-      ∙ some_quits_of_append quits (split_lines bytes).whole ((split_lines bytes).rest ∷ f.0) quiet ∙ some_quits_if_first_quits quits (split_lines bytes).rest f.0 q in
+      ∙ some_quits_of_append_after_no_quit quits (split_lines bytes).whole ((split_lines bytes).rest ∷ f.0) quiet ∙ some_quits_if_first_quits quits (split_lines bytes).rest f.0 q in
       let same : through quits (heard limit (bytes ++ 10 ∷ left)) ≡ (split_lines bytes).whole ++ (split_lines bytes).rest ∷ [] =
-      ap (through quits) f.1 ∙ through_of_append quits (split_lines bytes).whole ((split_lines bytes).rest ∷ f.0) quiet
+      ap (through quits) f.1 ∙ through_of_append_after_no_quit quits (split_lines bytes).whole ((split_lines bytes).rest ∷ f.0) quiet
       ∙ ap (λ (t : List (List ℕ)). (split_lines bytes).whole ++ t) (through_if_first_quits quits (split_lines bytes).rest f.0 q) in
       record {
         ending = sym (ap (λ (b : Bool). cond b (Ok Quit) (cond (ltb (length (bytes ++ 10 ∷ left)) limit) (Ok InputEnd) (Err TooLong)))
@@ -87,10 +87,10 @@ module _ {S : Type 0} (R : Replying S) (quits : List ℕ → Bool) (s : S) (limi
   leads_end e below served wrote =
       let f = heard_lines_below_limit limit bytes below in
       let some : some_quits quits (heard limit bytes) ≡ some_quits quits (last_line (split_lines bytes).rest) = ap (some_quits quits) f
-      ∙ some_quits_of_append quits (split_lines bytes).whole (last_line (split_lines bytes).rest) quiet in
+      ∙ some_quits_of_append_after_no_quit quits (split_lines bytes).whole (last_line (split_lines bytes).rest) quiet in
       let same : through quits (heard limit bytes) ≡ (split_lines bytes).whole ++ last_line (split_lines bytes).rest =
-      ap (through quits) f ∙ through_of_append quits (split_lines bytes).whole (last_line (split_lines bytes).rest) quiet
-      ∙ ap (λ (t : List (List ℕ)). (split_lines bytes).whole ++ t) (through_of_last_line quits (split_lines bytes).rest) in
+      ap (through quits) f ∙ through_of_append_after_no_quit quits (split_lines bytes).whole (last_line (split_lines bytes).rest) quiet
+      ∙ ap (λ (t : List (List ℕ)). (split_lines bytes).whole ++ t) (through_keeps_last_line quits (split_lines bytes).rest) in
       record {
         ending = ap ok_served served ∙ served_after_by_condition (some_quits quits (last_line (split_lines bytes).rest))
             ∙ sym (ap (λ (b : Bool). cond b (Ok Quit) (cond (ltb (length bytes) limit) (Ok InputEnd) (Err TooLong))) some
@@ -110,5 +110,5 @@ module _ {S : Type 0} (R : Replying S) (quits : List ℕ → Bool) (s : S) (limi
       record {
         ending = sym (ap (λ (b : Bool). cond b (Ok Quit) (cond (ltb (length (bytes ++ left)) limit) (Ok InputEnd) (Err TooLong))) none
             ∙ ap (λ (b : Bool). cond b (Ok InputEnd) (Err TooLong)) (le-ltb (length (bytes ++ left)) limit above));
-        wrote = counted (bytes ++ left) (split_lines bytes).whole (ap (through quits) f ∙ through_if_none_quits quits (split_lines bytes).whole quiet) wrote;
+        wrote = counted (bytes ++ left) (split_lines bytes).whole (ap (through quits) f ∙ through_keeps_lines_if_none_quits quits (split_lines bytes).whole quiet) wrote;
       }

@@ -2,4 +2,5 @@ mod Cuts
 mod Replies
 mod Hearing
 mod Exits
+mod Writing
 pub mod CallerLemmas

@@ -90,17 +90,17 @@ pub answered_last_line_if_prefix_answered : {S : Type 0} (R : Replying S)
 answered_last_line_if_prefix_answered R long s [] text last p = p
 answered_last_line_if_prefix_answered R long s (b ∷ r) text last p = answered_line_if_prefix_answered R long s (take most_kept_bytes (b ∷ r)) (b ∷ r) text last refl p
 
-disjunction_without_first : (b x y z : Bool) → cond b true x ≡ false → (x ≡ false → y ≡ z) → cond b true y ≡ z
-disjunction_without_first true x y z h k = absurd cc
-disjunction_without_first false x y z h k = k h
+disjunction_of_false_first_is_second : (b x y z : Bool) → cond b true x ≡ false → (x ≡ false → y ≡ z) → cond b true y ≡ z
+disjunction_of_false_first_is_second true x y z h k = absurd cc
+disjunction_of_false_first_is_second false x y z h k = k h
 
 -- after lines of which none quits
-pub some_quits_of_append : (quits : List ℕ → Bool) (ls ms : List (List ℕ)) → some_quits quits ls ≡ false
+pub some_quits_of_append_after_no_quit : (quits : List ℕ → Bool) (ls ms : List (List ℕ)) → some_quits quits ls ≡ false
     → some_quits quits (ls ++ ms) ≡ some_quits quits ms
 unfolding some_quits
-some_quits_of_append quits [] ms h = refl
-some_quits_of_append quits (l ∷ ls) ms h = disjunction_without_first (quits l) (some_quits quits ls) (some_quits quits (ls ++ ms)) (some_quits quits ms) h
-    (some_quits_of_append quits ls ms)
+some_quits_of_append_after_no_quit quits [] ms h = refl
+some_quits_of_append_after_no_quit quits (l ∷ ls) ms h = disjunction_of_false_first_is_second (quits l) (some_quits quits ls) (some_quits quits (ls ++ ms)) (some_quits quits ms) h
+    (some_quits_of_append_after_no_quit quits ls ms)
 
 disjunction_with_false : (b : Bool) → cond b true false ≡ b
 disjunction_with_false true = refl
@@ -122,12 +122,12 @@ through_without_quitting_line : (b x : Bool) (l : List ℕ) (t u : List (List �
 through_without_quitting_line true x l t u h k = absurd cc
 through_without_quitting_line false x l t u h k = ap (λ (r : List (List ℕ)). l ∷ r) (k h)
 
-pub through_of_append : (quits : List ℕ → Bool) (ls ms : List (List ℕ)) → some_quits quits ls ≡ false
+pub through_of_append_after_no_quit : (quits : List ℕ → Bool) (ls ms : List (List ℕ)) → some_quits quits ls ≡ false
     → through quits (ls ++ ms) ≡ ls ++ through quits ms
 unfolding some_quits through
-through_of_append quits [] ms h = refl
-through_of_append quits (l ∷ ls) ms h = through_without_quitting_line (quits l) (some_quits quits ls) l (through quits (ls ++ ms)) (ls ++ through quits ms) h
-    (through_of_append quits ls ms)
+through_of_append_after_no_quit quits [] ms h = refl
+through_of_append_after_no_quit quits (l ∷ ls) ms h = through_without_quitting_line (quits l) (some_quits quits ls) l (through quits (ls ++ ms)) (ls ++ through quits ms) h
+    (through_of_append_after_no_quit quits ls ms)
 
 pub through_of_no_lines : (quits : List ℕ → Bool) → through quits [] ≡ []
 unfolding through
@@ -145,18 +145,18 @@ pub through_if_first_quits : (quits : List ℕ → Bool) (l : List ℕ) (ls : Li
 unfolding through
 through_if_first_quits quits l ls h = ap (λ (b : Bool). l ∷ cond b [] (through quits ls)) h
 
-pub through_of_last_line : (quits : List ℕ → Bool) (r : List ℕ) → through quits (last_line r) ≡ last_line r
-through_of_last_line quits [] = through_of_no_lines quits
-through_of_last_line quits (b ∷ r) = through_of_one_line quits (b ∷ r)
+pub through_keeps_last_line : (quits : List ℕ → Bool) (r : List ℕ) → through quits (last_line r) ≡ last_line r
+through_keeps_last_line quits [] = through_of_no_lines quits
+through_keeps_last_line quits (b ∷ r) = through_of_one_line quits (b ∷ r)
 
-pub through_if_none_quits : (quits : List ℕ → Bool) (ls : List (List ℕ)) → some_quits quits ls ≡ false → through quits ls ≡ ls
-through_if_none_quits quits ls h = ap (through quits) (sym (append-nil ls)) ∙ through_of_append quits ls [] h
+pub through_keeps_lines_if_none_quits : (quits : List ℕ → Bool) (ls : List (List ℕ)) → some_quits quits ls ≡ false → through quits ls ≡ ls
+through_keeps_lines_if_none_quits quits ls h = ap (through quits) (sym (append-nil ls)) ∙ through_of_append_after_no_quit quits ls [] h
     ∙ ap (λ (r : List (List ℕ)). ls ++ r) (through_of_no_lines quits) ∙ append-nil ls
 
-pub some_quits_by_line_prefix : (quits : List ℕ → Bool) (m : ℕ) (r : List ℕ) → ((line : List ℕ) → quits (take (suc m) line) ≡ quits line)
+pub some_quits_of_last_line_ignores_take : (quits : List ℕ → Bool) (m : ℕ) (r : List ℕ) → ((line : List ℕ) → quits (take (suc m) line) ≡ quits line)
     → some_quits quits (last_line (take (suc m) r)) ≡ some_quits quits (last_line r)
-some_quits_by_line_prefix quits m [] h = refl
-some_quits_by_line_prefix quits m (b ∷ r) h = some_quits_of_one_line quits (b ∷ take m r) ∙ h (b ∷ r) ∙ sym (some_quits_of_one_line quits (b ∷ r))
+some_quits_of_last_line_ignores_take quits m [] h = refl
+some_quits_of_last_line_ignores_take quits m (b ∷ r) h = some_quits_of_one_line quits (b ∷ take m r) ∙ h (b ∷ r) ∙ sym (some_quits_of_one_line quits (b ∷ r))
 
 pub some_quits_of_empty_end : (quits : List ℕ → Bool) (r : List ℕ) → r ≡ [] → some_quits quits (last_line r) ≡ false
 some_quits_of_empty_end quits [] h = some_quits_of_no_lines quits

@@ -73,8 +73,7 @@ heard limit input = if nat_lt (length input) limit then lines_of input else (spl
 
 -- how reading the lines of the input ends where no device fails
 abbrev pub ends : (List ℕ → Bool) → ℕ → List ℕ → Result Served Fault
-ends quits limit input = if some_quits quits (heard limit input) then Ok Quit else if nat_lt (length input) limit then Ok InputEnd else Err
-    TooLong
+ends quits limit input = if some_quits quits (heard limit input) then Ok Quit else if nat_lt (length input) limit then Ok InputEnd else Err TooLong
 
 -- the bytes that were read, at most limit, and what holds of them
 pub record ReadsUpTo (limit : ℕ) (old new : Option (List ℕ)) (P : List ℕ → Type 0) : Type 0 where

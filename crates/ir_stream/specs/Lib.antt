@@ -1,4 +1,5 @@
 pub mod Answers
+pub mod Writing
 pub mod Nexts
 pub mod Endings
 pub mod Wrapped

@@ -17,25 +17,25 @@ use Rattle.ir_symbols.specs.declared.entry.Entry.TheVariants.{Nothing, Names, Fa
 abbrev is_line_feed : ℕ → Bool
 is_line_feed b = b == 10
 
-conditional_place_is_some : (b : Bool) (m n : ℕ) → cond b (Some m) None ≡ Some n → (b ≡ true) × (m ≡ n)
-conditional_place_is_some true m n e = (refl, cc e)
-conditional_place_is_some false m n e = cc e
+test_and_value_if_conditional_is_some : (b : Bool) (m n : ℕ) → cond b (Some m) None ≡ Some n → (b ≡ true) × (m ≡ n)
+test_and_value_if_conditional_is_some true m n e = (refl, cc e)
+test_and_value_if_conditional_is_some false m n e = cc e
 
-conditional_place_is_none : (b : Bool) (m : ℕ) → cond b (Some m) None ≡ None → b ≡ false
-conditional_place_is_none true m e = cc e
-conditional_place_is_none false m e = refl
+test_is_false_if_conditional_is_none : (b : Bool) (m : ℕ) → cond b (Some m) None ≡ None → b ≡ false
+test_is_false_if_conditional_is_none true m e = cc e
+test_is_false_if_conditional_is_none false m e = refl
 
 split_at_found_line_feed : (text : List ℕ) (n : ℕ) → position is_line_feed text ≡ Some n
     → slice_split is_line_feed text ≡ take n text ∷ slice_split is_line_feed (drop (n + 1) text)
 split_at_found_line_feed text n e =
-    let p = conditional_place_is_some (ltb (position_or_len is_line_feed text) (length text)) (position_or_len is_line_feed text) n e in
+    let p = test_and_value_if_conditional_is_some (ltb (position_or_len is_line_feed text) (length text)) (position_or_len is_line_feed text) n e in
     slice_split_first is_line_feed text 0 (ltb-true _ _ p.0)
     ∙ ap (λ (k : ℕ). take k text ∷ slice_split is_line_feed (drop (k + 1) text)) p.1
 
 split_without_line_feed : (text : List ℕ) → position is_line_feed text ≡ None → slice_split is_line_feed text ≡ text ∷ []
 split_without_line_feed text e =
     let past : length text ≤ position_or_len is_line_feed text =
-    ltb-false _ _ (conditional_place_is_none (ltb (position_or_len is_line_feed text) (length text)) (position_or_len is_line_feed text) e) in
+    ltb-false _ _ (test_is_false_if_conditional_is_none (ltb (position_or_len is_line_feed text) (length text)) (position_or_len is_line_feed text) e) in
     slice_split_none is_line_feed text (λ k d l. fails_before_first is_line_feed text k d (omega (arith, past, l)))
 
 -- the first line, where a line feed ends it
@@ -68,10 +68,10 @@ abbrev pub with_all : List Symbol → Result (List Symbol) ℕ → Result (List 
 with_all first (Ok symbols) = Ok (first ++ symbols)
 with_all first (Err number) = Err number
 
-with_all_of_with_first : (first : List Symbol) (s : Symbol) (read : Result (List Symbol) ℕ)
+with_all_of_with_first_pushes_symbol : (first : List Symbol) (s : Symbol) (read : Result (List Symbol) ℕ)
     → with_all first (with_first s read) ≡ with_all (first ++ s ∷ []) read
-with_all_of_with_first first s (Ok symbols) = ap (λ (l : List Symbol). Ok l) (sym (append_assoc first (s ∷ []) symbols))
-with_all_of_with_first first s (Err number) = refl
+with_all_of_with_first_pushes_symbol first s (Ok symbols) = ap (λ (l : List Symbol). Ok l) (sym (append_assoc first (s ∷ []) symbols))
+with_all_of_with_first_pushes_symbol first s (Err number) = refl
 
 -- the next of the lines that are left
 lines_left_by_next_line : (left after : Option (Bor (List ℕ))) (text : Bor (List ℕ)) (line : List ℕ) → left ≡ Some text
@@ -98,12 +98,12 @@ symbols_from_no_lines_left number None h = refl
 symbols_from_no_lines_left number (Some text) h = absurd (h text refl)
 
 -- a line that says nothing, one of a symbol, and a faulty one
-pub symbols_after_empty_line : (whole : Result (List Symbol) ℕ) (first : List Symbol) (number : ℕ) (left after : Option (Bor (List ℕ))) (text : Bor (List ℕ))
+pub symbols_after_line_that_says_nothing : (whole : Result (List Symbol) ℕ) (first : List Symbol) (number : ℕ) (left after : Option (Bor (List ℕ))) (text : Bor (List ℕ))
     (line : List ℕ) → left ≡ Some text
     → MatchOption after (lines_of text.now ≡ line ∷ []) (λ rest. lines_of text.now ≡ line ∷ lines_of rest.now) → Nothing ≡ entry_of line
     → with_all first (symbols_from (number + 1) (lines_left left)) ≡ whole
     → with_all first (symbols_from (number + 1 + 1) (lines_left after)) ≡ whole
-symbols_after_empty_line whole first number left after text line e h f done =
+symbols_after_line_that_says_nothing whole first number left after text line e h f done =
     sym (ap (with_all first) (symbols_from_by_next_line number left after text line Nothing e h f)) ∙ done
 
 pub symbols_after_symbol_line : (whole : Result (List Symbol) ℕ) (first : List Symbol) (number : ℕ) (left after : Option (Bor (List ℕ))) (text : Bor (List ℕ))
@@ -113,13 +113,13 @@ pub symbols_after_symbol_line : (whole : Result (List Symbol) ℕ) (first : List
     → with_all (first ++ s ∷ []) (symbols_from (number + 1 + 1) (lines_left after)) ≡ whole
 symbols_after_symbol_line whole first number left after text line s e h f done =
     sym (ap (with_all first) (symbols_from_by_next_line number left after text line (Names s) e h f)
-    ∙ with_all_of_with_first first s (symbols_from (number + 1 + 1) (lines_left after))) ∙ done
+    ∙ with_all_of_with_first_pushes_symbol first s (symbols_from (number + 1 + 1) (lines_left after))) ∙ done
 
-pub symbols_after_faulty_line : (whole : Result (List Symbol) ℕ) (first : List Symbol) (number : ℕ) (left after : Option (Bor (List ℕ))) (text : Bor (List ℕ))
+pub symbols_stop_at_faulty_line : (whole : Result (List Symbol) ℕ) (first : List Symbol) (number : ℕ) (left after : Option (Bor (List ℕ))) (text : Bor (List ℕ))
     (line : List ℕ) → left ≡ Some text
     → MatchOption after (lines_of text.now ≡ line ∷ []) (λ rest. lines_of text.now ≡ line ∷ lines_of rest.now) → Faulty ≡ entry_of line
     → with_all first (symbols_from (number + 1) (lines_left left)) ≡ whole → whole ≡ Err (number + 1)
-symbols_after_faulty_line whole first number left after text line e h f done =
+symbols_stop_at_faulty_line whole first number left after text line e h f done =
     sym done ∙ ap (with_all first) (symbols_from_by_next_line number left after text line Faulty e h f)
 
 -- there are fewer bytes left

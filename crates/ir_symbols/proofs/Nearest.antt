@@ -62,17 +62,17 @@ conditional_greater_keeps_greater : (s t : Symbol) (o : Option Symbol) (b : Bool
 conditional_greater_keeps_greater s t o true h e = ap (λ (p : Option Symbol). Some (greater_of t p)) e ∙ ap Some (greater_of_is_second t s (h refl))
 conditional_greater_keeps_greater s t o false h e = e
 
-nearest_between_lower_and_not_higher : (address : ℕ) (s : Symbol) (before after : List Symbol) → IsTrue (reaches address s) → All (BelowIfReaching address s.address) before
+nearest_is_symbol_between_lower_and_not_higher : (address : ℕ) (s : Symbol) (before after : List Symbol) → IsTrue (reaches address s) → All (BelowIfReaching address s.address) before
     → All (AtMostIfReaching address s.address) after → nearest (before ++ s ∷ after) address ≡ Some s
 unfolding nearest
-nearest_between_lower_and_not_higher address s [] after here first rest = rw here (ap Some (greater_of_is_first s (nearest after address) (nearest_at_most_bound address s.address after rest)))
-nearest_between_lower_and_not_higher address s (t ∷ before) after here first rest =
+nearest_is_symbol_between_lower_and_not_higher address s [] after here first rest = rw here (ap Some (greater_of_is_first s (nearest after address) (nearest_at_most_bound address s.address after rest)))
+nearest_is_symbol_between_lower_and_not_higher address s (t ∷ before) after here first rest =
     conditional_greater_keeps_greater s t (nearest (before ++ s ∷ after) address) (reaches address t) (All-head (BelowIfReaching address s.address) t before first)
-    (nearest_between_lower_and_not_higher address s before after here (All-tail (BelowIfReaching address s.address) t before first) rest)
+    (nearest_is_symbol_between_lower_and_not_higher address s before after here (All-tail (BelowIfReaching address s.address) t before first) rest)
 
-pub nearest_by_is_nearest : (symbols : List Symbol) (address : ℕ) (s : Symbol) → IsNearest symbols address s → nearest symbols address ≡ Some s
-nearest_by_is_nearest symbols address s h =
-    ap (λ (l : List Symbol). nearest l address) h.parts ∙ nearest_between_lower_and_not_higher address s h.before h.after h.reached h.first h.greatest
+pub nearest_is_some_if_is_nearest : (symbols : List Symbol) (address : ℕ) (s : Symbol) → IsNearest symbols address s → nearest symbols address ≡ Some s
+nearest_is_some_if_is_nearest symbols address s h =
+    ap (λ (l : List Symbol). nearest l address) h.parts ∙ nearest_is_symbol_between_lower_and_not_higher address s h.before h.after h.reached h.first h.greatest
 
 conditional_greater_is_none : (s : Symbol) (o : Option Symbol) (b : Bool) → not b ≡ true → o ≡ None → cond b (Some (greater_of s o)) o ≡ None
 conditional_greater_is_none s o true h e = cc h
@@ -106,7 +106,7 @@ pub look_up_is_nearest_by_cases : {R : Type 0} (o : Option R) (now : R → Symbo
     → MatchOption o (NoneReaches address symbols) (λ r. IsNearest symbols address (now r))
     → option_map now o ≡ nearest symbols address
 look_up_is_nearest_by_cases None now symbols address h = sym (nearest_is_none_if_none_reaches symbols address h)
-look_up_is_nearest_by_cases (Some r) now symbols address h = sym (nearest_by_is_nearest symbols address (now r) h)
+look_up_is_nearest_by_cases (Some r) now symbols address h = sym (nearest_is_some_if_is_nearest symbols address (now r) h)
 
 -- ---- from the definition to the symbol
 
@@ -131,9 +131,9 @@ unreaching_is_below : (address n : ℕ) (s : Symbol) → IsUnreaching address s 
 unreaching_is_below address n s h reached = absurd (not_both_true_and_negated (reaches address s) reached h)
 
 -- one symbol more before the others, of which the nearest is t
-nearest_after_lower_symbol : (address : ℕ) (s t : Symbol) (symbols : List Symbol) → BelowIfReaching address t.address s → IsNearest symbols address t
+nearest_stays_nearest_behind_lower_symbol : (address : ℕ) (s t : Symbol) (symbols : List Symbol) → BelowIfReaching address t.address s → IsNearest symbols address t
     → IsNearest (s ∷ symbols) address t
-nearest_after_lower_symbol address s t symbols h n = record {
+nearest_stays_nearest_behind_lower_symbol address s t symbols h n = record {
   before = s ∷ n.before;
   after = n.after;
   parts = ap (λ (l : List Symbol). s ∷ l) n.parts;
@@ -161,36 +161,36 @@ first_is_nearest_of_lower address s symbols reached h = record {
 }
 
 -- the first symbol or the nearest of the others
-nearest_of_first_and_nearest : (address : ℕ) (s t u : Symbol) (symbols : List Symbol) (b : Bool) → ltb s.address t.address ≡ b → IsTrue (reaches address s)
+greater_of_first_and_nearest_is_nearest : (address : ℕ) (s t u : Symbol) (symbols : List Symbol) (b : Bool) → ltb s.address t.address ≡ b → IsTrue (reaches address s)
     → IsNearest symbols address t → cond b t s ≡ u → IsNearest (s ∷ symbols) address u
-nearest_of_first_and_nearest address s t u symbols true e reached n f =
-    subst (IsNearest (s ∷ symbols) address) f (nearest_after_lower_symbol address s t symbols (λ _. ltb-true _ _ e) n)
-nearest_of_first_and_nearest address s t u symbols false e reached n f =
+greater_of_first_and_nearest_is_nearest address s t u symbols true e reached n f =
+    subst (IsNearest (s ∷ symbols) address) f (nearest_stays_nearest_behind_lower_symbol address s t symbols (λ _. ltb-true _ _ e) n)
+greater_of_first_and_nearest_is_nearest address s t u symbols false e reached n f =
     subst (IsNearest (s ∷ symbols) address) f (first_is_nearest_of_lower address s symbols reached
     (All-weaker (AtMostIfReaching address t.address) (AtMostIfReaching address s.address)
     (λ x h over. let le = h over in let back = ltb-false _ _ e in omega (arith, le, back)) symbols (reaching_symbols_at_most_nearest address t symbols n)))
 
-nearest_with_reaching_first : (address : ℕ) (s t : Symbol) (symbols : List Symbol) (o : Option Symbol) → nearest symbols address ≡ o → IsTrue (reaches address s)
+greater_of_reaching_first_is_nearest : (address : ℕ) (s t : Symbol) (symbols : List Symbol) (o : Option Symbol) → nearest symbols address ≡ o → IsTrue (reaches address s)
     → ((u : Symbol) → nearest symbols address ≡ Some u → IsNearest symbols address u) → greater_of s o ≡ t → IsNearest (s ∷ symbols) address t
-nearest_with_reaching_first address s t symbols None e reached others f =
+greater_of_reaching_first_is_nearest address s t symbols None e reached others f =
     subst (IsNearest (s ∷ symbols) address) f (first_is_nearest_of_lower address s symbols reached
     (All-weaker (IsUnreaching address) (AtMostIfReaching address s.address) (unreaching_is_at_most address s.address) symbols (none_reaches_if_nearest_is_none symbols address e)))
-nearest_with_reaching_first address s t symbols (Some u) e reached others f =
-    nearest_of_first_and_nearest address s u t symbols (ltb s.address u.address) refl reached (others u e) f
+greater_of_reaching_first_is_nearest address s t symbols (Some u) e reached others f =
+    greater_of_first_and_nearest_is_nearest address s u t symbols (ltb s.address u.address) refl reached (others u e) f
 
-nearest_by_first_symbol : (address : ℕ) (s t : Symbol) (symbols : List Symbol) (b : Bool) → reaches address s ≡ b
+conditional_greater_is_nearest : (address : ℕ) (s t : Symbol) (symbols : List Symbol) (b : Bool) → reaches address s ≡ b
     → ((u : Symbol) → nearest symbols address ≡ Some u → IsNearest symbols address u)
     → cond b (Some (greater_of s (nearest symbols address))) (nearest symbols address) ≡ Some t → IsNearest (s ∷ symbols) address t
-nearest_by_first_symbol address s t symbols true e others f =
-    nearest_with_reaching_first address s t symbols (nearest symbols address) refl e others (some_is_injective _ _ f)
-nearest_by_first_symbol address s t symbols false e others f =
-    nearest_after_lower_symbol address s t symbols (unreaching_is_below address t.address s (ap not e)) (others t f)
+conditional_greater_is_nearest address s t symbols true e others f =
+    greater_of_reaching_first_is_nearest address s t symbols (nearest symbols address) refl e others (some_is_injective _ _ f)
+conditional_greater_is_nearest address s t symbols false e others f =
+    nearest_stays_nearest_behind_lower_symbol address s t symbols (unreaching_is_below address t.address s (ap not e)) (others t f)
 
-nearest_result_is_nearest : (symbols : List Symbol) (address : ℕ) (s : Symbol) → nearest symbols address ≡ Some s → IsNearest symbols address s
+is_nearest_if_nearest_is_some : (symbols : List Symbol) (address : ℕ) (s : Symbol) → nearest symbols address ≡ Some s → IsNearest symbols address s
 unfolding nearest
-nearest_result_is_nearest [] address s e = cc e
-nearest_result_is_nearest (t ∷ symbols) address s e =
-    nearest_by_first_symbol address t s symbols (reaches address t) refl (λ u f. nearest_result_is_nearest symbols address u f) e
+is_nearest_if_nearest_is_some [] address s e = cc e
+is_nearest_if_nearest_is_some (t ∷ symbols) address s e =
+    conditional_greater_is_nearest address t s symbols (reaches address t) refl (λ u f. is_nearest_if_nearest_is_some symbols address u f) e
 
-pub nearest_result_exactly_if_nearest : (symbols : List Symbol) (address : ℕ) (s : Symbol) → (nearest symbols address ≡ Some s) ↔ IsNearest symbols address s
-nearest_result_exactly_if_nearest symbols address s = (nearest_result_is_nearest symbols address s, nearest_by_is_nearest symbols address s)
+pub nearest_is_some_exactly_if_is_nearest : (symbols : List Symbol) (address : ℕ) (s : Symbol) → (nearest symbols address ≡ Some s) ↔ IsNearest symbols address s
+nearest_is_some_exactly_if_is_nearest symbols address s = (is_nearest_if_nearest_is_some symbols address s, nearest_is_some_if_is_nearest symbols address s)

@@ -47,8 +47,8 @@ address_in_hex_word n h =
 abbrev line_without_feed : Symbol → List ℕ
 line_without_feed s = hex_word s.address ++ 32 ∷ s.kind ∷ 32 ∷ s.name
 
-line_of_append : (s : Symbol) (rest : List ℕ) → line_of s ++ rest ≡ line_without_feed s ++ 10 ∷ rest
-line_of_append s rest =
+line_of_splits_off_line_feed : (s : Symbol) (rest : List ℕ) → line_of s ++ rest ≡ line_without_feed s ++ 10 ∷ rest
+line_of_splits_off_line_feed s rest =
     append_assoc (hex_word s.address) (32 ∷ s.kind ∷ 32 ∷ (s.name ++ 10 ∷ [])) rest
     ∙ ap (λ (l : List ℕ). hex_word s.address ++ 32 ∷ s.kind ∷ 32 ∷ l) (append_assoc s.name (10 ∷ []) rest)
     ∙ sym (append_assoc (hex_word s.address) (32 ∷ s.kind ∷ 32 ∷ s.name) (10 ∷ rest))
@@ -95,8 +95,8 @@ length_of_line_without_feed s =
     length-append (hex_word s.address) (32 ∷ s.kind ∷ 32 ∷ s.name)
     ∙ (let size = length_of_hex_word s.address in omega (arith, size))
 
-last_byte_of_line : (s : Symbol) → 0 < length s.name → get_or (line_without_feed s) (length (line_without_feed s) - 1) 0 ≡ get_or s.name (length s.name - 1) 0
-last_byte_of_line s some =
+last_byte_of_line_is_that_of_name : (s : Symbol) → 0 < length s.name → get_or (line_without_feed s) (length (line_without_feed s) - 1) 0 ≡ get_or s.name (length s.name - 1) 0
+last_byte_of_line_is_that_of_name s some =
     let size = length_of_line_without_feed s in
     let place : length (line_without_feed s) - 1 - 8 ≡ suc (suc (suc (length s.name - 1))) = omega (arith, size, some) in
     get_or-append_right (hex_word s.address) (32 ∷ s.kind ∷ 32 ∷ s.name) 8 (length (line_without_feed s) - 1) 0 (length_of_hex_word s.address) (omega (arith, size))
@@ -109,7 +109,7 @@ strip_of_line_without_feed : (s : Symbol) → IsSymbol s → strip_carriage_retu
 strip_of_line_without_feed s h =
     let ends = name_ends_with_mark s.name h.name_is in
     let last : get_or (line_without_feed s) (length (line_without_feed s) - 1) 0 == 13 ≡ false =
-    ap (λ (b : ℕ). b == 13) (last_byte_of_line s ends.0) ∙ mark_is_no_carriage_return (get_or s.name (length s.name - 1) 0) ends.1 in
+    ap (λ (b : ℕ). b == 13) (last_byte_of_line_is_that_of_name s ends.0) ∙ mark_is_no_carriage_return (get_or s.name (length s.name - 1) 0) ends.1 in
     rw last refl
 
 -- what the line says
@@ -156,7 +156,7 @@ entry_of_symbol_line s h placed =
 
 lines_of_symbol_line : (s : Symbol) (rest : List ℕ) → IsSymbol s → lines_of (line_of s ++ rest) ≡ line_without_feed s ∷ lines_of rest
 lines_of_symbol_line s rest h =
-    ap lines_of (line_of_append s rest)
+    ap lines_of (line_of_splits_off_line_feed s rest)
     ∙ ap (λ (parts : List (List ℕ)). map strip_carriage_return parts)
     (slice_split_at (λ b. b == 10) (line_without_feed s) 10 rest (line_without_feed_has_no_feed s h) refl)
     ∙ ap (λ (line : List ℕ). line ∷ lines_of rest) (strip_of_line_without_feed s h)

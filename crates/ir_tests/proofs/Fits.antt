@@ -3,11 +3,10 @@ use Rattle.std.proofs.Common.{◌≡◌, ℕ, List, length, sym, subst}
 use Rattle.ir_image.specs.Guest.{Guest}
 use Rattle.ir_thread.specs.declared.profile.Profile.{Profile}
 use Rattle.ir_flat.specs.Flat.{start_flat, tables, machine}
-use Rattle.ir_runs.specs.Run.{Step}
+use Rattle.ir_runs.specs.Run.{Step, IsWhole}
 use Rattle.ir_trace.specs.Recorded.{Recorded, trace_of}
 use Rattle.ir_record.specs.Recording.{IsTraceOf}
 use Rattle.ir_fit.specs.Fit.{IsRunOf}
-use Rattle.ir_runs.specs.Verdicts.{IsWhole}
 
 -- what is recorded of a run is its trace, under the recorded budget and profile
 pub trace_of_run_has_run : (guest : Guest) (budget : ℕ) (profile : Profile) (run : List Step) (trace : Recorded)

@@ -4,7 +4,8 @@ use Rattle.ir_image.specs.Guest.{Guest}
 use Rattle.ir_thread.specs.declared.profile.Profile.{Profile}
 use Rattle.ir_runs.specs.Run.{Step}
 use Rattle.ir_trace.specs.Recorded.{Recorded}
-use Rattle.ir_record.specs.Recording.{IsRecordingOfSome, IsRecordingInOrder}
+use Rattle.ir_record.specs.Recordings.{IsRecordingOfSome, IsRecordingByTurns}
+use Rattle.ir_record.specs.Refusing.{Turn}
 use Rattle.ir_record.specs.Worlds.{Answered}
 use Rattle.ir_fit.specs.Fit.{IsRunOf, IsRefused}
 use Rattle.ir_fit.specs.declared.fit_err.FitErr.{FitErr}
@@ -20,11 +21,11 @@ RecordingsFit = (guest : Guest) (budget : ℕ) (profile : Profile) (before : Lis
     (answers : List (List Answered))
     → IsRecordingOfSome guest budget profile before trace outputs answers → HasTrace guest trace
 
--- so is what is recorded of the run by an order
-abbrev pub OrdersFit : Type 0
-OrdersFit = (guest : Guest) (budget : ℕ) (profile : Profile) (order : List ℕ) (before : List (List Answered)) (trace : Recorded) (outputs : List (List ℕ))
+-- so is what is recorded of the run by turns
+abbrev pub TurnsFit : Type 0
+TurnsFit = (guest : Guest) (budget : ℕ) (profile : Profile) (turns : List Turn) (before : List (List Answered)) (trace : Recorded) (outputs : List (List ℕ))
     (answers : List (List Answered))
-    → IsRecordingInOrder guest budget profile order before trace outputs answers → HasTrace guest trace
+    → IsRecordingByTurns guest budget profile turns before trace outputs answers → HasTrace guest trace
 
 -- where a run has the trace, judging it gives up only where memory runs out
 abbrev pub NoRefusal : Type 0

@@ -1,10 +1,10 @@
 -- Texts that are written by one buffer: what is in it, and what is left to be put into it.
-use Rattle.std.proofs.Common.{◌≡◌, ℕ, List, [], ◌++◌, Option, Result, Ok, Err, OnOk, OnErr, refl, sym, ap, ◌∙◌, subst, append_assoc, append-nil}
-use Rattle.std.proofs.lemmas.Result.{on_ok_weaker, on_err_weaker}
+use Rattle.std.proofs.Common.{◌≡◌, ℕ, List, [], ◌++◌, Option, Bool, Result, Ok, Err, refl, sym, ap, ◌∙◌, subst, append_assoc, append-nil}
 use Rattle.std.specs.Io.KnownBytes.{Appends}
 use Rattle.std.proofs.KnownBytes.{Appends-nil, Appends-trans}
-use Rattle.ir_stream.proofs.CallerLemmas.{prefix_after_whole_text, prefix_of_longer_text}
+use Rattle.ir_stream.proofs.CallerLemmas.{prefix_after_whole_text, prefix_of_longer_text, writes_or_fails_if_all_written, writes_or_fails_if_part_written}
 use Rattle.ir_stream.specs.Answers.{AppendsPrefix}
+use Rattle.ir_stream.specs.Writing.{WritesText}
 use Rattle.ir_text.specs.Buffered.{Buffered}
 
 -- nothing was written yet
@@ -62,23 +62,19 @@ prefix_written_if_write_fails a b c buffer left text f prefix =
     subst (AppendsPrefix a c) (append_assoc f.part buffer left ∙ f.others)
     (prefix_of_longer_text a c (f.part ++ buffer) left (prefix_after_whole_text a b c f.part buffer f.written prefix))
 
--- ---- the same by the results of writes
+-- the write of a line failed
+pub prefix_written_if_line_fails : (a b c : Option (List ℕ)) (left line more text : List ℕ) → Buffered a b left text → left ≡ line ++ more
+    → AppendsPrefix b c line → AppendsPrefix a c text
+prefix_written_if_line_fails a b c left line more text f e prefix =
+    prefix_written_if_write_fails a b c line more text (subst (λ (x : List ℕ). Buffered a b x text) e f) prefix
 
-pub prefix_written_on_error : {X E : Type 0} (r : Result X E) (a b c : Option (List ℕ)) (buffer left text : List ℕ) → Buffered a b (buffer ++ left) text
-    → AppendsPrefix b c buffer → OnErr r (AppendsPrefix a c text)
-prefix_written_on_error (Ok x) a b c buffer left text f prefix = tt
-prefix_written_on_error (Err e) a b c buffer left text f prefix = prefix_written_if_write_fails a b c buffer left text f prefix
-
-pub prefix_written_on_line_error : {X E : Type 0} (r : Result X E) (a b c : Option (List ℕ)) (left line more text : List ℕ) → Buffered a b left text
-    → left ≡ line ++ more → AppendsPrefix b c line → OnErr r (AppendsPrefix a c text)
-prefix_written_on_line_error r a b c left line more text f e prefix = prefix_written_on_error r a b c line more text (subst (λ (x : List ℕ). Buffered a b x text) e f) prefix
-
-pub text_written_on_last_ok : {X E : Type 0} (r : Result X E) (a b c : Option (List ℕ)) (buffer left text slice : List ℕ)
-    → Buffered a b (buffer ++ left) text → left ≡ [] → slice ≡ buffer → OnOk r (Appends b c slice) → OnOk r (Appends a c text)
-text_written_on_last_ok r a b c buffer left text slice f none same =
-    on_ok_weaker r (λ done. text_written_after_last_write a b c buffer left text f (subst (Appends b c) same done) none)
-
-pub prefix_written_on_last_error : {X E : Type 0} (r : Result X E) (a b c : Option (List ℕ)) (buffer left text slice : List ℕ)
-    → Buffered a b (buffer ++ left) text → slice ≡ buffer → OnErr r (AppendsPrefix b c slice) → OnErr r (AppendsPrefix a c text)
-prefix_written_on_last_error r a b c buffer left text slice f same =
-    on_err_weaker r (λ prefix. prefix_written_if_write_fails a b c buffer left text f (subst (AppendsPrefix b c) same prefix))
+-- the last call, which writes the buffer
+pub writes_text_by_last_buffer : {D A E : Type 0} (written : D → Option (List ℕ)) {broken : D → Bool} {a b c : D} (buffer left text slice : List ℕ)
+    (r : Result A E) → Buffered (written a) (written b) (buffer ++ left) text → left ≡ [] → slice ≡ buffer → broken b ≡ broken a
+    → WritesText written broken b c slice r → WritesText written broken a c text r
+writes_text_by_last_buffer written {broken} {a} {b} {c} buffer left text slice (Ok x) f none same stays w = writes_or_fails_if_all_written
+    (text_written_after_last_write (written a) (written b) (written c) buffer left text f (subst (Appends (written b) (written c)) same w.ok) none)
+    (w.stays ∙ stays)
+writes_text_by_last_buffer written {broken} {a} {b} {c} buffer left text slice (Err e) f none same stays w = writes_or_fails_if_part_written
+    (prefix_written_if_write_fails (written a) (written b) (written c) buffer left text f
+    (subst (AppendsPrefix (written b) (written c)) same w.prefix)) w.err

@@ -94,9 +94,9 @@ pub room_for_memory_line_step : (before after rest more at k : ℕ) → k ≡ mi
 room_for_memory_line_step before after rest more at k is left grown fits some = (omega arith, omega arith)
 
 -- a number is put after what was put before
-pub append_of_label_and_digits : (before first words digits now after : List ℕ) → now ≡ before ++ first → after ≡ now ++ (words ++ digits)
+pub append_in_two_steps_is_one_append : (before first words digits now after : List ℕ) → now ≡ before ++ first → after ≡ now ++ (words ++ digits)
     → after ≡ before ++ (first ++ words ++ digits)
-append_of_label_and_digits before first words digits now after e f =
+append_in_two_steps_is_one_append before first words digits now after e f =
     f ∙ ap (λ (x : List ℕ). x ++ (words ++ digits)) e
     ∙ append_assoc before first (words ++ digits)
     ∙ ap (λ (x : List ℕ). before ++ x) (sym (append_assoc first words digits))

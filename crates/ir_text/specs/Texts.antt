@@ -29,8 +29,6 @@ use Rattle.ir_command.specs.Commands.{refusal_number}
 abbrev pub number_line : List ℕ → ℕ → List ℕ
 number_line words n = words ++ decimal n ++ codes "\n"
 
--- ---- positions
-
 -- the position of each thread
 abbrev pub positions_text : List ℕ → List ℕ
 positions_text at = codes "at" ++ flat_map (λ p. codes " " ++ decimal p) at

@@ -1,12 +1,11 @@
 //! The lines of bytes.
 
-ghost use Rattle.std.specs.Prelude.{◌≡◌, ◌≤◌, ◌+◌, ◌*◌, ◌++◌, ◌^◌, OnOk, OnErr, length, codes, true, unwrap_or};
-ghost use Rattle.std.specs.Io.KnownBytes.{Appends};
+ghost use Rattle.std.specs.Prelude.{◌≡◌, ◌≤◌, ◌+◌, ◌*◌, ◌++◌, ◌^◌, length, codes, unwrap_or};
 ghost use Rattle.arrayvec.specs.ArrayVec.{array_vec_len};
 ghost use Rattle.hex.specs.Hex.{encode_lower};
 ghost use Rattle.ir_mach.specs.Core.{memory_size};
 ghost use Rattle.ir_mach.specs.Execution.{byte_at};
-ghost use Rattle.ir_stream.specs.Answers.{AppendsPrefix};
+ghost use Rattle.ir_stream.specs.Writing.{WritesText};
 ghost use Rattle.ir_text.specs.Texts.{hex_word, bytes_from, number_line, memory_text, output_text};
 
 use crate::next::code_word;
@@ -105,10 +104,7 @@ pub fn write_memory<W: Sink>(
     requires memory { length memory.now ≡ memory_size }
     requires few { size ≤ 256 }
     requires low { address ≤ 2 ^ 31 }
-    ensures ok { OnOk result (Appends (W.written writer.old) (W.written writer.new) (memory_text address (bytes_from code.now memory.now size address))) }
-    ensures stays { OnOk result (W.broken writer.new ≡ W.broken writer.old) }
-    ensures prefix { OnErr result (AppendsPrefix (W.written writer.old) (W.written writer.new) (memory_text address (bytes_from code.now memory.now size address))) }
-    ensures err { OnErr result (W.broken writer.new ≡ true) }
+    ensures { WritesText W.written W.broken writer.old writer.new (memory_text address (bytes_from code.now memory.now size address)) result }
 {
     let mut text = Text::new();
     put_memory(
@@ -139,10 +135,7 @@ fn put_count(text: &mut Text, count: usize)
 
 /// Writes the lines of what a thread has printed. Takes no memory.
 pub fn write_output<W: Sink>(printed: &[u8], writer: &mut W) -> Result<(), DeviceErr>
-    ensures ok { OnOk result (Appends (W.written writer.old) (W.written writer.new) (output_text printed.now)) }
-    ensures stays { OnOk result (W.broken writer.new ≡ W.broken writer.old) }
-    ensures prefix { OnErr result (AppendsPrefix (W.written writer.old) (W.written writer.new) (output_text printed.now)) }
-    ensures err { OnErr result (W.broken writer.new ≡ true) }
+    ensures { WritesText W.written W.broken writer.old writer.new (output_text printed.now) result }
 {
     let mut text = Text::new();
     put_count(&mut text, printed.len());

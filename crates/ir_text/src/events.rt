@@ -1,10 +1,9 @@
 //! The lines of a log.
 
-ghost use Rattle.std.specs.Prelude.{◌≡◌, ◌≤◌, ◌+◌, ◌++◌, OnOk, OnErr, length, map, true, codes, decimal};
-ghost use Rattle.std.specs.Io.KnownBytes.{Appends};
+ghost use Rattle.std.specs.Prelude.{◌≡◌, ◌≤◌, ◌+◌, ◌++◌, length, map, codes, decimal};
 ghost use Rattle.arrayvec.specs.ArrayVec.{array_vec_len};
 ghost use Rattle.ir_log.specs.Logging.{label_of};
-ghost use Rattle.ir_stream.specs.Answers.{AppendsPrefix};
+ghost use Rattle.ir_stream.specs.Writing.{WritesText};
 ghost use Rattle.ir_text.specs.Texts.{kind_text, event_text, log_text};
 
 use crate::room::{FULL, make_room};
@@ -75,10 +74,7 @@ fn put_counts(text: &mut Text, so_far: usize, all: usize)
 
 /// Writes the lines of the events that a thread has logged so far, of `all` that it logs in its run. Takes no memory.
 pub fn write_log<W: Sink>(so_far: &[Event], all: usize, writer: &mut W) -> Result<(), DeviceErr>
-    ensures ok { OnOk result (Appends (W.written writer.old) (W.written writer.new) (log_text (map label_of so_far.now) all)) }
-    ensures stays { OnOk result (W.broken writer.new ≡ W.broken writer.old) }
-    ensures prefix { OnErr result (AppendsPrefix (W.written writer.old) (W.written writer.new) (log_text (map label_of so_far.now) all)) }
-    ensures err { OnErr result (W.broken writer.new ≡ true) }
+    ensures { WritesText W.written W.broken writer.old writer.new (log_text (map label_of so_far.now) all) result }
 {
     let mut text = Text::new();
     put_counts(&mut text, so_far.len(), all);

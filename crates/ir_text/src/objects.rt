@@ -1,13 +1,12 @@
 //! The lines of an object.
 
-ghost use Rattle.std.specs.Prelude.{◌≡◌, ◌≢◌, ◌≤◌, ◌<◌, ◌+◌, ◌++◌, OnOk, OnErr, length, slice_index, slice_index_or, flat_map, codes, decimal, true, false, Some};
-ghost use Rattle.std.specs.Io.KnownBytes.{Appends};
+ghost use Rattle.std.specs.Prelude.{◌≡◌, ◌≢◌, ◌≤◌, ◌<◌, ◌+◌, ◌++◌, length, slice_index, slice_index_or, flat_map, codes, decimal, true, false, Some};
 ghost use Rattle.arrayvec.specs.ArrayVec.{array_vec_len};
 ghost use Rattle.ir_image.specs.Guest.{most_threads, most_object_words};
 ghost use Rattle.ir_thread.specs.State.{held_at};
 ghost use Rattle.ir_flat.specs.Flat.{idle};
 ghost use Rattle.ir_flat.specs.Room.{object_with};
-ghost use Rattle.ir_stream.specs.Answers.{AppendsPrefix};
+ghost use Rattle.ir_stream.specs.Writing.{WritesText};
 ghost use Rattle.ir_text.specs.Texts.{joined, inside_for, words_text, object_text};
 ghost use Rattle.ir_text.specs.Held.{held_by, state_line};
 
@@ -136,10 +135,7 @@ pub fn write_object<W: Sink>(
 ) -> Result<(), DeviceErr>
     requires threads { length threads.now ≤ most_threads }
     requires words { words ≤ most_object_words }
-    ensures ok { OnOk result (Appends (W.written writer.old) (W.written writer.new) (object_text (length threads.now) words (object_with object.now (held_by threads.now number)))) }
-    ensures stays { OnOk result (W.broken writer.new ≡ W.broken writer.old) }
-    ensures prefix { OnErr result (AppendsPrefix (W.written writer.old) (W.written writer.new) (object_text (length threads.now) words (object_with object.now (held_by threads.now number)))) }
-    ensures err { OnErr result (W.broken writer.new ≡ true) }
+    ensures { WritesText W.written W.broken writer.old writer.new (object_text (length threads.now) words (object_with object.now (held_by threads.now number))) result }
 {
     let mut text = Text::new();
     put_state(&mut text, threads, number, object);

@@ -1,12 +1,11 @@
 //! The texts of answers.
 
-ghost use Rattle.std.specs.Prelude.{◌≡◌, ◌≤◌, ◌<◌, ◌+◌, ◌++◌, OnOk, OnErr, length, decimal, true};
-ghost use Rattle.std.specs.Io.KnownBytes.{Appends};
+ghost use Rattle.std.specs.Prelude.{◌≡◌, ◌≤◌, ◌<◌, ◌+◌, ◌++◌, length, decimal};
 ghost use Rattle.arrayvec.specs.ArrayVec.{array_vec_len};
 ghost use Rattle.ir_isa.specs.Fields.{register_name};
 ghost use Rattle.ir_text.specs.Texts.{hex_word, reason_text, refusal_text, registers_text, machine_text, number_line};
 ghost use Rattle.ir_text.specs.Parts.{register_text};
-ghost use Rattle.ir_stream.specs.Answers.{AppendsPrefix};
+ghost use Rattle.ir_stream.specs.Writing.{WritesText};
 
 use arrayvec::ArrayVec;
 use ir_command::Refusal;
@@ -117,10 +116,7 @@ fn put_machine(text: &mut Text, mach: &Mach)
 
 /// Writes a refusal's line. Takes no memory.
 pub fn write_refusal<W: Sink>(refusal: Refusal, writer: &mut W) -> Result<(), DeviceErr>
-    ensures ok { OnOk result (Appends (W.written writer.old) (W.written writer.new) (refusal_text refusal)) }
-    ensures stays { OnOk result (W.broken writer.new ≡ W.broken writer.old) }
-    ensures prefix { OnErr result (AppendsPrefix (W.written writer.old) (W.written writer.new) (refusal_text refusal)) }
-    ensures err { OnErr result (W.broken writer.new ≡ true) }
+    ensures { WritesText W.written W.broken writer.old writer.new (refusal_text refusal) result }
 {
     let mut text = Text::new();
     put_refusal(&mut text, refusal);
@@ -130,10 +126,7 @@ pub fn write_refusal<W: Sink>(refusal: Refusal, writer: &mut W) -> Result<(), De
 /// Writes words and a number in a line.
 pub fn write_number<W: Sink>(words: &[u8], number: u32, writer: &mut W) -> Result<(), DeviceErr>
     requires { length words.now ≤ 256 }
-    ensures ok { OnOk result (Appends (W.written writer.old) (W.written writer.new) (number_line words.now number)) }
-    ensures stays { OnOk result (W.broken writer.new ≡ W.broken writer.old) }
-    ensures prefix { OnErr result (AppendsPrefix (W.written writer.old) (W.written writer.new) (number_line words.now number)) }
-    ensures err { OnErr result (W.broken writer.new ≡ true) }
+    ensures { WritesText W.written W.broken writer.old writer.new (number_line words.now number) result }
 {
     let mut text = Text::new();
     put_number(&mut text, words, number as u64);
@@ -143,10 +136,7 @@ pub fn write_number<W: Sink>(words: &[u8], number: u32, writer: &mut W) -> Resul
 
 /// Writes pc and the registers. Takes no memory.
 pub fn write_machine<W: Sink>(mach: &Mach, writer: &mut W) -> Result<(), DeviceErr>
-    ensures ok { OnOk result (Appends (W.written writer.old) (W.written writer.new) (machine_text mach.now)) }
-    ensures stays { OnOk result (W.broken writer.new ≡ W.broken writer.old) }
-    ensures prefix { OnErr result (AppendsPrefix (W.written writer.old) (W.written writer.new) (machine_text mach.now)) }
-    ensures err { OnErr result (W.broken writer.new ≡ true) }
+    ensures { WritesText W.written W.broken writer.old writer.new (machine_text mach.now) result }
 {
     let mut text = Text::new();
     put_machine(&mut text, mach);

@@ -1,11 +1,10 @@
 //! The lines of a verdict.
 
-ghost use Rattle.std.specs.Prelude.{◌≡◌, ◌≤◌, ◌+◌, ◌++◌, OnOk, OnErr, length, codes, decimal, true, unwrap_or};
-ghost use Rattle.std.specs.Io.KnownBytes.{Appends};
+ghost use Rattle.std.specs.Prelude.{◌≡◌, ◌≤◌, ◌+◌, ◌++◌, length, codes, decimal, unwrap_or};
 ghost use Rattle.arrayvec.specs.ArrayVec.{array_vec_len};
 ghost use Rattle.ir_text.specs.Texts.{thread_verdict_text, threads_text, verdict_text};
 ghost use Rattle.ir_text.specs.Parts.{thread_line, header_text, incoherent_text};
-ghost use Rattle.ir_stream.specs.Answers.{AppendsPrefix};
+ghost use Rattle.ir_stream.specs.Writing.{WritesText};
 
 use crate::text::{Text, put_number};
 use ir_fit::{Cause, HeaderCause, Verdict};
@@ -99,10 +98,7 @@ fn incoherent_line(thread: u8, event: u32, cause: Cause) -> Text
 
 // Writes a line for each thread.
 fn write_threads<W: Sink>(verdicts: &[ThreadVerdict], writer: &mut W) -> Result<(), DeviceErr>
-    ensures ok { OnOk result (Appends (W.written writer.old) (W.written writer.new) (threads_text 0 verdicts.now)) }
-    ensures stays { OnOk result (W.broken writer.new ≡ W.broken writer.old) }
-    ensures prefix { OnErr result (AppendsPrefix (W.written writer.old) (W.written writer.new) (threads_text 0 verdicts.now)) }
-    ensures err { OnErr result (W.broken writer.new ≡ true) }
+    ensures { WritesText W.written W.broken writer.old writer.new (threads_text 0 verdicts.now) result }
 {
     for t in 0..verdicts.len() {
         let mut text = Text::new();
@@ -114,10 +110,7 @@ fn write_threads<W: Sink>(verdicts: &[ThreadVerdict], writer: &mut W) -> Result<
 
 /// Writes the lines of a verdict.
 pub fn write_verdict<W: Sink>(verdict: &Verdict, writer: &mut W) -> Result<(), DeviceErr>
-    ensures ok { OnOk result (Appends (W.written writer.old) (W.written writer.new) (verdict_text verdict.now)) }
-    ensures stays { OnOk result (W.broken writer.new ≡ W.broken writer.old) }
-    ensures prefix { OnErr result (AppendsPrefix (W.written writer.old) (W.written writer.new) (verdict_text verdict.now)) }
-    ensures err { OnErr result (W.broken writer.new ≡ true) }
+    ensures { WritesText W.written W.broken writer.old writer.new (verdict_text verdict.now) result }
 {
     match verdict {
         Verdict::Header(cause) => write_all(writer, header_line(*cause).as_slice()),

@@ -3,6 +3,7 @@ use Rattle.std.proofs.Common.{◌≡◌, ◌≢◌, ℕ, ◌+◌, ◌<◌, ◌�
 use Rattle.std.proofs.lemmas.Bool.{cond_both}
 use Rattle.std.proofs.lemmas.Bool.Decides.{nat_tests}
 use Rattle.std.specs.Prelude.{nat_le, ◌&&◌, ◌==◌}
+use Rattle.ir_lemmas.proofs.CallerLemmas.{conjuncts_are_true}
 use Rattle.ir_image.specs.Guest.{limits_of, most_object_words}
 use Rattle.ir_image.proofs.CallerLemmas.{words_of_form_at_most_limit}
 use Rattle.ir_mach.specs.Core.{Outcome, Goes, Calls, Ends}
@@ -30,10 +31,6 @@ less_if_nat_lt a b e = grind (arith, nat_tests)
 
 at_most_if_nat_le : (a b : ℕ) → nat_le a b ≡ true → a ≤ b
 at_most_if_nat_le a b e = grind (arith, nat_tests)
-
-conjuncts_are_true : (a b : Bool) → (a && b) ≡ true → (a ≡ true) × (b ≡ true)
-conjuncts_are_true true b e = (refl, e)
-conjuncts_are_true false b e = absurd (cc e)
 
 logged_ask_permitted : (s : ThreadState) (q : Ask) → IsRunning s → (CanLog s → Permits s q) → Permits s (logged_ask s q)
 logged_ask_permitted s q runs asks = conditional_ask_permitted s (nat_lt s.events most_events) q end.LogFull runs.lives (λ e. asks (less_if_nat_lt _ _ e))

@@ -2,7 +2,7 @@
 use Rattle.std.proofs.Common.{◌≡◌, refl, ℕ, Bool, cond, List, Option, Some, None, arith, nat_lt}
 use Rattle.std.specs.Prelude.{nat_le}
 use Rattle.std.proofs.lemmas.Bool.{cond_both}
-use Rattle.ir_image.specs.Guest.{IsWord}
+use Rattle.ir_image.specs.Bounds.{IsWord}
 use Rattle.ir_mach.specs.Core.{Core, Outcome, Goes, Calls, Ends}
 use Rattle.ir_mach.specs.Execution.{outcome_of}
 use Rattle.ir_mach.specs.declared.outcome.Fault.{Fault}

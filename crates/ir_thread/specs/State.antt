@@ -137,7 +137,7 @@ abbrev pub try_call : Profile → Option Call
 try_call One = None
 try_call Two = Some call.TryWrite
 
--- the system calls of a profile by their numbers
+-- the system calls of a profile by their numbers; PUTC, PUTN and SELF are PutByte, PutNumber and OwnNumber
 abbrev pub call_of : Profile → ℕ → Option Call
 call_of profile number =
     if number == 1 then Some call.End else
@@ -273,13 +273,13 @@ abbrev pub answer_of : Reply → Option ℕ
 answer_of Go = None
 answer_of (Value value) = Some value
 
--- a machine after a private step; a call that is private answers the thread's number
+-- a core after a private step; SELF, the one private call, answers the thread's number
 abbrev pub core_after : ℕ → Outcome → Core → Core
 core_after number (Goes core) old = core
 core_after number Calls old = past_call old (Some number)
 core_after number (Ends fault) old = old
 
--- a machine after leaving: while a thread releases what it holds, pc stays
+-- a core after leaving: while a thread releases what it holds, pc stays
 abbrev pub core_left : Option End → Core → Core
 core_left None core = past_call core None
 core_left (Some e) core = core
@@ -327,7 +327,7 @@ reply_of (ask.Try object) value = Value value
 reply_of (ask.Get object index) value = Value value
 reply_of _ value = Go
 
--- the results of the environment's calls: words, and of the input bytes or 0xFFFFFFFF
+-- which results suit a call of the environment: any word, and of INPUT a byte or 0xFFFFFFFF
 abbrev pub is_result : EnvKind → ℕ → Bool
 is_result Clock value = nat_lt value (2 ^ 32)
 is_result Random value = nat_lt value (2 ^ 32)

@@ -8,10 +8,9 @@ use Rattle.std.proofs.lemmas.List.{get_or_past}
 use Rattle.ir_flat.proofs.CallerLemmas.{guest_start_is_idle}
 use Rattle.ir_runs.specs.Run.{Step, trail, count, Cut}
 use Rattle.ir_fit.specs.Fit.{FittedTrace, IsRunOf}
-use Rattle.ir_fit.proofs.CallerLemmas.{idle_thread_has_empty_trail, get_or_of_at}
-use Rattle.ir_cut.specs.Positions.{machine_of, start_of, cut_of, IsConsistentCut}
+use Rattle.ir_fit.proofs.CallerLemmas.{idle_thread_has_empty_trail, get_or_is_item_if_at_index}
+use Rattle.ir_cut.specs.Positions.{machine_of, start_of, cut_of, IsConsistentCut, threads_of, last_of, first_cut, last_cut}
 use Rattle.ir_weave.specs.Standing.{Standing, StandsAt}
-use Rattle.ir_timeline.specs.Positions.{threads_of, last_of, first_cut, last_cut}
 
 -- ---- the first
 
@@ -49,8 +48,8 @@ last_position_of_thread f from (suc n) zero l = ap (last_of f) (let e : from ≡
 last_position_of_thread f from (suc n) (suc t) l =
     last_position_of_thread f (from + 1) n t (omega (arith, l)) ∙ ap (last_of f) (let e : from + 1 + t ≡ from + suc t = omega arith in e)
 
-pub no_last_positions : (f : FittedTrace) (xs : List ℕ) → xs ≡ [] → xs ≡ last_positions f 0 0
-no_last_positions f xs is = is
+pub empty_is_last_positions_of_no_threads : (f : FittedTrace) (xs : List ℕ) → xs ≡ [] → xs ≡ last_positions f 0 0
+empty_is_last_positions_of_no_threads f xs is = is
 
 last_positions_step : (f : FittedTrace) (from n : ℕ) → last_positions f from n ++ last_of f (from + n) ∷ [] ≡ last_positions f from (suc n)
 last_positions_step f from zero = ap (λ t. last_of f t ∷ []) (let e : from + 0 ≡ from = omega arith in e)
@@ -79,6 +78,6 @@ pub last_cut_is_consistent : (f : FittedTrace) → IsConsistentCut f (last_cut f
 last_cut_is_consistent f run whole = (
   λ t. let all = last_cut_position_is_step_count f run whole t in omega (arith, all),
   λ t k u j a b emitted needed needs less. let all = last_cut_position_is_step_count f run whole u in
-      let within = (get_or_of_at (trail (machine_of f) (start_of f) run u) j (needed.0, b) needed.1).0 in
+      let within = (get_or_is_item_if_at_index (trail (machine_of f) (start_of f) run u) j (needed.0, b) needed.1).0 in
       omega (arith, all, within),
 )

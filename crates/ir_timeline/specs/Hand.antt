@@ -3,8 +3,7 @@ use Rattle.ir_fit.specs.Fit.{FittedTrace}
 use Rattle.ir_checkpoint.specs.Checkpoints.{AreCheckpoints, Stands}
 use Rattle.ir_timeline.specs.declared.hand.InHand.{InHand}
 use Rattle.std.specs.Prelude.{◌≡◌, ℕ, List, length}
-use Rattle.ir_cut.specs.Positions.{IsConsistentCut}
-use Rattle.ir_timeline.specs.Positions.{threads_of}
+use Rattle.ir_cut.specs.Positions.{IsConsistentCut, threads_of}
 
 -- they are the guest's at a consistent cut of the run, and each state that is kept is so too
 pub record IsInHand (f : FittedTrace) (hand : InHand) : Type 0 where

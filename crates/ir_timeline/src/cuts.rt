@@ -1,8 +1,7 @@
 //! The first and the last cut, and how far each thread goes.
 
 ghost use Rattle.std.specs.Prelude.{◌≡◌, ◌<◌, length, IfOk};
-ghost use Rattle.ir_cut.specs.Positions.{IsConsistentCut};
-ghost use Rattle.ir_timeline.specs.Positions.{threads_of, last_of, first_cut, last_cut};
+ghost use Rattle.ir_cut.specs.Positions.{IsConsistentCut, threads_of, last_of, first_cut, last_cut};
 
 use ir_cut::Cut;
 use ir_fit::Fitted;

@@ -3,13 +3,12 @@
 ghost use Rattle.std.specs.Prelude.{◌≡◌, ◌<◌, ◌≤◌, length, IfOk};
 ghost use Rattle.std.specs.List.{slice_index_or};
 ghost use Rattle.ir_flat.specs.Flat.{idle};
-ghost use Rattle.ir_cut.specs.Positions.{EachRun};
+ghost use Rattle.ir_cut.specs.Positions.{EachRun, last_of, threads_of};
 ghost use Rattle.ir_weave.specs.Standing.{flat_in, positions};
 ghost use Rattle.ir_hits.specs.Hits.{IsFirstHit, IsLastHit};
 ghost use Rattle.ir_hits.specs.Watchable.{AreWatchable};
 ghost use Rattle.ir_hits.specs.Searching.{IsNextHit};
 ghost use Rattle.ir_timeline.specs.Hand.{IsInHand};
-ghost use Rattle.ir_timeline.specs.Positions.{last_of, threads_of};
 
 use crate::cuts::last_position;
 use crate::hand::InHand;

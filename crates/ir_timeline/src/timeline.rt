@@ -49,10 +49,10 @@ fn keep_passed(fitted: &Fitted, checkpoints: &mut Checkpoints, passed: Vec<Passe
 
 impl Timeline {
     ghost use Rattle.std.specs.Prelude.{◌<◌, ◌≤◌, IfOk, IsOk, OnOk};
-    ghost use Rattle.ir_cut.specs.Positions.{EachRun, cut_of};
+    ghost use Rattle.ir_cut.specs.Positions.{EachRun, cut_of, first_cut, last_of, threads_of};
     ghost use Rattle.ir_hits.specs.Watchable.{AreWatchable};
     ghost use Rattle.ir_hits.specs.Searching.{IsNextHit};
-    ghost use Rattle.ir_timeline.specs.Positions.{Finds, first_cut, last_of, threads_of};
+    ghost use Rattle.ir_hits.specs.Hits.{Finds};
     ghost use Rattle.ir_timeline.specs.Hand.{IsCutOf};
     ghost use Rattle.ir_timeline.specs.Replaying.{IsThere};
 

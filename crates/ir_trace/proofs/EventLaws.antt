@@ -15,7 +15,8 @@ use Rattle.ir_log.specs.declared.event.Event.{Event}
 use Rattle.ir_log.specs.declared.event.Event.TheVariants.{Answer, Read, Write, Try}
 use Rattle.ir_trace.specs.declared.trace_err.TraceErr.{TraceErr}
 use Rattle.ir_trace.specs.declared.trace_err.TraceErr.TheVariants.{Short, Count, Tag, Range}
-use Rattle.ir_trace.specs.Recorded.{IsWord, IsEvent, answer_at, input_at, read_at, write_at, try_at, try_by, event_by, event_at}
+use Rattle.ir_trace.specs.Recorded.{answer_at, input_at, read_at, write_at, try_at, try_by, event_by, event_at}
+use Rattle.ir_trace.specs.Bounds.{IsWord, IsEvent}
 use Rattle.ir_trace.specs.Fields.{input_field, object_field}
 use Rattle.ir_trace.specs.Encoding.{kind_tag, event_encoding}
 

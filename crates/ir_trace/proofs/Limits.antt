@@ -3,7 +3,8 @@ use Rattle.std.proofs.Common.{◌≤◌, length, arith}
 use Rattle.ir_image.specs.Guest.{most_threads, most_objects}
 use Rattle.ir_image.proofs.CallerLemmas.{threads_of_form_at_most_limit, objects_of_form_at_most_limit}
 use Rattle.ir_thread.specs.State.{largest}
-use Rattle.ir_trace.specs.Recorded.{Recorded, IsRecorded}
+use Rattle.ir_trace.specs.Recorded.{Recorded}
+use Rattle.ir_trace.specs.Bounds.{IsRecorded}
 
 pub recorded_threads_at_most_limit : (r : Recorded) → IsRecorded r → length r.threads ≤ most_threads
 recorded_threads_at_most_limit r fits = let few = fits.few_threads in let most = threads_of_form_at_most_limit (largest r.profile) in omega (arith, few, most)

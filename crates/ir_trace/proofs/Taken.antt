@@ -13,7 +13,8 @@ use Rattle.ir_thread.specs.declared.profile.Profile.{Profile}
 use Rattle.ir_thread.specs.declared.profile.Profile.TheVariants.{One, Two}
 use Rattle.ir_trace.specs.declared.trace_err.TraceErr.{TraceErr}
 use Rattle.ir_trace.specs.declared.trace_err.TraceErr.TheVariants.{Short, Magic, Reserved}
-use Rattle.ir_trace.specs.Recorded.{IsWord, trace_magic, profile_at, end_by, end_at}
+use Rattle.ir_trace.specs.Recorded.{trace_magic, profile_at, end_by, end_at}
+use Rattle.ir_trace.specs.Bounds.{IsWord}
 use Rattle.ir_trace.specs.Fields.{trace_magic_field, reserved_field, end_field, is_magic, profile_of}
 use Rattle.ir_trace.specs.Encoding.{end_encoding}
 

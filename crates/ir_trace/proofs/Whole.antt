@@ -14,7 +14,8 @@ use Rattle.ir_log.specs.declared.event.Event.{Event}
 use Rattle.ir_trace.specs.declared.header.Header.{Header}
 use Rattle.ir_trace.specs.declared.trace_err.TraceErr.{TraceErr}
 use Rattle.ir_trace.specs.declared.trace_err.TraceErr.TheVariants.{Short, Count, Trailing}
-use Rattle.ir_trace.specs.Recorded.{RecordedThread, Recorded, IsEvent, IsRecordedThread, IsRecorded, trace_magic, profile_at, header_at, end_at, event_at, thread_part_at, recorded_at}
+use Rattle.ir_trace.specs.Recorded.{RecordedThread, Recorded, trace_magic, profile_at, header_at, end_at, event_at, thread_part_at, recorded_at}
+use Rattle.ir_trace.specs.Bounds.{IsEvent, IsRecordedThread, IsRecorded}
 use Rattle.ir_trace.specs.Fields.{trace_threads_field, trace_objects_field, reserved_field, budget_field, events_field}
 use Rattle.ir_trace.specs.Encoding.{event_encoding, end_encoding, thread_encoding, header_of, header_encoding, encoding}
 use Rattle.ir_trace.proofs.EventLaws.{event_at_takes_event, event_at_of_encoding}

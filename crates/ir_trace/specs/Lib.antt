@@ -1,4 +1,5 @@
 pub mod Recorded
+pub mod Bounds
 pub mod Encoding
 pub mod Fields
 pub mod Results

@@ -1,10 +1,9 @@
--- What was recorded of a run, however the code keeps it; how it is read from bytes, and its limits.
-use Rattle.std.specs.Prelude.{ℕ, List, [], map, Some, length, Option, None, Result, Ok, Err, nat_lt, ◌==◌, ◌||◌, if◌then◌else◌, ◌∷◌, ◌≡◌, ◌^◌, ◌<◌, ◌≤◌, true}
-pub use Rattle.ir_bytes.specs.Reading.{IsWord}
+-- What was recorded of a run, however the code keeps it, and how it is read from bytes.
+use Rattle.std.specs.Prelude.{ℕ, List, [], map, Some, length, Option, None, Result, Ok, Err, nat_lt, ◌==◌, ◌||◌, if◌then◌else◌, ◌∷◌}
 use Rattle.ir_thread.specs.declared.end.End.{End}
 use Rattle.ir_thread.specs.declared.profile.Profile.{Profile}
 use Rattle.ir_log.specs.declared.event.Event.{Event}
-use Rattle.std.specs.List.{slice_index_or, AllByRecursion}
+use Rattle.std.specs.List.{slice_index_or}
 use Rattle.ir_thread.specs.State.{end_number, end_code, largest, end_of, most_budget, most_events, is_result}
 use Rattle.ir_runs.specs.Machine.{Trace}
 use Rattle.ir_thread.specs.declared.end.End.TheVariants.{Breakpoint}
@@ -159,25 +158,3 @@ trace_fault_number Reserved = Some 5
 trace_fault_number Range = Some 6
 trace_fault_number Trailing = Some 7
 trace_fault_number NoMem = None
-
--- the limits of an event of a guest with `objects` objects: a result suits its call, and a refused try is in the second profile alone
-abbrev pub IsEvent : Profile → ℕ → Event → Type 0
-IsEvent profile objects (Answer kind value) = is_result kind value ≡ true
-IsEvent profile objects (Read object version) = (object < objects) × IsWord version
-IsEvent profile objects (Write object version readers) = (object < objects) × IsWord version × IsWord readers
-IsEvent profile objects (Try object) = (profile ≡ Two) × (object < objects)
-
--- the limits of what is recorded of a thread of a guest with `objects` objects
-pub record IsRecordedThread (profile : Profile) (objects : ℕ) (t : RecordedThread) : Type 0 where
-  pub steps_fit : t.steps < 2 ^ 64
-  pub code_fits : IsWord (end_code t.end)
-  pub few_events : length t.events ≤ most_events
-  pub events_fit : AllByRecursion (IsEvent profile objects) t.events
-
--- the limits of what is recorded, the threads and objects by the profile
-pub record IsRecorded (r : Recorded) : Type 0 where
-  pub some_thread : 1 ≤ length r.threads
-  pub few_threads : length r.threads ≤ (limits_of (largest r.profile)).threads
-  pub few_objects : r.objects ≤ (limits_of (largest r.profile)).objects
-  pub budget_fits : r.budget ≤ most_budget
-  pub threads_fit : AllByRecursion (IsRecordedThread r.profile r.objects) r.threads

@@ -3,9 +3,10 @@
 ghost use Rattle.std.specs.Prelude.{◌≡◌, List, ℕ, length, Ok};
 ghost use Rattle.std.specs.List.{AllByRecursion};
 ghost use Rattle.byteorder.specs.Endian.{little_number, little_bytes};
-ghost use Rattle.ir_bytes.specs.Reading.{IsByte};
+ghost use Rattle.ir_bytes.specs.Numbers.{IsByte};
 ghost use Rattle.ir_bytes.specs.Format.{fault_of};
-ghost use Rattle.ir_trace.specs.Recorded.{Recorded, trace_of, IsRecorded, recorded_at};
+ghost use Rattle.ir_trace.specs.Recorded.{Recorded, trace_of, recorded_at};
+ghost use Rattle.ir_trace.specs.Bounds.{IsRecorded};
 ghost use Rattle.ir_trace.specs.Encoding.{encoding};
 ghost use Rattle.ir_trace.specs.Fields.{trace_fault};
 

@@ -1,7 +1,8 @@
 //! The reader of traces.
 
 ghost use Rattle.std.specs.Prelude.{◌≡◌, List, ℕ, IfOk, Ok};
-ghost use Rattle.ir_trace.specs.Recorded.{Recorded, IsRecorded, profile_at, header_at, end_at, thread_part_at, recorded_at};
+ghost use Rattle.ir_trace.specs.Recorded.{Recorded, profile_at, header_at, end_at, thread_part_at, recorded_at};
+ghost use Rattle.ir_trace.specs.Bounds.{IsRecorded};
 ghost use Rattle.ir_trace.specs.Encoding.{encoding};
 ghost use Rattle.ir_bytes.specs.Reading.{fields_at};
 ghost use Rattle.ir_trace.specs.Results.{Gives};

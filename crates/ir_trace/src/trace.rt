@@ -4,7 +4,8 @@ ghost use Rattle.std.specs.Prelude.{◌≡◌, ◌<◌, ◌≤◌, length, slice
 ghost use Rattle.ir_log.specs.Asked.{Suits};
 ghost use Rattle.ir_log.specs.declared.event.Event.{Event};
 ghost use Rattle.ir_thread.specs.State.{most_events};
-ghost use Rattle.ir_trace.specs.Recorded.{Recorded, recorded_thread, IsRecorded, IsRecordedThread};
+ghost use Rattle.ir_trace.specs.Recorded.{Recorded, recorded_thread};
+ghost use Rattle.ir_trace.specs.Bounds.{IsRecorded, IsRecordedThread};
 
 use crate::thread_trace::ThreadTrace;
 use ir_log::{Cursor, Disagree, Event};

@@ -2,7 +2,7 @@
 use Rattle.std.proofs.Common.{ℕ, suc, List, [], ◌∷◌}
 use Rattle.std.specs.Prelude.{slice_index}
 use Rattle.std.specs.List.{AllByRecursion}
-use Rattle.ir_image.specs.Guest.{IsWord}
+use Rattle.ir_image.specs.Bounds.{IsWord}
 
 pub all_words_if_each_fits : (words : List ℕ) → ((i : ℕ) → IsWord (slice_index words i)) → AllByRecursion IsWord words
 all_words_if_each_fits [] each = tt

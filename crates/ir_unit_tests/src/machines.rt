@@ -2,7 +2,8 @@
 
 ghost use Rattle.std.specs.Prelude.{◌≡◌, ◌≤◌, ◌<◌, ◌%◌, ◌^◌, ◌≤ℤ◌, pos, negsuc, vec_len, length, IfOk};
 ghost use Rattle.std.specs.List.{AllByRecursion};
-ghost use Rattle.ir_image.specs.Guest.{IsWord, most_code_words};
+ghost use Rattle.ir_image.specs.Guest.{most_code_words};
+ghost use Rattle.ir_image.specs.Bounds.{IsWord};
 
 use crate::registers::{A0, T0, T1};
 use ir_image::{Code, Image, ImageForm, MOST_CODE_WORDS};

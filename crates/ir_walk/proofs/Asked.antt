@@ -32,17 +32,17 @@ abbrev first_asked : Ask → List Exchange → Ask
 first_asked q [] = q
 first_asked q (c ∷ cs) = c.asked
 
-asked_of_single_call : (q : Ask) (r : Reply) (c : Exchange) → c ∷ [] ≡ call_by q r → q ≡ c.asked
-asked_of_single_call ask.Private r c e = absurd (cc e)
-asked_of_single_call (ask.Env kind) r c e = sym (ap (first_asked ask.Private) e)
-asked_of_single_call (ask.Enter o a) r c e = sym (ap (first_asked ask.Private) e)
-asked_of_single_call (ask.Try o) r c e = sym (ap (first_asked ask.Private) e)
-asked_of_single_call (ask.Leave o a) r c e = sym (ap (first_asked ask.Private) e)
-asked_of_single_call (ask.Get o i) r c e = sym (ap (first_asked ask.Private) e)
-asked_of_single_call (ask.Put o i w) r c e = sym (ap (first_asked ask.Private) e)
-asked_of_single_call ask.Print r c e = sym (ap (first_asked ask.Private) e)
-asked_of_single_call (ask.End z) r c e = sym (ap (first_asked ask.Private) e)
-asked_of_single_call ask.Done r c e = sym (ap (first_asked ask.Private) e)
+ask_of_single_call_is_what_call_asked : (q : Ask) (r : Reply) (c : Exchange) → c ∷ [] ≡ call_by q r → q ≡ c.asked
+ask_of_single_call_is_what_call_asked ask.Private r c e = absurd (cc e)
+ask_of_single_call_is_what_call_asked (ask.Env kind) r c e = sym (ap (first_asked ask.Private) e)
+ask_of_single_call_is_what_call_asked (ask.Enter o a) r c e = sym (ap (first_asked ask.Private) e)
+ask_of_single_call_is_what_call_asked (ask.Try o) r c e = sym (ap (first_asked ask.Private) e)
+ask_of_single_call_is_what_call_asked (ask.Leave o a) r c e = sym (ap (first_asked ask.Private) e)
+ask_of_single_call_is_what_call_asked (ask.Get o i) r c e = sym (ap (first_asked ask.Private) e)
+ask_of_single_call_is_what_call_asked (ask.Put o i w) r c e = sym (ap (first_asked ask.Private) e)
+ask_of_single_call_is_what_call_asked ask.Print r c e = sym (ap (first_asked ask.Private) e)
+ask_of_single_call_is_what_call_asked (ask.End z) r c e = sym (ap (first_asked ask.Private) e)
+ask_of_single_call_is_what_call_asked ask.Done r c e = sym (ap (first_asked ask.Private) e)
 
 -- ---- some steps
 
@@ -68,7 +68,7 @@ pub steps_without_call_are_private : (f : FittedTrace) (t k n : ℕ) → AreCall
 steps_without_call_are_private f t k n calls j from to run of = asks_private_if_no_calls f.guest.code (thread_at f run t) k n (calls.same run of) j from to
 
 -- a step with a call asks so
-pub step_with_call_asks_so : (f : FittedTrace) (t k n : ℕ) (c : Exchange) → AreCalls f t k n (c ∷ []) → n ≡ 1 → EachRun f (λ run. ask_at f run t k ≡ c.asked)
-step_with_call_asks_so f t k n c calls one run of =
-    asked_of_single_call (ask_at f run t k) (reply_between f.guest.code (thread_at f run t k) (thread_at f run t (suc k))) c
+pub step_with_call_asks_what_call_asked : (f : FittedTrace) (t k n : ℕ) (c : Exchange) → AreCalls f t k n (c ∷ []) → n ≡ 1 → EachRun f (λ run. ask_at f run t k ≡ c.asked)
+step_with_call_asks_what_call_asked f t k n c calls one run of =
+    ask_of_single_call_is_what_call_asked (ask_at f run t k) (reply_between f.guest.code (thread_at f run t k) (thread_at f run t (suc k))) c
     (calls.same run of ∙ ap (calls_in f.guest.code (thread_at f run t) k) one ∙ calls_in_one_step f.guest.code (thread_at f run t) k)

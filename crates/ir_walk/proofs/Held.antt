@@ -28,23 +28,23 @@ object_of_entry_label (Refused o) = 0
 object_of_entry_label (Out o a v) = 0
 
 -- what emits an entry holds its object behind it
-entry_holds_its_object : (q : Ask) (r : ℕ) (b : Object) (h : ℕ → Option Access) (o : ℕ) (a : Access) (v l : ℕ)
+entry_holds_its_object_behind_it : (q : Ask) (r : ℕ) (b : Object) (h : ℕ → Option Access) (o : ℕ) (a : Access) (v l : ℕ)
     → In o a v l ≡ emitted (act_of q r) b → held_after (act_of q (reply (act_of q r) b)) h o ≡ None → ⊥
-entry_holds_its_object Private r b h o a v l e none = absurd (cc e)
-entry_holds_its_object (Env kind) r b h o a v l e none = absurd (cc e)
-entry_holds_its_object (Enter p Reading) r b h o a v l e none = let same : o ≡ p = ap object_of_entry_label e in
+entry_holds_its_object_behind_it Private r b h o a v l e none = absurd (cc e)
+entry_holds_its_object_behind_it (Env kind) r b h o a v l e none = absurd (cc e)
+entry_holds_its_object_behind_it (Enter p Reading) r b h o a v l e none = let same : o ≡ p = ap object_of_entry_label e in
     let x = sym (upd_at_own_place h p (Some Reading)) ∙ subst (λ z. upd h p (Some Reading) z ≡ None) same none in absurd (cc x)
-entry_holds_its_object (Enter p Writing) r b h o a v l e none = let same : o ≡ p = ap object_of_entry_label e in
+entry_holds_its_object_behind_it (Enter p Writing) r b h o a v l e none = let same : o ≡ p = ap object_of_entry_label e in
     let x = sym (upd_at_own_place h p (Some Writing)) ∙ subst (λ z. upd h p (Some Writing) z ≡ None) same none in absurd (cc x)
-entry_holds_its_object (Try p) zero b h o a v l e none = absurd (cc e)
-entry_holds_its_object (Try p) (suc zero) b h o a v l e none = let same : o ≡ p = ap object_of_entry_label e in
+entry_holds_its_object_behind_it (Try p) zero b h o a v l e none = absurd (cc e)
+entry_holds_its_object_behind_it (Try p) (suc zero) b h o a v l e none = let same : o ≡ p = ap object_of_entry_label e in
     let x = sym (upd_at_own_place h p (Some Writing)) ∙ subst (λ z. upd h p (Some Writing) z ≡ None) same none in absurd (cc x)
-entry_holds_its_object (Try p) (suc (suc r)) b h o a v l e none = absurd (cc e)
-entry_holds_its_object (Leave p Reading) r b h o a v l e none = absurd (cc e)
-entry_holds_its_object (Leave p Writing) r b h o a v l e none = absurd (cc e)
-entry_holds_its_object (Get p i) r b h o a v l e none = absurd (cc e)
-entry_holds_its_object (Put p i w) r b h o a v l e none = absurd (cc e)
-entry_holds_its_object Done r b h o a v l e none = absurd (cc e)
+entry_holds_its_object_behind_it (Try p) (suc (suc r)) b h o a v l e none = absurd (cc e)
+entry_holds_its_object_behind_it (Leave p Reading) r b h o a v l e none = absurd (cc e)
+entry_holds_its_object_behind_it (Leave p Writing) r b h o a v l e none = absurd (cc e)
+entry_holds_its_object_behind_it (Get p i) r b h o a v l e none = absurd (cc e)
+entry_holds_its_object_behind_it (Put p i w) r b h o a v l e none = absurd (cc e)
+entry_holds_its_object_behind_it Done r b h o a v l e none = absurd (cc e)
 
 -- a thread of a run behind an entry
 pub thread_holds_object_behind_entry : (f : FittedTrace) (run : List Step) → IsRunOf f.guest f.recorded run → (t k o : ℕ) (a : Access) (v l : ℕ)
@@ -54,7 +54,7 @@ thread_holds_object_behind_entry f run of t k o a v l emitted none =
     let z : StepOf m (thread_at f run t k) (thread_at f run t (suc k)) (In o a v l) =
     emitting_step_is_step_of m (start_of f) run of.1.runs t k (In o a v l) emitted in
     let on : k + 1 ≡ suc k = omega arith in
-    entry_holds_its_object (m.ask (thread_at f run t k)) z.result z.object (m.held (thread_at f run t k)) o a v l z.emits
+    entry_holds_its_object_behind_it (m.ask (thread_at f run t k)) z.result z.object (m.held (thread_at f run t k)) o a v l z.emits
     (sym ((guest_machine_is_lawful f).takes (thread_at f run t k) (reply (act_of (m.ask (thread_at f run t k)) z.result) z.object) o)
     ∙ ap (λ (x : thread.ThreadState). m.held x o) (sym z.next) ∙ ap (λ j. m.held (thread_at f run t j) o) (sym on) ∙ none)
 
@@ -66,21 +66,21 @@ object_of_leave_label (Refused o) = 0
 object_of_leave_label (Out o a v) = o
 
 -- what emits a leave holds its object before it
-leave_holds_its_object : (q : Ask) (r : ℕ) (b : Object) (h : ℕ → Option Access) (o : ℕ) (a : Access) (v : ℕ) → Out o a v ≡ emitted (act_of q r) b
+leave_holds_its_object_before_it : (q : Ask) (r : ℕ) (b : Object) (h : ℕ → Option Access) (o : ℕ) (a : Access) (v : ℕ) → Out o a v ≡ emitted (act_of q r) b
     → Holds q h → h o ≡ None → ⊥
-leave_holds_its_object Private r b h o a v e k none = absurd (cc e)
-leave_holds_its_object (Env kind) r b h o a v e k none = absurd (cc e)
-leave_holds_its_object (Enter p Reading) r b h o a v e k none = absurd (cc e)
-leave_holds_its_object (Enter p Writing) r b h o a v e k none = absurd (cc e)
-leave_holds_its_object (Try p) zero b h o a v e k none = absurd (cc e)
-leave_holds_its_object (Try p) (suc zero) b h o a v e k none = absurd (cc e)
-leave_holds_its_object (Try p) (suc (suc r)) b h o a v e k none = absurd (cc e)
-leave_holds_its_object (Leave p c) r b h o a v e k none =
+leave_holds_its_object_before_it Private r b h o a v e k none = absurd (cc e)
+leave_holds_its_object_before_it (Env kind) r b h o a v e k none = absurd (cc e)
+leave_holds_its_object_before_it (Enter p Reading) r b h o a v e k none = absurd (cc e)
+leave_holds_its_object_before_it (Enter p Writing) r b h o a v e k none = absurd (cc e)
+leave_holds_its_object_before_it (Try p) zero b h o a v e k none = absurd (cc e)
+leave_holds_its_object_before_it (Try p) (suc zero) b h o a v e k none = absurd (cc e)
+leave_holds_its_object_before_it (Try p) (suc (suc r)) b h o a v e k none = absurd (cc e)
+leave_holds_its_object_before_it (Leave p c) r b h o a v e k none =
     let same : o ≡ p = ap object_of_leave_label e in
     let x : Some c ≡ None = sym k ∙ ap h (sym same) ∙ none in absurd (cc x)
-leave_holds_its_object (Get p i) r b h o a v e k none = absurd (cc e)
-leave_holds_its_object (Put p i w) r b h o a v e k none = absurd (cc e)
-leave_holds_its_object Done r b h o a v e k none = absurd (cc e)
+leave_holds_its_object_before_it (Get p i) r b h o a v e k none = absurd (cc e)
+leave_holds_its_object_before_it (Put p i w) r b h o a v e k none = absurd (cc e)
+leave_holds_its_object_before_it Done r b h o a v e k none = absurd (cc e)
 
 -- a thread of a run before a leave
 pub thread_holds_object_before_leave : (f : FittedTrace) (run : List Step) → IsRunOf f.guest f.recorded run → (t k o : ℕ) (a : Access) (v : ℕ)
@@ -89,7 +89,7 @@ thread_holds_object_before_leave f run of t k o a v emitted none =
     let m = machine_of f in
     let z : StepOf m (thread_at f run t k) (thread_at f run t (suc k)) (Out o a v) =
     emitting_step_is_step_of m (start_of f) run of.1.runs t k (Out o a v) emitted in
-    leave_holds_its_object (m.ask (thread_at f run t k)) z.result z.object (m.held (thread_at f run t k)) o a v z.emits
+    leave_holds_its_object_before_it (m.ask (thread_at f run t k)) z.result z.object (m.held (thread_at f run t k)) o a v z.emits
     ((guest_machine_is_lawful f).holds (thread_at f run t k)) none
 
 -- ---- the words

@@ -26,50 +26,50 @@ use Rattle.ir_walk.specs.declared.exchange.Exchange.{Exchange}
 -- ---- a step
 
 -- what is read after a word was set, which is 0 where there is no such place
-read_after_set_cases : (xs : List ℕ) (i v : ℕ) → (slice_index (slice_set xs i v) i ≡ v) ⊎ (slice_index (slice_set xs i v) i ≡ 0)
-read_after_set_cases xs i v = elim (cases_lt i (length xs)) [
+slice_index_after_set_cases : (xs : List ℕ) (i v : ℕ) → (slice_index (slice_set xs i v) i ≡ v) ⊎ (slice_index (slice_set xs i v) i ≡ 0)
+slice_index_after_set_cases xs i v = elim (cases_lt i (length xs)) [
   | inl l ↦ inl (get_or-set_same xs i v 0 l)
   | inr past ↦ inr (get_or_past (set xs i v) i 0 (let n = length-set xs i v in omega (arith, n, past)))
 ]
 
 -- an answer of 1 or 0 to a try is read as such
-try_answer_reads_one_or_zero : (xs : List ℕ) (v a : ℕ) → (v ≡ 1) ⊎ (v ≡ 0) → a ≡ slice_index (slice_set xs 10 v) 10 → (Value a ≡ Value 1) ⊎ (Value a ≡ Value 0)
-try_answer_reads_one_or_zero xs v a (inl one) e = elim (read_after_set_cases xs 10 v) [
+try_reply_in_register_is_one_or_zero : (xs : List ℕ) (v a : ℕ) → (v ≡ 1) ⊎ (v ≡ 0) → a ≡ slice_index (slice_set xs 10 v) 10 → (Value a ≡ Value 1) ⊎ (Value a ≡ Value 0)
+try_reply_in_register_is_one_or_zero xs v a (inl one) e = elim (slice_index_after_set_cases xs 10 v) [
   | inl same ↦ inl (ap Value (e ∙ same ∙ one))
   | inr none ↦ inr (ap Value (e ∙ none))
 ]
-try_answer_reads_one_or_zero xs v a (inr zeroed) e = elim (read_after_set_cases xs 10 v) [
+try_reply_in_register_is_one_or_zero xs v a (inr zeroed) e = elim (slice_index_after_set_cases xs 10 v) [
   | inl same ↦ inr (ap Value (e ∙ same ∙ zeroed))
   | inr none ↦ inr (ap Value (e ∙ none))
 ]
 
 -- what is read of an answer fits what was asked
-read_reply_suits_ask : (f : FittedTrace) (code : List ℕ) (x y : thread.ThreadState) (q : Ask) (r : ℕ) (b : Object) → Admits (machine_of f) (act_of (shared_ask q) r) b
+reply_in_register_suits_ask : (f : FittedTrace) (code : List ℕ) (x y : thread.ThreadState) (q : Ask) (r : ℕ) (b : Object) → Admits (machine_of f) (act_of (shared_ask q) r) b
     → y ≡ after_ask code x q (reply_of q (reply (act_of (shared_ask q) r) b)) → Suits q (reply_of q (a0 y))
-read_reply_suits_ask f code x y ask.Private r b can e = refl
-read_reply_suits_ask f code x y (ask.Env kind) r b can e = tt
-read_reply_suits_ask f code x y (ask.Enter o a) r b can e = refl
-read_reply_suits_ask f code x y (ask.Try o) zero b can e = try_answer_reads_one_or_zero x.core.registers 0 (a0 y) (inr refl) (ap a0 e)
-read_reply_suits_ask f code x y (ask.Try o) (suc zero) b can e = try_answer_reads_one_or_zero x.core.registers 1 (a0 y) (inl refl) (ap a0 e)
-read_reply_suits_ask f code x y (ask.Try o) (suc (suc r)) b can e = absurd can
-read_reply_suits_ask f code x y (ask.Leave o a) r b can e = refl
-read_reply_suits_ask f code x y (ask.Get o i) r b can e = tt
-read_reply_suits_ask f code x y (ask.Put o i w) r b can e = refl
-read_reply_suits_ask f code x y ask.Print r b can e = refl
-read_reply_suits_ask f code x y (ask.End z) r b can e = refl
-read_reply_suits_ask f code x y ask.Done r b can e = absurd can
+reply_in_register_suits_ask f code x y ask.Private r b can e = refl
+reply_in_register_suits_ask f code x y (ask.Env kind) r b can e = tt
+reply_in_register_suits_ask f code x y (ask.Enter o a) r b can e = refl
+reply_in_register_suits_ask f code x y (ask.Try o) zero b can e = try_reply_in_register_is_one_or_zero x.core.registers 0 (a0 y) (inr refl) (ap a0 e)
+reply_in_register_suits_ask f code x y (ask.Try o) (suc zero) b can e = try_reply_in_register_is_one_or_zero x.core.registers 1 (a0 y) (inl refl) (ap a0 e)
+reply_in_register_suits_ask f code x y (ask.Try o) (suc (suc r)) b can e = absurd can
+reply_in_register_suits_ask f code x y (ask.Leave o a) r b can e = refl
+reply_in_register_suits_ask f code x y (ask.Get o i) r b can e = tt
+reply_in_register_suits_ask f code x y (ask.Put o i w) r b can e = refl
+reply_in_register_suits_ask f code x y ask.Print r b can e = refl
+reply_in_register_suits_ask f code x y (ask.End z) r b can e = refl
+reply_in_register_suits_ask f code x y ask.Done r b can e = absurd can
 
-thread_step_of_run : (f : FittedTrace) (run : List Step) → IsRunOf f.guest f.recorded run → (t k : ℕ) → k < count (machine_of f) (start_of f) run t
+next_thread_of_run_is_after_ask : (f : FittedTrace) (run : List Step) → IsRunOf f.guest f.recorded run → (t k : ℕ) → k < count (machine_of f) (start_of f) run t
     → (v : ℕ) × (thread_at f run t (suc k) ≡ after_ask f.guest.code (thread_at f run t k) (ask_at f run t k) (reply_of (ask_at f run t k) v))
     × Suits (ask_at f run t k) (reply_between f.guest.code (thread_at f run t k) (thread_at f run t (suc k)))
 unfolding after_reply
-thread_step_of_run f run of t k l =
+next_thread_of_run_is_after_ask f run of t k l =
     let at = step_below_count_emits f run t k l in
     let z : StepOf (machine_of f) (thread_at f run t k) (thread_at f run t (suc k)) at.0 =
     emitting_step_is_step_of (machine_of f) (start_of f) run of.1.runs t k at.0 at.1 in (
       reply (act_of (shared_ask (ask_at f run t k)) z.result) z.object,
       z.next,
-      read_reply_suits_ask f f.guest.code (thread_at f run t k) (thread_at f run t (suc k)) (ask_at f run t k) z.result z.object z.can z.next,
+      reply_in_register_suits_ask f f.guest.code (thread_at f run t k) (thread_at f run t (suc k)) (ask_at f run t k) z.result z.object z.can z.next,
     )
 
 -- ---- private steps
@@ -90,7 +90,7 @@ thread_after_private_steps f run of t k n within each zero l = let on : k + zero
 thread_after_private_steps f run of t k n within each (suc j) l =
     let on : k + suc j ≡ suc (k + j) = omega arith in
     let before = thread_after_private_steps f run of t k n within each j (omega (arith, l)) in
-    let s = thread_step_of_run f run of t (k + j) (omega (arith, l, within)) in
+    let s = next_thread_of_run_is_after_ask f run of t (k + j) (omega (arith, l, within)) in
     let private : ask_at f run t (k + j) ≡ ask.Private = ap (ask_of f.guest.code) before ∙ each j (omega (arith, l)) in
     ap (thread_at f run t) on
     ∙ next_state_after_private_ask f.guest.code (thread_at f run t (k + j)) (thread_at f run t (suc (k + j))) (ask_at f run t (k + j)) s.0 refl s.1 private
@@ -174,7 +174,7 @@ calls_taken_in_one_step f code run0 old new t n asked x y calls of0 is stands st
         let less : k < count (machine_of f) (start_of f) run t = (let a = (stands'.at.each run of).cut t in omega (arith, a, up)) in (
           call ∙ sym (calls_in_one_step f.guest.code (thread_at f run t) k) ∙ ap (calls_in f.guest.code (thread_at f run t) k) (sym one),
           subst AllSuit (sym call) (call_by_suiting_reply_suits (ask_at f run t k) (reply_between f.guest.code (thread_at f run t k) (thread_at f run t (suc k)))
-              (thread_step_of_run f run of t k less).2),
+              (next_thread_of_run_is_after_ask f run of t k less).2),
         )
 
 -- ---- calls after others
@@ -204,5 +204,5 @@ all_suit_append : (xs ys : List Exchange) → AllSuit xs → AllSuit ys → AllS
 all_suit_append [] ys a b = b
 all_suit_append (x ∷ xs) ys a b = (a.0, all_suit_append xs ys a.1 b)
 
-pub all_suit_of_append : (xs ys : List Exchange) → AllSuit xs → AllSuit ys → AllSuit (xs ++ ys)
-all_suit_of_append xs ys a b = all_suit_append xs ys a b
+pub all_suit_in_append_if_in_both : (xs ys : List Exchange) → AllSuit xs → AllSuit ys → AllSuit (xs ++ ys)
+all_suit_in_append_if_in_both xs ys a b = all_suit_append xs ys a b

@@ -43,7 +43,7 @@ use Rattle.ir_weave.specs.declared.plan.Progress.{Progress}
 use Rattle.ir_weave.specs.Stepping.{LogsNext}
 use Rattle.ir_weave.proofs.Behind.{guest_state_at_consistent_cut, tables_are_end_of_part, admitted_thread_logs_next}
 use Rattle.ir_weave.proofs.Lone.{try_result}
-use Rattle.ir_weave.proofs.Entries.{open_entry_is_admitted, shut_entry_is_not_admitted, open_is_decidable, open_depends_on_fields}
+use Rattle.ir_weave.proofs.Entries.{open_entry_is_admitted, shut_entry_is_not_admitted, cell_is_open_or_not, open_depends_on_fields}
 use Rattle.ir_weave.proofs.Forth.{StepGoesOn, CaughtUp, IsFree, state_thread_is_guest_thread, step_goes_on_if_logs_next, step_goes_on_if_admitted, try_that_logs_has_result, free_step_is_admitted, state_catches_up_with_thread}
 use Rattle.ir_weave.proofs.Moves.{IsFurther, further_state_is_not_lower, woven_after_seat_moves}
 use Rattle.ir_weave.proofs.Words.{table_after_object_word_set, table_after_content_word_set, table_after_word_rewritten}
@@ -84,9 +84,9 @@ caught_up_thread_has_step : (f : FittedTrace) (s : Flat) (t : ℕ) (y : thread.T
 caught_up_thread_has_step f s t y cu has run of = subst (λ (z : thread.ThreadState). z.steps < count (machine_of f) (start_of f) run t) (sym cu.own) (has run of)
 
 -- where it touches an object, that is its next such step
-pub touching_step_is_next_object : (f : FittedTrace) (t i : ℕ) (y : thread.ThreadState) (q : Ask) → IsAhead f t i y → ask_of f.guest.code y ≡ q
+pub step_is_next_on_object_if_not_alone : (f : FittedTrace) (t i : ℕ) (y : thread.ThreadState) (q : Ask) → IsAhead f t i y → ask_of f.guest.code y ≡ q
     → (IsAlone q (event_of f t y) → ⊥) → IsNextObject f t i y.steps
-touching_step_is_next_object f t i y q ahead is touches = record {
+step_is_next_on_object_if_not_alone f t i y q ahead is touches = record {
   past = ahead.past;
   alone = ahead.alone;
   touches = λ run of h. touches (subst (λ p. IsAlone p (event_of f t y)) is (subst (GoesAlone f t) (sym (ahead.at run of).1) h));
@@ -171,7 +171,7 @@ look_is_allowed slots id o a e y q c ahead inside entering x h homes at small =
     subst (λ z. slice_get (recorded_thread f.recorded z).events y.events ≡ Some e) ahead.number entering.event in
     let event : slice_get (recorded_thread f.recorded t).events (thread_of cu.state t).events ≡ Some e =
     ap (λ (z : thread.ThreadState). slice_get (recorded_thread f.recorded t).events z.events) cu.own ∙ own_event in
-    let nexts : IsNextObject f t q.position y.steps = touching_step_is_next_object f t q.position y entering.asked ahead
+    let nexts : IsNextObject f t q.position y.steps = step_is_next_on_object_if_not_alone f t q.position y entering.asked ahead
     entering.asking.asks (entering_ask_is_not_alone entering.asked o a e (event_of f t y) own_event entering.suits entering.enters) in
     let emitted_event : IsEventAt f t y.steps e =
     λ run of. ap (λ (z : thread.ThreadState). slice_get (recorded_thread f.recorded t).events z.events) (sym (ahead.at run of).1)
@@ -179,7 +179,7 @@ look_is_allowed slots id o a e y q c ahead inside entering x h homes at small =
     let table : IsTable cu.state.objects (set x.words (word_place o) n) =
     subst (λ cs. IsTable cs (set x.words (word_place o) n)) (sym cu.objects)
     (table_after_word_rewritten h.state.objects x.words (word_place o) h.table) in
-    elim (open_is_decidable (record { fields = fields_of n; words = [] }) e) [
+    elim (cell_is_open_or_not (record { fields = fields_of n; words = [] }) e) [
       | inl yes' ↦ (
         progress k t y.steps true (met_now q cu.state) ∷ [],
         keeps,
@@ -274,7 +274,7 @@ woven_after_object_step slots id word first second q c x h at y ahead asked touc
           omega (arith, a, b))) ws x.homes table,
       (
         y.steps,
-        touching_step_is_next_object f t q.position y asked ahead is touches,
+        step_is_next_on_object_if_not_alone f t q.position y asked ahead is touches,
         refl,
         step_answers_found_word f h.state t y asked cu v n (caught_up_state_has_thread k x h id q y at cu) g
             is found,
@@ -464,7 +464,7 @@ version_load_is_allowed slots id o y q c ahead inside is has x h homes at small 
       kept,
       (
         y.steps,
-        touching_step_is_next_object f t q.position y (Leave o Writing) ahead is (λ b. b),
+        step_is_next_on_object_if_not_alone f t q.position y (Leave o Writing) ahead is (λ b. b),
         refl,
         (let all = counts_within_logged_limit h.state o h.flat l in let word = h.table.heads o l in omega (arith, all, word)),
         (λ run of p word asked.

@@ -77,20 +77,20 @@ shut_entry_is_not_admitted f s t o a e q h flat at l is has event suits enters s
     ]
 
 -- it can be entered, or not
-false_is_decidable : (b : Bool) → (b ≡ false) ⊎ (b ≡ false → ⊥)
-false_is_decidable true = inr (λ e. cc e)
-false_is_decidable false = inl refl
+bool_is_false_or_not : (b : Bool) → (b ≡ false) ⊎ (b ≡ false → ⊥)
+bool_is_false_or_not true = inr (λ e. cc e)
+bool_is_false_or_not false = inl refl
 
-pub open_is_decidable : (c : Cell) (e : Event) → IsOpen c e ⊎ (IsOpen c e → ⊥)
-open_is_decidable c (Answer kind value) = inr (λ h. h)
-open_is_decidable c (Refused object) = inr (λ h. h)
-open_is_decidable c (Read object version) = elim (cases_eq c.fields.version version) [
-  | inl v ↦ elim (false_is_decidable c.fields.writer) [ inl w ↦ inl (v, w) | inr w ↦ inr (λ h. w h.1) ]
+pub cell_is_open_or_not : (c : Cell) (e : Event) → IsOpen c e ⊎ (IsOpen c e → ⊥)
+cell_is_open_or_not c (Answer kind value) = inr (λ h. h)
+cell_is_open_or_not c (Refused object) = inr (λ h. h)
+cell_is_open_or_not c (Read object version) = elim (cases_eq c.fields.version version) [
+  | inl v ↦ elim (bool_is_false_or_not c.fields.writer) [ inl w ↦ inl (v, w) | inr w ↦ inr (λ h. w h.1) ]
   | inr v ↦ inr (λ h. v h.0)
 ]
-open_is_decidable c (Write object version readers) = elim (cases_eq c.fields.version version) [
+cell_is_open_or_not c (Write object version readers) = elim (cases_eq c.fields.version version) [
   | inl v ↦ elim (cases_eq c.fields.left readers) [
-    | inl r ↦ elim (false_is_decidable c.fields.writer) [
+    | inl r ↦ elim (bool_is_false_or_not c.fields.writer) [
       | inl w ↦ elim (cases_eq c.fields.inside 0) [ inl i ↦ inl (v, r, (w, i)) | inr i ↦ inr (λ h. i h.2.1) ]
       | inr w ↦ inr (λ h. w h.2.0)
     ]

@@ -134,17 +134,17 @@ shared_ask_is_no_try (End x) ne o = λ h. cc h
 shared_ask_is_no_try Done ne o = λ h. cc h
 
 -- what is asked is a try, or it isn't
-try_is_decidable : (q : Ask) → ((o : ℕ) × (q ≡ Try o)) ⊎ ((o : ℕ) → q ≢ Try o)
-try_is_decidable Private = inr (λ o h. cc h)
-try_is_decidable (Env kind) = inr (λ o h. cc h)
-try_is_decidable (Enter p b) = inr (λ o h. cc h)
-try_is_decidable (Try p) = inl (p, refl)
-try_is_decidable (Leave p b) = inr (λ o h. cc h)
-try_is_decidable (Get p i) = inr (λ o h. cc h)
-try_is_decidable (Put p i w) = inr (λ o h. cc h)
-try_is_decidable Print = inr (λ o h. cc h)
-try_is_decidable (End x) = inr (λ o h. cc h)
-try_is_decidable Done = inr (λ o h. cc h)
+ask_is_try_or_not : (q : Ask) → ((o : ℕ) × (q ≡ Try o)) ⊎ ((o : ℕ) → q ≢ Try o)
+ask_is_try_or_not Private = inr (λ o h. cc h)
+ask_is_try_or_not (Env kind) = inr (λ o h. cc h)
+ask_is_try_or_not (Enter p b) = inr (λ o h. cc h)
+ask_is_try_or_not (Try p) = inl (p, refl)
+ask_is_try_or_not (Leave p b) = inr (λ o h. cc h)
+ask_is_try_or_not (Get p i) = inr (λ o h. cc h)
+ask_is_try_or_not (Put p i w) = inr (λ o h. cc h)
+ask_is_try_or_not Print = inr (λ o h. cc h)
+ask_is_try_or_not (End x) = inr (λ o h. cc h)
+ask_is_try_or_not Done = inr (λ o h. cc h)
 
 -- a refused try needs nothing
 refused_label_needs_nothing : (b : Label) (o : ℕ) → IsNeededBy b (machine.Refused o) → ⊥
@@ -211,7 +211,7 @@ free_step_is_admitted f s t at has below free run of = (
         let q : Ask = ask_of s.code x in
         let asks : ask_of f.guest.code (th (machine_of f) (start_of f) run u k) ≡ q =
         ap (λ i. ask_at f run u i) here ∙ ap (λ i. ask_at f run i (positions s i)) same ∙ sym (state_thread_asks_as_run f s t run at of) in
-        elim (try_is_decidable q) [
+        elim (ask_is_try_or_not q) [
           | inl is ↦
               let refused = refused_option_is_refused_event (event_of f t x) (subst (λ p. IsFree p (event_of f t x)) is.1 free) in
               let mine : Emits (machine_of f) (start_of f) run t (positions s t) a =
@@ -288,7 +288,7 @@ step_goes_on_if_alone f s t h flat at l has alone =
     let q : Ask = ask_of s.code x in
     let below = state_thread_is_guest_thread f s t at l in
     let ad : AdmittedAt f (positions s) t = free_step_is_admitted f s t at has below (alone_ask_is_free q (event_of f t x) alone) in
-    elim (try_is_decidable q) [
+    elim (ask_is_try_or_not q) [
       | inl is ↦
           let refused = refused_option_is_refused_event (event_of f t x) (subst (λ p. IsAlone p (event_of f t x)) is.1 alone) in
           let some = admitted_thread_logs_next f s at h.run h.whole t below (ad h.run h.whole) in

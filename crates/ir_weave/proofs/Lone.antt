@@ -157,17 +157,17 @@ HasNoValue (Try o) = ⊥
 HasNoValue (Get o i) = ⊥
 HasNoValue _ = Unit {0}
 
-reply_is_go : (q : Ask) → HasNoValue q → (n : ℕ) → reply_of q n ≡ Go
-reply_is_go Private h n = refl
-reply_is_go (Env kind) h n = absurd h
-reply_is_go (Enter o a) h n = refl
-reply_is_go (Try o) h n = absurd h
-reply_is_go (Leave o a) h n = refl
-reply_is_go (Get o i) h n = absurd h
-reply_is_go (Put o i w) h n = refl
-reply_is_go Print h n = refl
-reply_is_go (End e) h n = refl
-reply_is_go Done h n = refl
+reply_is_go_if_ask_has_no_value : (q : Ask) → HasNoValue q → (n : ℕ) → reply_of q n ≡ Go
+reply_is_go_if_ask_has_no_value Private h n = refl
+reply_is_go_if_ask_has_no_value (Env kind) h n = absurd h
+reply_is_go_if_ask_has_no_value (Enter o a) h n = refl
+reply_is_go_if_ask_has_no_value (Try o) h n = absurd h
+reply_is_go_if_ask_has_no_value (Leave o a) h n = refl
+reply_is_go_if_ask_has_no_value (Get o i) h n = absurd h
+reply_is_go_if_ask_has_no_value (Put o i w) h n = refl
+reply_is_go_if_ask_has_no_value Print h n = refl
+reply_is_go_if_ask_has_no_value (End e) h n = refl
+reply_is_go_if_ask_has_no_value Done h n = refl
 
 -- where nothing is answered
 pub thread_after_step_without_value : (f : FittedTrace) (run : List Step) → IsRunOf f.guest f.recorded run → (t k : ℕ) (q : Ask)
@@ -179,7 +179,7 @@ thread_after_step_without_value f run of t k q l is go =
     emitting_step_is_step_of (machine_of f) (start_of f) run of.1.runs t k at.0 at.1 in
     let n : ℕ = reply (act_of (shared_ask (ask_at f run t k)) z.result) z.object in
     z.next ∙ take_is_after_ask f.guest.code (thread_at f run t k) n ∙ ap (λ a. after_ask f.guest.code (thread_at f run t k) a (reply_of a n)) is
-    ∙ ap (after_ask f.guest.code (thread_at f run t k) q) (reply_is_go q go n)
+    ∙ ap (after_ask f.guest.code (thread_at f run t k) q) (reply_is_go_if_ask_has_no_value q go n)
 
 emitted_answer_is_result : (kind : EnvKind) (r : ℕ) (b : Object) (j : EnvKind) (v : ℕ) → emitted (act_of (shared_ask (Env kind)) r) b ≡ Answer j v → r ≡ v
 emitted_answer_is_result kind r b j v h = cc h

@@ -22,11 +22,11 @@ use Rattle.ir_weave.proofs.Behind.{guest_machine_is_lawful, state_invariant_at_g
 -- ---- the end of a prefix
 
 -- the tables at the end of a prefix of the run, whose threads are not past their last steps
-is_at_end_of_prefix : (f : FittedTrace) (s : Flat) (run prefix : List Step) → IsRunOf f.guest f.recorded run → IsRun (machine_of f) (start_of f) prefix
+state_is_at_cut_if_tables_are_prefix_end : (f : FittedTrace) (s : Flat) (run prefix : List Step) → IsRunOf f.guest f.recorded run → IsRun (machine_of f) (start_of f) prefix
     → (left : ℕ → List Label) → ((t : ℕ) → log (machine_of f) (start_of f) prefix t ++ left t ≡ log (machine_of f) (start_of f) run t)
     → tables s ≡ end (machine_of f) (start_of f) prefix → ((t : ℕ) → positions s t ≤ count (machine_of f) (start_of f) run t)
     → IsAt f (positions s) s run
-is_at_end_of_prefix f s run prefix is ok left logs ends within =
+state_is_at_cut_if_tables_are_prefix_end f s run prefix is ok left logs ends within =
     let counted : (t : ℕ) → count (machine_of f) (start_of f) prefix t ≡ positions s t =
     λ t. sym (ap (λ z. (z.now t).steps) ends ∙ thread_steps_are_count f prefix ok t) in
     let at : IsPrefix (machine_of f) (start_of f) run prefix (positions s) =
@@ -79,7 +79,7 @@ state_along_trace_is_state_at f s along = record {
   threads = along.threads;
   objects = along.objects;
   steps = λ t. refl;
-  each = λ run is. is_at_end_of_prefix f s run along.run is along.follows.0 (λ t. (following_log_begins_run_log f run along.run is along.follows t).0)
+  each = λ run is. state_is_at_cut_if_tables_are_prefix_end f s run along.run is along.follows.0 (λ t. (following_log_begins_run_log f run along.run is along.follows t).0)
       (λ t. (following_log_begins_run_log f run along.run is along.follows t).1) along.ends
       (λ t. let few = following_counts_within_run f run along.run is along.follows t in
       let counted = ap (λ z. (z.now t).steps) along.ends ∙ thread_steps_are_count f along.run along.follows.0 t in omega (arith, few, counted));
@@ -98,7 +98,7 @@ start_is_state_at_zero f s same = subst (IsStateAt f (λ t. 0)) (sym same) (reco
   steps = start_positions_are_zero f;
   each = λ run is.
       subst (λ p. IsAt f p (start_flat f.guest f.recorded.budget f.recorded.profile) run) (λ i t. start_positions_are_zero f t i)
-      (is_at_end_of_prefix f (start_flat f.guest f.recorded.budget f.recorded.profile) run [] is tt (log (machine_of f) (start_of f) run) (λ t. refl)
+      (state_is_at_cut_if_tables_are_prefix_end f (start_flat f.guest f.recorded.budget f.recorded.profile) run [] is tt (log (machine_of f) (start_of f) run) (λ t. refl)
       refl (λ t. let none = start_positions_are_zero f t in omega (arith, none)));
 })
 
@@ -117,7 +117,7 @@ pub is_at_after_leading_steps : (f : FittedTrace) (s new : Flat) (run more : Lis
 is_at_after_leading_steps f s new run more is code at within leads =
     let k : Leads more (tables new) (log_after_cut f run (positions s)) (machine_of f) (end (machine_of f) (start_of f) (part run (positions s))) =
     property_moves_to_part_end f (positions s) s run is code at (Leads more (tables new) (log_after_cut f run (positions s))) leads in
-    is_at_end_of_prefix f new run (part run (positions s) ++ more) is
+    state_is_at_cut_if_tables_are_prefix_end f new run (part run (positions s) ++ more) is
     (append_of_runs_is_run (machine_of f) (start_of f) (part run (positions s)) more (guest_part_in_cut_is_run f run is (positions s) at.consistent).ok k.runs)
     (λ t. (k.logs t).0)
     (λ t. ap (λ z. z ++ (k.logs t).0) (log_append (machine_of f) (start_of f) (part run (positions s)) more t)
@@ -147,12 +147,12 @@ under_target_after_leading_steps f target s new more aim under code threads obje
 
 -- ---- one step
 
-logged_joins_onto_log : (k : Label) (es : List Label) → logged k [] ++ es ≡ logged k es
-logged_joins_onto_log Quiet es = refl
-logged_joins_onto_log (Answer kind value) es = refl
-logged_joins_onto_log (In o a v l) es = refl
-logged_joins_onto_log (Refused o) es = refl
-logged_joins_onto_log (Out o a v) es = refl
+append_to_logged_empty_is_logged : (k : Label) (es : List Label) → logged k [] ++ es ≡ logged k es
+append_to_logged_empty_is_logged Quiet es = refl
+append_to_logged_empty_is_logged (Answer kind value) es = refl
+append_to_logged_empty_is_logged (In o a v l) es = refl
+append_to_logged_empty_is_logged (Refused o) es = refl
+append_to_logged_empty_is_logged (Out o a v) es = refl
 
 -- what a step of thread t logs
 pub step_logs_first_of_left : {T : Type 0} (m : Machine T) (s : State T) (t v : ℕ) (left : ℕ → List Label)
@@ -162,7 +162,7 @@ step_logs_first_of_left m s t v left own u = elim (cases_eq u t) [
   | inl same ↦ subst (λ w. (rest : List Label) × (log m s ((t, v) ∷ []) w ++ rest ≡ left w)) (sym same) (
     unlogged (label m s (t, v)) (left t),
     ap (λ z. events z ++ unlogged (label m s (t, v)) (left t)) (trail_of_cons_own_thread m s (t, v) [])
-        ∙ logged_joins_onto_log (label m s (t, v)) (unlogged (label m s (t, v)) (left t)) ∙ own,
+        ∙ append_to_logged_empty_is_logged (label m s (t, v)) (unlogged (label m s (t, v)) (left t)) ∙ own,
   )
   | inr other ↦ (left u, ap (λ z. events z ++ left u) (trail_of_cons_other_thread m s (t, v) [] u other))
 ]
@@ -213,13 +213,13 @@ under_target_after_step f target s new t v aim under there_is before next taken 
     }
 
 -- the same by what the step answers
-pub under_target_after_answered_step : {X E : Type 0} (result : Result X E) (f : FittedTrace) (target : List ℕ) (s new : Flat) (t v : ℕ) → IsTarget f target
+pub under_target_after_step_if_result_ok : {X E : Type 0} (result : Result X E) (f : FittedTrace) (target : List ℕ) (s new : Flat) (t v : ℕ) → IsTarget f target
     → IsUnder f target s → t < length target → positions s t < cut_of target t → LogsNext f.recorded s t v
     → OnOk result (tables new ≡ after (machine s) (tables s) (t, v)) → new.code ≡ s.code → length new.threads ≡ length s.threads
     → length new.objects ≡ length s.objects → OnErr result (Can (machine s) (tables s) (t, v) → ⊥) → Stepped f target s new t
-under_target_after_answered_step (Ok x) f target s new t v aim under there_is before next taken code threads objects never =
+under_target_after_step_if_result_ok (Ok x) f target s new t v aim under there_is before next taken code threads objects never =
     under_target_after_step f target s new t v aim under there_is before next taken code threads objects
-under_target_after_answered_step (Err x) f target s new t v aim under there_is before next taken code threads objects never = absurd (never next.0)
+under_target_after_step_if_result_ok (Err x) f target s new t v aim under there_is before next taken code threads objects never = absurd (never next.0)
 
 -- ---- private steps
 

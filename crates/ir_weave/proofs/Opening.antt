@@ -9,7 +9,8 @@ use Rattle.atomic_table.specs.Seated.{TableId}
 use Rattle.atomic_table.specs.Table.{Final, Seen, opening, Splits, Joins}
 use Rattle.atomic_table.specs.declared.shared.Seat.{Seat}
 use Rattle.atomic_table.proofs.Lists.{at_set}
-use Rattle.ir_image.specs.Guest.{Guest, object_count, most_object_words, IsGuest}
+use Rattle.ir_image.specs.Guest.{Guest, object_count, most_object_words}
+use Rattle.ir_image.specs.Bounds.{IsGuest}
 use Rattle.ir_thread.specs.State.{IsAllowed}
 use Rattle.ir_thread.specs.State as thread
 use Rattle.ir_thread.specs.declared.profile.Profile.{Profile}
@@ -22,6 +23,7 @@ use Rattle.ir_weave.proofs.Numbers.{state_thread_is_ahead_at_position}
 use Rattle.ir_weave.specs.Ahead.{IsAhead}
 use Rattle.std.specs.Prelude.{slice_get, Some}
 use Rattle.std.proofs.lemmas.Option.{slice_get_within, get_or_from_slice_get}
+use Rattle.ir_lemmas.proofs.CallerLemmas.{get_of_append_item_cases}
 use Rattle.ir_runs.specs.Run.{Cut}
 use Rattle.ir_fit.specs.Fit.{FittedTrace, HasRun}
 use Rattle.ir_fit.specs.Within.{IsFitted}
@@ -139,13 +141,6 @@ other_tracks_stay_if_reseated k s seat t new j (q ∷ qs) ne h = (
   },
   other_tracks_stay_if_reseated k s seat t new j qs ne h.1,
 )
-
-get_of_append_item_cases : {A : Type 0} (l : List A) (a b : A) (j : ℕ) → get_elem? (l ++ a ∷ []) j ≡ some b → (get_elem? l j ≡ some b)
-    ⊎ ((j ≡ length l) × (a ≡ b))
-get_of_append_item_cases [] a b zero e = inr (refl, some-injective a b e)
-get_of_append_item_cases [] a b (suc j) e = absurd (some-ne-none b (sym e))
-get_of_append_item_cases (x ∷ xs) a b zero e = inl e
-get_of_append_item_cases (x ∷ xs) a b (suc j) e = elim (get_of_append_item_cases xs a b j e) [ inl q ↦ inl q | inr q ↦ inr (ap suc q.0, q.1) ]
 
 pub tracks_split_off_first : (k : Plan) (id t m : ℕ) (v : View) → v ≡ tracks_from k t (suc m) → Splits (Woven k) id v (all_but_first v) (first_alone v)
 tracks_split_off_first k id t m v is x h at =
@@ -277,8 +272,8 @@ pub dealt_view_is_first_thread : (k : Plan) (l m : ℕ) (me w : M) → me ≡ (t
     → w ≡ (progress k l (opened_at k l) false (first_met k) ∷ [], [])
 dealt_view_is_first_thread k l m me w is emitted = emitted ∙ (λ i. (first_alone (is i).0, []))
 
-pub tracks_by_successor : (k : Plan) (l m n : ℕ) (me : M) → me ≡ (tracks_from k l m, []) → m ≡ suc n → me ≡ (tracks_from k l (suc n), [])
-tracks_by_successor k l m n me is e = is ∙ (λ i. (tracks_from k l (e i), []))
+pub view_is_tracks_of_successor : (k : Plan) (l m n : ℕ) (me : M) → me ≡ (tracks_from k l m, []) → m ≡ suc n → me ≡ (tracks_from k l (suc n), [])
+view_is_tracks_of_successor k l m n me is e = is ∙ (λ i. (tracks_from k l (e i), []))
 
 -- ---- closing
 
@@ -377,12 +372,6 @@ pub no_words_are_laid : (cells : List Cell) (ws : List ℕ) → ws ≡ [] → Is
 no_words_are_laid cells ws is = subst (λ z. IsLaid cells z 0) (sym is)
     (record { count = refl; each = λ j l. absurd (omega (arith, l)); small = λ o i l few. absurd (omega (arith, l)) })
 
--- a word that was found
-pub get_or_of_found_word : (ws : List ℕ) (i n : ℕ) → get_elem? ws i ≡ some n → get_or ws i 0 ≡ n
-get_or_of_found_word [] i n e = absurd (some-ne-none n (sym e))
-get_or_of_found_word (w ∷ ws) zero n e = some-injective w n e
-get_or_of_found_word (w ∷ ws) (suc i) n e = get_or_of_found_word ws i n e
-
 -- a guest has a thread
 pub guest_has_thread : (f : FittedTrace) (s : Standing) (ts : List thread.ThreadState) (g : Guest) → IsGuest g → g ≡ f.guest → ts ≡ s.threads
     → length s.threads ≡ length f.guest.entries → 0 < length ts
@@ -391,9 +380,9 @@ guest_has_thread f s ts g guest is same size = let some = guest.some_thread in l
 
 -- ---- the objects at the end
 
-pub words_read_with_word_set : (ws : List ℕ) (from : ℕ) (xs : List ℕ) (n w : ℕ) → AreRead ws from xs n → n < most_object_words → w ≡ get_or ws (from + n) 0
+pub are_read_step : (ws : List ℕ) (from : ℕ) (xs : List ℕ) (n w : ℕ) → AreRead ws from xs n → n < most_object_words → w ≡ get_or ws (from + n) 0
     → AreRead ws from (set xs n w) (n + 1)
-words_read_with_word_set ws from xs n w h inside is = record {
+are_read_step ws from xs n w h inside is = record {
   size = length-set xs n w ∙ h.size;
   each = λ i l. elim (cases_eq i n) [
     | inl here ↦ subst (λ z. get_or (set xs n w) z 0 ≡ get_or ws (from + z) 0) (sym here)
@@ -420,9 +409,9 @@ pub record AreObjects (cells xs : List Cell) (n : ℕ) : Type 0 where
   pub size : length xs ≡ length cells
   pub each : (o : ℕ) → o < n → object_in xs o ≡ object_in cells o
 
-pub objects_with_one_set : (cells xs : List Cell) (n : ℕ) (c : Cell) → AreObjects cells xs n → n < length xs → c ≡ object_in cells n
+pub are_objects_step : (cells xs : List Cell) (n : ℕ) (c : Cell) → AreObjects cells xs n → n < length xs → c ≡ object_in cells n
     → AreObjects cells (set xs n c) (n + 1)
-objects_with_one_set cells xs n c h inside is = record {
+are_objects_step cells xs n c h inside is = record {
   size = length-set xs n c ∙ h.size;
   each = λ o l. elim (cases_eq o n) [
     | inl here ↦ subst (λ z. object_in (set xs n c) z ≡ object_in cells z) (sym here) (get_or-set_same xs n c empty inside ∙ is)
@@ -430,19 +419,19 @@ objects_with_one_set cells xs n c h inside is = record {
   ];
 }
 
-pub full_objects_are_cells : (cells xs : List Cell) (n : ℕ) → AreObjects cells xs n → length xs ≤ n → xs ≡ cells
-full_objects_are_cells cells xs n h all = ext_get_or empty xs cells h.size (λ o l. h.each o (omega (arith, l, all)))
+pub objects_are_cells_if_count_reaches_length : (cells xs : List Cell) (n : ℕ) → AreObjects cells xs n → length xs ≤ n → xs ≡ cells
+objects_are_cells_if_count_reaches_length cells xs n h all = ext_get_or empty xs cells h.size (λ o l. h.each o (omega (arith, l, all)))
 
 pub end_cells_count_guest_objects : (k : Plan) (v : View) (ws : List ℕ) (e : IsEnd k v ws) → length e.cells ≡ object_count (trace_in k).guest
 end_cells_count_guest_objects k v ws e = ap (λ (cs : List Cell). length cs) e.closed.objects ∙ e.closed.at.objects
 
-pub no_objects_are_read : (k : Plan) (v : View) (ws : List ℕ) (e : IsEnd k v ws) (xs : List Cell) → length xs ≡ object_count (trace_in k).guest
+pub are_objects_at_zero : (k : Plan) (v : View) (ws : List ℕ) (e : IsEnd k v ws) (xs : List Cell) → length xs ≡ object_count (trace_in k).guest
     → AreObjects e.cells xs 0
-no_objects_are_read k v ws e xs room = record { size = room ∙ sym (end_cells_count_guest_objects k v ws e); each = λ o l. absurd (omega (arith, l)) }
+are_objects_at_zero k v ws e xs room = record { size = room ∙ sym (end_cells_count_guest_objects k v ws e); each = λ o l. absurd (omega (arith, l)) }
 
-pub read_objects_close_table : (k : Plan) (v : View) (ws : List ℕ) (e : IsEnd k v ws) (xs : List Cell) (n : ℕ) → AreObjects e.cells xs n → length xs ≤ n
+pub objects_are_closed_if_count_reaches_length : (k : Plan) (v : View) (ws : List ℕ) (e : IsEnd k v ws) (xs : List Cell) (n : ℕ) → AreObjects e.cells xs n → length xs ≤ n
     → IsClosed k v xs
-read_objects_close_table k v ws e xs n h all = subst (IsClosed k v) (sym (full_objects_are_cells e.cells xs n h all)) e.closed
+objects_are_closed_if_count_reaches_length k v ws e xs n h all = subst (IsClosed k v) (sym (objects_are_cells_if_count_reaches_length e.cells xs n h all)) e.closed
 
 -- a guest with a trace has no more threads and objects than the trace's profile allows
 pub fitted_guest_is_allowed : (f : FittedTrace) (p : Profile) (g : Guest) → IsFitted f → p ≡ f.recorded.profile → g ≡ f.guest → IsAllowed p g

@@ -16,11 +16,12 @@ use Rattle.ir_flat.proofs.CallerLemmas.{entered_object_is_of_state}
 use Rattle.ir_log.specs.Asked.{Suits}
 use Rattle.ir_log.specs.declared.event.Event.{Event}
 use Rattle.ir_log.specs.declared.event.Event.TheVariants.{Answer, Try as Refused}
-use Rattle.ir_trace.specs.Recorded.{Recorded, recorded_thread, trace_of, IsRecordedThread}
+use Rattle.ir_trace.specs.Recorded.{Recorded, recorded_thread, trace_of}
+use Rattle.ir_trace.specs.Bounds.{IsRecordedThread}
 use Rattle.ir_fit.specs.Ahead.{steps_ahead, log_ahead, CanFollow, IsOpen}
 use Rattle.ir_runs.specs.Verdicts.{Meets}
 use Rattle.ir_fit.specs.declared.follower.look.Look.TheVariants as look
-use Rattle.ir_fit.proofs.CallerLemmas.{end_asked, ends_now_is_end_asked, environment_call_is_not_done, suited_call_can_follow, unsuited_call_disagrees, open_entry_can_follow, shut_entry_is_stopped, unsuited_entry_disagrees, entry_is_not_done, refused_try_can_follow, GotIn, open_try_can_follow, shut_try_is_stopped, unsuited_try_disagrees, try_is_not_done, thread_without_move_is_stopped}
+use Rattle.ir_fit.proofs.CallerLemmas.{end_asked, ends_now_is_end_asked, ask_of_environment_is_not_done, suited_call_can_follow, unsuited_call_disagrees, open_entry_can_follow, shut_entry_is_stopped, unsuited_entry_disagrees, ask_of_entry_is_not_done, refused_try_can_follow, GotIn, open_try_can_follow, shut_try_is_stopped, unsuited_try_disagrees, ask_of_try_is_not_done, thread_without_move_is_stopped}
 use Rattle.ir_weave.specs.Stepping.{LogsNext}
 
 -- a step that follows the trace logs what comes next
@@ -49,7 +50,7 @@ pub no_next_for_unsuited_call : (r : Recorded) (s : Flat) (t : ℕ) (kind : EnvK
     → ((e : Event) → slice_get (recorded_thread r t).events (thread_of s t).events ≡ Some e → Suits (Env kind) e → ⊥) → (v : ℕ)
     → LogsNext r s t v → ⊥
 no_next_for_unsuited_call r s t kind is steps none v h =
-    thread_without_move_is_stopped r s t look.Disagrees (environment_call_is_not_done (ask_of s.code (thread_of s t)) kind is, unsuited_call_disagrees r s t kind is none) (λ m e. cc e) v
+    thread_without_move_is_stopped r s t look.Disagrees (ask_of_environment_is_not_done (ask_of s.code (thread_of s t)) kind is, unsuited_call_disagrees r s t kind is none) (λ m e. cc e) v
     (logging_step_can_follow r s t v (Env kind) is refl steps h)
 
 -- ---- entries
@@ -71,7 +72,7 @@ pub no_next_for_unsuited_entry : (r : Recorded) (s : Flat) (t o : ℕ) (a : Acce
     → ((e : Event) → slice_get (recorded_thread r t).events (thread_of s t).events ≡ Some e → Suits (Enter o a) e → ⊥) → (v : ℕ)
     → LogsNext r s t v → ⊥
 no_next_for_unsuited_entry r s t o a is steps none v h =
-    thread_without_move_is_stopped r s t look.Disagrees (entry_is_not_done (ask_of s.code (thread_of s t)) o a is, unsuited_entry_disagrees r s t o a is none) (λ m e. cc e) v
+    thread_without_move_is_stopped r s t look.Disagrees (ask_of_entry_is_not_done (ask_of s.code (thread_of s t)) o a is, unsuited_entry_disagrees r s t o a is none) (λ m e. cc e) v
     (logging_step_can_follow r s t v (Enter o a) is refl steps h)
 
 -- ---- tries
@@ -97,16 +98,16 @@ pub no_next_for_unsuited_try : (r : Recorded) (s : Flat) (t o : ℕ) → ask_of 
     → ((e : Event) → slice_get (recorded_thread r t).events (thread_of s t).events ≡ Some e → Suits (Try o) e → ⊥) → (v : ℕ)
     → LogsNext r s t v → ⊥
 no_next_for_unsuited_try r s t o is steps none v h =
-    thread_without_move_is_stopped r s t look.Disagrees (try_is_not_done (ask_of s.code (thread_of s t)) o is, unsuited_try_disagrees r s t o is none) (λ m e. cc e) v
+    thread_without_move_is_stopped r s t look.Disagrees (ask_of_try_is_not_done (ask_of s.code (thread_of s t)) o is, unsuited_try_disagrees r s t o is none) (λ m e. cc e) v
     (logging_step_can_follow r s t v (Try o) is refl steps h)
 
 -- an object that is entered is one of the guest's
-pub entered_object_of_weave_is_of_state : (s : Flat) (t o : ℕ) (a : Access) (xs : List Cell) → IsFlat s → t < length s.threads
+pub entered_object_is_within_objects : (s : Flat) (t o : ℕ) (a : Access) (xs : List Cell) → IsFlat s → t < length s.threads
     → ask_of s.code (thread_of s t) ≡ Enter o a → xs ≡ s.objects → o < length xs
-entered_object_of_weave_is_of_state s t o a xs flat l is same = subst (λ z. o < length z) (sym same) (entered_object_is_of_state s t o a flat l is)
+entered_object_is_within_objects s t o a xs flat l is same = subst (λ z. o < length z) (sym same) (entered_object_is_of_state s t o a flat l is)
 
 -- what is read in its place
 pub found_object_is_cell : (s : Flat) (t o : ℕ) (a : Access) (xs : List Cell) (x : Cell) → IsFlat s → t < length s.threads
     → ask_of s.code (thread_of s t) ≡ Enter o a → xs ≡ s.objects → x ≡ slice_index_or xs o x → x ≡ cell_of s o
-found_object_is_cell s t o a xs x flat l is same read = read ∙ get_or_default xs o x empty (entered_object_of_weave_is_of_state s t o a xs flat l is same)
+found_object_is_cell s t o a xs x flat l is same read = read ∙ get_or_default xs o x empty (entered_object_is_within_objects s t o a xs flat l is same)
     ∙ ap (λ z. slice_index_or z o empty) same

@@ -27,7 +27,7 @@ use Rattle.ir_weave.specs.Woven.{View, M, trace_in, Met, progress, met_in, met_o
 use Rattle.ir_weave.specs.declared.plan.Plan.{Plan}
 use Rattle.ir_weave.specs.declared.plan.Progress.{Progress}
 use Rattle.ir_weave.proofs.Lone.{ahead_of_own_position}
-use Rattle.ir_weave.proofs.Acts.{word_added_by_entry, look_is_allowed, entry_is_allowed, read_leave_is_allowed, write_leave_is_allowed, version_load_is_allowed, get_is_allowed, put_is_allowed, touching_step_is_next_object, entering_ask_is_not_alone}
+use Rattle.ir_weave.proofs.Acts.{word_added_by_entry, look_is_allowed, entry_is_allowed, read_leave_is_allowed, write_leave_is_allowed, version_load_is_allowed, get_is_allowed, put_is_allowed, step_is_next_on_object_if_not_alone, entering_ask_is_not_alone}
 
 -- ---- the first step on an object
 
@@ -64,13 +64,13 @@ pub left_object_is_of_guest : (f : FittedTrace) (t i : ℕ) (x : thread.ThreadSt
     → o < object_count f.guest
 left_object_is_of_guest f t i x o a ahead is = let p = (thread_permits_own_ask f x (Leave o a) is).1 in let e = ahead.held in omega (arith, p, e)
 
-pub read_place_is_of_guest : (f : FittedTrace) (t i : ℕ) (x : thread.ThreadState) (o j : ℕ) → IsAhead f t i x → ask_of f.guest.code x ≡ Get o j
+pub get_place_is_of_guest : (f : FittedTrace) (t i : ℕ) (x : thread.ThreadState) (o j : ℕ) → IsAhead f t i x → ask_of f.guest.code x ≡ Get o j
     → (o < object_count f.guest) × (j < most_object_words)
-read_place_is_of_guest f t i x o j ahead is = let p = thread_permits_own_ask f x (Get o j) is in let e = ahead.held in (omega (arith, p.1, e), p.2)
+get_place_is_of_guest f t i x o j ahead is = let p = thread_permits_own_ask f x (Get o j) is in let e = ahead.held in (omega (arith, p.1, e), p.2)
 
-pub written_place_is_of_guest : (f : FittedTrace) (t i : ℕ) (x : thread.ThreadState) (o j v : ℕ) → IsAhead f t i x → ask_of f.guest.code x ≡ Put o j v
+pub put_place_is_of_guest : (f : FittedTrace) (t i : ℕ) (x : thread.ThreadState) (o j v : ℕ) → IsAhead f t i x → ask_of f.guest.code x ≡ Put o j v
     → (o < object_count f.guest) × (j < most_object_words)
-written_place_is_of_guest f t i x o j v ahead is = let p = thread_permits_own_ask f x (Put o j v) is in let e = ahead.held in (omega (arith, p.1, e), p.2)
+put_place_is_of_guest f t i x o j v ahead is = let p = thread_permits_own_ask f x (Put o j v) is in let e = ahead.held in (omega (arith, p.1, e), p.2)
 
 -- ---- seats of one thread
 
@@ -167,7 +167,7 @@ get_is_allowed_if_seated k slots id o i x ([], c) seated asking = absurd seated
 get_is_allowed_if_seated k slots id o i x (q ∷ r ∷ qs, c) seated asking = absurd seated
 get_is_allowed_if_seated k slots id o i x (q ∷ [], c) seated asking =
     let ask : IsAsking (trace_in q.plan) x (Get o i) = property_moves_to_view_trace k q (λ f. IsAsking f x (Get o i)) seated.0 asking in
-    let inside = read_place_is_of_guest (trace_in q.plan) q.thread q.position x o i seated.1 ask.asks in
+    let inside = get_place_is_of_guest (trace_in q.plan) q.thread q.position x o i seated.1 ask.asks in
     property_moves_to_plan k q (λ z. Allows (Woven z) slots id (q ∷ [], c) (content_place o i) (λ n. n)
     (stepped_on (step slots (content_place o i) 0 0 none) (q ∷ [], c))) seated.0
     (get_is_allowed slots id o i x q c seated.1 inside.0 inside.1 ask.asks (has_step_by_own_number (trace_in q.plan) q.thread q.position x seated.1 ask.has))
@@ -179,7 +179,7 @@ put_is_allowed_if_seated k slots id o i v x ([], c) value seated asking = absurd
 put_is_allowed_if_seated k slots id o i v x (q ∷ r ∷ qs, c) value seated asking = absurd seated
 put_is_allowed_if_seated k slots id o i v x (q ∷ [], c) value seated asking =
     let ask : IsAsking (trace_in q.plan) x (Put o i v) = property_moves_to_view_trace k q (λ f. IsAsking f x (Put o i v)) seated.0 asking in
-    let inside = written_place_is_of_guest (trace_in q.plan) q.thread q.position x o i v seated.1 ask.asks in
+    let inside = put_place_is_of_guest (trace_in q.plan) q.thread q.position x o i v seated.1 ask.asks in
     property_moves_to_plan k q (λ z. Allows (Woven z) slots id (q ∷ [], c) (content_place o i) (λ _. v)
     (λ _. stepped_on (step slots (content_place o i) v 0 none) (q ∷ [], c) v)) seated.0
     (put_is_allowed slots id o i v x q c value seated.1 inside.0 inside.1 ask.asks
@@ -212,7 +212,7 @@ stepped_on_gives_report k x asked (q ∷ [], c) w n seated is touches emitted =
     let f : FittedTrace = trace_in q.plan in
     let ask : ask_of f.guest.code x ≡ asked = property_moves_to_view_trace k q (λ f. ask_of f.guest.code x ≡ asked) seated.0 is in
     let here : emitted.0 ≡ x.steps = next_object_is_unique f q.thread q.position emitted.0 x.steps seated.1.run emitted.1
-    (touching_step_is_next_object f q.thread q.position x asked seated.1 ask
+    (step_is_next_on_object_if_not_alone f q.thread q.position x asked seated.1 ask
     (subst (λ (z : Plan × ℕ). IsAlone asked (event_of (trace_in z.0) z.1 x) → ⊥) (λ i. (sym seated.0 i, seated.1.number i)) touches)) in
     record {
       view = emitted.2 ∙ (λ i. (progress_view_is_view_at k q x (suc emitted.0) (suc x.steps) false (met_in q) seated.0 seated.1.number (ap suc here) i, c));
@@ -240,7 +240,7 @@ looked_gives_report k x o a e (q ∷ [], c) w n seated entering emitted =
     let f : FittedTrace = trace_in q.plan in
     let ent : IsEntering f x o a e = property_moves_to_view_trace k q (λ f. IsEntering f x o a e) seated.0 entering in
     let here : emitted.0 ≡ x.steps = next_object_is_unique f q.thread q.position emitted.0 x.steps seated.1.run emitted.2
-    (touching_step_is_next_object f q.thread q.position x ent.asked seated.1 ent.asking.asks
+    (step_is_next_on_object_if_not_alone f q.thread q.position x ent.asked seated.1 ent.asking.asks
     (entering_ask_is_not_alone ent.asked o a e (event_of f q.thread x)
     (subst (λ t. slice_get (recorded_thread f.recorded t).events x.events ≡ Some e) seated.1.number ent.event) ent.suits ent.enters)) in
     let event : emitted.1 ≡ e =
@@ -282,7 +282,7 @@ read_version_gives_report k o x (q ∷ [], c) w n seated asking emitted =
     let f : FittedTrace = trace_in q.plan in
     let ask : IsAsking f x (Leave o Writing) = property_moves_to_view_trace k q (λ f. IsAsking f x (Leave o Writing)) seated.0 asking in
     let here : emitted.0 ≡ x.steps = next_object_is_unique f q.thread q.position emitted.0 x.steps seated.1.run emitted.1
-    (touching_step_is_next_object f q.thread q.position x (Leave o Writing) seated.1 ask.asks (λ b. b)) in
+    (step_is_next_on_object_if_not_alone f q.thread q.position x (Leave o Writing) seated.1 ask.asks (λ b. b)) in
     let all : EachRun f (λ run. Emits (machine_of f) (start_of f) run q.thread emitted.0 (Out o Writing (n / version_unit))) =
     λ run of. emitted.4 run of o refl (ap (ask_at f run q.thread) here ∙ ap (ask_of f.guest.code) (sym (seated.1.at run of).1)
     ∙ ask.asks) in record {
@@ -294,11 +294,11 @@ read_version_gives_report k o x (q ∷ [], c) w n seated asking emitted =
     }
 
 -- what is read is a word of 32 bits
-pub read_word_is_32_bits : (k : Plan) (x : thread.ThreadState) (v : View) (o i n : ℕ) → IsSeated k v x → IsAsking (trace_in k) x (Get o i)
+pub word_of_get_is_32_bits : (k : Plan) (x : thread.ThreadState) (v : View) (o i n : ℕ) → IsSeated k v x → IsAsking (trace_in k) x (Get o i)
     → Answers (trace_in k) x.number x.steps n → n < 2 ^ 32
-read_word_is_32_bits k x [] o i n seated asking answers = absurd seated
-read_word_is_32_bits k x (q ∷ r ∷ qs) o i n seated asking answers = absurd seated
-read_word_is_32_bits k x (q ∷ []) o i n seated asking answers =
+word_of_get_is_32_bits k x [] o i n seated asking answers = absurd seated
+word_of_get_is_32_bits k x (q ∷ r ∷ qs) o i n seated asking answers = absurd seated
+word_of_get_is_32_bits k x (q ∷ []) o i n seated asking answers =
     let f : FittedTrace = trace_in q.plan in
     let ask : IsAsking f x (Get o i) = property_moves_to_view_trace k q (λ f. IsAsking f x (Get o i)) seated.0 asking in
     let all : Answers f x.number x.steps n = property_moves_to_view_trace k q (λ f. Answers f x.number x.steps n) seated.0 answers in
@@ -329,23 +329,23 @@ left_word_place_below_table k x (p ∷ []) o words a seated asking size =
     ap (λ z. object_count (trace_in z).guest) seated.0 in
     omega (arith, inside, same, size)
 
-pub read_place_below_table : (k : Plan) (x : thread.ThreadState) (v : View) (o i words : ℕ) → IsSeated k v x → IsAsking (trace_in k) x (Get o i)
+pub get_place_below_table : (k : Plan) (x : thread.ThreadState) (v : View) (o i words : ℕ) → IsSeated k v x → IsAsking (trace_in k) x (Get o i)
     → words ≡ table_length (object_count (trace_in k).guest) → content_place o i < words
-read_place_below_table k x [] o i words seated asking size = absurd seated
-read_place_below_table k x (p ∷ r ∷ ps) o i words seated asking size = absurd seated
-read_place_below_table k x (p ∷ []) o i words seated asking size =
-    let inside = read_place_is_of_guest (trace_in p.plan) p.thread p.position x o i seated.1
+get_place_below_table k x [] o i words seated asking size = absurd seated
+get_place_below_table k x (p ∷ r ∷ ps) o i words seated asking size = absurd seated
+get_place_below_table k x (p ∷ []) o i words seated asking size =
+    let inside = get_place_is_of_guest (trace_in p.plan) p.thread p.position x o i seated.1
     (property_moves_to_view_trace k p (λ f. ask_of f.guest.code x ≡ Get o i) seated.0 asking.asks) in
     let same : object_count (trace_in p.plan).guest ≡ object_count (trace_in k).guest =
     ap (λ z. object_count (trace_in z).guest) seated.0 in
     omega (arith, inside.0, inside.1, same, size)
 
-pub written_place_below_table : (k : Plan) (x : thread.ThreadState) (v : View) (o i n words : ℕ) → IsSeated k v x → IsAsking (trace_in k) x (Put o i n)
+pub put_place_below_table : (k : Plan) (x : thread.ThreadState) (v : View) (o i n words : ℕ) → IsSeated k v x → IsAsking (trace_in k) x (Put o i n)
     → words ≡ table_length (object_count (trace_in k).guest) → content_place o i < words
-written_place_below_table k x [] o i n words seated asking size = absurd seated
-written_place_below_table k x (p ∷ r ∷ ps) o i n words seated asking size = absurd seated
-written_place_below_table k x (p ∷ []) o i n words seated asking size =
-    let inside = written_place_is_of_guest (trace_in p.plan) p.thread p.position x o i n seated.1
+put_place_below_table k x [] o i n words seated asking size = absurd seated
+put_place_below_table k x (p ∷ r ∷ ps) o i n words seated asking size = absurd seated
+put_place_below_table k x (p ∷ []) o i n words seated asking size =
+    let inside = put_place_is_of_guest (trace_in p.plan) p.thread p.position x o i n seated.1
     (property_moves_to_view_trace k p (λ f. ask_of f.guest.code x ≡ Put o i n) seated.0 asking.asks) in
     let same : object_count (trace_in p.plan).guest ≡ object_count (trace_in k).guest =
     ap (λ z. object_count (trace_in z).guest) seated.0 in
@@ -371,9 +371,6 @@ granted_if_look_was_open k x e me w n seated shown on =
 
 pub true_test_proves : (b : Bool) (P : Type 0) → IsTrue b ↔ P → b ≡ true → P
 true_test_proves b P h e = h.0 e
-
-pub false_test_refutes : (b : Bool) (P : Type 0) → IsTrue b ↔ P → b ≡ false → P → ⊥
-false_test_refutes b P h e p = true≢false (sym (h.1 p) ∙ e)
 
 -- after the second
 pub view_after_entry : (k : Plan) (x : thread.ThreadState) (e : Event) (me w u : M) (n m : ℕ) → LookReport k x e me w n → Opens n e → ObjectStepReport k x w u m

@@ -30,7 +30,7 @@ use Rattle.ir_weave.specs.declared.plan.Plan.{Plan}
 use Rattle.ir_weave.proofs.Lone.{TakesStep, HasNoValue, IsNotDone, ahead_after_alone_step, ahead_after_object_step, ahead_of_own_position, takes_step_without_value, takes_environment_call, takes_try, try_result, ahead_thread_asks_in_run, logged_step_has_recorded_event, steps_after_ask, number_after_ask, thread_with_step_is_not_done}
 use Rattle.ir_weave.proofs.Trails.{StepOf, emitting_step_is_step_of}
 use Rattle.ir_weave.proofs.Ended.{thread_not_done_has_step, guest_runs_have_same_counts}
-use Rattle.ir_fit.proofs.CallerLemmas.{get_or_of_at}
+use Rattle.ir_fit.proofs.CallerLemmas.{get_or_is_item_if_at_index}
 use Rattle.std.proofs.lemmas.Bool.{cases_lt}
 
 -- ---- the thread of a seat
@@ -219,7 +219,7 @@ done_thread_has_waited k f me x for opened seated done =
         cut = count (machine_of g) (start_of g) last;
         is_cut = λ run of u. (let e = same run of u in omega (arith, e));
         consistent = λ run of t i u j a b emitted needed needs less.
-            (let within = (get_or_of_at (trail (machine_of g) (start_of g) run u) j (needed.0, b) needed.1).0 in let e = same run of u in
+            (let within = (get_or_is_item_if_at_index (trail (machine_of g) (start_of g) run u) j (needed.0, b) needed.1).0 in let e = same run of u in
             omega (arith, within, e));
         above = λ u. opened last ahead.run.whole u;
         here = all;

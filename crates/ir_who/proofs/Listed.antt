@@ -10,7 +10,8 @@ use Rattle.ir_log.specs.Logging.{label_of}
 use Rattle.ir_log.specs.declared.event.Event.{Event}
 use Rattle.ir_log.specs.declared.event.Event.TheVariants as variant
 use Rattle.ir_thread.specs.declared.profile.Profile.{Profile}
-use Rattle.ir_trace.specs.Recorded.{Recorded, recorded_thread, trace_of, IsRecorded, IsEvent}
+use Rattle.ir_trace.specs.Recorded.{Recorded, recorded_thread, trace_of}
+use Rattle.ir_trace.specs.Bounds.{IsRecorded, IsEvent}
 use Rattle.ir_coherence.proofs.CallerLemmas.{recorded_thread_at_number_is_recorded}
 use Rattle.ir_past.specs.Past.{event_at, IsReadAt, IsWriteAt, IsMadeBy, IsOverwriter}
 use Rattle.ir_past.specs.Answers.{AreCoherent}
@@ -18,17 +19,17 @@ use Rattle.ir_past.specs.Tables.{maker_in}
 use Rattle.ir_past.specs.Progress.{Makes}
 use Rattle.ir_past.specs.declared.place.Place.{Place}
 use Rattle.ir_past.specs.declared.makers.Makers.{Makers}
-use Rattle.ir_past.proofs.CallerLemmas.{event_is_of_existing_thread, at_of_mapped_label, entered_version_was_made, version_below_write_was_made}
+use Rattle.ir_past.proofs.CallerLemmas.{event_is_of_existing_thread, label_of_event_is_at_its_place, entered_version_was_made, version_below_write_was_made}
 use Rattle.ir_who.specs.Versions.{readers_at, IsVersion, AreVersions}
 use Rattle.ir_who.specs.declared.version.Version.{Version}
 
 -- ---- versions are words
 
-no_reads_past_word : (p : Profile) (objects o v : ℕ) → 2 ^ 32 ≤ v → (es : List Event) → AllByRecursion (IsEvent p objects) es → reads o v (map label_of es) ≡ 0
-no_reads_past_word p objects o v far [] all = refl
-no_reads_past_word p objects o v far (variant.Answer kind value ∷ es) all = omega (arith, no_reads_past_word p objects o v far es all.1)
-no_reads_past_word p objects o v far (variant.Read object version ∷ es) all =
-    let rest : reads o v (map label_of es) ≡ 0 = no_reads_past_word p objects o v far es all.1 in
+no_reads_if_version_is_no_word : (p : Profile) (objects o v : ℕ) → 2 ^ 32 ≤ v → (es : List Event) → AllByRecursion (IsEvent p objects) es → reads o v (map label_of es) ≡ 0
+no_reads_if_version_is_no_word p objects o v far [] all = refl
+no_reads_if_version_is_no_word p objects o v far (variant.Answer kind value ∷ es) all = omega (arith, no_reads_if_version_is_no_word p objects o v far es all.1)
+no_reads_if_version_is_no_word p objects o v far (variant.Read object version ∷ es) all =
+    let rest : reads o v (map label_of es) ≡ 0 = no_reads_if_version_is_no_word p objects o v far es all.1 in
     let word : version < 2 ^ 32 = all.0.1 in
     let other : eqb version v ≡ false = ne_eqb version v (λ same. omega (arith, far, word, same)) in
     none (eqb object o) (eqb version v) other rest
@@ -36,17 +37,17 @@ no_reads_past_word p objects o v far (variant.Read object version ∷ es) all =
     none : (b c : Bool) → c ≡ false → {n : ℕ} → n ≡ 0 → cond b (cond c 1 0) 0 + n ≡ 0
     none true c is e = omega (arith, ap {B = ℕ} (λ (z : Bool). cond z 1 0) is, e)
     none false c is e = omega (arith, e)
-no_reads_past_word p objects o v far (variant.Write object version readers ∷ es) all = omega (arith, no_reads_past_word p objects o v far es all.1)
-no_reads_past_word p objects o v far (variant.Try object ∷ es) all = omega (arith, no_reads_past_word p objects o v far es all.1)
+no_reads_if_version_is_no_word p objects o v far (variant.Write object version readers ∷ es) all = omega (arith, no_reads_if_version_is_no_word p objects o v far es all.1)
+no_reads_if_version_is_no_word p objects o v far (variant.Try object ∷ es) all = omega (arith, no_reads_if_version_is_no_word p objects o v far es all.1)
 
 sum_below_of_zeros : (n : ℕ) (f : ℕ → ℕ) → ((u : ℕ) → u < n → f u ≡ 0) → sum_below n f ≡ 0
 sum_below_of_zeros zero f none = refl
 sum_below_of_zeros (suc n) f none = omega (arith, none n (omega arith), sum_below_of_zeros n f (λ u l. none u (omega (arith, l))))
 
 -- no entry is at a version that is no word
-pub no_readers_past_word : (r : Recorded) (o v : ℕ) → IsRecorded r → 2 ^ 32 ≤ v → readers_at r o v ≡ 0
-no_readers_past_word r o v recorded far = sum_below_of_zeros (length r.threads) (λ u. reads o v ((trace_of r).logs u))
-    (λ u l. no_reads_past_word r.profile r.objects o v far (recorded_thread r u).events (recorded_thread_at_number_is_recorded r recorded u l).events_fit)
+pub no_readers_if_version_is_no_word : (r : Recorded) (o v : ℕ) → IsRecorded r → 2 ^ 32 ≤ v → readers_at r o v ≡ 0
+no_readers_if_version_is_no_word r o v recorded far = sum_below_of_zeros (length r.threads) (λ u. reads o v ((trace_of r).logs u))
+    (λ u l. no_reads_if_version_is_no_word r.profile r.objects o v far (recorded_thread r u).events (recorded_thread_at_number_is_recorded r recorded u l).events_fit)
 
 each_event_fits_profile : (p : Profile) (objects : ℕ) (es : List Event) → AllByRecursion (IsEvent p objects) es → (i : ℕ) (e : Event) → slice_get es i ≡ Some e
     → IsEvent p objects e
@@ -121,7 +122,7 @@ no_write_from_unnoted_version r o v n m coherent all makes none t i w l is above
 
 -- what a version was made by is there
 read_version_has_write : (r : Recorded) → AreCoherent r → (t i o v : ℕ) → IsReadAt r t i o (suc v) → (u j l : ℕ) × IsWriteAt r u j o v l
-read_version_has_write r coherent t i o v is = entered_version_was_made r coherent t i o v Reading 0 (at_of_mapped_label (recorded_thread r t).events i (variant.Read o (suc v)) is)
+read_version_has_write r coherent t i o v is = entered_version_was_made r coherent t i o v Reading 0 (label_of_event_is_at_its_place (recorded_thread r t).events i (variant.Read o (suc v)) is)
 
 -- nothing is noted of the last version
 pub listed_are_versions_if_none_noted : (r : Recorded) (o v n : ℕ) (m : Makers) (rows : List Version) → AreCoherent r → length r.threads ≤ n → Makes r n 0 m
@@ -145,8 +146,8 @@ listed_are_versions_if_none_noted r o v n m rows coherent all makes h none = rec
     ]
 
 -- all words are versions
-pub listed_are_versions_past_word : (r : Recorded) (o v : ℕ) (rows : List Version) → IsRecorded r → 2 ^ 32 ≤ v → AreListed r o v rows → AreVersions r o rows
-listed_are_versions_past_word r o v rows recorded far h = record {
+pub listed_are_versions_if_version_is_no_word : (r : Recorded) (o v : ℕ) (rows : List Version) → IsRecorded r → 2 ^ 32 ≤ v → AreListed r o v rows → AreVersions r o rows
+listed_are_versions_if_version_is_no_word r o v rows recorded far h = record {
   first = omega (arith, h.size);
   each = h.each;
   read = λ t i w is. let word = (recorded_event_fits r recorded t i (variant.Read o w) is).1 in omega (arith, word, far, h.size);

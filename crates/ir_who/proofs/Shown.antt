@@ -9,17 +9,8 @@ use Rattle.ir_who.specs.declared.dated.Dated.{Dated}
 use Rattle.ir_who.specs.declared.version.Version.{Version}
 
 -- of what is left to put, the first line was put
-pub text_grown_by_line : (so_far line left more text : List ℕ) → so_far ++ left ≡ text → left ≡ line ++ more → so_far ++ (line ++ more) ≡ text
-text_grown_by_line so_far line left more text e first = ap (λ (x : List ℕ). so_far ++ x) (sym first) ∙ e
-
--- a line was put
-pub text_split_after_put : (so_far line left more text new : List ℕ) → so_far ++ left ≡ text → left ≡ line ++ more → new ≡ so_far ++ line → new ++ more ≡ text
-text_split_after_put so_far line left more text new e first made =
-    ap (λ (x : List ℕ). x ++ more) made ∙ append_assoc so_far line more ∙ text_grown_by_line so_far line left more text e first
-
--- nothing is left to put
-pub text_is_put_if_nothing_left : (so_far left text : List ℕ) → so_far ++ left ≡ text → left ≡ [] → so_far ≡ text
-text_is_put_if_nothing_left so_far left text e none = sym (append-nil so_far) ∙ ap (λ (x : List ℕ). so_far ++ x) (sym none) ∙ e
+pub text_split_at_next_line : (so_far line left more text : List ℕ) → so_far ++ left ≡ text → left ≡ line ++ more → so_far ++ (line ++ more) ≡ text
+text_split_at_next_line so_far line left more text e first = ap (λ (x : List ℕ). so_far ++ x) (sym first) ∙ e
 
 version_lines_of_drop_step : (k n : ℕ) (xs : List Version) (x : Version) → n < length xs
     → version_lines k (drop n xs) ≡ version_line k (get_or xs n x) ++ version_lines (suc k) (drop (n + 1) xs)

@@ -13,8 +13,8 @@ use Rattle.ir_who.specs.Versions.{AreVersions}
 use Rattle.ir_who.specs.declared.version.Version.{Version}
 
 -- the trace of a run is coherent, whatever it is called
-pub equal_trace_is_coherent : (f : FittedTrace) → HasRun f → (r : Recorded) → r ≡ f.recorded → AreCoherent r
-equal_trace_is_coherent f h r same = subst AreCoherent (sym same) (run_trace_is_coherent f h)
+pub trace_equal_to_run_trace_is_coherent : (f : FittedTrace) → HasRun f → (r : Recorded) → r ≡ f.recorded → AreCoherent r
+trace_equal_to_run_trace_is_coherent f h r same = subst AreCoherent (sym same) (run_trace_is_coherent f h)
 
 -- what made a version
 pub version_maker_is_inside : (f : FittedTrace) → HasRun f → (o : ℕ) (rows : List Version) → AreVersions f.recorded o rows → (k : ℕ) (x : Version) (p : Place)

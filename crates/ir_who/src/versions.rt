@@ -3,7 +3,8 @@
 ghost use Rattle.std.specs.Prelude.{◌≡◌, suc, length, IfOk};
 ghost use Rattle.ir_past.specs.Answers.{AreCoherent};
 ghost use Rattle.ir_coherence.specs.Counting.{AreSettled, CountsAll};
-ghost use Rattle.ir_trace.specs.Recorded.{trace_of, IsRecorded};
+ghost use Rattle.ir_trace.specs.Recorded.{trace_of};
+ghost use Rattle.ir_trace.specs.Bounds.{IsRecorded};
 ghost use Rattle.ir_who.specs.Versions.{readers_at, AreVersions};
 
 use crate::version::Version;

@@ -11,20 +11,6 @@ IsIn xs x = (k : ℕ) × (slice_get xs k ≡ Some x)
 abbrev pub InOrder : {X : Type 0} → List X → X → X → Type 0
 InOrder xs x y = (a b : ℕ) × (a < b) × (slice_get xs a ≡ Some x) × (slice_get xs b ≡ Some y)
 
-pub slice_get_of_append_cases : {X : Type 0} (xs ys : List X) (k : ℕ) (x : X) → slice_get (xs ++ ys) k ≡ Some x
-    → (slice_get xs k ≡ Some x) ⊎ ((m : ℕ) × (k ≡ length xs + m) × (slice_get ys m ≡ Some x))
-slice_get_of_append_cases [] ys k x e = inr (k, (let same : k ≡ 0 + k = omega arith in same), e)
-slice_get_of_append_cases (z ∷ zs) ys zero x e = inl e
-slice_get_of_append_cases (z ∷ zs) ys (suc k) x e = elim (slice_get_of_append_cases zs ys k x e) [
-  | inl h ↦ inl h
-  | inr h ↦ inr (h.0, (let same : suc k ≡ suc (length zs) + h.0 = omega (arith, h.1) in same), h.2)
-]
-
-pub slice_get_kept_by_append : {X : Type 0} (xs ys : List X) (k : ℕ) (x : X) → slice_get xs k ≡ Some x → slice_get (xs ++ ys) k ≡ Some x
-slice_get_kept_by_append [] ys k x e = absurd (none-some x e)
-slice_get_kept_by_append (z ∷ zs) ys zero x e = e
-slice_get_kept_by_append (z ∷ zs) ys (suc k) x e = slice_get_kept_by_append zs ys k x e
-
 pub slice_get_of_right_in_append : {X : Type 0} (xs ys : List X) (k : ℕ) (x : X) → slice_get ys k ≡ Some x → slice_get (xs ++ ys) (length xs + k) ≡ Some x
 slice_get_of_right_in_append [] ys k x e = let same : 0 + k ≡ k = omega arith in ap (λ m. slice_get ys m) same ∙ e
 slice_get_of_right_in_append (z ∷ zs) ys k x e =
@@ -69,28 +55,28 @@ filter_complete f (z ∷ zs) zero x e t =
     (0, filter_begins_with_passing_head f z zs (ap f same ∙ t) ∙ ap Some same)
 filter_complete f (z ∷ zs) (suc k) x e t = filter_of_tail_is_in_filter f z zs (f z) refl x (filter_complete f zs k x e t)
 
-filter_order_step : {X : Type 0} (f : X → Bool) (z : X) (zs : List X) (c : Bool) → f z ≡ c → (a b : ℕ) (x y : X) → a < b
+filter_keeps_order_step : {X : Type 0} (f : X → Bool) (z : X) (zs : List X) (c : Bool) → f z ≡ c → (a b : ℕ) (x y : X) → a < b
     → slice_get (filter f (z ∷ zs)) a ≡ Some x → slice_get (filter f (z ∷ zs)) b ≡ Some y
     → ((m n : ℕ) (v w : X) → m < n → slice_get (filter f zs) m ≡ Some v → slice_get (filter f zs) n ≡ Some w → InOrder zs v w)
     → InOrder (z ∷ zs) x y
-filter_order_step f z zs true e a zero x y less first second rest = absurd (omega (arith, less))
-filter_order_step f z zs true e zero (suc b) x y less first second rest =
+filter_keeps_order_step f z zs true e a zero x y less first second rest = absurd (omega (arith, less))
+filter_keeps_order_step f z zs true e zero (suc b) x y less first second rest =
     let there : slice_get (filter f (z ∷ zs)) (suc b) ≡ slice_get (filter f zs) b = ap (λ (c : Bool). slice_get (if c then z ∷ filter f zs else filter f zs) (suc b)) e in
     let own = filter_sound f zs b y (sym there ∙ second) in
     (0, suc own.1.0, omega arith, sym (filter_begins_with_passing_head f z zs e) ∙ first, own.1.1)
-filter_order_step f z zs true e (suc a) (suc b) x y less first second rest =
+filter_keeps_order_step f z zs true e (suc a) (suc b) x y less first second rest =
     let one : slice_get (filter f (z ∷ zs)) (suc a) ≡ slice_get (filter f zs) a = ap (λ (c : Bool). slice_get (if c then z ∷ filter f zs else filter f zs) (suc a)) e in
     let two : slice_get (filter f (z ∷ zs)) (suc b) ≡ slice_get (filter f zs) b = ap (λ (c : Bool). slice_get (if c then z ∷ filter f zs else filter f zs) (suc b)) e in
     let own = rest a b x y (omega (arith, less)) (sym one ∙ first) (sym two ∙ second) in
     (suc own.0, suc own.1, omega (arith, own.2), own.3, own.4)
-filter_order_step f z zs false e a b x y less first second rest =
+filter_keeps_order_step f z zs false e a b x y less first second rest =
     let one : slice_get (filter f (z ∷ zs)) a ≡ slice_get (filter f zs) a = ap (λ (c : Bool). slice_get (if c then z ∷ filter f zs else filter f zs) a) e in
     let two : slice_get (filter f (z ∷ zs)) b ≡ slice_get (filter f zs) b = ap (λ (c : Bool). slice_get (if c then z ∷ filter f zs else filter f zs) b) e in
     let own = rest a b x y less (sym one ∙ first) (sym two ∙ second) in
     (suc own.0, suc own.1, omega (arith, own.2), own.3, own.4)
 
 -- the order stays
-pub filter_order : {X : Type 0} (f : X → Bool) (xs : List X) (a b : ℕ) (x y : X) → a < b → slice_get (filter f xs) a ≡ Some x
+pub filter_keeps_order : {X : Type 0} (f : X → Bool) (xs : List X) (a b : ℕ) (x y : X) → a < b → slice_get (filter f xs) a ≡ Some x
     → slice_get (filter f xs) b ≡ Some y → InOrder xs x y
-filter_order f [] a b x y less first second = absurd (none-some x first)
-filter_order f (z ∷ zs) a b x y less first second = filter_order_step f z zs (f z) refl a b x y less first second (filter_order f zs)
+filter_keeps_order f [] a b x y less first second = absurd (none-some x first)
+filter_keeps_order f (z ∷ zs) a b x y less first second = filter_keeps_order_step f z zs (f z) refl a b x y less first second (filter_keeps_order f zs)

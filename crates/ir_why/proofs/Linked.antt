@@ -134,9 +134,9 @@ latest_if_furthest_of_all boxes places n best most h all = record {
 -- ---- boxes
 
 -- the placed box that has an event
-pub placed_box_of_event : (boxes : List PlacedBox) (t i : ℕ) → HasBox (events_of_all boxes) t i
+pub placed_box_of_event_exists : (boxes : List PlacedBox) (t i : ℕ) → HasBox (events_of_all boxes) t i
     → (k : ℕ) × (b : PlacedBox) × (slice_get boxes k ≡ Some b) × IsInBox b.events t i
-placed_box_of_event boxes t i h = by (slice_get boxes h.number) refl
+placed_box_of_event_exists boxes t i h = by (slice_get boxes h.number) refl
   where
     mapped : (x : Option PlacedBox) → slice_get boxes h.number ≡ x → option_map (λ (b : PlacedBox). b.events) x ≡ Some h.box
     mapped x is = ap (option_map (λ (b : PlacedBox). b.events)) (sym is) ∙ sym (slice_get-map (λ (b : PlacedBox). b.events) boxes h.number) ∙ h.there
@@ -160,9 +160,9 @@ needed_events_have_boxes r boxes t i needs are need = λ k p is.
     are.all p.thread p.event (needed_event_exists r t i p.thread p.event (need.sound k p is)).1
 
 -- of what an event needs, the latest
-pub latest_need_of_needs : (r : Recorded) (boxes : List PlacedBox) (t i : ℕ) (needs : List Place) (p : Place) → AreNeeds r t i needs → IsLatestIn boxes needs p
+pub latest_in_needs_is_latest_need : (r : Recorded) (boxes : List PlacedBox) (t i : ℕ) (needs : List Place) (p : Place) → AreNeeds r t i needs → IsLatestIn boxes needs p
     → IsLatestNeed r boxes t i p
-latest_need_of_needs r boxes t i needs p need h = record {
+latest_in_needs_is_latest_need r boxes t i needs p need h = record {
   needed = need.sound h.number p h.there;
   latest = λ q other. let own = need.complete q.thread q.event other in
       let same : own.place ≡ q = places_equal_by_fields own.place q own.thread own.event in
@@ -180,7 +180,7 @@ link_from_waiting_event r boxes t i k needs l need latest thread event by last =
     need = (l.needed.thread, l.needed.event, need.sound latest.number l.needed latest.there);
     last = last;
   });
-  needed = subst (λ z. IsLatestNeed r boxes t z l.needed) (sym event) (latest_need_of_needs r boxes t k needs l.needed need latest);
+  needed = subst (λ z. IsLatestNeed r boxes t z l.needed) (sym event) (latest_in_needs_is_latest_need r boxes t k needs l.needed need latest);
 }
 
 -- event k waits for none, as none after it
@@ -197,8 +197,8 @@ abbrev pub ChainGoesOn : Recorded → List PlacedBox → ℕ → Place → List 
 ChainGoesOn r boxes n here links m last = (ls : List Link) → AreLinks r boxes m last.thread last.event ls
     → AreLinks r boxes n here.thread here.event (links ++ ls)
 
-pub chain_goes_on_from_itself : (r : Recorded) (boxes : List PlacedBox) (n : ℕ) (here : Place) → ChainGoesOn r boxes n here [] n here
-chain_goes_on_from_itself r boxes n here = λ ls h. h
+pub chain_goes_on_by_no_link : (r : Recorded) (boxes : List PlacedBox) (n : ℕ) (here : Place) → ChainGoesOn r boxes n here [] n here
+chain_goes_on_by_no_link r boxes n here = λ ls h. h
 
 pub chain_goes_on_by_link : (r : Recorded) (boxes : List PlacedBox) (n : ℕ) (here : Place) (links : List Link) (m k : ℕ) (last : Place) (l : Link)
     → ChainGoesOn r boxes n here links m last → m ≡ suc k → IsLink r boxes last.thread last.event l
@@ -211,9 +211,9 @@ chain_goes_on_by_link r boxes n here links m k last l h is link = λ ls rest.
       subst (λ z. AreLinks r boxes z l.needed.thread l.needed.event ls) (let same : k ≡ m - 1 = omega (arith, is) in same) rest,
     ))
 
-pub chain_ends_in_links : (r : Recorded) (boxes : List PlacedBox) (n : ℕ) (here : Place) (links : List Link) (m : ℕ) (last : Place)
+pub are_links_if_chain_ends : (r : Recorded) (boxes : List PlacedBox) (n : ℕ) (here : Place) (links : List Link) (m : ℕ) (last : Place)
     → ChainGoesOn r boxes n here links m last → (m ≡ 0) ⊎ WaitsForNone r last.thread last.event → AreLinks r boxes n here.thread here.event links
-chain_ends_in_links r boxes n here links m last h done =
+are_links_if_chain_ends r boxes n here links m last h done =
     subst (λ (xs : List Link). AreLinks r boxes n here.thread here.event xs) (append-nil links) (h [] done)
 
 -- where a link leads to is an event that there is

@@ -3,6 +3,7 @@ use Rattle.std.proofs.Common.{◌≡◌, ◌≢◌, ℕ, suc, zero, ◌+◌, ◌
 use Rattle.std.specs.Prelude.{slice_get}
 use Rattle.std.proofs.lemmas.Bool.{true≢false}
 use Rattle.std.proofs.lemmas.Option.{same_Some, none-some}
+use Rattle.ir_lemmas.proofs.CallerLemmas.{slice_get_kept_by_append, slice_get_of_append_cases}
 use Rattle.ir_log.specs.declared.event.Event.{Event}
 use Rattle.ir_log.specs.declared.event.Event.TheVariants as variant
 use Rattle.ir_trace.specs.Recorded.{Recorded}
@@ -16,15 +17,15 @@ use Rattle.ir_picture.specs.Needs.{IsEntryAt, IsMakerOf, IsReaderFor}
 use Rattle.ir_why.specs.Needed.{NeedsOther, AreNeeds}
 use Rattle.ir_why.specs.declared.tables.Tables.{Tables}
 use Rattle.ir_why.specs.Tables.{HasTables, is_other, others, listed, maker_at, needs_in}
-use Rattle.ir_why.proofs.Filtered.{slice_get_of_append_cases, slice_get_kept_by_append, slice_get_of_right_in_append, filter_sound, filter_complete, filter_order}
+use Rattle.ir_why.proofs.Filtered.{slice_get_of_right_in_append, filter_sound, filter_complete, filter_keeps_order}
 
 -- ---- events of other threads
 
-other_thread_if_is_other : (t : ℕ) (p : Place) → is_other t p ≡ true → p.thread ≢ t
-other_thread_if_is_other t p e same = true≢false (sym e ∙ ap not (eq-eqb p.thread t same))
+other_thread_if_is_other_is_true : (t : ℕ) (p : Place) → is_other t p ≡ true → p.thread ≢ t
+other_thread_if_is_other_is_true t p e same = true≢false (sym e ∙ ap not (eq-eqb p.thread t same))
 
-is_other_if_other_thread : (t : ℕ) (p : Place) → p.thread ≢ t → is_other t p ≡ true
-is_other_if_other_thread t p ne = ap not (ne_eqb p.thread t ne)
+is_other_is_true_if_other_thread : (t : ℕ) (p : Place) → p.thread ≢ t → is_other t p ≡ true
+is_other_is_true_if_other_thread t p ne = ap not (ne_eqb p.thread t ne)
 
 -- ---- what made a version
 
@@ -102,7 +103,7 @@ noted_maker_is_maker r tables t i o w k p has entry e =
         entry = subst (IsEntryAt r t i o) made.2 entry;
         made = made.3;
       },
-      other_thread_if_is_other t p own.0,
+      other_thread_if_is_other_is_true t p own.0,
     )
 
 maker_is_noted : (r : Recorded) (tables : Tables) (t i o w u j : ℕ) → AreCoherent r → HasTables r tables → IsEntryAt r t i o w
@@ -114,7 +115,7 @@ maker_is_noted r tables t i o w u j coherent has entry maker other =
     let at : maker_at tables o w ≡ Some p =
     subst (λ z. maker_at tables z w ≡ Some p) (sym same.0) (subst (λ z. maker_at tables maker.object z ≡ Some p) (sym same.1) noted.1) in
     let there = filter_complete (is_other t) (listed (maker_at tables o w)) 0 p (listed_place_at_zero (maker_at tables o w) p at)
-    (is_other_if_other_thread t p (λ x. other (sym noted.2 ∙ x))) in
+    (is_other_is_true_if_other_thread t p (λ x. other (sym noted.2 ∙ x))) in
     record { number = there.0; place = p; there = there.1; thread = noted.2; event = noted.3 }
 
 -- ---- all that an event needs
@@ -138,9 +139,9 @@ needs_of_no_entry_are_empty r t i e at read write = record {
     never u j (inr reader, other) = no_entry reader.object reader.version (inr (reader.readers, reader.write))
 
 -- a read entry needs what made its version
-pub needs_of_read_entry : (r : Recorded) (tables : Tables) (t i o w : ℕ) → AreCoherent r → HasTables r tables → IsReadAt r t i o w
+pub needs_of_read_entry_are_its_maker : (r : Recorded) (tables : Tables) (t i o w : ℕ) → AreCoherent r → HasTables r tables → IsReadAt r t i o w
     → AreNeeds r t i (others t (listed (maker_at tables o w)))
-needs_of_read_entry r tables t i o w coherent has read = record {
+needs_of_read_entry_are_its_maker r tables t i o w coherent has read = record {
   sound = λ k p is. let own = noted_maker_is_maker r tables t i o w k p has (inl read) is in (inl own.0, own.1);
   complete = all;
   first = λ k p is maker. filtered_listed_place_is_first t (maker_at tables o w) k p is;
@@ -152,9 +153,9 @@ needs_of_read_entry r tables t i o w coherent has read = record {
     all u j (inr reader, other) = absurd (read_is_no_write r t i o w reader.object reader.version reader.readers read reader.write)
 
 -- a write entry needs the read entries of its version too
-pub needs_of_write_entry : (r : Recorded) (tables : Tables) (t i o w l : ℕ) → AreCoherent r → HasTables r tables → IsWriteAt r t i o w l
+pub needs_of_write_entry_are_its_maker_and_readers : (r : Recorded) (tables : Tables) (t i o w l : ℕ) → AreCoherent r → HasTables r tables → IsWriteAt r t i o w l
     → AreNeeds r t i (others t (listed (maker_at tables o w)) ++ others t (read_in tables.reads o w))
-needs_of_write_entry r tables t i o w l coherent has write = record { sound = sound; complete = all; first = first; rising = rising }
+needs_of_write_entry_are_its_maker_and_readers r tables t i o w l coherent has write = record { sound = sound; complete = all; first = first; rising = rising }
   where
     made : List Place
     made = others t (listed (maker_at tables o w))
@@ -165,7 +166,7 @@ needs_of_write_entry r tables t i o w l coherent has write = record { sound = so
     reader_at : (k : ℕ) (p : Place) → slice_get readers k ≡ Some p → IsReadAt r p.thread p.event o w × (p.thread ≢ t)
     reader_at k p is =
         let own = filter_sound (is_other t) (read_in tables.reads o w) k p is in
-        ((has.reads o w).sound own.1.0 p own.1.1, other_thread_if_is_other t p own.0)
+        ((has.reads o w).sound own.1.0 p own.1.1, other_thread_if_is_other_is_true t p own.0)
 
     sound : (k : ℕ) (p : Place) → slice_get (made ++ readers) k ≡ Some p → NeedsOther r t i p.thread p.event
     sound k p is = elim (slice_get_of_append_cases made readers k p is) [
@@ -193,7 +194,7 @@ needs_of_write_entry r tables t i o w l coherent has write = record { sound = so
         (subst (λ z. IsReadAt r u j reader.object z) (sym same.1) reader.read) in
         let own = (has.reads o w).complete u j read in
         let kept = filter_complete (is_other t) (read_in tables.reads o w) own.number own.place own.there
-        (is_other_if_other_thread t own.place (λ x. other (sym own.thread ∙ x))) in
+        (is_other_is_true_if_other_thread t own.place (λ x. other (sym own.thread ∙ x))) in
         record {
           number = length made + kept.0;
           place = own.place;
@@ -215,7 +216,7 @@ needs_of_write_entry r tables t i o w l coherent has write = record { sound = so
           absurd (read_is_no_write r p.thread p.event reader.object reader.version own.object own.version own.readers reader.read own.made)
       | inr h ↦ elim (slice_get_of_append_cases made readers b q two) [
         | inl k ↦ absurd (omega (arith, less, filtered_listed_place_is_first t (maker_at tables o w) b q k))
-        | inr k ↦ let kept = filter_order (is_other t) (read_in tables.reads o w) h.0 k.0 p q (omega (arith, less, h.1, k.1)) h.2 k.2 in
+        | inr k ↦ let kept = filter_keeps_order (is_other t) (read_in tables.reads o w) h.0 k.0 p q (omega (arith, less, h.1, k.1)) h.2 k.2 in
             (has.reads o w).rising kept.0 kept.1 p q kept.2 kept.3 kept.4
       ]
     ]
@@ -223,6 +224,6 @@ needs_of_write_entry r tables t i o w l coherent has write = record { sound = so
 pub needs_in_tables_are_needs : (r : Recorded) (tables : Tables) (t i : ℕ) (e : Event) → AreCoherent r → HasTables r tables → event_at r t i ≡ Some e
     → AreNeeds r t i (needs_in tables t e)
 needs_in_tables_are_needs r tables t i (variant.Answer k x) coherent has at = needs_of_no_entry_are_empty r t i (variant.Answer k x) at (λ o v e. cc) (λ o v l e. cc)
-needs_in_tables_are_needs r tables t i (variant.Read o v) coherent has at = needs_of_read_entry r tables t i o v coherent has at
-needs_in_tables_are_needs r tables t i (variant.Write o v l) coherent has at = needs_of_write_entry r tables t i o v l coherent has at
+needs_in_tables_are_needs r tables t i (variant.Read o v) coherent has at = needs_of_read_entry_are_its_maker r tables t i o v coherent has at
+needs_in_tables_are_needs r tables t i (variant.Write o v l) coherent has at = needs_of_write_entry_are_its_maker_and_readers r tables t i o v l coherent has at
 needs_in_tables_are_needs r tables t i (variant.Try o) coherent has at = needs_of_no_entry_are_empty r t i (variant.Try o) at (λ p v e. cc) (λ p v l e. cc)

@@ -4,12 +4,13 @@ use Rattle.std.specs.Prelude.{slice_get, replicate}
 use Rattle.std.proofs.lemmas.Bool.{cases_lt}
 use Rattle.std.proofs.lemmas.Option.{same_Some, none-some}
 use Rattle.std.proofs.lemmas.List.{get_or_past}
+use Rattle.ir_lemmas.proofs.CallerLemmas.{slice_get_of_append_cases}
 use Rattle.ir_runs.specs.Run.{events}
 use Rattle.ir_log.specs.Logging.{label_of}
 use Rattle.ir_trace.specs.Recorded.{Recorded, RecordedThread, recorded_thread}
 use Rattle.ir_trace.specs.Absent.{absent}
 use Rattle.ir_fit.specs.Fit.{FittedTrace, HasRun}
-use Rattle.ir_fit.proofs.CallerLemmas.{entries_as_many_as_events, guest_start_is_start}
+use Rattle.ir_fit.proofs.CallerLemmas.{event_positions_are_as_many_as_events, guest_start_is_start}
 use Rattle.ir_cut.specs.Positions.{cut_of, start_of, IsConsistentCut}
 use Rattle.ir_cut.proofs.CallerLemmas.{no_trail_of_missing_thread}
 use Rattle.ir_past.specs.declared.place.Place.{Place}
@@ -21,7 +22,6 @@ use Rattle.ir_why.specs.Chain.{AreLinks}
 use Rattle.ir_why.specs.FitAnswers.{AreInside, IsLinkInside, AreLinksInside, first_cut}
 use Rattle.ir_why.specs.Tables.{AreThere}
 use Rattle.ir_why.specs.declared.link.Link.{Link}
-use Rattle.ir_why.proofs.Filtered.{slice_get_of_append_cases}
 use Rattle.ir_why.proofs.Linked.{linked_event_exists}
 
 -- ---- what is inside
@@ -31,7 +31,7 @@ pub trace_event_is_inside : (f : FittedTrace) → HasRun f → (t i : ℕ) → t
     → IsInside f t i
 trace_event_is_inside f h t i a b =
     let l : t < length f.guest.entries = let n = h.whole.0.threads in omega (arith, a, n) in
-    record { thread = l; event = let long = entries_as_many_as_events f h t l in omega (arith, long, b) }
+    record { thread = l; event = let long = event_positions_are_as_many_as_events f h t l in omega (arith, long, b) }
 
 pub trace_events_are_inside : (f : FittedTrace) → HasRun f → (places : List Place) → AreThere f.recorded places → AreInside f places
 trace_events_are_inside f h places there k p is = let own = there k p is in trace_event_is_inside f h p.thread p.event own.0 own.1
@@ -41,7 +41,7 @@ pub inside_event_is_of_trace : (f : FittedTrace) → HasRun f → (t i : ℕ) �
     → (t < length f.recorded.threads) × (i < length (recorded_thread f.recorded t).events)
 inside_event_is_of_trace f h t i inside = (
   (let a = inside.thread in let n = h.whole.0.threads in omega (arith, a, n)),
-  (let b = inside.event in let long = entries_as_many_as_events f h t inside.thread in omega (arith, b, long)),
+  (let b = inside.event in let long = event_positions_are_as_many_as_events f h t inside.thread in omega (arith, b, long)),
 )
 
 -- the events of a chain
@@ -112,9 +112,3 @@ flat_map_text_step f xs n d old new all l is h =
     let same : n + 1 ≡ suc n = omega arith in
     ap (λ k. new ++ flat_map f (drop k xs)) same ∙ ap (λ t. t ++ flat_map f (drop (suc n) xs)) is
     ∙ append_assoc old (f (get_or xs n d)) (flat_map f (drop (suc n) xs)) ∙ ap (λ t. old ++ t) (sym (flat_map_of_drop_step f xs n d l)) ∙ h
-
--- a text that four others are added to
-pub append_of_four_texts : (a b c d e x y z all : List ℕ) → x ≡ a ++ b → y ≡ x ++ c → z ≡ y ++ d → all ≡ z ++ e → all ≡ a ++ (b ++ (c ++ (d ++ e)))
-append_of_four_texts a b c d e x y z all first second third last =
-    last ∙ ap (λ t. t ++ e) (third ∙ ap (λ t. t ++ d) (second ∙ ap (λ t. t ++ c) first))
-    ∙ append_assoc ((a ++ b) ++ c) d e ∙ append_assoc (a ++ b) c (d ++ e) ∙ append_assoc a b (c ++ (d ++ e))

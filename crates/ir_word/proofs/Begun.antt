@@ -55,15 +55,15 @@ pub record AreFirstWorded (rows : List Version) (n word : ℕ) (ds : List Worded
   pub each : (j : ℕ) (x : Version) → j < n → slice_get rows j ≡ Some x
       → slice_index_or ds j unread ≡ record { made_by = x.made_by; word = word; step = None }
 
-pub first_versions_of_none : (rows : List Version) (word : ℕ) (ds : List Worded) → ds ≡ [] → AreFirstWorded rows 0 word ds
-first_versions_of_none rows word ds e = record {
+pub are_first_worded_of_no_version : (rows : List Version) (word : ℕ) (ds : List Worded) → ds ≡ [] → AreFirstWorded rows 0 word ds
+are_first_worded_of_no_version rows word ds e = record {
   size = ap (λ (xs : List Worded). length xs) e;
   each = λ j x l. absurd (omega (arith, l));
 }
 
-pub first_versions_step : (rows : List Version) (n word : ℕ) (ds new : List Worded) (d : Worded) (x : Version) → AreFirstWorded rows n word ds → slice_get rows n ≡ Some x
+pub are_first_worded_step : (rows : List Version) (n word : ℕ) (ds new : List Worded) (d : Worded) (x : Version) → AreFirstWorded rows n word ds → slice_get rows n ≡ Some x
     → new ≡ ds ++ d ∷ [] → d ≡ record { made_by = x.made_by; word = word; step = None } → AreFirstWorded rows (n + 1) word new
-first_versions_step rows n word ds new d x are here e is = record {
+are_first_worded_step rows n word ds new d x are here e is = record {
   size = ap (λ (xs : List Worded). length xs) e ∙ length-append ds (d ∷ []) ∙ ap (λ k. k + 1) are.size;
   each = λ j y l there. ap (λ (xs : List Worded). slice_index_or xs j unread) e ∙ elim (cases_lt j n) [
     | inl less ↦ get_or-append ds (d ∷ []) unread j (let a = are.size in omega (arith, a, less)) ∙ are.each j y less there

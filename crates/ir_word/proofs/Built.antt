@@ -133,9 +133,9 @@ track_at_start_if_built f rows w t k track is sorted first = record {
   put = λ some. subst (IsPutIn f w t track.from k) (sym is.put) (λ j past before. absurd (omega (arith, before, first)));
 }
 
-pub found_at_start_if_built : (f : FittedTrace) (rows : List Version) (w : ObjectWord) (words : List Worded) (t : ℕ) (track : Track)
+pub versions_are_found_at_start_if_built : (f : FittedTrace) (rows : List Version) (w : ObjectWord) (words : List Worded) (t : ℕ) (track : Track)
     → IsBuilt f rows w (length rows) t track → IsFound f rows w words t track
-found_at_start_if_built f rows w words t track is r x p there made own = inl (is.covered r x p (slice_get_within rows r x there) there made own)
+versions_are_found_at_start_if_built f rows w words t track is r x p there made own = inl (is.covered r x p (slice_get_within rows r x there) there made own)
 
 -- ---- each thread without holds
 

@@ -2,6 +2,7 @@
 use Rattle.std.proofs.Common.{◌≡◌, ◌+◌, ◌<◌, ◌≤◌, ℕ, Bool, true, false, refl, sym, ap, ◌∙◌, subst, arith, inl, inr, eq-eqb}
 use Rattle.std.specs.Prelude.{◌==◌, ◌&&◌, Option, Some, None, option_to_list}
 use Rattle.std.proofs.lemmas.Bool.{cases_lt, eqb-true}
+use Rattle.ir_lemmas.proofs.CallerLemmas.{conjuncts_are_true, true_is_not_false}
 use Rattle.ir_thread.specs.declared.ask.Ask.{Ask}
 use Rattle.ir_thread.specs.declared.ask.Ask.TheVariants as ask
 use Rattle.ir_fit.specs.Fit.{FittedTrace, HasRun}
@@ -9,41 +10,36 @@ use Rattle.ir_cut.specs.Positions.{EachRun}
 use Rattle.ir_weave.specs.Ahead.{ask_at}
 use Rattle.ir_walk.specs.Calls.{AreCalls}
 use Rattle.ir_walk.specs.declared.exchange.Exchange.{Exchange}
-use Rattle.ir_walk.proofs.CallerLemmas.{steps_without_call_are_private, step_with_call_asks_so}
+use Rattle.ir_walk.proofs.CallerLemmas.{steps_without_call_are_private, step_with_call_asks_what_call_asked}
 use Rattle.ir_word.specs.Words.{puts, PutsAt, IsLastPut, IsPutIn}
 use Rattle.ir_word.specs.declared.object_word.ObjectWord.{ObjectWord}
 
 -- ---- whether a call puts the word
 
-conjuncts_are_true : (b c : Bool) → (b && c) ≡ true → (b ≡ true) × (c ≡ true)
-conjuncts_are_true true true e = (refl, refl)
-conjuncts_are_true true false e = absurd (cc e)
-conjuncts_are_true false c e = absurd (cc e)
-
 -- one that does
-putting_ask_is_put_of_word : (w : ObjectWord) (q : Ask) → puts w q ≡ true → (value : ℕ) × (q ≡ ask.Put w.object w.index value)
-putting_ask_is_put_of_word w ask.Private e = absurd (cc e)
-putting_ask_is_put_of_word w (ask.Env kind) e = absurd (cc e)
-putting_ask_is_put_of_word w (ask.Enter o a) e = absurd (cc e)
-putting_ask_is_put_of_word w (ask.Try o) e = absurd (cc e)
-putting_ask_is_put_of_word w (ask.Leave o a) e = absurd (cc e)
-putting_ask_is_put_of_word w (ask.Get o i) e = absurd (cc e)
-putting_ask_is_put_of_word w (ask.Put o i value) e =
+ask_is_put_of_word_if_puts_is_true : (w : ObjectWord) (q : Ask) → puts w q ≡ true → (value : ℕ) × (q ≡ ask.Put w.object w.index value)
+ask_is_put_of_word_if_puts_is_true w ask.Private e = absurd (cc e)
+ask_is_put_of_word_if_puts_is_true w (ask.Env kind) e = absurd (cc e)
+ask_is_put_of_word_if_puts_is_true w (ask.Enter o a) e = absurd (cc e)
+ask_is_put_of_word_if_puts_is_true w (ask.Try o) e = absurd (cc e)
+ask_is_put_of_word_if_puts_is_true w (ask.Leave o a) e = absurd (cc e)
+ask_is_put_of_word_if_puts_is_true w (ask.Get o i) e = absurd (cc e)
+ask_is_put_of_word_if_puts_is_true w (ask.Put o i value) e =
     let same = conjuncts_are_true (o == w.object) (i == w.index) e in
     (value, λ k. ask.Put (eqb-true o w.object same.0 k) (eqb-true i w.index same.1 k) value)
-putting_ask_is_put_of_word w ask.Print e = absurd (cc e)
-putting_ask_is_put_of_word w (ask.End z) e = absurd (cc e)
-putting_ask_is_put_of_word w ask.Done e = absurd (cc e)
+ask_is_put_of_word_if_puts_is_true w ask.Print e = absurd (cc e)
+ask_is_put_of_word_if_puts_is_true w (ask.End z) e = absurd (cc e)
+ask_is_put_of_word_if_puts_is_true w ask.Done e = absurd (cc e)
 
-put_of_word_puts : (w : ObjectWord) (value : ℕ) → puts w (ask.Put w.object w.index value) ≡ true
-put_of_word_puts w value = ap (λ (z : Bool × Bool). z.0 && z.1) (λ i. (eq-eqb w.object w.object refl i, eq-eqb w.index w.index refl i))
+puts_is_true_for_put_of_word : (w : ObjectWord) (value : ℕ) → puts w (ask.Put w.object w.index value) ≡ true
+puts_is_true_for_put_of_word w value = ap (λ (z : Bool × Bool). z.0 && z.1) (λ i. (eq-eqb w.object w.object refl i, eq-eqb w.index w.index refl i))
 
 -- a step that puts the word asks to in the run that there is
-step_that_puts_asks_to : (f : FittedTrace) (w : ObjectWord) (t k : ℕ) (q : Ask) → HasRun f → EachRun f (λ run. ask_at f run t k ≡ q) → PutsAt f w t k
+puts_is_true_if_step_puts_word : (f : FittedTrace) (w : ObjectWord) (t k : ℕ) (q : Ask) → HasRun f → EachRun f (λ run. ask_at f run t k ≡ q) → PutsAt f w t k
     → puts w q ≡ true
-step_that_puts_asks_to f w t k q h asks at =
+puts_is_true_if_step_puts_word f w t k q h asks at =
     let here = at h.run h.whole in
-    sym (ap (puts w) (sym here.1 ∙ asks h.run h.whole)) ∙ put_of_word_puts w here.0
+    sym (ap (puts w) (sym here.1 ∙ asks h.run h.whole)) ∙ puts_is_true_for_put_of_word w here.0
 
 -- ---- further on
 
@@ -70,9 +66,6 @@ pub put_in_no_steps : (f : FittedTrace) (w : ObjectWord) (t from k to : ℕ) (pu
 put_in_no_steps f w t from k to None before within is = λ j past l. absurd (omega (arith, past, l, within))
 put_in_no_steps f w t from k to (Some s) before within is = absurd (let p = is.past in let l = is.before in omega (arith, before, p, l))
 
-true_is_not_false : (b : Bool) → b ≡ true → b ≡ false → ⊥
-true_is_not_false b e n = cc (e, n)
-
 -- n steps more, with a call or with none
 pub put_in_steps_with_call : (f : FittedTrace) (w : ObjectWord) (t from k n : ℕ) (put new : Option ℕ) (call : Option Exchange) → HasRun f
     → AreCalls f t k n (option_to_list call) → ((c : Exchange) → call ≡ Some c → n ≡ 1)
@@ -82,18 +75,18 @@ pub put_in_steps_with_call : (f : FittedTrace) (w : ObjectWord) (t from k n : �
 put_in_steps_with_call f w t from k n put new None h calls one some none within is =
     subst (IsPutIn f w t from (k + n)) (sym (none (λ c e. absurd (cc e))))
     (put_in_more_steps_without_put f w t from k (k + n) put (omega arith)
-    (λ j past before at. cc (step_that_puts_asks_to f w t j ask.Private h (steps_without_call_are_private f t k n calls j past before) at)) is)
+    (λ j past before at. cc (puts_is_true_if_step_puts_word f w t j ask.Private h (steps_without_call_are_private f t k n calls j past before) at)) is)
 put_in_steps_with_call f w t from k n put new (Some c) h calls one some none within is = by (puts w c.asked) refl
   where
     n1 : n ≡ 1
     n1 = one c refl
 
     asks : EachRun f (λ run. ask_at f run t k ≡ c.asked)
-    asks = step_with_call_asks_so f t k n c calls n1
+    asks = step_with_call_asks_what_call_asked f t k n c calls n1
 
     by : (b : Bool) → puts w c.asked ≡ b → IsPutIn f w t from (k + n) new
     by true e =
-        let q = putting_ask_is_put_of_word w c.asked e in
+        let q = ask_is_put_of_word_if_puts_is_true w c.asked e in
         subst (IsPutIn f w t from (k + n)) (sym (some c refl e)) (record {
           past = within;
           before = omega (arith, n1);
@@ -103,7 +96,7 @@ put_in_steps_with_call f w t from k n put new (Some c) h calls one some none wit
     by false e =
         subst (IsPutIn f w t from (k + n)) (sym (none (λ d same. subst (λ (z : Exchange). puts w z.asked ≡ false) (same_call c d same) e)))
         (put_in_more_steps_without_put f w t from k (k + n) put (omega arith) (λ j past before at. true_is_not_false (puts w c.asked)
-        (step_that_puts_asks_to f w t j c.asked h (subst (λ i. EachRun f (λ run. ask_at f run t i ≡ c.asked)) (same_step j past before) asks) at) e) is)
+        (puts_is_true_if_step_puts_word f w t j c.asked h (subst (λ i. EachRun f (λ run. ask_at f run t i ≡ c.asked)) (same_step j past before) asks) at) e) is)
       where
         same_call : (c d : Exchange) → Some c ≡ Some d → c ≡ d
         same_call c d same = cc same

@@ -37,10 +37,10 @@ before_stop_of_next_hold track old k h sorted l here leave from = record {
 }
 
 -- the next stop, by the hold that is read out of a list of them
-pub before_stop_of_read_hold : (track : Track) (hs : List Hold) (old k : ℕ) (h : Hold) → hs ≡ track.holds.items
+pub before_stop_of_looked_up_hold : (track : Track) (hs : List Hold) (old k : ℕ) (h : Hold) → hs ≡ track.holds.items
     → IsNonDecreasingBy (λ (z : Hold). z.leave) track.holds.items → track.next < length hs → h ≡ slice_index_or hs track.next h → k ≤ h.leave
     → (old < track.from → k ≤ track.from) → IsBeforeStop old k track
-before_stop_of_read_hold track hs old k h same sorted l here leave from =
+before_stop_of_looked_up_hold track hs old k h same sorted l here leave from =
     before_stop_of_next_hold track old k h sorted (subst (λ (xs : List Hold). track.next < length xs) same l)
     (here ∙ ap (λ (xs : List Hold). slice_index_or xs track.next h) same) leave from
 
@@ -134,8 +134,8 @@ place_is_none_or_some : (m : Option Place) → (m ≡ None) ⊎ ((p : Place) × 
 place_is_none_or_some None = inl refl
 place_is_none_or_some (Some p) = inr (p, refl)
 
-worded_at_place_is_element : (words : List Worded) (r : ℕ) (d : Worded) → slice_get words r ≡ Some d → slice_index_or words r unread ≡ d
-worded_at_place_is_element words r d there = cc (sym (slice_get-get_or words r unread (slice_get_within words r d there)) ∙ there)
+slice_index_or_is_what_slice_get_finds : (words : List Worded) (r : ℕ) (d : Worded) → slice_get words r ≡ Some d → slice_index_or words r unread ≡ d
+slice_index_or_is_what_slice_get_finds words r d there = cc (sym (slice_get-get_or words r unread (slice_get_within words r d there)) ∙ there)
 
 -- an element of a list that has some
 track_at : (ts : List Track) (t : ℕ) → t < length ts → Track
@@ -148,7 +148,7 @@ pub all_versions_worded_at_end : (f : FittedTrace) (rows : List Version) (w : Ob
     → ((t : ℕ) → t < length ts → (recorded_thread f.recorded t).steps ≤ positions (flat_in f s) t) → ArePaired (IsWorded f w) rows words
 all_versions_worded_at_end f rows w s ts words are size within all = record {
   size = size;
-  each = λ r x d there here. subst (IsWorded f w x) (worded_at_place_is_element words r d here) (elim (place_is_none_or_some x.made_by) [
+  each = λ r x d there here. subst (IsWorded f w x) (slice_index_or_is_what_slice_get_finds words r d here) (elim (place_is_none_or_some x.made_by) [
     | inl first ↦ are.first r x there first
     | inr made ↦
         let t : ℕ = made.0.thread in

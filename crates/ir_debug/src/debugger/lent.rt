@@ -1,11 +1,11 @@
 //! What a debugger lends to another front than a session's: the run at any cut, and searches with points that aren't its own.
 
 ghost use Rattle.std.specs.Prelude.{◌≡◌, ◌<◌, ◌≤◌, length, None, Some, IfOk, IfSome, MatchOption, OnOk};
-ghost use Rattle.ir_cut.specs.Positions.{EachRun, IsConsistentCut, cut_of};
+ghost use Rattle.ir_cut.specs.Positions.{EachRun, IsConsistentCut, cut_of, last_of, threads_of};
 ghost use Rattle.ir_weave.specs.Standing.{StandsAt};
 ghost use Rattle.ir_hits.specs.Watchable.{AreWatchable};
 ghost use Rattle.ir_hits.specs.Searching.{IsNextHit};
-ghost use Rattle.ir_timeline.specs.Positions.{Finds, last_of, threads_of};
+ghost use Rattle.ir_hits.specs.Hits.{Finds};
 ghost use Rattle.ir_timeline.specs.Hand.{IsCutOf};
 ghost use Rattle.ir_debug.specs.Machine.{kept_cut, spoken, StopsAt};
 

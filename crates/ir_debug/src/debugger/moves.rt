@@ -1,9 +1,8 @@
 //! Moves: to the cut to which a command leads, and to a hit.
 
 ghost use Rattle.std.specs.Prelude.{◌≡◌, List, ℕ, None, length, IfOk, OnOk, OnErr};
-ghost use Rattle.ir_cut.specs.Positions.{EachRun, IsConsistentCut};
+ghost use Rattle.ir_cut.specs.Positions.{EachRun, IsConsistentCut, threads_of};
 ghost use Rattle.ir_command.specs.declared.command.Command.TheVariants as command;
-ghost use Rattle.ir_timeline.specs.Positions.{threads_of};
 ghost use Rattle.ir_debug.specs.Machine.{moved_to, spoken, refusal_of, Leads, Continues, AnswersBy};
 ghost use Rattle.ir_debug.specs.Debugging.{IsLast, answer_text};
 

@@ -58,6 +58,7 @@ pub fn followed<'a, G: Gate>(
         ready,
         waiting: 0,
         places,
+        stretches: Vec::new(alloc),
     };
     follower.follow(passing, gate);
     Ok(follower)

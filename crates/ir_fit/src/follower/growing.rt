@@ -52,6 +52,11 @@ impl GrowingPlaces {
         self.leaves.push_reserved(leave);
     }
 
+    // How many leaves there are.
+    pub fn leave_count(&self) -> usize {
+        self.leaves.len()
+    }
+
     fn into_places(self) -> Places
         ensures { result ≡ grown self }
     {

@@ -8,7 +8,8 @@ ghost use Rattle.ir_thread.specs.declared.ask.Ask.TheVariants as ask;
 ghost use Rattle.ir_flat.specs.Flat.{thread_of, IsFlat};
 ghost use Rattle.ir_log.specs.Asked.{Suits};
 ghost use Rattle.ir_log.specs.declared.event.Event.{Event};
-ghost use Rattle.ir_trace.specs.Recorded.{recorded_thread, IsRecordedThread};
+ghost use Rattle.ir_trace.specs.Recorded.{recorded_thread};
+ghost use Rattle.ir_trace.specs.Bounds.{IsRecordedThread};
 ghost use Rattle.ir_fit.specs.Ahead.{steps_ahead, IsOpen, EndsSo, IsOwn, IsSeen};
 
 use crate::follower::Follower;

@@ -24,7 +24,7 @@ fn resume(ready: &mut Vec<Readiness>)
 impl Follower<'_> {
     // How many steps thread t runs at most, to which the trace leaves so many, until it pauses or the gate is told.
     #[inline(always)]
-    pub fn stretch(&self, t: usize, ahead: u64, pause: u64) -> u64
+    pub fn step_limit(&self, t: usize, ahead: u64, pause: u64) -> u64
         requires { t < length self.now.flat.threads }
         ensures { result ≤ ahead }
     {

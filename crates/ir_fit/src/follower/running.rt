@@ -12,6 +12,7 @@ use crate::follower::Follower;
 use crate::follower::look::{Look, Move};
 use crate::follower::passing::Passing;
 use crate::follower::readiness::Readiness;
+use crate::stretch::Stretch;
 use ir_object::{Gate, MOST_UNTOLD};
 use ir_thread::Ask;
 
@@ -77,8 +78,8 @@ impl Follower<'_> {
         let mut taken = 0u64;
         'steps: loop {
             let ahead = self.steps_left(t);
-            let stretch = self.stretch(t, ahead, pause);
-            let (steps, asked) = self.flat.run_to_ask(t, stretch);
+            let limit = self.step_limit(t, ahead, pause);
+            let (steps, asked) = self.flat.run_to_ask(t, limit);
             // With the step that it takes then.
             taken = taken.saturating_add(steps).saturating_add(1);
             if let Some(look) = self.follow_ask(t, asked) {
@@ -170,6 +171,25 @@ impl Follower<'_> {
         }
     }
 
+    // Notes how far thread t is, which took the last steps. If memory runs out it isn't noted.
+    fn note_stretch(&mut self, t: usize)
+        requires sized { IsSized self.old }
+        requires thread { t < length self.old.flat.threads }
+        ensures flat { self.new.flat ≡ self.old.flat }
+        ensures trace { self.new.trace ≡ self.old.trace }
+        ensures places { self.new.places.items ≡ self.old.places.items }
+        ensures sized { IsSized self.new }
+    {
+        let leaves = self.places[t].leave_count().min(u32::MAX as usize);
+        let thread = self.thread(t).number();
+        let events = self.thread(t).events();
+        let _ = self.stretches.push(Stretch {
+            events,
+            leaves: leaves as u32,
+            thread,
+        });
+    }
+
     // Continues while any thread has a step that follows, and keeps states on the way.
     pub fn follow<G: Gate>(&mut self, passing: &mut Passing, gate: &G)
         requires { IsSized self.old }
@@ -182,6 +202,7 @@ impl Follower<'_> {
         'moves: while let Some(next) = self.next(passing) {
             self.take(next);
             self.advance(next.thread, passing.pause_of(next.thread), gate);
+            self.note_stretch(next.thread);
         }
     }
 }

@@ -1,6 +1,6 @@
 //! What is written for an item of the stream.
 
-ghost use Rattle.std.specs.Prelude.{◌≡◌, ◌≤◌, ◌<◌, ◌&&◌, ℕ, [], length, codes, true, IfOk, IfErr, OnOk, OnErr};
+ghost use Rattle.std.specs.Prelude.{◌≡◌, ◌≤◌, ◌<◌, ◌&&◌, ℕ, [], length, codes, true, IfOk, IfErr};
 ghost use Rattle.ir_stream.specs.Endings.{flow_after};
 ghost use Rattle.ir_packet.specs.Reading.{item_found};
 ghost use Rattle.ir_packet.specs.Requests.{request_of, console_line};
@@ -8,7 +8,7 @@ ghost use Rattle.ir_packet.specs.Stream.{TooLong};
 ghost use Rattle.ir_packet.specs.declared.request.Request.TheVariants.{Register};
 ghost use Rattle.ir_debug.specs.Machine.{quits};
 ghost use Rattle.ir_gdb.specs.Replies.{has_reply};
-ghost use Rattle.ir_gdb.specs.Connection.{sign, before_reply, is_copy, is_packet, Consults, AnswersLine, AnswersBy, AnswersRequest, AnswersPacket, AnswersNew, AnswersItem, ends_request, ends_by, ends, Sent, SentInPart};
+ghost use Rattle.ir_gdb.specs.Connection.{sign, before_reply, is_copy, is_packet, Consults, AnswersLine, AnswersBy, AnswersRequest, AnswersPacket, AnswersNew, AnswersItem, ends_request, ends_by, ends, SendsOrFails};
 
 use crate::connection::Connection;
 use crate::console::Answered;
@@ -60,11 +60,8 @@ impl Connection {
     fn answer_line<H: Hands, W: Sink>(&mut self, hands: &H, writer: &mut W) -> Result<(), Fault>
         requires { length self.old.reading.payload ≤ 4096 }
         ensures reading { self.new.reading ≡ self.old.reading }
-        ensures ok { OnOk result (Sent (AnswersLine (quits (console_line self.old.reading.payload)) self.old.link (console_line self.old.reading.payload)) self.new.link (W.written writer.old) (W.written writer.new)) }
-        ensures stays { OnOk result (W.broken writer.new ≡ W.broken writer.old) }
+        ensures writes { SendsOrFails W.written W.broken (AnswersLine (quits (console_line self.old.reading.payload)) self.old.link (console_line self.old.reading.payload)) [] self.new.link writer.old writer.new result }
         ensures fault { IfErr result (λ f. f ≡ Fault.Write) }
-        ensures prefix { OnErr result (SentInPart (AnswersLine (quits (console_line self.old.reading.payload)) self.old.link (console_line self.old.reading.payload)) [] (W.written writer.old) (W.written writer.new)) }
-        ensures err { OnErr result (W.broken writer.new ≡ true) }
     {
         match self.answer_of(hands) {
             Ok(Some(answered)) => {
@@ -86,11 +83,8 @@ impl Connection {
         requires register { (n : ℕ) → request ≡ Register n → n < 33 }
         requires replies { has_reply request ≡ true }
         ensures reading { self.new.reading ≡ self.old.reading }
-        ensures ok { OnOk result (Sent (AnswersBy self.old.link request) self.new.link (W.written writer.old) (W.written writer.new)) }
-        ensures stays { OnOk result (W.broken writer.new ≡ W.broken writer.old) }
+        ensures writes { SendsOrFails W.written W.broken (AnswersBy self.old.link request) [] self.new.link writer.old writer.new result }
         ensures fault { IfErr result (λ f. f ≡ Fault.Write) }
-        ensures prefix { OnErr result (SentInPart (AnswersBy self.old.link request) [] (W.written writer.old) (W.written writer.new)) }
-        ensures err { OnErr result (W.broken writer.new ≡ true) }
     {
         self.payload.clear();
         match self.remote.reply(hands, request, &mut self.payload) {
@@ -109,12 +103,9 @@ impl Connection {
         requires len { length self.old.reading.payload ≤ 4096 }
         requires register { (n : ℕ) → request ≡ Register n → n < 33 }
         ensures reading { self.new.reading ≡ self.old.reading }
-        ensures ok { OnOk result (Sent (AnswersRequest self.old.link self.old.reading.payload request) self.new.link (W.written writer.old) (W.written writer.new)) }
+        ensures writes { SendsOrFails W.written W.broken (AnswersRequest self.old.link self.old.reading.payload request) [] self.new.link writer.old writer.new result }
         ensures flow { IfOk result (λ f. f ≡ flow_after (ends_request request)) }
-        ensures stays { OnOk result (W.broken writer.new ≡ W.broken writer.old) }
         ensures fault { IfErr result (λ f. f ≡ Fault.Write) }
-        ensures prefix { OnErr result (SentInPart (AnswersRequest self.old.link self.old.reading.payload request) [] (W.written writer.old) (W.written writer.new)) }
-        ensures err { OnErr result (W.broken writer.new ≡ true) }
     {
         match request {
             Request::Kill => Ok(Flow::Quits),
@@ -142,12 +133,9 @@ impl Connection {
     fn take_packet<H: Hands, W: Sink>(&mut self, hands: &H, writer: &mut W) -> Result<Flow, Fault>
         requires { length self.old.reading.payload ≤ 4096 }
         ensures reading { self.new.reading ≡ self.old.reading }
-        ensures ok { OnOk result (Sent (AnswersPacket self.old.link self.old.reading.payload) self.new.link (W.written writer.old) (W.written writer.new)) }
+        ensures writes { SendsOrFails W.written W.broken (AnswersPacket self.old.link self.old.reading.payload) (sign self.old.link (codes "+")) self.new.link writer.old writer.new result }
         ensures flow { IfOk result (λ f. f ≡ flow_after (ends_request (request_of self.old.reading.payload))) }
-        ensures stays { OnOk result (W.broken writer.new ≡ W.broken writer.old) }
         ensures fault { IfErr result (λ f. f ≡ Fault.Write) }
-        ensures prefix { OnErr result (SentInPart (AnswersPacket self.old.link self.old.reading.payload) (sign self.old.link (codes "+")) (W.written writer.old) (W.written writer.new)) }
-        ensures err { OnErr result (W.broken writer.new ≡ true) }
     {
         let request = request_of(self.reader.payload());
         self.acknowledge(b"+", writer)?;
@@ -157,12 +145,9 @@ impl Connection {
     // Answers a packet of too many bytes, which isn't known.
     fn take_long<W: Sink>(&mut self, writer: &mut W) -> Result<Flow, Fault>
         ensures reading { self.new.reading ≡ self.old.reading }
-        ensures ok { OnOk result (Sent (AnswersNew self.old.link TooLong) self.new.link (W.written writer.old) (W.written writer.new)) }
+        ensures writes { SendsOrFails W.written W.broken (AnswersNew self.old.link TooLong) [] self.new.link writer.old writer.new result }
         ensures flow { IfOk result (λ f. f ≡ Flow.Goes) }
-        ensures stays { OnOk result (W.broken writer.new ≡ W.broken writer.old) }
         ensures fault { IfErr result (λ f. f ≡ Fault.Write) }
-        ensures prefix { OnErr result (SentInPart (AnswersNew self.old.link TooLong) [] (W.written writer.old) (W.written writer.new)) }
-        ensures err { OnErr result (W.broken writer.new ≡ true) }
     {
         self.acknowledge(b"+", writer)?;
         self.send_reply(Reply::Nothing, writer)?;
@@ -178,12 +163,9 @@ impl Connection {
     ) -> Result<Flow, Fault>
         requires { found ≡ Found.Packet → length self.old.reading.payload ≤ 4096 }
         ensures reading { self.new.reading ≡ self.old.reading }
-        ensures ok { OnOk result (Sent (AnswersNew self.old.link (item_found found self.old.reading.payload)) self.new.link (W.written writer.old) (W.written writer.new)) }
+        ensures writes { SendsOrFails W.written W.broken (AnswersNew self.old.link (item_found found self.old.reading.payload)) (before_reply self.old.link (item_found found self.old.reading.payload)) self.new.link writer.old writer.new result }
         ensures flow { IfOk result (λ f. f ≡ flow_after (ends_by (item_found found self.old.reading.payload))) }
-        ensures stays { OnOk result (W.broken writer.new ≡ W.broken writer.old) }
         ensures fault { IfErr result (λ f. f ≡ Fault.Write) }
-        ensures prefix { OnErr result (SentInPart (AnswersNew self.old.link (item_found found self.old.reading.payload)) (before_reply self.old.link (item_found found self.old.reading.payload)) (W.written writer.old) (W.written writer.new)) }
-        ensures err { OnErr result (W.broken writer.new ≡ true) }
     {
         match found {
             Found::Packet => self.take_packet(hands, writer),
@@ -220,12 +202,9 @@ impl Connection {
     ) -> Result<Flow, Fault>
         requires { found ≡ Found.Packet → length self.old.reading.payload ≤ 4096 }
         ensures reading { self.new.reading ≡ self.old.reading }
-        ensures ok { OnOk result (Sent (AnswersItem self.old.link (item_found found self.old.reading.payload)) self.new.link (W.written writer.old) (W.written writer.new)) }
+        ensures writes { SendsOrFails W.written W.broken (AnswersItem self.old.link (item_found found self.old.reading.payload)) (before_reply self.old.link (item_found found self.old.reading.payload)) self.new.link writer.old writer.new result }
         ensures flow { IfOk result (λ f. f ≡ flow_after (ends self.old.link (item_found found self.old.reading.payload))) }
-        ensures stays { OnOk result (W.broken writer.new ≡ W.broken writer.old) }
         ensures fault { IfErr result (λ f. f ≡ Fault.Write) }
-        ensures prefix { OnErr result (SentInPart (AnswersItem self.old.link (item_found found self.old.reading.payload)) (before_reply self.old.link (item_found found self.old.reading.payload)) (W.written writer.old) (W.written writer.new)) }
-        ensures err { OnErr result (W.broken writer.new ≡ true) }
     {
         if self.is_copy(found) {
             return Ok(Flow::Goes);

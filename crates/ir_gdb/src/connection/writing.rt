@@ -1,8 +1,7 @@
 //! Acknowledgements and packets as they are written.
 
-ghost use Rattle.std.specs.Prelude.{◌≡◌, ◌≤◌, length, codes, true, OnOk, OnErr, IfErr};
-ghost use Rattle.std.specs.Io.KnownBytes.{Appends};
-ghost use Rattle.ir_stream.specs.Answers.{AppendsPrefix};
+ghost use Rattle.std.specs.Prelude.{◌≡◌, ◌≤◌, length, IfErr};
+ghost use Rattle.ir_stream.specs.Writing.{WritesText};
 ghost use Rattle.ir_packet.specs.Packets.{packet_of};
 ghost use Rattle.ir_packet.specs.Replies.{reply_text, output_text};
 ghost use Rattle.ir_gdb.specs.Connection.{sent, sign, answer_text};
@@ -16,11 +15,8 @@ const PIECE: usize = 500;
 
 // Writes bytes.
 fn write<W: Sink>(writer: &mut W, bytes: &[u8]) -> Result<(), Fault>
-    ensures ok { OnOk result (Appends (W.written writer.old) (W.written writer.new) bytes.now) }
-    ensures stays { OnOk result (W.broken writer.new ≡ W.broken writer.old) }
+    ensures writes { WritesText W.written W.broken writer.old writer.new bytes.now result }
     ensures fault { IfErr result (λ f. f ≡ Fault.Write) }
-    ensures prefix { OnErr result (AppendsPrefix (W.written writer.old) (W.written writer.new) bytes.now) }
-    ensures err { OnErr result (W.broken writer.new ≡ true) }
 {
     match write_all(writer, bytes) {
         Ok(()) => Ok(()),
@@ -31,11 +27,8 @@ fn write<W: Sink>(writer: &mut W, bytes: &[u8]) -> Result<(), Fault>
 impl Connection {
     // Writes an acknowledgement, if packets are acknowledged.
     pub fn acknowledge<W: Sink>(&self, text: &[u8], writer: &mut W) -> Result<(), Fault>
-        ensures ok { OnOk result (Appends (W.written writer.old) (W.written writer.new) (sign self.now.link text.now)) }
-        ensures stays { OnOk result (W.broken writer.new ≡ W.broken writer.old) }
+        ensures writes { WritesText W.written W.broken writer.old writer.new (sign self.now.link text.now) result }
         ensures fault { IfErr result (λ f. f ≡ Fault.Write) }
-        ensures prefix { OnErr result (AppendsPrefix (W.written writer.old) (W.written writer.new) (sign self.now.link text.now)) }
-        ensures err { OnErr result (W.broken writer.new ≡ true) }
     {
         if !self.acknowledges {
             return Ok(());
@@ -47,11 +40,8 @@ impl Connection {
     pub fn send<W: Sink>(&mut self, writer: &mut W) -> Result<(), Fault>
         ensures link { self.new.link ≡ sent self.old.link self.old.link.stub }
         ensures reading { self.new.reading ≡ self.old.reading }
-        ensures ok { OnOk result (Appends (W.written writer.old) (W.written writer.new) (packet_of self.old.payload)) }
-        ensures stays { OnOk result (W.broken writer.new ≡ W.broken writer.old) }
+        ensures writes { WritesText W.written W.broken writer.old writer.new (packet_of self.old.payload) result }
         ensures fault { IfErr result (λ f. f ≡ Fault.Write) }
-        ensures prefix { OnErr result (AppendsPrefix (W.written writer.old) (W.written writer.new) (packet_of self.old.payload)) }
-        ensures err { OnErr result (W.broken writer.new ≡ true) }
     {
         self.packet.clear();
         put_packet(&mut self.packet, self.payload.as_slice());
@@ -63,11 +53,8 @@ impl Connection {
     pub fn send_reply<W: Sink>(&mut self, reply: Reply, writer: &mut W) -> Result<(), Fault>
         ensures link { self.new.link ≡ sent self.old.link self.old.link.stub }
         ensures reading { self.new.reading ≡ self.old.reading }
-        ensures ok { OnOk result (Appends (W.written writer.old) (W.written writer.new) (packet_of (reply_text reply))) }
-        ensures stays { OnOk result (W.broken writer.new ≡ W.broken writer.old) }
+        ensures writes { WritesText W.written W.broken writer.old writer.new (packet_of (reply_text reply)) result }
         ensures fault { IfErr result (λ f. f ≡ Fault.Write) }
-        ensures prefix { OnErr result (AppendsPrefix (W.written writer.old) (W.written writer.new) (packet_of (reply_text reply))) }
-        ensures err { OnErr result (W.broken writer.new ≡ true) }
     {
         self.payload.clear();
         put_text(&mut self.payload, reply_text(reply));
@@ -79,11 +66,8 @@ impl Connection {
         requires { length piece.now ≤ 500 }
         ensures link { self.new.link ≡ sent self.old.link self.old.link.stub }
         ensures reading { self.new.reading ≡ self.old.reading }
-        ensures ok { OnOk result (Appends (W.written writer.old) (W.written writer.new) (packet_of (output_text piece.now))) }
-        ensures stays { OnOk result (W.broken writer.new ≡ W.broken writer.old) }
+        ensures writes { WritesText W.written W.broken writer.old writer.new (packet_of (output_text piece.now)) result }
         ensures fault { IfErr result (λ f. f ≡ Fault.Write) }
-        ensures prefix { OnErr result (AppendsPrefix (W.written writer.old) (W.written writer.new) (packet_of (output_text piece.now))) }
-        ensures err { OnErr result (W.broken writer.new ≡ true) }
     {
         self.payload.clear();
         put_output(&mut self.payload, piece);
@@ -94,11 +78,8 @@ impl Connection {
     pub fn send_answer<W: Sink>(&mut self, answer: &[u8], writer: &mut W) -> Result<(), Fault>
         ensures link { sent self.new.link self.new.link.stub ≡ sent self.old.link self.old.link.stub }
         ensures reading { self.new.reading ≡ self.old.reading }
-        ensures ok { OnOk result (Appends (W.written writer.old) (W.written writer.new) (answer_text answer.now)) }
-        ensures stays { OnOk result (W.broken writer.new ≡ W.broken writer.old) }
+        ensures writes { WritesText W.written W.broken writer.old writer.new (answer_text answer.now) result }
         ensures fault { IfErr result (λ f. f ≡ Fault.Write) }
-        ensures prefix { OnErr result (AppendsPrefix (W.written writer.old) (W.written writer.new) (answer_text answer.now)) }
-        ensures err { OnErr result (W.broken writer.new ≡ true) }
     {
         let mut rest = answer;
         'pieces: while !rest.is_empty() {

@@ -1,8 +1,9 @@
 //! Lines of a session, which gdb's `monitor` sends.
 
-ghost use Rattle.std.specs.Prelude.{◌≡◌, Ok, None, OnOk, OnErr, IfNone, IfSome};
+ghost use Rattle.std.specs.Prelude.{◌≡◌, Ok, None, IfNone, IfSome};
 ghost use Rattle.std.specs.Io.KnownBytes.{Appends};
 ghost use Rattle.ir_stream.specs.Answers.{AppendsPrefix};
+ghost use Rattle.ir_stream.specs.Writing.{WritesOrFails};
 ghost use Rattle.ir_debug.specs.Debugging.{IsAnswer};
 ghost use Rattle.ir_gdb.specs.Serving.{debugging_of};
 ghost use Rattle.ir_gdb.specs.Connection.{Responds, with_desk};
@@ -42,8 +43,9 @@ impl Remote {
         line: &[u8],
         writer: &mut W,
     ) -> Result<(), DeviceErr>
-        ensures ok { OnOk result (Responds self.old.stub line.now self.new.stub (Appends (W.written writer.old) (W.written writer.new))) }
-        ensures prefix { OnErr result (Responds self.old.stub line.now self.new.stub (AppendsPrefix (W.written writer.old) (W.written writer.new))) }
+        ensures { WritesOrFails W.broken writer.old writer.new
+            (Responds self.old.stub line.now self.new.stub (Appends (W.written writer.old) (W.written writer.new)))
+            (Responds self.old.stub line.now self.new.stub (AppendsPrefix (W.written writer.old) (W.written writer.new))) result }
     {
         let asked = parse_line(line);
         let Some(answer) = self.consult(hands, &asked) else {

@@ -1,8 +1,7 @@
 //! Moves, and the stops that end them.
 
 ghost use Rattle.std.specs.Prelude.{◌≡◌, ◌<◌, ◌≤◌, ◌+◌, ◌++◌, true, false, OnOk, OnErr, IfSome, List, ℕ, option_map, vec_len, vec_capacity};
-ghost use Rattle.ir_cut.specs.Positions.{EachRun};
-ghost use Rattle.ir_timeline.specs.Positions.{threads_of};
+ghost use Rattle.ir_cut.specs.Positions.{EachRun, threads_of};
 ghost use Rattle.ir_timeline.specs.Hand.{IsCutOf};
 ghost use Rattle.ir_gdb.specs.Reads.{thread_of_id};
 ghost use Rattle.ir_gdb.specs.Serving.{IsThere};

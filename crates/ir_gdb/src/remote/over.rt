@@ -1,8 +1,7 @@
 //! A step of one thread alone, such as gdb makes over a breakpoint.
 
 ghost use Rattle.std.specs.Prelude.{◌≡◌, ◌<◌, ◌≤◌, OnOk, OnErr, IfOk, length};
-ghost use Rattle.ir_cut.specs.Positions.{EachRun, cut_of};
-ghost use Rattle.ir_timeline.specs.Positions.{threads_of, last_of};
+ghost use Rattle.ir_cut.specs.Positions.{EachRun, cut_of, threads_of, last_of};
 ghost use Rattle.ir_timeline.specs.Hand.{IsCutOf};
 ghost use Rattle.ir_gdb.specs.Stub.{spoken};
 ghost use Rattle.ir_gdb.specs.Stops.{position_of};

@@ -2,10 +2,9 @@
 
 ghost use Rattle.std.specs.Prelude.{◌≡◌, ◌<◌, ◌≤◌, ◌+◌, ◌-◌, length, IfOk};
 ghost use Rattle.std.specs.List.{AllByRecursion};
-ghost use Rattle.ir_cut.specs.Positions.{EachRun, cut_of};
+ghost use Rattle.ir_cut.specs.Positions.{EachRun, cut_of, threads_of, last_of};
 ghost use Rattle.ir_hits.specs.Hits.{thread_at};
 ghost use Rattle.ir_hits.specs.Watchable.{AreWatchable};
-ghost use Rattle.ir_timeline.specs.Positions.{threads_of, last_of};
 ghost use Rattle.ir_timeline.specs.Hand.{IsCutOf};
 ghost use Rattle.ir_gdb.specs.Stub.{IsWatched, most_points, spoken};
 ghost use Rattle.ir_gdb.specs.Stops.{watches_if, Leaves, WatchNext, position_of, StepsTo, RangesTo, ContinuesTo, StepsBackTo, StopsBelow, ContinuesBackTo, GoesTo, MovesTo, upwards_of};

@@ -1,7 +1,7 @@
 //! The list of threads.
 
 ghost use Rattle.std.specs.Prelude.{◌≡◌, ◌≤◌, ◌<◌, ◌+◌, ◌++◌, OnOk, OnErr, IfOk, vec_len, vec_capacity};
-ghost use Rattle.ir_timeline.specs.Positions.{threads_of};
+ghost use Rattle.ir_cut.specs.Positions.{threads_of};
 ghost use Rattle.ir_packet.specs.Replies.{piece_text};
 ghost use Rattle.ir_gdb.specs.Texts.{place_text, thread_text, threads_text};
 
@@ -51,7 +51,7 @@ impl Remote {
     }
 
     // The list of threads.
-    #[tactic(auto, using(ir_image::proofs::CallerLemmas::guest_threads_at_most_limit, crate::proofs::Threads::first_threads_text_put_of_none, crate::proofs::Threads::first_threads_text_put_step, crate::proofs::Threads::text_put_after_threads))]
+    #[tactic(auto, using(ir_image::proofs::CallerLemmas::guest_threads_at_most_limit, crate::proofs::Threads::first_threads_text_put_at_start, crate::proofs::Threads::first_threads_text_put_step, crate::proofs::Threads::append_of_three_put_texts))]
     fn thread_list(&self, alloc: Global) -> Result<Vec<u8>, AllocError>
         ensures text { IfOk result (λ list. list.items ≡ threads_text self.now.stub) }
         ensures len { IfOk result (λ list. vec_len list ≤ 2000) }

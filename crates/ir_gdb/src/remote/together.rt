@@ -1,8 +1,7 @@
 //! Which thread stops where a move of one brings others along that have hits on their way.
 
 ghost use Rattle.std.specs.Prelude.{◌≡◌, ◌≤◌, ◌<◌, ◌&&◌, ◌||◌, ◌==◌, not, length, IfOk, IfSome};
-ghost use Rattle.ir_cut.specs.Positions.{EachRun};
-ghost use Rattle.ir_timeline.specs.Positions.{threads_of};
+ghost use Rattle.ir_cut.specs.Positions.{EachRun, threads_of};
 ghost use Rattle.ir_timeline.specs.Hand.{IsCutOf};
 ghost use Rattle.ir_gdb.specs.Stub.{spoken};
 ghost use Rattle.ir_gdb.specs.Stops.{position_of};
@@ -86,7 +85,7 @@ impl Remote {
     }
 
     // Whether no other thread than this one has a hit on its way to a cut.
-    #[tactic(auto, using(crate::proofs::Together::is_free_of_no_threads, crate::proofs::Together::is_free_if_next_passes, crate::proofs::Together::not_free_if_thread_fails))]
+    #[tactic(auto, using(crate::proofs::Together::is_free_of_no_threads, crate::proofs::Together::is_free_if_next_passes, crate::proofs::Together::not_free_if_thread_does_not_pass))]
     fn is_free(&self, direction: Direction, each: &[Stopped], cut: &Cut, thread: u32) -> bool
         requires count { length each.now ≡ threads_of self.now.stub.desk.fitted }
         requires cut { length cut.now ≡ threads_of self.now.stub.desk.fitted }

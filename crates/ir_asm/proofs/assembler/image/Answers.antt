@@ -1,6 +1,6 @@
 use Rattle.std.proofs.Common.{List, ℕ, sym, subst}
 use Rattle.std.specs.List.{AllByRecursion}
-use Rattle.ir_image.specs.Guest.{IsWord, IsByte, IsGuest}
+use Rattle.ir_image.specs.Bounds.{IsWord, IsByte, IsGuest}
 use Rattle.ir_asm.specs.Bounds.{HasLimits}
 use Rattle.ir_asm.proofs.Sound.{guest_within_limits_is_guest}
 use Rattle.ir_asm.proofs.assembler.image.Goals as goal

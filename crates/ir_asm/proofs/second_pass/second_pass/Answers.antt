@@ -4,7 +4,7 @@ use Rattle.ir_image.specs.Guest.{Guest}
 use Rattle.ir_asm.specs.Passes.{second_pass}
 use Rattle.ir_asm.specs.Answered.{Answers}
 use Rattle.ir_asm.specs.Bounds.{HasFewWords}
-use Rattle.ir_asm.proofs.Kept.{all_hold_at_place, second_pass_step, second_pass_stops_at_refused_put, put_keeps_form, put_keeps_word_count}
+use Rattle.ir_asm.proofs.Kept.{get_or_has_property_of_all, second_pass_step, second_pass_stops_at_refused_put, put_keeps_form, put_keeps_word_count}
 use Rattle.ir_asm.proofs.second_pass.second_pass.Goals as goal
 
 pub put-requires-clause-few : goal.put-requires-clause-few
@@ -12,7 +12,7 @@ put-requires-clause-few c =
     let x = c.placed-item.result in
     subst (λ (f : ImageForm). HasFewWords f x.item) (sym c.loop-placed.invariant.form)
     (subst (λ y. HasFewWords c.args.parts.now.form y.item) (sym c.placed-item.is)
-    (all_hold_at_place (λ y. HasFewWords c.args.parts.now.form y.item) c.args.all.now c.loop-placed.placed-index x c.loop-placed-test.true
+    (get_or_has_property_of_all (λ y. HasFewWords c.args.parts.now.form y.item) c.args.all.now c.loop-placed.placed-index x c.loop-placed-test.true
     c.requires.few))
 
 pub returns-in-Err : goal.returns-in-Err
@@ -31,7 +31,7 @@ loop-placed-preserved c =
     let few : HasFewWords c.loop-placed.parts.form x.item =
     subst (λ (f : ImageForm). HasFewWords f x.item) (sym c.loop-placed.invariant.form)
     (subst (λ y. HasFewWords c.args.parts.now.form y.item) (sym c.placed-item.is)
-    (all_hold_at_place (λ y. HasFewWords c.args.parts.now.form y.item) c.args.all.now c.loop-placed.placed-index x c.loop-placed-test.true
+    (get_or_has_property_of_all (λ y. HasFewWords c.args.parts.now.form y.item) c.args.all.now c.loop-placed.placed-index x c.loop-placed-test.true
     c.requires.few)) in
     record {
       whole_is = second_pass_step c.args.scan.now c.args.all.now c.loop-placed.placed-index x c.loop-placed.parts c.put.new.parts _

@@ -1,6 +1,6 @@
 use Rattle.std.proofs.Common.{◌∙◌, ap}
 use Rattle.std.proofs.Math.Seq.{map-set_same}
-use Rattle.ir_record.proofs.CallerLemmas.{asked_world_has_not_failed, answers_after_world_set, none_failed_after_world_set, set_world_is_first_failed}
+use Rattle.ir_record.proofs.CallerLemmas.{asked_world_has_not_failed, answers_with_one_added_after_world_set, none_failed_after_world_set, set_world_is_first_failed}
 use Rattle.ir_chaos.proofs.step.answer_to.Goals as goal
 
 pub answer-requires : goal.answer-requires
@@ -8,7 +8,7 @@ answer-requires g c = asked_world_has_not_failed g.W.World.broken c.args.worlds.
     c.index_mut.ensures.value
 
 pub returns-in-Ok-clause-gained : goal.returns-in-Ok-clause-gained
-returns-in-Ok-clause-gained g c = answers_after_world_set g.W.World.answers c.args.worlds.now.items c.args.t c.index_mut.result.now c.answer.new.self
+returns-in-Ok-clause-gained g c = answers_with_one_added_after_world_set g.W.World.answers c.args.worlds.now.items c.args.t c.index_mut.result.now c.answer.new.self
     (c.args.kind, c.in-Ok.value) c.requires.thread c.index_mut.ensures.value c.in-Ok.ensures.answered
 
 pub returns-in-Ok-clause-works : goal.returns-in-Ok-clause-works

@@ -1,7 +1,7 @@
 use Rattle.std.proofs.Common.{min}
 use Rattle.std.proofs.lemmas.Result.{IfOk-weaker}
 use Rattle.ir_cut.specs.Searching.{IsLeastCut, IsGreatestCut}
-use Rattle.ir_timeline.specs.Positions.{last_of}
+use Rattle.ir_cut.specs.Positions.{last_of}
 use Rattle.ir_debug.proofs.Leading.{ToPositionInEachRun, least_cut_leads_to_position, greatest_cut_leads_to_position}
 use Rattle.ir_debug.proofs.destinations.to_position.Goals as goal
 

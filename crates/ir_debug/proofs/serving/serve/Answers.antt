@@ -10,7 +10,8 @@ use Rattle.ir_stream.specs.declared.serving.Flow.TheVariants.{Goes, Quits}
 use Rattle.ir_stream.specs.Endings.{flow_after}
 use Rattle.ir_stream.proofs.CallerLemmas.{session_at_equal_line_and_count, at_start, at_byte, at_feed, quit_ended, quit_known, feed_failed, finish_ended, finish_known, finish_failed, long_ended, long_known}
 use Rattle.ir_debug.specs.Machine.{Replies, quits}
-use Rattle.ir_debug.proofs.LongLines.{long_replies, long_quits}
+use Rattle.ir_debug.proofs.LongLines.{replies_to_line_if_to_kept_bytes, quits_of_kept_bytes_is_quits_of_line}
+use Rattle.ir_debug.proofs.ReadThrough.{read_through_line_that_quits, read_through_end}
 use Rattle.ir_debug.proofs.serving.serve.Goals as goal
 
 goes : (f : Flow) (b : Bool) → f ≡ flow_after b → f ≡ Goes → b ≡ false
@@ -27,83 +28,96 @@ err_of (Err f) P failed h = h
 
 pub loop-taken-init : goal.loop-taken-init
 loop-taken-init g c = record {
-  at = rw c.new-line.ensures (at_start Replies quits long_replies long_quits c.args.debugger.now.desk
+  at = rw c.new-line.ensures (at_start Replies quits replies_to_line_if_to_kept_bytes quits_of_kept_bytes_is_quits_of_line c.args.debugger.now.desk
       (g.R.Source.left c.args.reader.now) (g.W.Sink.written c.args.writer.now));
   reads = c.requires.reads;
   writes = c.requires.writes;
 }
 
 pub returns-in-End-clause-ended : goal.returns-in-End-clause-ended
-returns-in-End-clause-ended g c = finish_ended Replies quits long_replies long_quits _ _ _ _ _ _ _ _ _
+returns-in-End-clause-ended g c = finish_ended Replies quits replies_to_line_if_to_kept_bytes quits_of_kept_bytes_is_quits_of_line _ _ _ _ _ _ _ _ _
     (session_at_equal_line_and_count _ _ _ _ _ _ _ _ _ _ _ _ c.loop-taken.invariant.at c.as_slice.ensures.value refl)
-    c.args.limit c.loop-taken-test.true c.in-End.ensures.bytes.0 _ _ c.finish.ensures.ok c.finish.ensures.served c.finish.ensures.fault
+    c.args.limit c.loop-taken-test.true c.in-End.ensures.bytes.0 _ _ c.finish.ensures.writes.ok c.finish.ensures.served c.finish.ensures.fault
 
 pub returns-in-End-clause-known : goal.returns-in-End-clause-known
-returns-in-End-clause-known g c = finish_known Replies quits long_replies long_quits _ _ _ _ _ _ _ _ _
+returns-in-End-clause-known g c = finish_known Replies quits replies_to_line_if_to_kept_bytes quits_of_kept_bytes_is_quits_of_line _ _ _ _ _ _ _ _ _
     (session_at_equal_line_and_count _ _ _ _ _ _ _ _ _ _ _ _ c.loop-taken.invariant.at c.as_slice.ensures.value refl)
     c.args.limit c.loop-taken-test.true c.in-End.ensures.bytes.0 _ _ c.in-End.ensures.bytes.1
-    c.finish.ensures.ok c.finish.ensures.served c.finish.ensures.fault
+    c.finish.ensures.writes.ok c.finish.ensures.served c.finish.ensures.fault
+
+pub returns-in-End-clause-last : goal.returns-in-End-clause-last
+returns-in-End-clause-last g c = read_through_end _ _ _ _ _ _ _ _ _
+    (session_at_equal_line_and_count _ _ _ _ _ _ _ _ _ _ _ _ c.loop-taken.invariant.at c.as_slice.ensures.value refl)
+    c.args.limit c.loop-taken-test.true c.in-End.ensures.bytes.0 c.in-End.ensures.bytes.1 _ _ c.finish.ensures.writes.ok c.finish.ensures.served
 
 pub returns-in-End-clause-write : goal.returns-in-End-clause-write
 returns-in-End-clause-write g c = λ failed. (
   c.in-End.ensures.broken ∙ c.loop-taken.invariant.reads,
-  err_of c.finish.result (g.W.Sink.broken c.finish.new.writer ≡ true) failed c.finish.ensures.err,
-  finish_failed Replies quits long_replies long_quits _ _ _ _ _ _ _ _ _
+  err_of c.finish.result (g.W.Sink.broken c.finish.new.writer ≡ true) failed c.finish.ensures.writes.err,
+  finish_failed Replies quits replies_to_line_if_to_kept_bytes quits_of_kept_bytes_is_quits_of_line _ _ _ _ _ _ _ _ _
       (session_at_equal_line_and_count _ _ _ _ _ _ _ _ _ _ _ _ c.loop-taken.invariant.at c.as_slice.ensures.value refl)
       c.args.limit c.loop-taken-test.true c.in-End.ensures.bytes.0 _ _ c.in-End.ensures.bytes.1 failed c.finish.ensures.some
-      c.finish.ensures.prefix,
+      c.finish.ensures.writes.prefix,
 )
 
 pub loop-taken-preserved-then-byte-ne10 : goal.loop-taken-preserved-then-byte-ne10
 loop-taken-preserved-then-byte-ne10 g c = record {
-  at = at_byte Replies quits long_replies long_quits _ _ _ _ _ _ _ _ _ c.loop-taken.invariant.at _ c.in-Byte.byte c.in-Byte.ensures.bytes
+  at = at_byte Replies quits replies_to_line_if_to_kept_bytes quits_of_kept_bytes_is_quits_of_line _ _ _ _ _ _ _ _ _ c.loop-taken.invariant.at _ c.in-Byte.byte c.in-Byte.ensures.bytes
       (ne_eqb c.in-Byte.byte 10 c.if-byte-ne10.true) c.keep.ensures;
   reads = c.in-Byte.ensures.broken ∙ c.loop-taken.invariant.reads;
   writes = c.loop-taken.invariant.writes;
 }
 
 pub returns-in-Ok-Quits-clause-ended : goal.returns-in-Ok-Quits-clause-ended
-returns-in-Ok-Quits-clause-ended g c = quit_ended Replies quits long_replies long_quits _ _ _ _ _ _ _ _ _
+returns-in-Ok-Quits-clause-ended g c = quit_ended Replies quits replies_to_line_if_to_kept_bytes quits_of_kept_bytes_is_quits_of_line _ _ _ _ _ _ _ _ _
     (session_at_equal_line_and_count _ _ _ _ _ _ _ _ _ _ _ _ c.loop-taken.invariant.at c.as_slice-in-Byte.ensures.value refl)
     c.args.limit c.loop-taken-test.true _ _
     (subst (λ (b : ℕ). Consumes (g.R.Source.left c.loop-taken.reader) (g.R.Source.left c.next_byte.new.reader) (b ∷ []))
     c.if-byte-ne10.false c.in-Byte.ensures.bytes)
-    c.in-Ok-Quits.ensures.ok (quit _ _ c.in-Ok-Quits.ensures.flow c.in-Ok-Quits.field-0-is)
+    c.in-Ok-Quits.ensures.writes.ok (quit _ _ c.in-Ok-Quits.ensures.flow c.in-Ok-Quits.field-0-is)
 
 pub returns-in-Ok-Quits-clause-known : goal.returns-in-Ok-Quits-clause-known
-returns-in-Ok-Quits-clause-known g c = quit_known Replies quits long_replies long_quits _ _ _ _ _ _ _ _ _
+returns-in-Ok-Quits-clause-known g c = quit_known Replies quits replies_to_line_if_to_kept_bytes quits_of_kept_bytes_is_quits_of_line _ _ _ _ _ _ _ _ _
     (session_at_equal_line_and_count _ _ _ _ _ _ _ _ _ _ _ _ c.loop-taken.invariant.at c.as_slice-in-Byte.ensures.value refl)
     c.args.limit c.loop-taken-test.true _ _
     (subst (λ (b : ℕ). Consumes (g.R.Source.left c.loop-taken.reader) (g.R.Source.left c.next_byte.new.reader) (b ∷ []))
     c.if-byte-ne10.false c.in-Byte.ensures.bytes)
-    c.in-Ok-Quits.ensures.ok (quit _ _ c.in-Ok-Quits.ensures.flow c.in-Ok-Quits.field-0-is)
+    c.in-Ok-Quits.ensures.writes.ok (quit _ _ c.in-Ok-Quits.ensures.flow c.in-Ok-Quits.field-0-is)
+
+pub returns-in-Ok-Quits-clause-last : goal.returns-in-Ok-Quits-clause-last
+returns-in-Ok-Quits-clause-last g c = read_through_line_that_quits _ _ _ _ _ _ _ _ _
+    (session_at_equal_line_and_count _ _ _ _ _ _ _ _ _ _ _ _ c.loop-taken.invariant.at c.as_slice-in-Byte.ensures.value refl)
+    c.args.limit c.loop-taken-test.true _ _
+    (subst (λ (b : ℕ). Consumes (g.R.Source.left c.loop-taken.reader) (g.R.Source.left c.next_byte.new.reader) (b ∷ []))
+    c.if-byte-ne10.false c.in-Byte.ensures.bytes)
+    c.in-Ok-Quits.ensures.writes.ok
 
 pub returns-in-Err-clause-write : goal.returns-in-Err-clause-write
 returns-in-Err-clause-write g c = λ _. (
   c.in-Byte.ensures.broken ∙ c.loop-taken.invariant.reads,
-  c.in-Err.ensures.err,
-  feed_failed Replies quits long_replies long_quits _ _ _ _ _ _ _ _ _
+  c.in-Err.ensures.writes.err,
+  feed_failed Replies quits replies_to_line_if_to_kept_bytes quits_of_kept_bytes_is_quits_of_line _ _ _ _ _ _ _ _ _
       (session_at_equal_line_and_count _ _ _ _ _ _ _ _ _ _ _ _ c.loop-taken.invariant.at c.as_slice-in-Byte.ensures.value refl)
       c.args.limit c.loop-taken-test.true _
       (subst (λ (b : ℕ). Consumes (g.R.Source.left c.loop-taken.reader) (g.R.Source.left c.next_byte.new.reader) (b ∷ []))
-      c.if-byte-ne10.false c.in-Byte.ensures.bytes) c.in-Err.ensures.prefix,
+      c.if-byte-ne10.false c.in-Byte.ensures.bytes) c.in-Err.ensures.writes.prefix,
 )
 
 pub loop-taken-preserved : goal.loop-taken-preserved
 loop-taken-preserved g c = record {
-  at = rw c.clear.ensures (at_feed Replies quits long_replies long_quits _ _ _ _ _ _ _ _ _
+  at = rw c.clear.ensures (at_feed Replies quits replies_to_line_if_to_kept_bytes quits_of_kept_bytes_is_quits_of_line _ _ _ _ _ _ _ _ _
       (session_at_equal_line_and_count _ _ _ _ _ _ _ _ _ _ _ _ c.loop-taken.invariant.at c.as_slice-in-Byte.ensures.value refl) _ _
       (subst (λ (b : ℕ). Consumes (g.R.Source.left c.loop-taken.reader) (g.R.Source.left c.next_byte.new.reader) (b ∷ []))
       c.if-byte-ne10.false c.in-Byte.ensures.bytes)
-      c.in-Ok-Goes.ensures.ok (goes _ _ c.in-Ok-Goes.ensures.flow c.in-Ok-Goes.field-0-is));
+      c.in-Ok-Goes.ensures.writes.ok (goes _ _ c.in-Ok-Goes.ensures.flow c.in-Ok-Goes.field-0-is));
   reads = c.in-Byte.ensures.broken ∙ c.loop-taken.invariant.reads;
-  writes = c.in-Ok-Goes.ensures.stays ∙ c.loop-taken.invariant.writes;
+  writes = c.in-Ok-Goes.ensures.writes.stays ∙ c.loop-taken.invariant.writes;
 }
 
 pub returns-clause-ended : goal.returns-clause-ended
-returns-clause-ended g c = long_ended Replies quits long_replies long_quits _ _ _ _ _ _ _ c.args.limit
+returns-clause-ended g c = long_ended Replies quits replies_to_line_if_to_kept_bytes quits_of_kept_bytes_is_quits_of_line _ _ _ _ _ _ _ c.args.limit
     (session_at_equal_line_and_count _ _ _ _ _ _ _ _ _ _ _ _ c.loop-taken.invariant.at refl (omega (arith, c.loop-taken-test.false, c.loop-taken.auto.taken-end)))
 
 pub returns-clause-known : goal.returns-clause-known
-returns-clause-known g c = long_known Replies quits long_replies long_quits _ _ _ _ _ _ _ c.args.limit
+returns-clause-known g c = long_known Replies quits replies_to_line_if_to_kept_bytes quits_of_kept_bytes_is_quits_of_line _ _ _ _ _ _ _ c.args.limit
     (session_at_equal_line_and_count _ _ _ _ _ _ _ _ _ _ _ _ c.loop-taken.invariant.at refl (omega (arith, c.loop-taken-test.false, c.loop-taken.auto.taken-end)))

@@ -1,9 +1,13 @@
-use Rattle.std.proofs.Common.{[], refl, sym, ap, ◌∙◌}
-use Rattle.std.specs.Prelude.{IfSome}
+use Rattle.std.proofs.Common.{[], refl, sym, ap, ◌∙◌, subst}
+use Rattle.std.specs.Prelude.{IfOk, IfSome, Result}
 use Rattle.ir_stream.specs.Answers.{ReadsUpTo}
+use Rattle.ir_debug.specs.declared.ended.Ended.{Ended}
+use Rattle.ir_debug.specs.declared.ended.Ended.TheVariants.{ImageRefused, TraceRefused, NotFit}
+use Rattle.ir_debug.specs.declared.ended.SessionErr.{SessionErr}
 use Rattle.ir_debug.specs.Openings.{opening_of}
+use Rattle.ir_debug.specs.Session.{ReadsThrough}
 use Rattle.ir_debug.specs.Machine as opening
-use Rattle.ir_debug.proofs.Openings.{answered_in_part_of_opening_prefix, reads_empty_input, whatever, session_of_refused_opening, reads_of_implied, if_some_of_implied, ready_debugger_opens, opening_text_of_ready_debugger, read_fault_if_ended_by_read, write_fault_if_ended_by_write, session_says, answered, answered_in_part}
+use Rattle.ir_debug.proofs.Openings.{answered_in_part_of_opening_prefix, reads_empty_input, if_some_if_each_holds, session_of_refused_opening, reads_of_implied, if_some_of_implied, ready_debugger_opens, opening_text_of_ready_debugger, read_fault_if_ended_by_read, write_fault_if_ended_by_write, served_session_if_ended_lines_lead, transcript_if_lines_answered, writes_in_part_if_lines_answered_in_part}
 use Rattle.ir_debug.proofs.sessions.session_up_to.Goals as goal
 
 pub returns-in-Err-clause-write : goal.returns-in-Err-clause-write
@@ -16,7 +20,7 @@ returns-in-ImageRefused-clause-ended g c = reads_empty_input c.args.limit (g.R.S
     (λ input. refl) c.in-Ok.ensures c.in-Ok-announce.ensures.ok [])
 
 pub returns-in-ImageRefused-clause-known : goal.returns-in-ImageRefused-clause-known
-returns-in-ImageRefused-clause-known g c = whatever (g.R.Source.left c.args.reader.now) _ (session_of_refused_opening c.args.image.now c.args.trace.now _ (opening.ImageRefused c.in-ImageRefused._error) c.args.limit _
+returns-in-ImageRefused-clause-known g c = if_some_if_each_holds (g.R.Source.left c.args.reader.now) _ (session_of_refused_opening c.args.image.now c.args.trace.now _ (opening.ImageRefused c.in-ImageRefused._error) c.args.limit _
     (g.W.Sink.written c.args.writer.now) (g.W.Sink.written c.announce.new.writer) (ap opening_of c.in-ImageRefused.is) (λ lines. (refl, refl))
     (λ input. refl) c.in-Ok.ensures c.in-Ok-announce.ensures.ok)
 
@@ -26,7 +30,7 @@ returns-in-TraceRefused-clause-ended g c = reads_empty_input c.args.limit (g.R.S
     (λ input. refl) c.in-Ok.ensures c.in-Ok-announce.ensures.ok [])
 
 pub returns-in-TraceRefused-clause-known : goal.returns-in-TraceRefused-clause-known
-returns-in-TraceRefused-clause-known g c = whatever (g.R.Source.left c.args.reader.now) _ (session_of_refused_opening c.args.image.now c.args.trace.now _ (opening.TraceRefused c.in-TraceRefused._error) c.args.limit _
+returns-in-TraceRefused-clause-known g c = if_some_if_each_holds (g.R.Source.left c.args.reader.now) _ (session_of_refused_opening c.args.image.now c.args.trace.now _ (opening.TraceRefused c.in-TraceRefused._error) c.args.limit _
     (g.W.Sink.written c.args.writer.now) (g.W.Sink.written c.announce.new.writer) (ap opening_of c.in-TraceRefused.is) (λ lines. (refl, refl))
     (λ input. refl) c.in-Ok.ensures c.in-Ok-announce.ensures.ok)
 
@@ -36,19 +40,19 @@ returns-in-Unfit-clause-ended g c = reads_empty_input c.args.limit (g.R.Source.l
     (λ input. refl) c.in-Ok.ensures c.in-Ok-announce.ensures.ok [])
 
 pub returns-in-Unfit-clause-known : goal.returns-in-Unfit-clause-known
-returns-in-Unfit-clause-known g c = whatever (g.R.Source.left c.args.reader.now) _ (session_of_refused_opening c.args.image.now c.args.trace.now _ (opening.Unfit c.in-Unfit._verdict) c.args.limit _
+returns-in-Unfit-clause-known g c = if_some_if_each_holds (g.R.Source.left c.args.reader.now) _ (session_of_refused_opening c.args.image.now c.args.trace.now _ (opening.Unfit c.in-Unfit._verdict) c.args.limit _
     (g.W.Sink.written c.args.writer.now) (g.W.Sink.written c.announce.new.writer) (ap opening_of c.in-Unfit.is) (λ lines. (refl, refl))
     (λ input. refl) c.in-Ok.ensures c.in-Ok-announce.ensures.ok)
 
 pub returns-in-Ready-clause-ended : goal.returns-in-Ready-clause-ended
 returns-in-Ready-clause-ended g c =
-    session_says (ReadsUpTo c.args.limit (g.R.Source.left c.args.reader.now) (g.R.Source.left c.serve.new.reader)) (reads_of_implied _ _ _) _ _ _ c.args.limit
+    served_session_if_ended_lines_lead (ReadsUpTo c.args.limit (g.R.Source.left c.args.reader.now) (g.R.Source.left c.serve.new.reader)) (reads_of_implied _ _ _) _ _ _ c.args.limit
     _ _ _ _ _ c.ended.ensures (ready_debugger_opens _ _ _ _ c.in-Ready.is c.in-Ok.ensures)
     (opening_text_of_ready_debugger _ _ _ _ c.in-Ready.is c.in-Ok-announce.ensures.ok) c.serve.ensures.ended
 
 pub returns-in-Ready-clause-known : goal.returns-in-Ready-clause-known
 returns-in-Ready-clause-known g c =
-    session_says (IfSome (g.R.Source.left c.args.reader.now)) (if_some_of_implied _) _ _ _ c.args.limit _ _ _ _ _ c.ended.ensures
+    served_session_if_ended_lines_lead (IfSome (g.R.Source.left c.args.reader.now)) (if_some_of_implied _) _ _ _ c.args.limit _ _ _ _ _ c.ended.ensures
     (ready_debugger_opens _ _ _ _ c.in-Ready.is c.in-Ok.ensures) (opening_text_of_ready_debugger _ _ _ _ c.in-Ready.is c.in-Ok-announce.ensures.ok)
     c.serve.ensures.known
 
@@ -59,7 +63,7 @@ returns-in-Ready-clause-read g c = λ e.
       r.1,
       reads_of_implied c.args.limit _ _ _ _ (λ consumed p. record {
         goes = p.0;
-        transcript = answered _ _ _ _ _ _ _ (ready_debugger_opens _ _ _ _ c.in-Ready.is c.in-Ok.ensures)
+        transcript = transcript_if_lines_answered _ _ _ _ _ _ _ (ready_debugger_opens _ _ _ _ c.in-Ready.is c.in-Ok.ensures)
             (opening_text_of_ready_debugger _ _ _ _ c.in-Ready.is c.in-Ok-announce.ensures.ok) p.1;
       }) r.2,
     )
@@ -72,7 +76,24 @@ returns-in-Ready-clause-write g c = λ e.
       reads_of_implied c.args.limit _ _ _ _ (λ consumed p. record {
         goes = p.0;
         ended = p.1;
-        wrote = answered_in_part _ _ _ _ _ _ _ (ready_debugger_opens _ _ _ _ c.in-Ready.is c.in-Ok.ensures)
+        wrote = writes_in_part_if_lines_answered_in_part _ _ _ _ _ _ _ (ready_debugger_opens _ _ _ _ c.in-Ready.is c.in-Ok.ensures)
             (opening_text_of_ready_debugger _ _ _ _ c.in-Ready.is c.in-Ok-announce.ensures.ok) p.2;
       }) r.2,
     )
+
+pub returns-in-ImageRefused-clause-last : goal.returns-in-ImageRefused-clause-last
+returns-in-ImageRefused-clause-last g c = reads_empty_input c.args.limit (g.R.Source.left c.args.reader.now)
+    (ReadsThrough ImageRefused (g.R.Source.left c.args.reader.now)) tt
+
+pub returns-in-TraceRefused-clause-last : goal.returns-in-TraceRefused-clause-last
+returns-in-TraceRefused-clause-last g c = reads_empty_input c.args.limit (g.R.Source.left c.args.reader.now)
+    (ReadsThrough TraceRefused (g.R.Source.left c.args.reader.now)) tt
+
+pub returns-in-Unfit-clause-last : goal.returns-in-Unfit-clause-last
+returns-in-Unfit-clause-last g c = reads_empty_input c.args.limit (g.R.Source.left c.args.reader.now)
+    (ReadsThrough NotFit (g.R.Source.left c.args.reader.now)) tt
+
+pub returns-in-Ready-clause-last : goal.returns-in-Ready-clause-last
+returns-in-Ready-clause-last g c = subst
+    (λ (x : Result Ended SessionErr). IfOk x (λ e. ReadsUpTo c.args.limit (g.R.Source.left c.args.reader.now) (g.R.Source.left c.serve.new.reader)
+    (ReadsThrough e (g.R.Source.left c.serve.new.reader)))) (sym c.ended.ensures) c.serve.ensures.last

@@ -1,18 +1,17 @@
-use Rattle.std.proofs.Common.{◌≤◌, ◌∙◌, OnOk, OnErr, length, ap, subst, refl, arith}
-use Rattle.std.specs.Io.KnownBytes.{Appends}
-use Rattle.ir_stream.specs.Answers.{AppendsPrefix}
+use Rattle.std.proofs.Common.{◌≤◌, ◌∙◌, length, ap, subst, refl, arith}
+use Rattle.ir_stream.specs.Writing.{WritesText}
 use Rattle.std.proofs.lemmas.List.{length-take}
 use Rattle.ir_image.specs.Guest.{object_words}
 use Rattle.ir_debug.specs.Debugging.{Debugging}
-use Rattle.ir_debug.proofs.CarriedOut.{last_answer_of_equal_show, named, events_so_far_at_most_all, shown_object_exists, text_of_read_object_is_shown}
+use Rattle.ir_debug.proofs.CarriedOut.{last_answer_of_equal_show, thread_named_by_last_show_exists, events_so_far_at_most_all, shown_object_exists, text_of_indexed_object_is_shown}
 use Rattle.ir_debug.proofs.Passed.{permitted_command_passes_tests, address_in_guest_is_low}
 use Rattle.ir_debug.proofs.showing.write_shown.Goals as goal
 
 pub thread_here-requires-clause-number : goal.thread_here-requires-clause-number
-thread_here-requires-clause-number g c = named _ _ _ _ c.in-Registers.is refl c.requires
+thread_here-requires-clause-number g c = thread_named_by_last_show_exists _ _ _ _ c.in-Registers.is refl c.requires
 
 pub thread_here-requires-in-Memory-clause-number : goal.thread_here-requires-in-Memory-clause-number
-thread_here-requires-in-Memory-clause-number g c = named _ _ _ _ c.in-Memory.is refl c.requires
+thread_here-requires-in-Memory-clause-number g c = thread_named_by_last_show_exists _ _ _ _ c.in-Memory.is refl c.requires
 
 pub write_memory-requires-clause-low : goal.write_memory-requires-clause-low
 write_memory-requires-clause-low g c =
@@ -26,34 +25,27 @@ bounds-objects-number g c = shown_object_exists c.args.debugger.now c.args.show 
     c.objects.ensures
 
 pub thread_here-requires-in-Output-clause-number : goal.thread_here-requires-in-Output-clause-number
-thread_here-requires-in-Output-clause-number g c = named _ _ _ _ c.in-Output.is refl c.requires
+thread_here-requires-in-Output-clause-number g c = thread_named_by_last_show_exists _ _ _ _ c.in-Output.is refl c.requires
 
 pub events_of-events-requires : goal.events_of-events-requires
-events_of-events-requires g c = named _ _ _ _ c.in-Log.is refl c.requires
+events_of-events-requires g c = thread_named_by_last_show_exists _ _ _ _ c.in-Log.is refl c.requires
 
 pub thread_here-requires-in-Log-clause-number : goal.thread_here-requires-in-Log-clause-number
-thread_here-requires-in-Log-clause-number g c = named _ _ _ _ c.in-Log.is refl c.requires
+thread_here-requires-in-Log-clause-number g c = thread_named_by_last_show_exists _ _ _ _ c.in-Log.is refl c.requires
 
 pub slice_bounds-write_log-end : goal.slice_bounds-write_log-end
 slice_bounds-write_log-end g c =
     let d : Debugging = c.args.debugger.now in
-    let below = named d c.args.show _ c.in-Log.thread c.in-Log.is refl c.requires in
+    let below = thread_named_by_last_show_exists d c.args.show _ c.in-Log.thread c.in-Log.is refl c.requires in
     let fits = events_so_far_at_most_all d c.in-Log.thread c.events_of-events.ensures.desk (last_answer_of_equal_show d c.args.show _ c.in-Log.is c.requires).2 below in
     let is = c.events-so_far.ensures.value ∙ ap (λ s. s.events) c.thread_here-in-Log.ensures in
     let long = ap length c.events_of-events.ensures.value in
     let some = length-take c.events-so_far.result c.events_of-events.result.now in
     omega (arith, fits, is, long, some)
 
-pub returns-in-Object-clause-ok : goal.returns-in-Object-clause-ok
-returns-in-Object-clause-ok g c = subst
-    (λ text. OnOk c.write_object.result (Appends (g.W.Sink.written c.args.writer.now) (g.W.Sink.written c.write_object.new.writer) text))
-    (text_of_read_object_is_shown _ _ _ _ _ _ _ c.in-Object.is c.requires c.objects.ensures c.threads.ensures
+pub returns-in-Object : goal.returns-in-Object
+returns-in-Object g c = subst
+    (λ text. WritesText g.W.Sink.written g.W.Sink.broken c.args.writer.now c.write_object.new.writer text c.write_object.result)
+    (text_of_indexed_object_is_shown _ _ _ _ _ _ _ c.in-Object.is c.requires c.objects.ensures c.threads.ensures
     (c.object_words.ensures.value ∙ ap object_words (c.image-in-Object.ensures.value ∙ ap (λ f. f.guest) c.fitted-in-Object.ensures.value))
-    c.index-objects-number.is) c.write_object.ensures.ok
-
-pub returns-in-Object-clause-prefix : goal.returns-in-Object-clause-prefix
-returns-in-Object-clause-prefix g c = subst
-    (λ text. OnErr c.write_object.result (AppendsPrefix (g.W.Sink.written c.args.writer.now) (g.W.Sink.written c.write_object.new.writer) text))
-    (text_of_read_object_is_shown _ _ _ _ _ _ _ c.in-Object.is c.requires c.objects.ensures c.threads.ensures
-    (c.object_words.ensures.value ∙ ap object_words (c.image-in-Object.ensures.value ∙ ap (λ f. f.guest) c.fitted-in-Object.ensures.value))
-    c.index-objects-number.is) c.write_object.ensures.prefix
+    c.index-objects-number.is) c.write_object.ensures

@@ -5,7 +5,7 @@ use Rattle.ir_past.specs.declared.place.Place.{Place}
 use Rattle.ir_diff.specs.Common.{HasOthersReaders}
 use Rattle.ir_diff.specs.Progress.{counts_of}
 use Rattle.ir_diff.proofs.Told.{tells_if_true, tells_if_false}
-use Rattle.ir_diff.proofs.Needed.{own_or_among_first_step, others_readers_if_all_among_first, no_others_readers_unless_among_first}
+use Rattle.ir_diff.proofs.Needed.{own_or_among_first_step, has_others_readers_if_all_among_first, lacks_others_readers_unless_all_among_first}
 use Rattle.ir_diff.proofs.needs.has_readers.Goals as goal
 
 pub returns-then-not-is_there : goal.returns-then-not-is_there
@@ -17,7 +17,7 @@ returns-then-not-is_there c =
     let first : Place = record { thread = 0; event = 0 } in
     let are = subst (AreReaders r c.args.object c.args.version) (sym c.deref-place-items.ensures.value) c.in_ok-readers.ensures in
     tells_if_false _ (HasOthersReaders r f c.args.thread c.args.object c.args.version) refl
-    (no_others_readers_unless_among_first r c.args.object c.args.version places n (get_or places n first) f c.args.thread are
+    (lacks_others_readers_unless_all_among_first r c.args.object c.args.version places n (get_or places n first) f c.args.thread are
     (slice_get-get_or places n first (omega arith)) (c.is_there.ensures.clear (search rules)))
 
 pub loop-place-preserved : goal.loop-place-preserved
@@ -35,4 +35,4 @@ returns c =
     let places = c.deref-place-items.result.now in
     let are = subst (AreReaders r c.args.object c.args.version) (sym c.deref-place-items.ensures.value) c.in_ok-readers.ensures in
     tells_if_true _ (HasOthersReaders r f c.args.thread c.args.object c.args.version) refl
-    (others_readers_if_all_among_first r c.args.object c.args.version places c.loop-place.place-index f c.args.thread are c.loop-place.invariant (omega arith))
+    (has_others_readers_if_all_among_first r c.args.object c.args.version places c.loop-place.place-index f c.args.thread are c.loop-place.invariant (omega arith))

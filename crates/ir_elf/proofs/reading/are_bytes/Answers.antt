@@ -1,6 +1,6 @@
 use Rattle.std.proofs.Common.{rules}
-use Rattle.ir_image.specs.Guest.{IsByte}
-use Rattle.ir_elf.proofs.Limits.{all_hold_if_each_holds}
+use Rattle.ir_lemmas.proofs.CallerLemmas.{all_hold_if_each_holds}
+use Rattle.ir_image.specs.Bounds.{IsByte}
 use Rattle.ir_elf.proofs.reading.are_bytes.Goals as goal
 
 pub returns : goal.returns

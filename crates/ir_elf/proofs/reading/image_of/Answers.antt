@@ -1,6 +1,6 @@
 use Rattle.std.proofs.Common.{List, ℕ, map, sym, subst}
 use Rattle.std.specs.List.{AllByRecursion}
-use Rattle.ir_image.specs.Guest.{IsWord, IsByte, IsGuest}
+use Rattle.ir_image.specs.Bounds.{IsWord, IsByte, IsGuest}
 use Rattle.ir_elf.specs.Segments.{seen}
 use Rattle.ir_elf.proofs.Limits.{guest_of_segments_has_limits, guest_within_limits_is_guest}
 use Rattle.ir_elf.proofs.reading.image_of.Goals as goal

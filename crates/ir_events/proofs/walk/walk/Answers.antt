@@ -4,7 +4,7 @@ use Rattle.ir_flat.specs.Flat.{idle}
 use Rattle.ir_cut.specs.Positions.{cut_of}
 use Rattle.ir_weave.specs.Standing.{flat_in, positions}
 use Rattle.ir_events.proofs.Listed.{listed_are_thread_pcs_at_end}
-use Rattle.ir_events.proofs.Passes.{pass_steps_unless_at_ends}
+use Rattle.ir_events.proofs.Passes.{steps_left_fall_in_pass_unless_at_ends}
 use Rattle.ir_events.proofs.walk.walk.Goals as goal
 
 pub passes-smaller : goal.passes-smaller
@@ -13,7 +13,7 @@ passes-smaller c =
     let ends = c.args.ends.now in
     let below = subst (λ xs. (t : ℕ) × (t < length xs) × ((slice_index_or xs t idle).steps < cut_of ends t)) c.threads.ensures
     (c.are_done.ensures.below c.passes-test.true) in
-    pass_steps_unless_at_ends f ends (length c.passes.lists) c.passes.state c.in_ok-state.state c.requires.ends c.in_ok-state.ensures.passed
+    steps_left_fall_in_pass_unless_at_ends f ends (length c.passes.lists) c.passes.state c.in_ok-state.state c.requires.ends c.in_ok-state.ensures.passed
     (c.requires.ends.size ∙ sym c.passes.invariant.size) below.0 below.2
 
 pub returns : goal.returns

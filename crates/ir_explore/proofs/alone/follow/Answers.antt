@@ -1,45 +1,45 @@
 use Rattle.std.proofs.Common.{◌≡◌, ◌⊎◌, Bool, false, true, Some, [], ◌∷◌, ◌<◌, ◌≤◌, length, length-set, length-append, get_or, inl, inr, refl, sym, ap, ◌∙◌, subst, arith}
 use Rattle.ir_explore.specs.declared.found.Pending.{Pending}
-use Rattle.ir_explore.specs.Going.{IsGoing, IsAfter}
+use Rattle.ir_explore.specs.TurnSoFar.{IsTurnSoFar, IsAfter}
 use Rattle.ir_explore.specs.Origins.{AreReached}
-use Rattle.ir_explore.proofs.Opens.{Opening, opened_counts_less, open_if_element_true}
+use Rattle.ir_explore.proofs.Opens.{Opening, opening_leaves_fewer_to_open, open_if_element_true}
 use Rattle.ir_explore.proofs.Reached.{reached_if_notes_kept, adds_reflexive, place_of_element_is_below_length}
-use Rattle.ir_explore.proofs.Going.{going_if_notes_kept, opened_and_joined, joined_if_added, node_is_no_later, reached_after_going_on, adds_after_going_on, going_after_going_on}
+use Rattle.ir_explore.proofs.TurnSoFar.{turn_so_far_if_notes_kept, opened_and_joined, joined_if_added, node_is_no_later, reached_after_going_on, adds_after_going_on, going_after_going_on}
 use Rattle.ir_explore.proofs.alone.follow.Goals as goal
 use Rattle.ir_explore.proofs.alone.follow.Goals.{else-node-len-via-then-node-len+else-index, else-node-len-via-else-node-len}
 
 pub next-requires-clause-node : goal.next-requires-clause-node
 next-requires-clause-node g c =
-    let a = place_of_element_is_below_length c.args.opened.now.items c.args.here.node true (c.requires.going.opens 0 c.args.here refl) in
-    let b = c.requires.going.wide in let d = c.requires.nodes in omega (arith, a, b, d)
+    let a = place_of_element_is_below_length c.args.opened.now.items c.args.here.node true (c.requires.turn.opens 0 c.args.here refl) in
+    let b = c.requires.turn.wide in let d = c.requires.nodes in omega (arith, a, b, d)
 
 pub returns-in_err-node-clause-reached : goal.returns-in_err-node-clause-reached
 returns-in_err-node-clause-reached g c =
     reached_if_notes_kept (g.S.Successors.noted c.args.graph.now) (g.S.Successors.noted c.next.new.self) c.args.found.now.refusals.items
-    c.args.found.now.refusals.items c.args.found.now.nodes.items c.next.ensures.kept (λ v x is. is) c.requires.going.reached
+    c.args.found.now.refusals.items c.args.found.now.nodes.items c.next.ensures.kept (λ v x is. is) c.requires.turn.reached
 
 pub returns-in_err-node-clause-adds : goal.returns-in_err-node-clause-adds
 returns-in_err-node-clause-adds g c = adds_reflexive c.args.here.origin.level c.args.found.now.nodes.items
 
-pub returns-in_default-clause-going : goal.returns-in_default-clause-going
-returns-in_default-clause-going g c =
-    going_if_notes_kept (g.S.Successors.noted c.args.graph.now) (g.S.Successors.noted c.next.new.self) c.args.here.origin.thread c.args.here.origin.level
+pub returns-in_default-clause-turn : goal.returns-in_default-clause-turn
+returns-in_default-clause-turn g c =
+    turn_so_far_if_notes_kept (g.S.Successors.noted c.args.graph.now) (g.S.Successors.noted c.next.new.self) c.args.here.origin.thread c.args.here.origin.level
     c.args.opened.now.items c.args.found.now.nodes.items c.args.found.now.refusals.items (c.args.here ∷ c.args.found.now.pending.items)
-    c.next.ensures.kept c.requires.going
+    c.next.ensures.kept c.requires.turn
 
 pub returns-in_default-clause-reached : goal.returns-in_default-clause-reached
 returns-in_default-clause-reached g c =
     reached_if_notes_kept (g.S.Successors.noted c.args.graph.now) (g.S.Successors.noted c.next.new.self) c.args.found.now.refusals.items
-    c.args.found.now.refusals.items c.args.found.now.nodes.items c.next.ensures.kept (λ v x is. is) c.requires.going.reached
+    c.args.found.now.refusals.items c.args.found.now.nodes.items c.next.ensures.kept (λ v x is. is) c.requires.turn.reached
 
 pub returns-in_default-clause-adds : goal.returns-in_default-clause-adds
 returns-in_default-clause-adds g c = adds_reflexive c.args.here.origin.level c.args.found.now.nodes.items
 
-pub returns-then-index-clause-going : goal.returns-then-index-clause-going
-returns-then-index-clause-going g c =
-    going_if_notes_kept (g.S.Successors.noted c.args.graph.now) (g.S.Successors.noted c.next.new.self) c.args.here.origin.thread c.args.here.origin.level
+pub returns-then-index-clause-turn : goal.returns-then-index-clause-turn
+returns-then-index-clause-turn g c =
+    turn_so_far_if_notes_kept (g.S.Successors.noted c.args.graph.now) (g.S.Successors.noted c.next.new.self) c.args.here.origin.thread c.args.here.origin.level
     c.args.opened.now.items c.args.found.now.nodes.items c.args.found.now.refusals.items (c.args.here ∷ c.args.found.now.pending.items)
-    c.next.ensures.kept c.requires.going
+    c.next.ensures.kept c.requires.turn
 
 pub returns-then-index-clause-follows : goal.returns-then-index-clause-follows
 returns-then-index-clause-follows g c =
@@ -54,7 +54,7 @@ returns-then-index-clause-follows g c =
 pub returns-then-index-clause-reached : goal.returns-then-index-clause-reached
 returns-then-index-clause-reached g c =
     reached_if_notes_kept (g.S.Successors.noted c.args.graph.now) (g.S.Successors.noted c.next.new.self) c.args.found.now.refusals.items
-    c.args.found.now.refusals.items c.args.found.now.nodes.items c.next.ensures.kept (λ v x is. is) c.requires.going.reached
+    c.args.found.now.refusals.items c.args.found.now.nodes.items c.next.ensures.kept (λ v x is. is) c.requires.turn.reached
 
 pub returns-then-index-clause-adds : goal.returns-then-index-clause-adds
 returns-then-index-clause-adds g c = adds_reflexive c.args.here.origin.level c.args.found.now.nodes.items
@@ -63,7 +63,7 @@ pub returns-in_err-origin-clause-reached : goal.returns-in_err-origin-clause-rea
 returns-in_err-origin-clause-reached g c =
     subst (λ z. AreReached (g.S.Successors.noted c.next.new.self) z c.args.found.now.nodes.items) (sym c.in_err-origin.ensures.err)
     (reached_if_notes_kept (g.S.Successors.noted c.args.graph.now) (g.S.Successors.noted c.next.new.self) c.args.found.now.refusals.items
-    c.args.found.now.refusals.items c.args.found.now.nodes.items c.next.ensures.kept (λ v x is. is) c.requires.going.reached)
+    c.args.found.now.refusals.items c.args.found.now.nodes.items c.next.ensures.kept (λ v x is. is) c.requires.turn.reached)
 
 pub returns-in_err-origin-clause-adds : goal.returns-in_err-origin-clause-adds
 returns-in_err-origin-clause-adds g c = adds_reflexive c.args.here.origin.level c.args.found.now.nodes.items
@@ -74,11 +74,11 @@ returns-in_err-open-clause-reached g c =
     let table = c.open.new.found.refusals.items in
     reached_after_going_on (g.S.Successors.noted c.args.graph.now) (g.S.Successors.noted c.next.new.self) c.args.opened.now.items
     c.args.found.now.nodes.items c.open.new.found.nodes.items c.args.found.now.refusals.items table c.args.here c.args.found.now.pending.items
-    c.args.refused next c.requires.going c.next.ensures.kept
+    c.args.refused next c.requires.turn c.next.ensures.kept
     (subst (λ z. IsAfter c.args.found.now.refusals.items z c.args.here.origin c.args.refused next.origin) (sym c.open.ensures.refusals)
     c.in_ok-origin.ensures.after)
     (c.in_ok-node.ensures.found ∙ ap Some c.in-Some.is)
-    (joined_if_added c.args.opened.now.items c.args.found.now.nodes.items c.open.new.found.nodes.items next c.requires.going.wide c.open.ensures.nodes)
+    (joined_if_added c.args.opened.now.items c.args.found.now.nodes.items c.open.new.found.nodes.items next c.requires.turn.wide c.open.ensures.nodes)
 
 pub returns-in_err-open-clause-adds : goal.returns-in_err-open-clause-adds
 returns-in_err-open-clause-adds g c =
@@ -86,11 +86,11 @@ returns-in_err-open-clause-adds g c =
     let table = c.open.new.found.refusals.items in
     adds_after_going_on (g.S.Successors.noted c.args.graph.now) (g.S.Successors.noted c.next.new.self) c.args.opened.now.items
     c.args.found.now.nodes.items c.open.new.found.nodes.items c.args.found.now.refusals.items table c.args.here c.args.found.now.pending.items
-    c.args.refused next c.requires.going c.next.ensures.kept
+    c.args.refused next c.requires.turn c.next.ensures.kept
     (subst (λ z. IsAfter c.args.found.now.refusals.items z c.args.here.origin c.args.refused next.origin) (sym c.open.ensures.refusals)
     c.in_ok-origin.ensures.after)
     (c.in_ok-node.ensures.found ∙ ap Some c.in-Some.is)
-    (joined_if_added c.args.opened.now.items c.args.found.now.nodes.items c.open.new.found.nodes.items next c.requires.going.wide c.open.ensures.nodes)
+    (joined_if_added c.args.opened.now.items c.args.found.now.nodes.items c.open.new.found.nodes.items next c.requires.turn.wide c.open.ensures.nodes)
 
 pub returns-clause-reached : goal.returns-clause-reached
 returns-clause-reached g c =
@@ -98,11 +98,11 @@ returns-clause-reached g c =
     let table = c.open.new.found.refusals.items in
     reached_after_going_on (g.S.Successors.noted c.args.graph.now) (g.S.Successors.noted c.next.new.self) c.args.opened.now.items
     c.args.found.now.nodes.items c.open.new.found.nodes.items c.args.found.now.refusals.items table c.args.here c.args.found.now.pending.items
-    c.args.refused next c.requires.going c.next.ensures.kept
+    c.args.refused next c.requires.turn c.next.ensures.kept
     (subst (λ z. IsAfter c.args.found.now.refusals.items z c.args.here.origin c.args.refused next.origin) (sym c.open.ensures.refusals)
     c.in_ok-origin.ensures.after)
     (c.in_ok-node.ensures.found ∙ ap Some c.in-Some.is)
-    (joined_if_added c.args.opened.now.items c.args.found.now.nodes.items c.open.new.found.nodes.items next c.requires.going.wide c.open.ensures.nodes)
+    (joined_if_added c.args.opened.now.items c.args.found.now.nodes.items c.open.new.found.nodes.items next c.requires.turn.wide c.open.ensures.nodes)
 
 pub returns-clause-adds : goal.returns-clause-adds
 returns-clause-adds g c =
@@ -110,19 +110,19 @@ returns-clause-adds g c =
     let table = c.open.new.found.refusals.items in
     adds_after_going_on (g.S.Successors.noted c.args.graph.now) (g.S.Successors.noted c.next.new.self) c.args.opened.now.items
     c.args.found.now.nodes.items c.open.new.found.nodes.items c.args.found.now.refusals.items table c.args.here c.args.found.now.pending.items
-    c.args.refused next c.requires.going c.next.ensures.kept
+    c.args.refused next c.requires.turn c.next.ensures.kept
     (subst (λ z. IsAfter c.args.found.now.refusals.items z c.args.here.origin c.args.refused next.origin) (sym c.open.ensures.refusals)
     c.in_ok-origin.ensures.after)
     (c.in_ok-node.ensures.found ∙ ap Some c.in-Some.is)
-    (joined_if_added c.args.opened.now.items c.args.found.now.nodes.items c.open.new.found.nodes.items next c.requires.going.wide c.open.ensures.nodes)
+    (joined_if_added c.args.opened.now.items c.args.found.now.nodes.items c.open.new.found.nodes.items next c.requires.turn.wide c.open.ensures.nodes)
 
-pub returns-clause-going : goal.returns-clause-going
-returns-clause-going g c =
+pub returns-clause-turn : goal.returns-clause-turn
+returns-clause-turn g c =
     let next : Pending = record { node = c.in-Some.node; origin = c.in_ok-origin.origin } in
     let here : c.in-Some.node ≤ length c.args.opened.now.items =
     (let a = node_is_no_later (g.S.Successors.size c.args.graph.now) (g.S.Successors.size c.next.new.self) c.in-Some.node c.in_ok-node.field-0
     c.in_ok-node.ensures.added (c.in_ok-node.ensures.within c.in-Some.node c.in-Some.is) in
-    let b = c.requires.nodes in let d = c.requires.going.wide in omega (arith, a, b, d)) in
+    let b = c.requires.nodes in let d = c.requires.turn.wide in omega (arith, a, b, d)) in
     let shut_there : ((d : Bool) × (c.in-Some.node < length c.args.opened.now.items) × (get_or c.args.opened.now.items c.in-Some.node d ≡ false))
     ⊎ (length c.args.opened.now.items ≤ c.in-Some.node) =
     elim c.else-node-len.branch [
@@ -135,17 +135,17 @@ returns-clause-going g c =
     ] in
     let both : Opening c.args.opened.now.items c.open.new.opened.items next.node
     × (length c.open.new.opened.items ≡ length c.open.new.found.nodes.items) =
-    opened_and_joined c.args.opened.now.items c.open.new.opened.items c.args.found.now.nodes.items c.open.new.found.nodes.items next c.requires.going.wide
+    opened_and_joined c.args.opened.now.items c.open.new.opened.items c.args.found.now.nodes.items c.open.new.found.nodes.items next c.requires.turn.wide
     here shut_there c.in_ok-open.ensures.old c.in_ok-open.ensures.new in
-    subst (λ z. IsGoing (g.S.Successors.noted c.next.new.self) c.args.here.origin.thread c.args.here.origin.level c.open.new.opened.items
+    subst (λ z. IsTurnSoFar (g.S.Successors.noted c.next.new.self) c.args.here.origin.thread c.args.here.origin.level c.open.new.opened.items
     c.open.new.found.nodes.items c.open.new.found.refusals.items (c.args.here ∷ z)) (sym c.in_ok-open.ensures.pending)
     (going_after_going_on (g.S.Successors.noted c.args.graph.now) (g.S.Successors.noted c.next.new.self) c.args.opened.now.items
     c.args.found.now.nodes.items c.open.new.found.nodes.items c.args.found.now.refusals.items c.open.new.found.refusals.items c.args.here
-    c.args.found.now.pending.items c.args.refused next c.requires.going c.next.ensures.kept
+    c.args.found.now.pending.items c.args.refused next c.requires.turn c.next.ensures.kept
     (subst (λ z. IsAfter c.args.found.now.refusals.items z c.args.here.origin c.args.refused next.origin) (sym c.open.ensures.refusals)
     c.in_ok-origin.ensures.after)
     (c.in_ok-node.ensures.found ∙ ap Some c.in-Some.is)
-    (joined_if_added c.args.opened.now.items c.args.found.now.nodes.items c.open.new.found.nodes.items next c.requires.going.wide c.open.ensures.nodes)
+    (joined_if_added c.args.opened.now.items c.args.found.now.nodes.items c.open.new.found.nodes.items next c.requires.turn.wide c.open.ensures.nodes)
     c.open.new.opened.items both.0 both.1)
 
 pub returns-clause-follows : goal.returns-clause-follows
@@ -154,7 +154,7 @@ returns-clause-follows g c =
     let here : c.in-Some.node ≤ length c.args.opened.now.items =
     (let a = node_is_no_later (g.S.Successors.size c.args.graph.now) (g.S.Successors.size c.next.new.self) c.in-Some.node c.in_ok-node.field-0
     c.in_ok-node.ensures.added (c.in_ok-node.ensures.within c.in-Some.node c.in-Some.is) in
-    let b = c.requires.nodes in let d = c.requires.going.wide in omega (arith, a, b, d)) in
+    let b = c.requires.nodes in let d = c.requires.turn.wide in omega (arith, a, b, d)) in
     let shut_there : ((d : Bool) × (c.in-Some.node < length c.args.opened.now.items) × (get_or c.args.opened.now.items c.in-Some.node d ≡ false))
     ⊎ (length c.args.opened.now.items ≤ c.in-Some.node) =
     elim c.else-node-len.branch [
@@ -167,7 +167,7 @@ returns-clause-follows g c =
     ] in
     let both : Opening c.args.opened.now.items c.open.new.opened.items next.node
     × (length c.open.new.opened.items ≡ length c.open.new.found.nodes.items) =
-    opened_and_joined c.args.opened.now.items c.open.new.opened.items c.args.found.now.nodes.items c.open.new.found.nodes.items next c.requires.going.wide
+    opened_and_joined c.args.opened.now.items c.open.new.opened.items c.args.found.now.nodes.items c.open.new.found.nodes.items next c.requires.turn.wide
     here shut_there c.in_ok-open.ensures.old c.in_ok-open.ensures.new in
     inr (c.in-Some.node, c.in_ok-node.ensures.found ∙ ap Some c.in-Some.is, both.0.opens)
 
@@ -177,7 +177,7 @@ returns-clause-less g c =
     let here : c.in-Some.node ≤ length c.args.opened.now.items =
     (let a = node_is_no_later (g.S.Successors.size c.args.graph.now) (g.S.Successors.size c.next.new.self) c.in-Some.node c.in_ok-node.field-0
     c.in_ok-node.ensures.added (c.in_ok-node.ensures.within c.in-Some.node c.in-Some.is) in
-    let b = c.requires.nodes in let d = c.requires.going.wide in omega (arith, a, b, d)) in
+    let b = c.requires.nodes in let d = c.requires.turn.wide in omega (arith, a, b, d)) in
     let shut_there : ((d : Bool) × (c.in-Some.node < length c.args.opened.now.items) × (get_or c.args.opened.now.items c.in-Some.node d ≡ false))
     ⊎ (length c.args.opened.now.items ≤ c.in-Some.node) =
     elim c.else-node-len.branch [
@@ -190,10 +190,10 @@ returns-clause-less g c =
     ] in
     let both : Opening c.args.opened.now.items c.open.new.opened.items next.node
     × (length c.open.new.opened.items ≡ length c.open.new.found.nodes.items) =
-    opened_and_joined c.args.opened.now.items c.open.new.opened.items c.args.found.now.nodes.items c.open.new.found.nodes.items next c.requires.going.wide
+    opened_and_joined c.args.opened.now.items c.open.new.opened.items c.args.found.now.nodes.items c.open.new.found.nodes.items next c.requires.turn.wide
     here shut_there c.in_ok-open.ensures.old c.in_ok-open.ensures.new in
     let room : length c.open.new.opened.items ≤ g.S.Successors.most c.next.new.self =
-    (let size = c.requires.nodes in let wide = c.requires.going.wide in let grown = c.next.ensures.grown in let most = c.next.ensures.room in
+    (let size = c.requires.nodes in let wide = c.requires.turn.wide in let grown = c.next.ensures.grown in let most = c.next.ensures.room in
     elim shut_there [
       | inl p ↦
           let rows = ap length (c.in_ok-open.ensures.old p.1).0 in
@@ -204,7 +204,7 @@ returns-clause-less g c =
           let add = length-append c.args.opened.now.items (true ∷ []) in
           let inside = c.in_ok-node.ensures.within c.in-Some.node c.in-Some.is in omega (arith, size, wide, most, rows, add, at, inside)
     ]) in
-    let less = opened_counts_less (g.S.Successors.most c.next.new.self) c.args.opened.now.items c.open.new.opened.items next.node both.0 room in
+    let less = opening_leaves_fewer_to_open (g.S.Successors.most c.next.new.self) c.args.opened.now.items c.open.new.opened.items next.node both.0 room in
     let limit = c.next.ensures.limit in
     let more = ap length c.in_ok-open.ensures.pending in
     let one = length-append c.args.found.now.pending.items (next ∷ []) in

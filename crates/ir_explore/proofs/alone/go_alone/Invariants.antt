@@ -1,12 +1,12 @@
 use Rattle.std.proofs.Common.{◌≡◌, ℕ, ◌+◌, ◌≤◌, Bool, length}
 use Rattle.ir_explore.specs.Following.{Keeps, Stay, IsOpen, StaysOpen}
-use Rattle.ir_explore.specs.Going.{IsGoing, left_to_open}
+use Rattle.ir_explore.specs.TurnSoFar.{IsTurnSoFar, left_to_open}
 use Rattle.ir_explore.specs.Origins.{Adds}
 use Rattle.ir_explore.proofs.alone.go_alone.Given as goal
 
 abbrev pub invariant-pending : goal.invariant-pending
 invariant-pending g l = record {
-  going : IsGoing (g.S.Successors.noted l.graph) l.fn.start.thread l.fn.start.level l.opened.items l.found.nodes.items l.found.refusals.items l.found.pending.items;
+  turn : IsTurnSoFar (g.S.Successors.noted l.graph) l.fn.start.thread l.fn.start.level l.opened.items l.found.nodes.items l.found.refusals.items l.found.pending.items;
   opens : IsOpen l.opened.items l.fn.start.from;
   stays : StaysOpen l.fn.opened.items l.opened.items;
   adds : Adds l.fn.start.level l.fn.found.nodes.items l.found.nodes.items;

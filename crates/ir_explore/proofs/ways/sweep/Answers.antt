@@ -1,6 +1,6 @@
 use Rattle.std.proofs.Common.{◌≡◌, ℕ, ◌+◌, ◌-◌, ◌<◌, true, false, length, slice_set, sym, subst, arith}
 use Rattle.ir_explore.proofs.Marked.{Sweeping, sweep_marks_node, sweep_leaves_node}
-use Rattle.ir_explore.proofs.Opens.{open_if_element_or_false_true}
+use Rattle.ir_explore.proofs.Opens.{open_if_get_or_false_is_true}
 use Rattle.ir_explore.proofs.ways.sweep.Goals as goal
 use Rattle.ir_explore.proofs.ways.sweep.Goals.{then-not-marks-node+then-is_before, else-not-marks-node, else-not-marks-node-via-then-not-marks-node+else-is_before, else-not-marks-node-via-else-not-marks-node}
 
@@ -31,6 +31,6 @@ loop-k-preserved g c =
                 (λ before. absurd (x.is_before.ensures.none x.if-is_before.false before))
             | else-not-marks-node-via-else-not-marks-node x ↦
                 sweep_leaves_node noted c.args.threads first marks c.loop-k.changed k node c.loop-k.invariant here
-                (λ before. open_if_element_or_false_true marks node x.if-not-marks-node.false)
+                (λ before. open_if_get_or_false_is_true marks node x.if-not-marks-node.false)
           ]))
     ]

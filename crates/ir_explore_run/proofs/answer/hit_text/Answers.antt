@@ -1,9 +1,10 @@
 use Rattle.std.proofs.Common.{◌≡◌, ◌++◌, [], suc, ◌+◌, Some, length, sym, ap, ◌∙◌, subst, arith}
-use Rattle.std.specs.Prelude.{◌≢◌, List, slice_get}
+use Rattle.std.specs.Prelude.{List, slice_get}
 use Rattle.std.specs.List.{slice_index_or}
 use Rattle.std.specs.String.{string_bytes}
 use Rattle.std.proofs.lemmas.Option.{same_Some, slice_get-get_or}
-use Rattle.ir_order.specs.Spelling.{SpellsTurns}
+use Rattle.ir_order.specs.Spelling.{IsListOf, SpellsTurns}
+use Rattle.ir_order.proofs.CallerLemmas.{list_spells_if_order_not_empty}
 use Rattle.ir_outcomes.specs.declared.shown.Shown.{Shown}
 use Rattle.ir_record.specs.Recording.{turns_of_items}
 use Rattle.ir_record.specs.declared.item.Item.{Item}
@@ -43,7 +44,8 @@ returns c = λ cs none (x, s, at, does).
     let turns = c.as_slice.ensures.value ∙ ap (λ (z : Shown). z.turns.items) same in
     let some = shown_order_is_not_empty (setup_of guest c.args.plan.now) s x.level (turns_of_items x.turns.items) c.entries.ensures.within.some_thread (c.requires.explored.shown place x s at) in
     let spells : SpellsTurns list (turns_of_items x.turns.items) =
-    subst (λ (ts : List Item). turns_of_items ts ≢ [] → SpellsTurns list (turns_of_items ts)) turns c.in_ok-list.ensures.spelled some in
+    list_spells_if_order_not_empty list (turns_of_items x.turns.items)
+    (subst (λ (ts : List Item). IsListOf list (turns_of_items ts)) turns c.in_ok-list.ensures) some in
     record {
       known = known_of c.args.explored.now;
       explored = c.requires.explored;

@@ -11,7 +11,7 @@ use Rattle.ir_image.specs.Guest.{Guest}
 use Rattle.ir_outcomes.specs.Explored.{AreExplored, IsExplored}
 use Rattle.ir_stream.specs.Answers.{AppendsPrefix}
 use Rattle.ir_explore_run.specs.Faults.{StopsPrinting}
-use Rattle.ir_explore_run.specs.Printing.{EndsEarly}
+use Rattle.ir_explore_run.specs.Printed.{EndsEarly}
 use Rattle.ir_explore_run.specs.Texts.{Objects, objects_of, IsReason, IsStopped, IsEnding, IsAnswerAbout, known_of}
 use Rattle.ir_explore_run.specs.declared.fault.ExploreFault.TheVariants.{NoMem, Write}
 use Rattle.ir_explore_run.specs.Plan.{ExplorePlan, setup_of}

@@ -1,7 +1,7 @@
 use Rattle.std.proofs.Common.{◌≡◌, ◌++◌, List, ℕ, [], ◌∷◌, sym, ap, ◌∙◌, append_assoc}
 use Rattle.std.proofs.KnownBytes.{Appends-trans}
 use Rattle.ir_files.specs.Shown.{shown}
-use Rattle.ir_files.proofs.InParts.{on_err_if_holds}
+use Rattle.ir_stream.proofs.CallerLemmas.{writes_or_fails_with_handed_on_error}
 use Rattle.ir_files.proofs.Shown.{part_prefix_is_whole_prefix}
 use Rattle.ir_files.proofs.telling.put_each.Goals as goal
 
@@ -9,14 +9,14 @@ one_more : (whole done : List ℕ) (rest after : List ℕ) (byte : ℕ) → whol
     → whole ≡ (done ++ byte ∷ []) ++ after
 one_more whole done rest after byte e f = e ∙ ap (λ z. done ++ z) f ∙ sym (append_assoc done (byte ∷ []) after)
 
-pub returns-in_err-write_all-clause-prefix : goal.returns-in_err-write_all-clause-prefix
-returns-in_err-write_all-clause-prefix g c =
-    on_err_if_holds _ c.from_residual.result
+pub returns-in_err-write_all : goal.returns-in_err-write_all
+returns-in_err-write_all g c =
+    writes_or_fails_with_handed_on_error _ c.from_residual.result c.from_residual.ensures.1
     (part_prefix_is_whole_prefix (g.E.Sink.written c.args.faults.now) (g.E.Sink.written c.bytes.faults) (g.E.Sink.written c.write_all.new.writer)
     c.bytes.invariant.0 (c.in-Some.byte ∷ []) (shown c.in-Some.after.now) (shown c.args.text.now)
     (one_more (shown c.args.text.now) c.bytes.invariant.0 (shown c.bytes.rest.now) (shown c.in-Some.after.now) c.in-Some.byte
     c.bytes.invariant.1 c.in-Some.ensures.0)
-    c.bytes.invariant.2 c.in_err-write_all.ensures.prefix)
+    c.bytes.invariant.2 c.in_err-write_all.ensures.prefix) c.in_err-write_all.ensures.err
 
 pub bytes-preserved : goal.bytes-preserved
 bytes-preserved g c = (
@@ -25,4 +25,5 @@ bytes-preserved g c = (
       c.bytes.invariant.1 c.in-Some.ensures.0,
   Appends-trans (g.E.Sink.written c.args.faults.now) (g.E.Sink.written c.bytes.faults) (g.E.Sink.written c.write_all.new.writer)
       c.bytes.invariant.0 (c.in-Some.byte ∷ []) c.bytes.invariant.2 c.in_ok-write_all.ensures.ok,
+  c.in_ok-write_all.ensures.stays ∙ c.bytes.invariant.3,
 )

@@ -1,13 +1,14 @@
-use Rattle.std.proofs.Common.{◌≡◌, ◌∙◌, IfErr, List, length, map, ap, slice_get, Some, sym, subst}
+use Rattle.std.proofs.Common.{◌≡◌, ◌∙◌, IfErr, List, length, slice_get, Some, sym, subst}
 use Rattle.std.proofs.lemmas.Result.{err_from_is_err_and}
-use Rattle.ir_trace.specs.Recorded.{Recorded, trace_of, IsRecorded}
+use Rattle.ir_trace.specs.Recorded.{Recorded, trace_of}
+use Rattle.ir_trace.specs.Bounds.{IsRecorded}
 use Rattle.ir_runs.specs.Coherent.{IsCoherent}
-use Rattle.ir_fit.specs.Fit.{HasRun, IsRefused}
-use Rattle.ir_fit.specs.Growing.{grown}
+use Rattle.ir_fit.specs.Fit.{IsRefused}
 use Rattle.ir_fit.specs.Follower.{AreStanding}
 use Rattle.ir_fit.specs.Within.{BreaksBy}
 use Rattle.ir_runs.specs.declared.thread_verdict.ThreadVerdict.{ThreadVerdict}
-use Rattle.ir_fit.proofs.Furthest.{broken_coherence_refuses_trace, differing_thread_refuses_trace, same_threads_give_run}
+use Rattle.ir_fit.proofs.Furthest.{broken_coherence_refuses_trace, differing_thread_refuses_trace}
+use Rattle.ir_fit.proofs.Placements.{parts_have_run_if_all_threads_same}
 use Rattle.ir_fit.proofs.fitting.fit_with.Goals as goal
 
 pub returns-in_err-coherent-clause-refused : goal.returns-in_err-coherent-clause-refused
@@ -35,19 +36,24 @@ returns-then-not-all_same-clause-refused g c =
     c.in_ok-follower.ensures.followed vs c.in_ok-verdicts.ensures.each stand w.0 w.1
     (subst (λ xs. slice_get xs w.0 ≡ Some w.1) c.deref.ensures.value w.2) w.3
 
-pub new-requires : goal.new-requires
-new-requires g c =
-    let vs : List ThreadVerdict = c.in_ok-verdicts.verdicts.items in
-    let stand : AreStanding c.args.trace c.in_ok-follower.follower.flat c.in_ok-follower.follower.places.items vs =
-    subst (λ z. AreStanding z c.in_ok-follower.follower.flat c.in_ok-follower.follower.places.items vs) c.in_ok-follower.ensures.trace
-    c.in_ok-verdicts.ensures.stand in
-    subst HasRun (λ i. record {
-      guest = c.args.image;
-      recorded =
-          sym (c.into_parts-trace.ensures.trace ∙ c.in_ok-follower.ensures.trace) i;
-      placed = sym (c.in_ok-places.ensures ∙ ap (map grown) c.into_parts-trace.ensures.places) i;
-    })
-    (same_threads_give_run c.args.image c.args.trace c.in_default.ensures.same c.in_ok-follower.follower.flat
-    c.in_ok-follower.follower.places.items c.in_ok-follower.ensures.followed c.in_ok-follower.ensures.sized.placed.each vs
-    c.in_ok-verdicts.ensures.each stand
-    (λ t v at. c.all_same.ensures.same c.if-not-all_same.false t v (subst (λ xs. slice_get xs t ≡ Some v) (sym c.deref.ensures.value) at)))
+pub new-requires-clause-run : goal.new-requires-clause-run
+new-requires-clause-run g c =
+    (parts_have_run_if_all_threads_same c.args.image c.args.trace c.into_parts-trace.result.0 c.in_default.ensures.same c.in_ok-follower.follower.flat
+    c.in_ok-follower.follower.places.items c.into_parts-trace.result.1.items c.in_ok-follower.ensures.followed
+    c.in_ok-follower.ensures.sized.placed.each c.in_ok-verdicts.verdicts.items c.in_ok-verdicts.ensures.each
+    (subst (λ z. AreStanding z c.in_ok-follower.follower.flat c.in_ok-follower.follower.places.items c.in_ok-verdicts.verdicts.items)
+    c.in_ok-follower.ensures.trace c.in_ok-verdicts.ensures.stand)
+    (λ t v at. c.all_same.ensures.same c.if-not-all_same.false t v (subst (λ xs. slice_get xs t ≡ Some v) (sym c.deref.ensures.value) at))
+    (c.into_parts-trace.ensures.trace ∙ c.in_ok-follower.ensures.trace) c.into_parts-trace.ensures.places c.in_ok-places.places.items
+    c.in_ok-places.ensures).0
+
+pub new-requires-clause-places : goal.new-requires-clause-places
+new-requires-clause-places g c =
+    (parts_have_run_if_all_threads_same c.args.image c.args.trace c.into_parts-trace.result.0 c.in_default.ensures.same c.in_ok-follower.follower.flat
+    c.in_ok-follower.follower.places.items c.into_parts-trace.result.1.items c.in_ok-follower.ensures.followed
+    c.in_ok-follower.ensures.sized.placed.each c.in_ok-verdicts.verdicts.items c.in_ok-verdicts.ensures.each
+    (subst (λ z. AreStanding z c.in_ok-follower.follower.flat c.in_ok-follower.follower.places.items c.in_ok-verdicts.verdicts.items)
+    c.in_ok-follower.ensures.trace c.in_ok-verdicts.ensures.stand)
+    (λ t v at. c.all_same.ensures.same c.if-not-all_same.false t v (subst (λ xs. slice_get xs t ≡ Some v) (sym c.deref.ensures.value) at))
+    (c.into_parts-trace.ensures.trace ∙ c.in_ok-follower.ensures.trace) c.into_parts-trace.ensures.places c.in_ok-places.places.items
+    c.in_ok-places.ensures).1

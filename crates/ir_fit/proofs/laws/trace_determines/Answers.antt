@@ -7,7 +7,7 @@ use Rattle.ir_flat.proofs.CallerLemmas.{guest_start_is_idle}
 use Rattle.ir_runs.specs.Run.{events}
 use Rattle.ir_runs.proofs.CallerLemmas.{state_invariant_at_start, same_trace_gives_same_run}
 use Rattle.ir_fit.proofs.Guests.{guest_start_is_start}
-use Rattle.ir_fit.proofs.Listed.{idle_thread_has_empty_trail}
+use Rattle.ir_fit.proofs.Placements.{idle_thread_has_empty_trail}
 use Rattle.ir_fit.proofs.laws.trace_determines.Goals as goal
 
 pub returns-clause-runs : goal.returns-clause-runs

@@ -3,14 +3,14 @@ use Rattle.std.specs.Prelude.{IfOk}
 use Rattle.ir_mach.specs.Pages.{ArePages}
 use Rattle.ir_mach.proofs.CallerLemmas.{pages_of_memory_are_pages}
 use Rattle.ir_thread.specs.Frames.{thread_of}
-use Rattle.ir_freeze.proofs.Back.{pages_after_page_set, pages_complete_at_sixteen}
+use Rattle.ir_freeze.proofs.Back.{equal_pages_prefix_step, pages_complete_at_sixteen}
 use Rattle.ir_freeze.proofs.thawing.built.Goals as goal
 
 pub loop-i-preserved : goal.loop-i-preserved
 loop-i-preserved c = record {
   many = length-set c.loop-i.pages c.loop-i.i c.page_in.result ∙ c.loop-i.invariant.many;
   made =
-      pages_after_page_set (λ (page : Bor (List ℕ)). page.now) c.loop-i.pages c.page_in.result c.args.memory.now c.loop-i.i c.loop-i.invariant.many
+      equal_pages_prefix_step (λ (page : Bor (List ℕ)). page.now) c.loop-i.pages c.page_in.result c.args.memory.now c.loop-i.i c.loop-i.invariant.many
       c.loop-i-test.true c.page_in.ensures.value c.loop-i.invariant.made;
 }
 

@@ -1,4 +1,4 @@
-use Rattle.ir_freeze.proofs.Back.{changed_step, changed_is_whole_at_end}
+use Rattle.ir_freeze.proofs.Back.{changed_step, memory_is_whole_after_last_change}
 use Rattle.ir_freeze.proofs.thawing.change.Goals as goal
 
 pub loop-k-preserved : goal.loop-k-preserved
@@ -7,4 +7,4 @@ loop-k-preserved c =
     c.loop-k.invariant.size c.loop-k.invariant.same
 
 pub returns-clause-value : goal.returns-clause-value
-returns-clause-value c = changed_is_whole_at_end c.loop-k.memory.items c.args.changes.now c.loop-k.k _ c.loop-k-test.false c.loop-k.invariant.same
+returns-clause-value c = memory_is_whole_after_last_change c.loop-k.memory.items c.args.changes.now c.loop-k.k _ c.loop-k-test.false c.loop-k.invariant.same

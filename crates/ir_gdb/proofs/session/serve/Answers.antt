@@ -3,7 +3,7 @@ use Rattle.ir_stream.specs.Answers.{ReadsUpTo}
 use Rattle.ir_packet.specs.Stream.{items}
 use Rattle.ir_debug.specs.Session.{most_input}
 use Rattle.ir_gdb.specs.Connection.{Link, Wrote, WroteInPart}
-use Rattle.ir_gdb.proofs.Sessions.{link_is_first_link, serves_by_read_input, serves_by_known_input, if_served_by_end, served_result_is_not_refused, ended_by_is_not_no_memory, read_fault_if_ended_by_read, write_fault_if_ended_by_write}
+use Rattle.ir_gdb.proofs.Sessions.{link_is_first_link, serves_by_read_input, serves_by_known_input, if_served_from_if_ended, served_result_is_not_refused, ended_by_is_not_no_memory, read_fault_if_ended_by_read, write_fault_if_ended_by_write}
 use Rattle.ir_gdb.proofs.session.serve.Goals as goal
 
 pub returns-clause-ended : goal.returns-clause-ended
@@ -13,7 +13,7 @@ returns-clause-ended g c =
     (link_is_first_link c.in-Ok-new.connection.link c.in-Ok.remote.stub c.args.debugger.desk c.in-Ok-new.ensures.link c.in-Ok.ensures) c.serve.ensures.ended
 
 pub returns-clause-works : goal.returns-clause-works
-returns-clause-works g c = if_served_by_end c.ended.result c.serve.result _ c.ended.ensures c.serve.ensures.works
+returns-clause-works g c = if_served_from_if_ended c.ended.result c.serve.result _ c.ended.ensures c.serve.ensures.works
 
 pub returns-clause-known : goal.returns-clause-known
 returns-clause-known g c =

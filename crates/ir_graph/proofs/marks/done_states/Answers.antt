@@ -1,7 +1,7 @@
 use Rattle.std.proofs.Common.{◌<◌, ◌+◌, length, sym, ◌∙◌, subst, arith}
 use Rattle.std.proofs.lemmas.Option.{slice_get_within}
+use Rattle.ir_lemmas.proofs.CallerLemmas.{element_below_length_exists}
 use Rattle.ir_graph.proofs.Ended.{AreEnded, are_ended_step}
-use Rattle.ir_graph.proofs.Grown.{element_below_length_exists}
 use Rattle.ir_graph.proofs.Over.{is_done_if_all_over, not_done_unless_all_over}
 use Rattle.ir_graph.proofs.marks.done_states.Goals as goal
 

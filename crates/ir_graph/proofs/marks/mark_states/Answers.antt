@@ -10,7 +10,7 @@ pub returns : goal.returns
 returns c =
     let v = c.in_ok-marks.marks in
     let rows = c.args.graph.now.rows.items in
-    let noted = noted_by rows c.args.graph.now.refusals.items in
+    let noted = noted_by rows c.args.graph.now.refused_rows.items in
     let flats = c.args.graph.now.flats.items in
     let value = c.deref_mut.ensures.value in
     let many : length c.mark_ways.new.marks ≡ length v.items = c.mark_ways.ensures.nodes ∙ ap length value in

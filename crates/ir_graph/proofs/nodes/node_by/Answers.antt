@@ -1,12 +1,11 @@
 use Rattle.std.proofs.Common.{◌≡◌, Some, sym, subst}
 use Rattle.std.specs.Prelude.{slice_get}
+use Rattle.ir_lemmas.proofs.CallerLemmas.{element_below_length_exists, if_ok_weaker}
 use Rattle.ir_store.specs.Nodes.{SourcedFlat, IsSourced, sourced_in}
 use Rattle.ir_graph.specs.Nodes.{LookAlike, AllRest, LeadsFrom}
 use Rattle.ir_graph.specs.Plain.{IsLike}
 use Rattle.ir_graph.specs.Reached.{IsReached}
 use Rattle.ir_graph.proofs.Both.{both_sourced, both_like, both_rests, both_reached, both_leads}
-use Rattle.ir_graph.proofs.KnownTurns.{if_ok_weaker}
-use Rattle.ir_graph.proofs.Grown.{element_below_length_exists}
 use Rattle.ir_graph.proofs.nodes.node_by.Goals as goal
 
 pub with_both-requires-clause-own : goal.with_both-requires-clause-own

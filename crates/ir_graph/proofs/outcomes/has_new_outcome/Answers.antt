@@ -1,10 +1,10 @@
 use Rattle.std.proofs.Common.{sym, ap, ◌∙◌, subst}
 use Rattle.std.proofs.lemmas.Bool.{not-true, not-false}
+use Rattle.ir_lemmas.proofs.CallerLemmas.{element_below_length_exists}
 use Rattle.ir_store.specs.Nodes.{SourcedFlat}
 use Rattle.ir_graph.specs.Listing.{HasOutcome}
 use Rattle.ir_graph.specs.Plain.{IsLike}
 use Rattle.ir_graph.proofs.Listing.{going_skipped, same_skipped, new_listed}
-use Rattle.ir_graph.proofs.Grown.{element_below_length_exists}
 use Rattle.ir_graph.proofs.Over.{is_done_if_all_over, not_done_unless_all_over}
 use Rattle.ir_graph.proofs.outcomes.has_new_outcome.Goals as goal
 

@@ -5,16 +5,16 @@ use Rattle.ir_graph.specs.Graph.{IsGraph}
 use Rattle.ir_graph.specs.Notes.{noted_by, noted_in}
 use Rattle.ir_graph.specs.Plain.{GoesPlain}
 use Rattle.ir_graph.specs.Setup.{start_of}
-use Rattle.ir_graph.proofs.Grown.{free_to_try, noted_by_past_threads, start_is_graph}
+use Rattle.ir_graph.proofs.Grown.{free_to_try_if_no_refusals_noted, noted_by_past_threads_leads_nowhere, start_is_graph}
 use Rattle.ir_image.specs.Guest.{Guest}
 use Rattle.ir_store.specs.Nodes.{SourcedFlat, sourced_in}
 use Rattle.ir_store.specs.Table.{HaveForm}
-use Rattle.ir_graph.proofs.Forms.{have_form_of_like_moment, start_threads_have_form, start_has_sources}
+use Rattle.ir_graph.proofs.Forms.{have_form_of_like_moment, start_threads_have_form, start_has_source_for_each_thread}
 use Rattle.ir_graph.proofs.Plain.{like_after_plain_steps}
 use Rattle.ir_graph.proofs.start.start_graph.Goals as goal
 
 pub rest_all-requires : goal.rest_all-requires
-rest_all-requires c = subst (λ z. length z.sources ≡ length z.flat.threads) (sym c.in_ok-state.ensures) (start_has_sources c.args.setup.now)
+rest_all-requires c = subst (λ z. length z.sources ≡ length z.flat.threads) (sym c.in_ok-state.ensures) (start_has_source_for_each_thread c.args.setup.now)
 
 pub by_numbers-requires-clause-form : goal.by_numbers-requires-clause-form
 by_numbers-requires-clause-form c =
@@ -30,7 +30,7 @@ by_numbers-requires-clause-sourced c =
     let x = c.args.setup.now in
     let goes = subst (λ z. GoesPlain z c.rest_all.new.state) c.in_ok-state.ensures c.in_ok-rest_all.ensures.goes in record {
       flat = c.in_ok-rest_all.ensures.flat;
-      each = goes.sources ∙ start_has_sources x ∙ sym goes.threads;
+      each = goes.sources ∙ start_has_source_for_each_thread x ∙ sym goes.threads;
     }
 
 pub returns-clause-threads : goal.returns-clause-threads
@@ -45,19 +45,19 @@ returns-clause-sound c =
     let x = c.args.setup.now in
     let h = c.rest_all.new.state in
     let rows = c.in_ok-rows.rows.items in
-    let refusals = c.in_ok-refusals.refusals.items in
+    let refused_rows = c.in_ok-refused_rows.refused_rows.items in
     let value = ap length c.threads-threads.ensures.value ∙ ap (λ (z : SourcedFlat). length z.flat.threads) c.state.view_is in
     let goes = subst (λ z. GoesPlain z h) c.in_ok-state.ensures c.in_ok-rest_all.ensures.goes in
     let same = c.in_ok-rows.ensures.threads in
     let many : length rows ≡ length h.flat.threads = same ∙ value in
     let free = subst (λ n. (t v : ℕ) → t < n → noted_in rows t v ≡ None) (sym same) c.in_ok-rows.ensures.free in
-    let tries = free_to_try x.profile (length rows) rows refusals (λ one. c.in_ok-refusals.ensures.one (c.profile.ensures ∙ one))
-    (λ two. subst (λ n. (t v : ℕ) → t < n → noted_in refusals t v ≡ None) (sym same) (c.in_ok-refusals.ensures.two (c.profile.ensures ∙ two))) in
+    let tries = free_to_try_if_no_refusals_noted x.profile (length rows) rows refused_rows (λ one. c.in_ok-refused_rows.ensures.one (c.profile.ensures ∙ one))
+    (λ two. subst (λ n. (t v : ℕ) → t < n → noted_in refused_rows t v ≡ None) (sym same) (c.in_ok-refused_rows.ensures.two (c.profile.ensures ∙ two))) in
     let states : c.push.new.self.items ≡ h ∷ [] =
     c.in_ok-push.ensures.ok ∙ ap (λ z. z ++ sourced_in c.by_numbers.new.self.shared c.in_ok-first.first ∷ []) (c.by_numbers.ensures.items ∙ c.in_ok-flats.ensures.items)
     ∙ ap (λ z. z ∷ []) c.in_ok-first.ensures.state in
-    subst (λ z. IsGraph x z (noted_by rows refusals) (length rows)) (sym states)
-    (start_is_graph x h (noted_by rows refusals) (length rows) goes c.in_ok-rest_all.ensures.rest
-    (goes.sources ∙ start_has_sources x ∙ sym goes.threads) (sym many)
+    subst (λ z. IsGraph x z (noted_by rows refused_rows) (length rows)) (sym states)
+    (start_is_graph x h (noted_by rows refused_rows) (length rows) goes c.in_ok-rest_all.ensures.rest
+    (goes.sources ∙ start_has_source_for_each_thread x ∙ sym goes.threads) (sym many)
     (many ∙ goes.threads ∙ length_of_start_threads x.guest most_budget x.profile 0 (length x.guest.entries)) free tries
-    (noted_by_past_threads rows refusals (let a = c.in_ok-refusals.ensures.threads in omega (arith, a, same))))
+    (noted_by_past_threads_leads_nowhere rows refused_rows (let a = c.in_ok-refused_rows.ensures.threads in omega (arith, a, same))))

@@ -1,10 +1,10 @@
-use Rattle.std.proofs.Common.{◌≡◌, Some, refl, sym, ap, ◌∙◌, subst}
+use Rattle.std.proofs.Common.{◌≡◌, Some, true, refl, sym, ap, ◌∙◌, subst}
 use Rattle.std.specs.Prelude.{slice_get}
+use Rattle.ir_lemmas.proofs.CallerLemmas.{element_below_length_exists}
 use Rattle.ir_sources.specs.Sources.{Source}
 use Rattle.ir_thread.specs.State.{ThreadState, ask_of}
-use Rattle.ir_graph.specs.Plain.{IsNoTry}
+use Rattle.ir_graph.specs.Plain.{MayGo}
 use Rattle.ir_graph.proofs.KnownTurns.{found_turn_is_turn_of_thread}
-use Rattle.ir_graph.proofs.Grown.{element_below_length_exists}
 use Rattle.ir_graph.proofs.LoneSteps.{form_kept_by_turn}
 use Rattle.ir_graph.proofs.turns.new_turn.Goals as goal
 
@@ -51,5 +51,5 @@ returns-clause-turn c = λ f at.
     c.in_ok-own.own c.turn_beside.new.own c.object-beside.result c.turn_beside.new.object c.thread_number-from.ensures.within
     c.in_ok-own.ensures.found (c.thread_number-from.ensures.thread f here) c.in-Some-spot.ensures.within c.object-beside.ensures own.0 own.1
     c.in_ok-to.ensures.within c.in_ok-to.ensures.found c.in_ok-after.ensures.within c.in_ok-after.ensures.found
-    (λ no. subst (λ (z : ThreadState × Source). IsNoTry (ask_of c.args.code.now z.0)) c.own.view_is (subst IsNoTry c.ask.ensures.value (c.in-Some.ensures no)))
+    (λ no. subst (λ (z : ThreadState × Source). MayGo true (ask_of c.args.code.now z.0) → ⊥) c.own.view_is (subst (λ q. MayGo true q → ⊥) c.ask.ensures.value (c.in-Some.ensures no)))
     (c.turn_beside.ensures c.if-not-turn_beside.false)

@@ -1,10 +1,10 @@
 use Rattle.std.proofs.Common.{◌≡◌, Some, sym, subst}
 use Rattle.std.specs.Prelude.{slice_get, IfSome}
+use Rattle.ir_lemmas.proofs.CallerLemmas.{element_below_length_exists}
 use Rattle.ir_graph.specs.declared.known.Turn.{Turn}
 use Rattle.ir_store.specs.Nodes.{SourcedFlat}
 use Rattle.ir_graph.specs.Ahead.{IsTurnOf}
 use Rattle.ir_graph.proofs.KnownTurns.{listed_turn_is_turn, turns_grown, are_turns_after_turn_added}
-use Rattle.ir_graph.proofs.Grown.{element_below_length_exists}
 use Rattle.ir_graph.proofs.turns.turn_of.Goals as goal
 
 pub returns-in-Some-clause-turn : goal.returns-in-Some-clause-turn

@@ -1,7 +1,7 @@
 use Rattle.std.proofs.Common.{◌≡◌, ◌<◌, ◌-◌, ◌∙◌, ap, subst, arith}
 use Rattle.ir_weave.specs.Standing.{flat_in, positions}
 use Rattle.ir_hits.specs.Searching.{IsNextHit, reached, window_start}
-use Rattle.ir_hits.proofs.Windows.{reached_position_is_hit_position, next_hit_is_last_hit, last_hit_stays_without_next_hit}
+use Rattle.ir_hits.proofs.Windows.{reached_position_is_hit_position, next_hit_is_last_up_to_its_position, last_hit_stays_without_next_hit}
 use Rattle.ir_hits.proofs.search.last_in.Goals as goal
 
 pub hits-smaller : goal.hits-smaller
@@ -32,7 +32,7 @@ hits-preserved g c =
       stands = c.next_hit.ensures.stands;
       within = omega (arith, at, next.1);
       above = omega (arith, above, at, next.0);
-      last = λ run whole. next_hit_is_last_hit f run c.args.search.points.now c.args.search.t (positions (flat_in f c.args.state.now) c.args.search.t) old c.args.search.to new
+      last = λ run whole. next_hit_is_last_up_to_its_position f run c.args.search.points.now c.args.search.t (positions (flat_in f c.args.state.now) c.args.search.t) old c.args.search.to new
           c.in-Some.hit above at
           (subst (IsNextHit f run c.args.search.points.now c.args.search.t old c.args.search.to) c.in-Some.is (c.in_ok-hit.ensures.hit run whole));
       size = c.next_hit.ensures.size ∙ c.hits.invariant.size;

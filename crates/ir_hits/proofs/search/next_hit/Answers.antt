@@ -2,7 +2,7 @@ use Rattle.std.proofs.Common.{◌≡◌, ◌<◌, ◌-◌, arith}
 use Rattle.ir_weave.specs.Standing.{flat_in, positions}
 use Rattle.ir_command.specs.declared.hit.Hit.{Hit}
 use Rattle.ir_hits.proofs.Standing.{steps_of_thread_are_position}
-use Rattle.ir_hits.proofs.Onward.{passage_of_thread, next_hit_after_passage, no_hit_after_passage}
+use Rattle.ir_hits.proofs.Onward.{is_passage_if_thread_has_passed, next_hit_after_passage, no_hit_after_passage}
 use Rattle.ir_hits.proofs.search.next_hit.Goals as goal
 
 pub returns-in-Some-clause-hit : goal.returns-in-Some-clause-hit
@@ -14,7 +14,7 @@ returns-in-Some-clause-hit g c =
     let h : Hit = record { position = c.steps-position.result; number = c.in-Some.number } in
     let x = c.thread_of-in-steps in
     let y = c.thread_of-thread in
-    let passage = passage_of_thread f c.args.search.last.now c.args.search.code.now c.args.search.points.now c.note_all.new.notes t c.args.search.to old new x.result.now
+    let passage = is_passage_if_thread_has_passed f c.args.search.last.now c.args.search.code.now c.args.search.points.now c.note_all.new.notes t c.args.search.to old new x.result.now
     x.ensures c.requires.search.ends c.requires.search.words c.requires.search.covered c.steps.invariant.stands c.take_steps.ensures.stands
     c.in_ok-take_steps.ensures.passed c.note_all.ensures in
     next_hit_after_passage f c.args.search.last.now c.args.search.code.now c.args.search.points.now c.note_all.new.notes t c.args.search.to old new c.position-end.result
@@ -32,7 +32,7 @@ steps-preserved g c =
     let y = c.thread_of-thread in
     let above = c.steps.invariant.above in
     let passed = c.in_ok-take_steps.ensures.passed in
-    let passage = passage_of_thread f c.args.search.last.now c.args.search.code.now c.args.search.points.now c.note_all.new.notes t c.args.search.to old new x.result.now
+    let passage = is_passage_if_thread_has_passed f c.args.search.last.now c.args.search.code.now c.args.search.points.now c.note_all.new.notes t c.args.search.to old new x.result.now
     x.ensures c.requires.search.ends c.requires.search.words c.requires.search.covered c.steps.invariant.stands c.take_steps.ensures.stands passed
     c.note_all.ensures in
     record {

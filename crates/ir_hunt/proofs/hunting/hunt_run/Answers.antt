@@ -8,14 +8,14 @@ use Rattle.ir_files.proofs.CallerLemmas.{if_err_for_handed_on_error}
 use Rattle.ir_record_run.specs.declared.record_fault.RecordFault.TheVariants.{Lines}
 use Rattle.ir_chaos.specs.Conditions.{as_condition}
 use Rattle.ir_hunt.proofs.Found.{recording_of_found_is_finding}
-use Rattle.ir_hunt.proofs.Stopping.{holds_if_is_err, holds_unless_is_err, line_is_hunt_line}
+use Rattle.ir_hunt.proofs.Stopping.{error_fact_if_is_err, ok_fact_unless_is_err, line_is_hunt_line}
 use Rattle.ir_hunt.proofs.hunting.hunt_run.Goals as goal
 
 pub returns-then-is_err-clause-stopped : goal.returns-then-is_err-clause-stopped
 returns-then-is_err-clause-stopped g c =
     let failed = sym c.is_err.ensures.value ∙ c.if-is_err.true in
     let line = string_bytes c.in-Ok.sought.line in
-    let prefix = holds_if_is_err c.write_all.result _ c.write_all.ensures.prefix failed in (
+    let prefix = error_fact_if_is_err c.write_all.result _ c.write_all.ensures.prefix failed in (
       Lines,
       c.told-then-is_err.ensures.status,
       inr (inl (
@@ -26,7 +26,7 @@ returns-then-is_err-clause-stopped g c =
         (
           subst (λ (bytes : List ℕ). AppendsPrefix (g.O.Sink.written c.args.out.now) (g.O.Sink.written c.write_all.new.writer) bytes)
               c.as_bytes.ensures.value prefix,
-          holds_if_is_err c.write_all.result _ c.write_all.ensures.err failed,
+          error_fact_if_is_err c.write_all.result _ c.write_all.ensures.err failed,
         ),
         refl,
         refl,
@@ -37,7 +37,7 @@ returns-then-is_err-clause-stopped g c =
 pub returns-in_err-recorded-clause-stopped : goal.returns-in_err-recorded-clause-stopped
 returns-in_err-recorded-clause-stopped g c =
     let p = err_from_is_err_and c.from_residual.result c.from_residual.ensures.1 in
-    let wrote = holds_unless_is_err c.write_all.result _ c.write_all.ensures.ok (sym c.is_err.ensures.value ∙ c.if-is_err.false) in
+    let wrote = ok_fact_unless_is_err c.write_all.result _ c.write_all.ensures.ok (sym c.is_err.ensures.value ∙ c.if-is_err.false) in
     let line = c.as_bytes.ensures.value ∙ (rw c.in-Some.is at c.in-Ok.ensures.line) in
     let stopped = rw c.as_str.ensures.value at (rw c.by_list.ensures at c.in_err-recorded.ensures.stopped) in
     if_err_for_handed_on_error _ c.from_residual.result c.in_err-recorded.field-0.0 p.0 p.1 p.2 (
@@ -57,7 +57,7 @@ returns-in_err-recorded-clause-stopped g c =
 pub returns-clause-done : goal.returns-clause-done
 returns-clause-done g c =
     let list = string_bytes c.in-Some.found.list in
-    let wrote = holds_unless_is_err c.write_all.result _ c.write_all.ensures.ok (sym c.is_err.ensures.value ∙ c.if-is_err.false) in
+    let wrote = ok_fact_unless_is_err c.write_all.result _ c.write_all.ensures.ok (sym c.is_err.ensures.value ∙ c.if-is_err.false) in
     let line = c.as_bytes.ensures.value ∙ (rw c.in-Some.is at c.in-Ok.ensures.line) in
     let done = rw c.as_str.ensures.value at (rw c.by_list.ensures at c.in_ok-recorded.ensures.done) in (
       c.in-Some.found.seed,

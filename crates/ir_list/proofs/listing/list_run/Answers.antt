@@ -1,10 +1,11 @@
 use Rattle.std.proofs.Common.{◌∙◌, List, ℕ, subst}
 use Rattle.std.specs.Prelude.{OnErr}
 use Rattle.std.specs.Io.KnownBytes.{Appends}
+use Rattle.ir_lemmas.proofs.CallerLemmas.{on_err_if_holds}
 use Rattle.ir_stream.specs.Answers.{AppendsPrefix}
 use Rattle.ir_stream.proofs.CallerLemmas.{prefix_of_longer_text}
 use Rattle.ir_list.specs.Listing.{threads_text, code_text}
-use Rattle.ir_list.proofs.Written.{on_err_if_holds, appends_prefix_after_whole_text}
+use Rattle.ir_list.proofs.Written.{appends_prefix_after_whole_text}
 use Rattle.ir_list.proofs.listing.list_run.Goals as goal
 
 pub returns-in_err-put_threads-clause-prefix : goal.returns-in_err-put_threads-clause-prefix

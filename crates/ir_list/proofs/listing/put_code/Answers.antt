@@ -1,8 +1,9 @@
 use Rattle.std.proofs.Common.{◌∙◌, ◌+◌, ◌*◌, ℕ, List, arith}
+use Rattle.ir_lemmas.proofs.CallerLemmas.{on_err_if_holds}
 use Rattle.ir_image.specs.Guest.{code_start}
 use Rattle.ir_symbols.specs.Symbols.{Symbol}
 use Rattle.ir_list.specs.Listing.{word_lines}
-use Rattle.ir_list.proofs.Written.{written_after_lines, prefix_written_in_lines, written_whole_at_end, on_err_if_holds}
+use Rattle.ir_list.proofs.Written.{written_after_lines, prefix_written_in_lines, written_whole_at_end}
 use Rattle.ir_list.proofs.listing.put_code.Goals as goal
 
 -- the lines of the word of this number

@@ -1,6 +1,7 @@
 use Rattle.std.proofs.Common.{◌∙◌, arith}
+use Rattle.ir_lemmas.proofs.CallerLemmas.{on_err_if_holds}
 use Rattle.ir_list.specs.Listing.{thread_line}
-use Rattle.ir_list.proofs.Written.{written_after_lines, prefix_written_in_lines, written_whole_at_end, on_err_if_holds}
+use Rattle.ir_list.proofs.Written.{written_after_lines, prefix_written_in_lines, written_whole_at_end}
 use Rattle.ir_list.proofs.listing.put_threads.Goals as goal
 
 pub returns-in_err-write_all-clause-prefix : goal.returns-in_err-write_all-clause-prefix

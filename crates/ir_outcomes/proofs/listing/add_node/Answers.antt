@@ -3,7 +3,7 @@ use Rattle.std.specs.Prelude.{slice_get}
 use Rattle.ir_explore.proofs.CallerLemmas.{slice_get_kept_by_append}
 use Rattle.ir_graph.specs.Listing.{AreOutcomes}
 use Rattle.ir_outcomes.specs.Exploring.{HasShown}
-use Rattle.ir_outcomes.proofs.Listed.{shown_one}
+use Rattle.ir_outcomes.proofs.Listed.{has_shown_step}
 use Rattle.ir_outcomes.proofs.listing.add_node.Goals as goal
 
 pub returns-clause-has : goal.returns-clause-has
@@ -18,7 +18,7 @@ returns-clause-has c =
     let different = subst (λ z. AreOutcomes flats (suc node) (z ++ node ∷ [])) c.as_slice.ensures.value (c.in_ok-new.ensures.new c.if-not-new.false) in
     subst (λ z. HasShown setup flats origins (suc node) z c.push-2.new.self.items) (sym c.in_ok-push.ensures.items)
     (subst (HasShown setup flats origins (suc node) (listed ++ node ∷ [])) (sym c.in_ok-push-2.ensures.items)
-    (shown_one setup flats origins node listed outcomes x c.requires.has different c.in_ok-shown.ensures.node
+    (has_shown_step setup flats origins node listed outcomes x c.requires.has different c.in_ok-shown.ensures.node
     c.in_ok-shown.ensures.level c.in_ok-shown.ensures.shown))
 
 pub returns-clause-stay : goal.returns-clause-stay

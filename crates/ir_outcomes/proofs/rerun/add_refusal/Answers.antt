@@ -1,12 +1,12 @@
-use Rattle.std.proofs.Common.{◌++◌, replicate}
+use Rattle.std.proofs.Common.{◌++◌, false, replicate}
 use Rattle.ir_record.specs.Recording.{turns_of_items}
-use Rattle.ir_outcomes.proofs.Again.{is_again_with_entries_joined}
+use Rattle.ir_outcomes.proofs.Again.{is_again_after_refused_try}
 use Rattle.ir_outcomes.proofs.rerun.add_refusal.Goals as goal
 
 pub returns : goal.returns
 returns c = λ setup before again.
     let t = c.args.thread in
     let n = c.args.refusal.entries in
-    let last = c.add_leg-2.new in
-    is_again_with_entries_joined setup (turns_of_items last.items.items) before last.state t n 1
-    (c.in_ok-add_leg-2.ensures setup (before ++ replicate n t) (c.in_ok-add_leg.ensures setup before again))
+    let last = c.add_stretch-2.new in
+    is_again_after_refused_try setup (turns_of_items last.items.items) before last.state t n
+    (c.in_ok-add_stretch-2.ensures setup (before ++ replicate n (t, false)) (c.in_ok-add_stretch.ensures setup before again))

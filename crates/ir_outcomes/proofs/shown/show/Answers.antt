@@ -12,7 +12,7 @@ use Rattle.ir_graph.proofs.CallerLemmas.{like_symmetric, like_transitive}
 use Rattle.ir_graph.specs.Setup.{start_of}
 use Rattle.ir_store.specs.Nodes.{SourcedFlat}
 use Rattle.ir_record.specs.Recording.{turns_of_items}
-use Rattle.ir_outcomes.proofs.Showing.{shown_if_again_within}
+use Rattle.ir_outcomes.proofs.Showing.{shown_if_again}
 use Rattle.ir_outcomes.proofs.shown.show.Goals as goal
 
 pub same_outcome-requires : goal.same_outcome-requires
@@ -41,8 +41,8 @@ returns-clause-shown c = λ s here.
     let origins = c.as_slice-origins.result.now in
     let wide : c.args.node < length origins = subst (λ z. c.args.node < length z) (sym c.as_slice-origins.ensures.value) c.requires.origin in
     let n : Origin = slice_index_or origins c.args.node first_origin in
-    shown_if_again_within c.args.states.now.graph.setup (turns_of_items c.in_ok-state.turns.items) (length c.as_slice.result.now) n.level s
-    c.in_ok-state.state c.in_ok-state.ensures.again
+    shown_if_again c.args.states.now.graph.setup (turns_of_items c.in_ok-state.turns.items) c.args.states.now.search.found.refusals.items
+    c.as_slice.result.now c.in_ok-state.state c.in_ok-state.ensures.again n.level s
     (subst (λ z. length z ≤ suc n.level) (sym c.as_slice.ensures.value)
     (c.in_ok-path.ensures.few n (slice_get-get_or origins c.args.node first_origin wide)))
     (subst (λ (z : SourcedFlat). IsDone (machine z.flat) (tables z.flat)) c.state.view_is (c.is_done.ensures.done c.if-not-is_done.false))

@@ -1,6 +1,6 @@
 use Rattle.std.proofs.Common.{◌≡◌, Some, None, refl}
 use Rattle.ir_log.specs.declared.event.Event.TheVariants.{Read, Write}
-use Rattle.ir_past.proofs.Open.{slice_get_from_get_or, holds_open_after_other_event, holds_open_after_read, holds_open_after_write, other_event_is_not_stale, found_pair_is_pair_at, no_stale_write_if_none_found}
+use Rattle.ir_past.proofs.Open.{slice_get_from_get_or, holds_open_after_other_event, holds_open_after_read, holds_open_after_write, other_event_is_not_stale, found_pair_is_stale_pair_at_event, no_stale_write_if_none_found}
 use Rattle.ir_past.proofs.last_reads.take_event.Goals as goal
 
 pub returns-in-Answer-clause-holds : goal.returns-in-Answer-clause-holds
@@ -47,7 +47,7 @@ returns-in-Write-clause-holds c = rw c.take_read-before.ensures.rest
     c.requires.holds)
 
 pub returns-in-Write-clause-found : goal.returns-in-Write-clause-found
-returns-in-Write-clause-found c = found_pair_is_pair_at c.args.events.now c.args.place c.in-Write.object c.in-Write.version _ c.args.table.now
+returns-in-Write-clause-found c = found_pair_is_stale_pair_at_event c.args.events.now c.args.place c.in-Write.object c.in-Write.version _ c.args.table.now
     c.take_read-before.result c.stale_pair.result (slice_get_from_get_or c.args.events.now c.args.place _ _ c.requires.place c.in-Write.is) c.requires.holds
     c.take_read-before.ensures.value c.stale_pair.ensures.found
 

@@ -3,7 +3,7 @@ use Rattle.std.proofs.lemmas.Result.{err_from_is_err_and}
 use Rattle.ir_files.proofs.CallerLemmas.{if_err_for_handed_on_error}
 use Rattle.ir_past.specs.Lines.{count_line, row_lines}
 use Rattle.ir_past.specs.declared.past_err.PastErr.TheVariants.{Write}
-use Rattle.ir_past.proofs.Written.{failed_in_first_part, rest_stops_after_first_part}
+use Rattle.ir_past.proofs.Written.{failed_in_first_part, if_err_stops_after_first_part}
 use Rattle.ir_past.proofs.run.put_stale.Goals as goal
 
 pub returns-in_err-write_all-clause-fails : goal.returns-in_err-write_all-clause-fails
@@ -16,6 +16,6 @@ returns-in_err-write_all-clause-fails g c =
 
 pub returns-clause-fails : goal.returns-clause-fails
 returns-clause-fails g c =
-    rest_stops_after_first_part c.put_rows.result (g.O.Sink.written c.args.out.now) (g.O.Sink.written c.write_all.new.writer)
+    if_err_stops_after_first_part c.put_rows.result (g.O.Sink.written c.args.out.now) (g.O.Sink.written c.write_all.new.writer)
     (g.O.Sink.written c.put_rows.new.out) _ c.as_bytes.result.now (count_line (length c.args.rows.now) c.args.writes) (row_lines c.args.rows.now)
     (c.as_bytes.ensures.value ∙ c.in_ok-first.ensures) c.in_ok-write_all.ensures.ok c.put_rows.ensures.fails

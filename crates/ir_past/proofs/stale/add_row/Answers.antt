@@ -2,11 +2,11 @@ use Rattle.std.proofs.Common.{length, sym, arith}
 use Rattle.ir_past.specs.declared.stale_write.StaleWrite.{StaleWrite}
 use Rattle.ir_past.specs.Past.{IsRow}
 use Rattle.ir_past.proofs.Rows.{has_rows_step_with_stale_write}
-use Rattle.ir_past.proofs.Noted.{overwriter_noted}
+use Rattle.ir_past.proofs.Noted.{overwriter_is_noted_if_read_is_stale}
 use Rattle.ir_past.proofs.stale.add_row.Goals as goal
 
 pub returns-in-None : goal.returns-in-None
-returns-in-None c = absurd (overwriter_noted c.args.trace.now c.args.makers.now (length c.args.trace.now.threads) c.args.write.thread
+returns-in-None c = absurd (overwriter_is_noted_if_read_is_stale c.args.trace.now c.args.makers.now (length c.args.trace.now.threads) c.args.write.thread
     c.args.pair.read c.args.write.event c.args.pair.object c.args.pair.version c.args.pair.written c.requires.coherent (omega arith)
     c.requires.makes c.requires.pair (sym c.in-None.ensures))
 

@@ -1,9 +1,10 @@
 use Rattle.std.proofs.Common.{◌++◌, ◌∙◌, get_or, ap}
 use Rattle.std.specs.String.{string_bytes}
+use Rattle.ir_lemmas.proofs.CallerLemmas.{text_is_put_if_nothing_left}
 use Rattle.ir_trace.specs.Recorded.{RecordedThread}
 use Rattle.ir_picture.specs.Numbers.{thread_row, thread_rows}
 use Rattle.ir_picture.specs.declared.placed_box.Point.{Point}
-use Rattle.ir_picture.proofs.Texts.{text_split_after_two_puts, text_is_put_if_nothing_left, thread_rows_begin_with_next, thread_rows_past_end}
+use Rattle.ir_picture.proofs.Texts.{text_split_after_two_puts, thread_rows_begin_with_next, thread_rows_past_end}
 use Rattle.ir_picture.proofs.data.push_thread_rows.Goals as goal
 
 pub loop-number-preserved : goal.loop-number-preserved

@@ -2,9 +2,10 @@ use Rattle.std.proofs.Common.{◌≡◌, ◌+◌, ◌-◌, ◌<◌, ◌∙◌, l
 use Rattle.std.proofs.lemmas.List.Sorted.{IsPartitionPoint-from_clause}
 use Rattle.std.proofs.lemmas.Option.{slice_get-get_or, get_or_from_slice_get}
 use Rattle.std.specs.Prelude.{slice_get, Some}
+use Rattle.ir_lemmas.proofs.CallerLemmas.{true_is_not_false}
 use Rattle.ir_picture.specs.Shown.{begins_by}
 use Rattle.ir_picture.specs.declared.placed_box.PlacedBox.{PlacedBox}
-use Rattle.ir_picture.proofs.Sorted.{boxes_partitioned_by_begin, box_of_event_is_last_begun, is_in_true_if_in_box, in_box_if_is_in_true, true_is_not_false}
+use Rattle.ir_picture.proofs.Sorted.{boxes_partitioned_by_begin, box_of_event_is_last_begun, is_in_true_if_in_box, in_box_if_is_in_true}
 use Rattle.ir_picture.proofs.finding.box_of.Goals as goal
 
 pub returns-then-count-eq0-clause-none : goal.returns-then-count-eq0-clause-none

@@ -1,5 +1,5 @@
 use Rattle.std.proofs.Common.{◌++◌, ◌∙◌, List, ℕ, ap}
-use Rattle.ir_picture.proofs.Texts.{append_of_four_texts}
+use Rattle.ir_lemmas.proofs.CallerLemmas.{append_of_four_texts}
 use Rattle.ir_picture.proofs.frame.push_four.Goals as goal
 
 pub returns : goal.returns

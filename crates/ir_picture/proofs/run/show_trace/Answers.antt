@@ -10,7 +10,7 @@ use Rattle.ir_picture.specs.declared.circle.Circle.{Circle}
 use Rattle.ir_picture.specs.declared.picture.Picture.{Picture}
 use Rattle.ir_picture.specs.declared.view_err.ViewErr.TheVariants.{Unwritten}
 use Rattle.ir_picture.proofs.OfTrace.{picture_is_of_trace}
-use Rattle.ir_picture.proofs.ViewAnswers.{trace_answer_is_view_answer, view_not_answered_if_stopped, answered_as_other_kind, not_answered_as_other_kind}
+use Rattle.ir_picture.proofs.ViewAnswers.{trace_answer_is_view_answer, view_not_answered_if_stopped, answered_of_implied_kind, not_answered_of_implied_kind}
 use Rattle.ir_picture.proofs.run.show_trace.Goals as goal
 
 pub show_picture-requires-clause-of_trace : goal.show_picture-requires-clause-of_trace
@@ -32,7 +32,7 @@ returns-in_err-show_picture-in-Ok-clause-fails g c =
     let p = err_from_is_err_and c.from_residual-in_err-show_picture-in-Ok.result c.from_residual-in_err-show_picture-in-Ok.ensures.1 in
     let e = c.in_err-show_picture-in-Ok.field-0.0 in
     if_err_for_handed_on_error _ c.from_residual-in_err-show_picture-in-Ok.result (Unwritten e) p.0 p.1 p.2
-    (not_answered_as_other_kind (IsForm asked.form r asked.around c.in-Ok.picture) (IsViewAnswer asked (Ok r)) e _
+    (not_answered_of_implied_kind (IsForm asked.form r asked.around c.in-Ok.picture) (IsViewAnswer asked (Ok r)) e _
     (λ s text is. trace_answer_is_view_answer asked r s text c.requires.coherent c.in_ok-circle.ensures.there (inr (drawn.0, (c.in-Ok.picture, drawn.1, is))))
     c.in_err-show_picture-in-Ok.ensures.fails)
 
@@ -43,7 +43,7 @@ returns-in_ok-show_picture-in-Ok-clause-ok g c =
     let drawn : HasNoCircle r × IsPicture r asked.around c.in-Ok.picture =
     subst (λ (x : Result Picture Circle). MatchResult x (λ p. HasNoCircle r × IsPicture r asked.around p) (λ d. IsCircleAt r d.thread d.event))
     c.in-Ok.is c.in_ok-circle.ensures.ok in
-    answered_as_other_kind (IsForm asked.form r asked.around c.in-Ok.picture) (IsViewAnswer asked (Ok r)) c.in_ok-show_picture-in-Ok.field-0 _
+    answered_of_implied_kind (IsForm asked.form r asked.around c.in-Ok.picture) (IsViewAnswer asked (Ok r)) c.in_ok-show_picture-in-Ok.field-0 _
     (λ text is. trace_answer_is_view_answer asked r c.in_ok-show_picture-in-Ok.field-0 text c.requires.coherent c.in_ok-circle.ensures.there
     (inr (drawn.0, (c.in-Ok.picture, drawn.1, is))))
     c.in_ok-show_picture-in-Ok.ensures.ok

@@ -7,10 +7,10 @@ use Rattle.ir_record.specs.Recording.{EachWentOn}
 use Rattle.ir_record.specs.Threads.{Pairs, IsSeatOf, views_of}
 use Rattle.ir_record.specs.Working.{work_of, IsReadyWorker, RanToEnd}
 use Rattle.ir_record.specs.Worlds.{NoneFailed, IsFirstFailed, AreSameWorlds}
-use Rattle.ir_record.specs.declared.worker.Worker.{Worker}
+use Rattle.ir_record.specs.declared.by_threads.worker.Worker.{Worker}
 use Rattle.ir_record.proofs.ByThreads.{recorded_of}
-use Rattle.ir_record.proofs.Crewed.{NoneBroken, HaveRun, new_workers_are_ready, threads_there, room_there, worlds_there, seats_there, ended_there, all_over, each_there, views_are_tracks_of_work, trace_at_worker_place, map_map}
-use Rattle.ir_record.proofs.Manning.{traces_count_workers}
+use Rattle.ir_record.proofs.Crewed.{NoneBroken, HaveRun, new_workers_are_ready, threads_there, room_there, worlds_there, seats_there, ended_there, all_over, each_there, views_are_tracks_of_work, trace_at_place_is_of_its_worker, map_map}
+use Rattle.ir_record.proofs.Manning.{traces_are_as_many_as_workers}
 use Rattle.ir_record.proofs.by_threads.record.Given as given
 use Rattle.ir_record.proofs.by_threads.record.Goals as goal
 
@@ -62,10 +62,10 @@ abbrev at_count : (g : given.Over) → goal.After-drop-objects-2 g → goal.Afte
 at_count g c = c.before.before.before.before.before.before.before.before
 
 pub worlds_of-requires : goal.worlds_of-requires
-worlds_of-requires g c = room_there (ran_some g c) c.in_ok-room.ensures (search rules) (search rules)
+worlds_of-requires g c = room_there (ran_some g c) c.in_ok-buffers.ensures (search rules) (search rules)
 
-pub gathered-seats-requires-clause-room : goal.gathered-seats-requires-clause-room
-gathered-seats-requires-clause-room g c = room_there (ran_all g c) c.in_ok-room.ensures (search rules) (search rules)
+pub gathered-seats-requires-clause-buffers : goal.gathered-seats-requires-clause-buffers
+gathered-seats-requires-clause-buffers g c = room_there (ran_all g c) c.in_ok-buffers.ensures (search rules) (search rules)
 
 pub overflow_cast-result : goal.overflow_cast-result
 overflow_cast-result g c =
@@ -110,8 +110,8 @@ returns-clause-recorded g c =
     (subst (λ z. IsEnd z c.joined-seat.result.me.0 c.close.new.objects) c.in_ok-crew.ensures.key c.close.ensures)
     (c.joined-seat.ensures.views ∙ ap views_of c.gathered-seats.ensures.seats ∙ views_are_tracks_of_work g.W.World.answers end)
     c.gathered-seats.result.1 (emitted.0 ∙ counted g (at_count g c)) emitted.1 emitted.2
-    (traces_count_workers end c.gathered-seats.result.1.threads emitted.3 ∙ threads_there all)
-    (λ t l. trace_at_worker_place g.W.World.answers end c.gathered-seats.result.1.threads emitted.3 t (omega (arith, l, threads_there all)))
+    (traces_are_as_many_as_workers end c.gathered-seats.result.1.threads emitted.3 ∙ threads_there all)
+    (λ t l. trace_at_place_is_of_its_worker g.W.World.answers end c.gathered-seats.result.1.threads emitted.3 t (omega (arith, l, threads_there all)))
     _ (c.gathered-seats.ensures.bytes ∙ sym (map_map (λ w. w.thread.output) (work_of g.W.World.answers) end))
     _ (sym (map_map g.W.World.answers (λ o. o.world) each_of) ∙ ap (map g.W.World.answers) c.gathered-seats.ensures.worlds
     ∙ map_map g.W.World.answers (λ w. w.world) end ∙ sym (map_map (λ w. w.answers) (work_of g.W.World.answers) end))

@@ -41,7 +41,7 @@ into_trace-requires-clause-profile g c = profiles_there (over g c)
 pub returns-clause-recorded : goal.returns-clause-recorded
 returns-clause-recorded g c =
     recorded_there (over g c.before.before.before.before.before) (map g.W.World.broken c.record.new.self.worlds.items)
-    c.in_default.ensures.ready c.in_ok-trace.trace c.in_ok-trace.ensures.objects c.in_ok-trace.ensures.limit
+    c.in_default.ensures.stays.ready c.in_ok-trace.trace c.in_ok-trace.ensures.objects c.in_ok-trace.ensures.limit
     c.in_ok-trace.ensures.profile c.in_ok-trace.ensures.threads
     _ (c.in_ok-outputs.ensures.bytes ∙ ap (map (λ x. x.output)) c.threads-3.ensures.value)
     _ (map_of_composition g.W.World.answers (λ o. o.world) c.in_ok-outputs.outputs.each.items c.record.new.self.worlds.items
@@ -49,15 +49,15 @@ returns-clause-recorded g c =
 
 pub returns-clause-works : goal.returns-clause-works
 returns-clause-works g c = subst NoneFailed (sym (map_of_composition g.W.World.broken (λ o. o.world) c.in_ok-outputs.outputs.each.items
-    c.record.new.self.worlds.items c.in_ok-outputs.ensures.worlds)) c.in_default.ensures.ready.works
+    c.record.new.self.worlds.items c.in_ok-outputs.ensures.worlds)) c.in_default.ensures.stays.ready.works
 
 pub returns-clause-origins : goal.returns-clause-origins
 returns-clause-origins g c = map_of_composition g.W.World.origin (λ o. o.world) c.in_ok-outputs.outputs.each.items c.record.new.self.worlds.items
-    c.in_ok-outputs.ensures.worlds ∙ c.record.ensures.kept
+    c.in_ok-outputs.ensures.worlds ∙ c.record.ensures.stays.same_worlds
 
 pub returns-in-Err-clause-failed : goal.returns-in-Err-clause-failed
 returns-in-Err-clause-failed g c = (
-  c.in-Err.ensures.failed,
-  c.record.ensures.kept,
+  c.in-Err.ensures.stays.failed,
+  c.record.ensures.stays.same_worlds,
   stopped_in_order_from_start c.in_ok-start.ensures.flat c.in_ok-start.ensures.logs c.in-Err.ensures.stopped,
 )

@@ -3,7 +3,8 @@ use Rattle.std.specs.Prelude.{slice_get, Some}
 use Rattle.ir_log.specs.Asked.{Suits}
 use Rattle.ir_log.specs.declared.event.Event.{Event}
 use Rattle.ir_thread.specs.declared.ask.Ask.TheVariants.{Env}
-use Rattle.ir_trace.specs.Recorded.{Recorded, recorded_thread, IsRecordedThread}
+use Rattle.ir_trace.specs.Recorded.{Recorded, recorded_thread}
+use Rattle.ir_trace.specs.Bounds.{IsRecordedThread}
 use Rattle.ir_weave.proofs.CallerLemmas.{suited_call_logs_next, no_next_for_unsuited_call}
 use Rattle.ir_replay.proofs.admission.call_result.Goals as goal
 

@@ -1,10 +1,10 @@
 use Rattle.std.proofs.Common.{arith}
-use Rattle.ir_replay.proofs.Reached.{standing_after_thread_alone, positions_after_thread_alone_below_target}
+use Rattle.ir_replay.proofs.Reached.{standing_under_target_stands, standing_under_target_is_not_past_it}
 use Rattle.ir_replay.proofs.Unmarked.{under_target_after_private_steps, standings_gone_if_went_alone, unmarked_steps_in_standings, rests_unmarked_in_standing}
 use Rattle.ir_replay.proofs.alone.advance_unmarked.Goals as goal
 
 pub returns-clause-stands : goal.returns-clause-stands
-returns-clause-stands c = standing_after_thread_alone c.args.fitted.now c.positions.result.now c.run_unmarked-taken.new.self c.without_code.result
+returns-clause-stands c = standing_under_target_stands c.args.fitted.now c.positions.result.now c.run_unmarked-taken.new.self c.without_code.result
     (under_target_after_private_steps c.args.fitted.now c.args.target.now c.positions.result.now c.args.state c.with_code-flat.result
     c.run_unmarked-taken.new.self c.args.t c.run_unmarked-taken.result c.with_code-flat.ensures c.positions.ensures c.known.ensures
     c.requires.target c.requires.state c.requires.below
@@ -12,7 +12,7 @@ returns-clause-stands c = standing_after_thread_alone c.args.fitted.now c.positi
     c.run_unmarked-taken.ensures.went) c.without_code.ensures.state c.without_code.ensures.within
 
 pub returns-clause-below : goal.returns-clause-below
-returns-clause-below c = positions_after_thread_alone_below_target c.args.fitted.now c.args.target.now c.positions.result.now c.run_unmarked-taken.new.self
+returns-clause-below c = standing_under_target_is_not_past_it c.args.fitted.now c.args.target.now c.positions.result.now c.run_unmarked-taken.new.self
     c.without_code.result c.positions.ensures
     (under_target_after_private_steps c.args.fitted.now c.args.target.now c.positions.result.now c.args.state c.with_code-flat.result
     c.run_unmarked-taken.new.self c.args.t c.run_unmarked-taken.result c.with_code-flat.ensures c.positions.ensures c.known.ensures

@@ -1,8 +1,9 @@
 use Rattle.std.proofs.Common.{rules, ◌≡◌, [], ◌∷◌, ◌++◌, length, refl, ap, ◌∙◌, subst, arith}
 use Rattle.std.specs.List.{AllByRecursion}
 use Rattle.std.specs.Prelude.{option_to_list, vec_len}
+use Rattle.ir_lemmas.proofs.CallerLemmas.{all_splits_off_last}
 use Rattle.ir_replay.specs.Rounds.{backwards, threads_of, IsOfTable}
-use Rattle.ir_replay.proofs.Dealt.{view_before_views_of_others, joined_views_with_next_seat, joined_threads_with_next_worker, all_splits_off_last, length_after_push}
+use Rattle.ir_replay.proofs.Dealt.{view_before_views_of_others, joined_views_with_next_seat, joined_threads_with_next_worker, length_after_push}
 use Rattle.ir_replay.proofs.round.joined.Goals as goal
 
 pub workers-init : goal.workers-init

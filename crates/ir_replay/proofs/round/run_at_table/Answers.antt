@@ -6,7 +6,7 @@ use Rattle.ir_replay.specs.Rounds.{backwards, threads_of, views_of}
 use Rattle.ir_replay.specs.Workers.{HasWorked}
 use Rattle.ir_replay.proofs.Dealt.{take_of_overwritten_list}
 use Rattle.ir_replay.proofs.Down.{AllByNumber, pairs_have_same_length, length_of_backward_threads}
-use Rattle.ir_replay.proofs.AfterRound.{StandsBelowTarget, stands_below_target_in_plan, IsAssigned, workers_are_assigned, assigned_workers_are_ready, IsAfterRound, workers_are_after_round, workers_after_round_of_table, standing_left_by_round}
+use Rattle.ir_replay.proofs.AfterRound.{StandsBelowTarget, stands_below_target_in_plan, IsAssigned, workers_are_assigned, assigned_workers_are_ready, IsAfterRound, workers_are_after_round, workers_after_round_are_of_table, standing_after_round_is_between_and_goes}
 use Rattle.ir_replay.proofs.round.run_at_table.Goals as goal
 
 pub run_all-requires-clause-ready : goal.run_all-requires-clause-ready
@@ -79,7 +79,7 @@ joined-seat-requires-clause-seats g c =
     ∙ ap (λ (z : Standing). z.threads) (sym c.requires.opened) in
     let first : AllByNumber (IsAssigned id k target) vs =
     workers_are_assigned id k target vs c.args.opened.seats.items inside c.requires.seats.0 c.assign_seats.ensures.seats of_threads in
-    workers_after_round_of_table id k target ws (workers_are_after_round id k target vs ws first c.run_all.ensures)
+    workers_after_round_are_of_table id k target ws (workers_are_after_round id k target vs ws first c.run_all.ensures)
 
 pub returns-clause-between : goal.returns-clause-between
 returns-clause-between g c =
@@ -110,7 +110,7 @@ returns-clause-between g c =
     subst (λ v. IsClosed k v c.close.new.objects) c.joined-seat.ensures.views c.close.ensures in
     let len : c.parts-threads.result.1.len ≡ length c.parts-threads.result.1.items = search rules in
     let kept : length c.close.new.objects ≡ length c.parts-threads.result.1.items = search rules in
-    (standing_left_by_round id k f target c.args.state c.build.result ws c.close.new.objects c.requires.table c.requires.opened start size last closed
+    (standing_after_round_is_between_and_goes id k f target c.args.state c.build.result ws c.close.new.objects c.requires.table c.requires.opened start size last closed
     (c.build.ensures ∙ (λ i. record {
       threads = c.joined-seat.ensures.threads i;
       objects =
@@ -146,7 +146,7 @@ returns-clause-goes g c =
     subst (λ v. IsClosed k v c.close.new.objects) c.joined-seat.ensures.views c.close.ensures in
     let len : c.parts-threads.result.1.len ≡ length c.parts-threads.result.1.items = search rules in
     let kept : length c.close.new.objects ≡ length c.parts-threads.result.1.items = search rules in
-    (standing_left_by_round id k f target c.args.state c.build.result ws c.close.new.objects c.requires.table c.requires.opened start size last closed
+    (standing_after_round_is_between_and_goes id k f target c.args.state c.build.result ws c.close.new.objects c.requires.table c.requires.opened start size last closed
     (c.build.ensures ∙ (λ i. record {
       threads = c.joined-seat.ensures.threads i;
       objects =

@@ -6,12 +6,12 @@ use Rattle.ir_rests.specs.WhatIf.{known}
 use Rattle.ir_rests.specs.Rests.{AreRests}
 use Rattle.ir_rests.specs.Watch.{AreBegun}
 use Rattle.ir_rests.specs.declared.found.Found.{Found}
-use Rattle.ir_rests.proofs.Begun.{begun_with_no_rest_known, rests_of_known_found}
+use Rattle.ir_rests.proofs.Begun.{rows_are_begun_with_no_rest_known, rests_of_known_found}
 use Rattle.ir_rests.proofs.walk.rests.Goals as goal
 
 pub walk-requires-clause-begun : goal.walk-requires-clause-begun
 walk-requires-clause-begun c = subst (AreBegun false c.args.fitted.now c.args.rows.now) (sym c.deref_mut.ensures.value)
-    (begun_with_no_rest_known c.args.fitted.now c.args.rows.now c.in_ok-found.found.items c.in_ok-found.ensures)
+    (rows_are_begun_with_no_rest_known c.args.fitted.now c.args.rows.now c.in_ok-found.found.items c.in_ok-found.ensures)
 
 pub returns : goal.returns
 returns c =

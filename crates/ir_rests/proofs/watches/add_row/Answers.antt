@@ -8,7 +8,7 @@ use Rattle.ir_rests.specs.declared.found.Found.TheVariants.{Unknown}
 use Rattle.ir_rests.specs.declared.watch.Watch.{Watch}
 use Rattle.ir_rests.proofs.Leaving.{row_entries_are_placed}
 use Rattle.ir_rests.proofs.Built.{built_after_own_row, all_built_after_watch_set, all_built_after_found_row}
-use Rattle.ir_rests.proofs.Begun.{found_if_never_left, found_unless_looked_at}
+use Rattle.ir_rests.proofs.Begun.{row_is_found_if_never_left, row_is_found_unless_looked_at}
 use Rattle.ir_rests.proofs.watches.add_row.Goals as goal
 
 abbrev no_row : StaleWrite
@@ -37,7 +37,7 @@ returns-in-None-clause-built c =
     let x : StaleWrite = slice_index_or rows c.args.row no_row in
     let there = slice_get-get_or rows c.args.row no_row c.requires.row in
     all_built_after_found_row c.args.guide.copies f rows c.args.found.now c.args.row c.args.watches.now x c.requires.built there
-    (found_if_never_left c.args.guide.copies f x (slice_index_or c.args.found.now c.args.row Unknown) (c.requires.begun c.args.row x there) c.in-None.ensures.none)
+    (row_is_found_if_never_left c.args.guide.copies f x (slice_index_or c.args.found.now c.args.row Unknown) (c.requires.begun c.args.row x there) c.in-None.ensures.none)
 
 pub returns-then-not-is_looked_at-clause-built : goal.returns-then-not-is_looked_at-clause-built
 returns-then-not-is_looked_at-clause-built c =
@@ -46,5 +46,5 @@ returns-then-not-is_looked_at-clause-built c =
     let x : StaleWrite = slice_index_or rows c.args.row no_row in
     let there = slice_get-get_or rows c.args.row no_row c.requires.row in
     all_built_after_found_row c.args.guide.copies f rows c.args.found.now c.args.row c.args.watches.now x c.requires.built there
-    (found_unless_looked_at c.args.guide.copies f x (slice_index_or c.args.found.now c.args.row Unknown) (c.requires.begun c.args.row x there)
+    (row_is_found_unless_looked_at c.args.guide.copies f x (slice_index_or c.args.found.now c.args.row Unknown) (c.requires.begun c.args.row x there)
     (sym c.is_looked_at.ensures ∙ c.if-not-is_looked_at.true))

@@ -2,7 +2,7 @@ use Rattle.std.proofs.Common.{refl, sym, ◌∙◌, ◌<◌, arith}
 use Rattle.ir_thread.specs.declared.ask.Ask.TheVariants as ask
 use Rattle.ir_thread.specs.declared.ask.Reply.TheVariants.{Go}
 use Rattle.ir_walk.specs.declared.exchange.Exchange.{Exchange}
-use Rattle.ir_rests.proofs.Differs.{what_if_spent_on_private_steps, what_if_differs_at_call, what_if_goes_on_after_call, what_if_with_no_call_left, answer_suits_ask_if_no_difference, remaining_calls_suit}
+use Rattle.ir_rests.proofs.Differs.{what_if_is_way_if_spent_on_private_steps, what_if_differs_at_call, what_if_goes_on_after_call, what_if_is_none_with_no_call_left, answer_suits_ask_if_no_difference, remaining_calls_suit}
 use Rattle.ir_rests.proofs.what_if.what_if.Goals as goal
 
 none : Exchange
@@ -12,7 +12,7 @@ pub loop-call-init : goal.loop-call-init
 loop-call-init c = record { same = refl; suit = c.requires }
 
 pub returns-then-taken-left : goal.returns-then-taken-left
-returns-then-taken-left c = what_if_spent_on_private_steps c.args.code.now c.args.object c.args.fresh.now c.loop-call.hold c.loop-call.call-index c.run-taken.result.0
+returns-then-taken-left c = what_if_is_way_if_spent_on_private_steps c.args.code.now c.args.object c.args.fresh.now c.loop-call.hold c.loop-call.call-index c.run-taken.result.0
     c.loop-call.left c.loop-call.thread c.run-taken.new.self c.args.calls.now none _ c.loop-call.invariant.same c.loop-call-test.true
     c.run-taken.ensures.steps c.if-taken-left.true
 
@@ -41,5 +41,5 @@ loop-call-preserved c =
     }
 
 pub returns : goal.returns
-returns c = what_if_with_no_call_left c.args.code.now c.args.object c.args.fresh.now c.loop-call.hold c.loop-call.call-index c.loop-call.left c.loop-call.thread
+returns c = what_if_is_none_with_no_call_left c.args.code.now c.args.object c.args.fresh.now c.loop-call.hold c.loop-call.call-index c.loop-call.left c.loop-call.thread
     c.args.calls.now _ c.loop-call.invariant.same c.loop-call-test.false

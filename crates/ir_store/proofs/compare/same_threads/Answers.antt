@@ -1,9 +1,9 @@
 use Rattle.std.proofs.Common.{◌≡◌, ◌<◌, inl, inr, get_or, length, sym, subst, arith}
 use Rattle.std.proofs.lemmas.Bool.{cases_lt}
 use Rattle.std.proofs.lemmas.Option.{slice_get-get_or}
+use Rattle.ir_lemmas.proofs.CallerLemmas.{element_of_all_by_recursion}
 use Rattle.ir_store.specs.Nodes.{LookSame}
 use Rattle.ir_store.specs.Table.{idle_beside, beside_at}
-use Rattle.ir_store.proofs.Lists.{element_of_all_by_recursion}
 use Rattle.ir_store.proofs.Stored.{beside_at_is_element}
 use Rattle.ir_store.proofs.compare.same_threads.Goals as goal
 

@@ -1,7 +1,8 @@
 use Rattle.std.proofs.Common.{◌≡◌, ◌<◌, ◌∙◌, [], sym, ap, subst, length}
+use Rattle.ir_lemmas.proofs.CallerLemmas.{all_by_recursion_after_push}
 use Rattle.ir_store.specs.declared.spot.Spot.{Spot}
 use Rattle.ir_store.specs.Nodes.{HaveWords, cell_in, cells_at}
-use Rattle.ir_store.proofs.Lists.{all_by_recursion_after_push, all_by_recursion_weaker, kept_element_is_equal, place_below_length_kept, map_equal_if_functions_equal, mapped_elements_found_step}
+use Rattle.ir_store.proofs.Lists.{all_by_recursion_weaker, kept_element_is_equal, place_below_length_kept, map_equal_if_functions_equal, mapped_elements_found_step}
 use Rattle.ir_store.proofs.objects.spots_of.Goals as goal
 
 pub loop-object-preserved : goal.loop-object-preserved

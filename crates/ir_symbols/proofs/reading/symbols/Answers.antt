@@ -1,11 +1,11 @@
 use Rattle.std.proofs.Common.{◌∙◌, ◌+◌, ◌<◌, List, ap, sym, arith, append-nil, Ok}
 use Rattle.ir_symbols.specs.Symbols.{Symbol}
 use Rattle.ir_symbols.specs.Maps.{symbols_at, symbols_from}
-use Rattle.ir_symbols.proofs.Lines.{lines_left, size_left, with_all, symbols_from_no_lines_left, symbols_after_empty_line, symbols_after_symbol_line, symbols_after_faulty_line, size_left_falls}
+use Rattle.ir_symbols.proofs.Lines.{lines_left, size_left, with_all, symbols_from_no_lines_left, symbols_after_line_that_says_nothing, symbols_after_symbol_line, symbols_stop_at_faulty_line, size_left_falls}
 use Rattle.ir_symbols.proofs.reading.symbols.Goals as goal
 
 pub returns-in-Faulty : goal.returns-in-Faulty
-returns-in-Faulty c = symbols_after_faulty_line (symbols_at c.args.bytes.now) c.loop-rest.symbols.items c.loop-rest.number c.loop-rest.rest
+returns-in-Faulty c = symbols_stop_at_faulty_line (symbols_at c.args.bytes.now) c.loop-rest.symbols.items c.loop-rest.number c.loop-rest.rest
     c.first_line.result.1 c.in-Some.text c.first_line.result.0.now c.in-Some.is c.first_line.ensures.lines
     (sym c.in-Faulty.is ∙ c.in_ok-entry.ensures) c.loop-rest.invariant.symbols
 
@@ -14,7 +14,7 @@ loop-rest-preserved-in-Nothing c =
     let less : size_left c.first_line.result.1 < size_left c.loop-rest.rest =
     size_left_falls c.loop-rest.rest c.first_line.result.1 c.in-Some.text c.in-Some.is c.first_line.ensures.shorter in
     record {
-      symbols = symbols_after_empty_line (symbols_at c.args.bytes.now) c.loop-rest.symbols.items c.loop-rest.number c.loop-rest.rest
+      symbols = symbols_after_line_that_says_nothing (symbols_at c.args.bytes.now) c.loop-rest.symbols.items c.loop-rest.number c.loop-rest.rest
           c.first_line.result.1 c.in-Some.text c.first_line.result.0.now c.in-Some.is c.first_line.ensures.lines
           (sym c.in-Nothing.is ∙ c.in_ok-entry.ensures) c.loop-rest.invariant.symbols;
       small = omega (arith, less, c.loop-rest.invariant.small);

@@ -1,16 +1,15 @@
 use Rattle.std.proofs.Common.{refl}
 use Rattle.ir_fit.specs.declared.fit_err.FitErr.TheVariants.{NoMem, Refused}
-use Rattle.ir_record.proofs.CallerLemmas.{recording_by_order_is_of_some}
 use Rattle.ir_tests.specs.Laws.{NoRefusal}
 use Rattle.ir_tests.proofs.Fits.{trace_of_run_has_run}
 use Rattle.ir_tests.proofs.laws.recordings_fit.Goals as goal
 
 pub returns-clause-by_threads : goal.returns-clause-by_threads
-returns-clause-by_threads c = λ guest budget profile before trace outputs answers r. (r.run, trace_of_run_has_run guest budget profile r.run trace r.of.emitted)
+returns-clause-by_threads c = λ guest budget profile before trace outputs answers r. (r.0, trace_of_run_has_run guest budget profile r.0 trace r.1.emitted)
 
-pub returns-clause-in_order : goal.returns-clause-in_order
-returns-clause-in_order c = λ guest budget profile order before trace outputs answers r.
-    let s = recording_by_order_is_of_some guest budget profile order before trace outputs answers r in (s.run, trace_of_run_has_run guest budget profile s.run trace s.of.emitted)
+pub returns-clause-in_turns : goal.returns-clause-in_turns
+returns-clause-in_turns c = λ guest budget profile turns before trace outputs answers r.
+    (r.0, trace_of_run_has_run guest budget profile r.0 trace r.2.emitted)
 
 pub returns-clause-accepted : goal.returns-clause-accepted
 returns-clause-accepted c = accepted

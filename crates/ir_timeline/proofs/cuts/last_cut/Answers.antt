@@ -1,11 +1,10 @@
 use Rattle.std.proofs.Common.{◌≡◌, length, sym, ap, ◌∙◌, subst, arith}
-use Rattle.ir_cut.specs.Positions.{IsConsistentCut}
-use Rattle.ir_timeline.specs.Positions.{threads_of, last_cut}
-use Rattle.ir_timeline.proofs.Ends.{last_positions, no_last_positions, last_positions_after_push, length_of_last_positions, last_cut_is_consistent}
+use Rattle.ir_cut.specs.Positions.{IsConsistentCut, threads_of, last_cut}
+use Rattle.ir_timeline.proofs.Ends.{last_positions, empty_is_last_positions_of_no_threads, last_positions_after_push, length_of_last_positions, last_cut_is_consistent}
 use Rattle.ir_timeline.proofs.cuts.last_cut.Goals as goal
 
 pub loop-t-init : goal.loop-t-init
-loop-t-init c = no_last_positions c.args.fitted.now c.in_ok-positions.positions.items c.in_ok-positions.ensures.items
+loop-t-init c = empty_is_last_positions_of_no_threads c.args.fitted.now c.in_ok-positions.positions.items c.in_ok-positions.ensures.items
 
 pub loop-t-preserved : goal.loop-t-preserved
 loop-t-preserved c = last_positions_after_push c.args.fitted.now c.loop-t.t c.loop-t.positions.items c.push.new.self.items c.last_position.result

@@ -1,7 +1,7 @@
 use Rattle.std.proofs.Common.{◌≡◌, ◌≤◌, ◌∙◌, ap, arith}
 use Rattle.ir_weave.specs.Standing.{flat_in, positions}
 use Rattle.ir_hits.specs.Searching.{reached}
-use Rattle.ir_timeline.specs.Positions.{last_of}
+use Rattle.ir_cut.specs.Positions.{last_of}
 use Rattle.ir_timeline.proofs.Searches.{steps_of_thread_are_position, next_hit_is_first_hit_above, no_hit_above_further_position, no_first_hit_above}
 use Rattle.ir_timeline.proofs.searching.hit_above.Goals as goal
 

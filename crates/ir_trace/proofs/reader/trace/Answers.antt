@@ -1,6 +1,7 @@
 use Rattle.std.proofs.Common.{◌≡◌, [], sym, subst, arith, rules}
 use Rattle.std.proofs.lemmas.List.{nil_from_length}
-use Rattle.ir_trace.specs.Recorded.{Recorded, IsRecorded}
+use Rattle.ir_trace.specs.Recorded.{Recorded}
+use Rattle.ir_trace.specs.Bounds.{IsRecorded}
 use Rattle.ir_trace.specs.Encoding.{encoding}
 use Rattle.ir_trace.proofs.Whole.{read_parts_take_encoding}
 use Rattle.ir_trace.proofs.reader.trace.Goals as goal

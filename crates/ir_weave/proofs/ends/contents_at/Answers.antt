@@ -1,8 +1,9 @@
 use Rattle.std.proofs.Common.{◌+◌, ◌<◌, ◌≤◌, ◌^◌, ℕ, List, Fits, w32, refl, sym, subst, arith}
 use Rattle.std.specs.Slots.{slots_items}
+use Rattle.ir_lemmas.proofs.CallerLemmas.{get_or_of_found_word}
 use Rattle.ir_image.specs.Guest.{most_object_words}
 use Rattle.ir_weave.specs.Woven.{AreRead}
-use Rattle.ir_weave.proofs.Opening.{words_read_with_word_set, get_or_of_found_word}
+use Rattle.ir_weave.proofs.Opening.{are_read_step}
 use Rattle.ir_weave.proofs.ends.contents_at.Goals as goal
 
 pub loop-i-init : goal.loop-i-init
@@ -17,7 +18,7 @@ overflow_cast-word c = fits_word c.word.result
     (c.requires.small c.loop-i.i c.loop-i-test.true))
 
 pub loop-i-preserved : goal.loop-i-preserved
-loop-i-preserved c = words_read_with_word_set (slots_items c.args.closed.now.words) c.args.from c.loop-i.word-items c.loop-i.i c.word.result
+loop-i-preserved c = are_read_step (slots_items c.args.closed.now.words) c.args.from c.loop-i.word-items c.loop-i.i c.word.result
     c.loop-i.invariant c.loop-i-test.true (sym (get_or_of_found_word (slots_items c.args.closed.now.words) (c.args.from + c.loop-i.i) c.word.result
     c.word.ensures))
 

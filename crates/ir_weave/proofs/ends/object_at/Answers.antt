@@ -1,6 +1,7 @@
 use Rattle.std.proofs.Common.{sym}
 use Rattle.std.specs.Slots.{slots_items}
-use Rattle.ir_weave.proofs.Opening.{read_object_is_table_object, get_or_of_found_word}
+use Rattle.ir_lemmas.proofs.CallerLemmas.{get_or_of_found_word}
+use Rattle.ir_weave.proofs.Opening.{read_object_is_table_object}
 use Rattle.ir_weave.proofs.ends.object_at.Goals as goal
 
 pub returns : goal.returns

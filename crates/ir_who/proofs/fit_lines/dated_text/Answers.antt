@@ -1,7 +1,8 @@
 use Rattle.std.proofs.Common.{◌∙◌}
 use Rattle.std.specs.String.{string_bytes}
+use Rattle.ir_lemmas.proofs.CallerLemmas.{text_is_put_if_nothing_left, text_split_after_put}
 use Rattle.ir_who.specs.FitLines.{dated_text}
-use Rattle.ir_who.proofs.Shown.{text_split_after_put, text_is_put_if_nothing_left, dated_lines_begin_with_line, no_dated_lines_past_end}
+use Rattle.ir_who.proofs.Shown.{dated_lines_begin_with_line, no_dated_lines_past_end}
 use Rattle.ir_who.proofs.fit_lines.dated_text.Goals as goal
 
 pub loop-number-preserved : goal.loop-number-preserved

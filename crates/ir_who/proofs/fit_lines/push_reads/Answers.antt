@@ -1,16 +1,17 @@
 use Rattle.std.proofs.Common.{◌∙◌, ◌++◌, get_or}
 use Rattle.std.specs.String.{string_bytes}
+use Rattle.ir_lemmas.proofs.CallerLemmas.{text_is_put_if_nothing_left, text_split_after_put}
 use Rattle.ir_past.specs.declared.place.Place.{Place}
-use Rattle.ir_fit_run.proofs.CallerLemmas.{element_below_length_is_listed}
+use Rattle.ir_fit_run.proofs.CallerLemmas.{slice_get_is_get_or_below_length}
 use Rattle.ir_who.specs.FitLines.{fit_read_lines}
-use Rattle.ir_who.proofs.Shown.{text_split_after_put, text_is_put_if_nothing_left, fit_read_lines_begin_with_line, no_fit_read_lines_past_end}
+use Rattle.ir_who.proofs.Shown.{fit_read_lines_begin_with_line, no_fit_read_lines_past_end}
 use Rattle.ir_who.proofs.fit_lines.push_reads.Goals as goal
 
 pub read_line-requires : goal.read_line-requires
 read_line-requires c =
     let n = c.loop-place.place-index in
     let none : Place = record { thread = 0; event = 0 } in
-    c.requires n (get_or c.args.places.now n none) (element_below_length_is_listed c.args.places.now n none c.loop-place-test.true)
+    c.requires n (get_or c.args.places.now n none) (slice_get_is_get_or_below_length c.args.places.now n none c.loop-place-test.true)
 
 pub loop-place-preserved : goal.loop-place-preserved
 loop-place-preserved c = text_split_after_put (string_bytes c.loop-place.text) c.as_str.result.now _ _ _ _ c.loop-place.invariant

@@ -8,7 +8,7 @@ use Rattle.ir_who.specs.FitLines.{fit_version_text}
 use Rattle.ir_who.specs.Versions.{AreVersions}
 use Rattle.ir_who.specs.declared.version.Version.{Version}
 use Rattle.ir_who.proofs.Listed.{noted_maker_is_overwriter}
-use Rattle.ir_who.proofs.Within.{equal_trace_is_coherent, version_maker_is_inside, version_reader_is_inside, overwriter_is_inside}
+use Rattle.ir_who.proofs.Within.{trace_equal_to_run_trace_is_coherent, version_maker_is_inside, version_reader_is_inside, overwriter_is_inside}
 use Rattle.ir_who.proofs.fit_run.version_answer.Goals as goal
 use Rattle.ir_who.proofs.fit_run.version_answer.Goals.{In-Some}
 
@@ -21,7 +21,7 @@ row_of c = subst (λ (rows : List Version). slice_get rows c.args.version ≡ So
     c.in-Some.ensures.lookup.1)
 
 pub versions_of-requires : goal.versions_of-requires
-versions_of-requires c = equal_trace_is_coherent c.args.fitted.now c.known.ensures.run c.trace-trace.result.now c.trace-trace.ensures.value
+versions_of-requires c = trace_equal_to_run_trace_is_coherent c.args.fitted.now c.known.ensures.run c.trace-trace.result.now c.trace-trace.ensures.value
 
 pub dated-dated-requires : goal.dated-dated-requires
 dated-dated-requires c = λ p made. version_maker_is_inside c.args.fitted.now c.known.ensures.run c.args.object c.in_ok-rows.rows.items (rows_of c) c.args.version

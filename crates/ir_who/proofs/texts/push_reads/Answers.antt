@@ -1,7 +1,8 @@
 use Rattle.std.proofs.Common.{◌∙◌, ◌++◌}
 use Rattle.std.specs.String.{string_bytes}
+use Rattle.ir_lemmas.proofs.CallerLemmas.{text_is_put_if_nothing_left, text_split_after_put}
 use Rattle.ir_who.specs.Lines.{read_lines}
-use Rattle.ir_who.proofs.Shown.{text_split_after_put, text_is_put_if_nothing_left, read_lines_begin_with_line, no_read_lines_past_end}
+use Rattle.ir_who.proofs.Shown.{read_lines_begin_with_line, no_read_lines_past_end}
 use Rattle.ir_who.proofs.texts.push_reads.Goals as goal
 
 pub loop-place-preserved : goal.loop-place-preserved

@@ -2,7 +2,7 @@ use Rattle.std.proofs.Common.{◌≡◌, ◌∙◌, ◌+◌, ◌^◌, ◌≤◌,
 use Rattle.ir_past.specs.Tables.{maker_in}
 use Rattle.ir_who.specs.Versions.{AreVersions}
 use Rattle.ir_who.specs.declared.version.Version.{Version}
-use Rattle.ir_who.proofs.Listed.{listed_after_next_version, listed_are_versions_if_none_noted, listed_are_versions_past_word}
+use Rattle.ir_who.proofs.Listed.{listed_after_next_version, listed_are_versions_if_none_noted, listed_are_versions_if_version_is_no_word}
 use Rattle.ir_who.proofs.versions.versions_of.Goals as goal
 use Rattle.ir_who.proofs.versions.versions_of.Goals.{else-loop-version-test, then-loop-version-test+in-Some+in_ok-push-2+else-version-lt4294967295}
 
@@ -27,7 +27,7 @@ returns c = elim c.loop-version-test.branch [
       let v = c.loop-version.version in
       let last : 2 ^ 32 ≤ v + 1 = omega arith in
       subst (λ (rows : Vec Version Global). AreVersions r o rows.items) (sym w.rows-is)
-      (listed_are_versions_past_word r o (v + 1) w.push-in-loop-version.new.self.items c.in_ok-makers.ensures.recorded last
+      (listed_are_versions_if_version_is_no_word r o (v + 1) w.push-in-loop-version.new.self.items c.in_ok-makers.ensures.recorded last
       (listed_after_next_version r o v (length r.threads) c.in_ok-makers.makers w.in-Some.place c.loop-version.rows.items
       w.push-in-loop-version.new.self.items _ c.in_ok-makers.ensures.makes c.loop-version.invariant
       (sym w.get.ensures ∙ w.in-Some.is) w.in_ok-push-2.ensures.items refl w.next_readers.ensures))

@@ -2,14 +2,14 @@ use Rattle.std.proofs.Common.{◌+◌, ◌-◌, inl, inr, List, Option, sym, sub
 use Rattle.std.specs.Prelude.{MatchOption}
 use Rattle.ir_why.specs.Chain.{IsLink, WaitsForNone}
 use Rattle.ir_why.specs.declared.link.Link.{Link}
-use Rattle.ir_why.proofs.Linked.{ChainGoesOn, chain_goes_on_by_link, chain_ends_in_links, linked_event_exists}
+use Rattle.ir_why.proofs.Linked.{ChainGoesOn, chain_goes_on_by_link, are_links_if_chain_ends, linked_event_exists}
 use Rattle.ir_why.proofs.chain.chain_of.Goals as goal
 
 pub returns-in_default : goal.returns-in_default
 returns-in_default c =
     let r = c.args.trace.now in
     let last = c.loop.last in
-    chain_ends_in_links r c.args.boxes.now c.args.most c.args.here c.loop.links.items (c.args.most - c.loop.counter) last c.loop.invariant.chain
+    are_links_if_chain_ends r c.args.boxes.now c.args.most c.args.here c.loop.links.items (c.args.most - c.loop.counter) last c.loop.invariant.chain
     (inr (subst (λ (x : Option Link). MatchOption x (WaitsForNone r last.thread last.event) (IsLink r c.args.boxes.now last.thread last.event))
     c.in_default.is c.in_ok-link.ensures))
 
@@ -32,5 +32,5 @@ loop-preserved c =
     }
 
 pub returns : goal.returns
-returns c = chain_ends_in_links c.args.trace.now c.args.boxes.now c.args.most c.args.here c.loop.links.items (c.args.most - c.loop.counter) c.loop.last
+returns c = are_links_if_chain_ends c.args.trace.now c.args.boxes.now c.args.most c.args.here c.loop.links.items (c.args.most - c.loop.counter) c.loop.last
     c.loop.invariant.chain (inl (omega (arith, c.loop-test.false)))

@@ -1,7 +1,7 @@
 use Rattle.std.proofs.Common.{◌≡◌, ◌+◌, Some, get_or, sym, subst}
 use Rattle.std.specs.Prelude.{slice_get}
 use Rattle.ir_past.specs.declared.place.Place.{Place}
-use Rattle.ir_why.proofs.Gathered.{element_below_length_is_listed}
+use Rattle.ir_why.proofs.Gathered.{slice_get_of_places_is_get_or}
 use Rattle.ir_why.proofs.Linked.{StartsFurthest, next_event_starts_furthest, furthest_stays_after_next_event, latest_if_furthest_of_all}
 use Rattle.ir_why.proofs.chain.latest.Goals.{then-is_later, else-is_later}
 use Rattle.ir_why.proofs.chain.latest.Goals as goal
@@ -11,7 +11,7 @@ loop-place-preserved c =
     let n = c.loop-place.place-index in
     let none : Place = record { thread = 0; event = 0 } in
     let p : Place = get_or c.args.needs.now n none in
-    let at : slice_get c.args.needs.now n ≡ Some p = element_below_length_is_listed c.args.needs.now n none c.loop-place-test.true in
+    let at : slice_get c.args.needs.now n ≡ Some p = slice_get_of_places_is_get_or c.args.needs.now n none c.loop-place-test.true in
     let h = c.loop-place.invariant in
     elim c.if-is_later.branch [
       | then-is_later w ↦ subst (λ (b : Place). StartsFurthest c.args.boxes.now c.args.needs.now (n + 1) b c.if-is_later.most) (sym w.best-is)

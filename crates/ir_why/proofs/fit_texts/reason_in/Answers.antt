@@ -1,11 +1,11 @@
 use Rattle.std.proofs.Common.{◌++◌, ◌∙◌, sym, ap, subst, flat_map}
+use Rattle.ir_lemmas.proofs.CallerLemmas.{append_of_four_texts}
 use Rattle.ir_past.specs.Answers.{AreCoherent}
 use Rattle.ir_trace.specs.Recorded.{Recorded}
 use Rattle.ir_why.specs.Before.{IsPast}
 use Rattle.ir_why.specs.Lines.{past_line}
 use Rattle.ir_why.specs.FitLines.{need_line, least_line, wait_line}
 use Rattle.ir_fit_run.proofs.CallerLemmas.{run_trace_is_coherent, inside_event_is_recorded}
-use Rattle.ir_why.proofs.Within.{append_of_four_texts}
 use Rattle.ir_why.proofs.fit_texts.reason_in.Goals as goal
 
 pub past_of-requires-clause-coherent : goal.past_of-requires-clause-coherent

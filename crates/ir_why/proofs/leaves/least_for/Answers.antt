@@ -1,5 +1,5 @@
 use Rattle.std.proofs.Common.{arith}
-use Rattle.ir_fit.proofs.CallerLemmas.{entry_position_below_steps}
+use Rattle.ir_fit.proofs.CallerLemmas.{event_position_below_steps}
 use Rattle.ir_fit_run.proofs.CallerLemmas.{entry_position_fits}
 use Rattle.ir_why.proofs.leaves.least_for.Goals as goal
 
@@ -11,5 +11,5 @@ overflow_add-behind c =
 pub least-requires-clause-steps : goal.least-requires-clause-steps
 least-requires-clause-steps c =
     let inside = c.requires in
-    let within = entry_position_below_steps c.args.fitted.now c.known.ensures.run c.args.here.thread inside.thread c.args.here.event inside.event in
+    let within = event_position_below_steps c.args.fitted.now c.known.ensures.run c.args.here.thread inside.thread c.args.here.event inside.event in
     let same = c.step_of-behind.ensures in omega (arith, within, same)

@@ -3,18 +3,18 @@ use Rattle.std.specs.List.{slice_index_or}
 use Rattle.std.proofs.lemmas.Option.{slice_get_within, slice_get-get_or}
 use Rattle.ir_who.specs.declared.version.Version.{Version}
 use Rattle.ir_word.specs.Words.{unread}
-use Rattle.ir_word.proofs.Begun.{object_has_first_words_at_start, first_version_has_first_word, first_versions_of_none, first_versions_step}
+use Rattle.ir_word.proofs.Begun.{object_has_first_words_at_start, first_version_has_first_word, are_first_worded_of_no_version, are_first_worded_step}
 use Rattle.ir_word.proofs.start.first_words.Goals as goal
 
 pub loop-row-init : goal.loop-row-init
-loop-row-init c = first_versions_of_none c.args.guide.rows.now c.word_at-word.result c.new-words.result.items c.new-words.ensures.items
+loop-row-init c = are_first_worded_of_no_version c.args.guide.rows.now c.word_at-word.result c.new-words.result.items c.new-words.ensures.items
 
 pub loop-row-preserved : goal.loop-row-preserved
 loop-row-preserved c =
     let rows = c.args.guide.rows.now in
     let n = c.loop-row.row-index in
     let none : Version = record { made_by = None; readers = 0 } in
-    first_versions_step rows n c.word_at-word.result c.loop-row.words.items c.push.new.self.items _ (get_or rows n none) c.loop-row.invariant
+    are_first_worded_step rows n c.word_at-word.result c.loop-row.words.items c.push.new.self.items _ (get_or rows n none) c.loop-row.invariant
     (slice_get-get_or rows n none c.loop-row-test.true) c.in_ok-push.ensures.items refl
 
 pub returns-clause-size : goal.returns-clause-size

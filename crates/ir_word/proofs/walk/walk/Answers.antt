@@ -2,7 +2,7 @@ use Rattle.std.proofs.Common.{◌<◌, ◌≤◌, ◌∙◌, ℕ, length, sym, s
 use Rattle.std.specs.List.{slice_index_or}
 use Rattle.ir_flat.specs.Flat.{idle}
 use Rattle.ir_cut.specs.Positions.{cut_of}
-use Rattle.ir_events.proofs.CallerLemmas.{pass_steps_unless_at_ends}
+use Rattle.ir_events.proofs.CallerLemmas.{steps_left_fall_in_pass_unless_at_ends}
 use Rattle.ir_word.proofs.Holding.{version_maker_is_inside}
 use Rattle.ir_word.proofs.Walked.{all_versions_worded_at_end}
 use Rattle.ir_word.proofs.walk.walk.Goals as goal
@@ -13,7 +13,7 @@ passes-smaller c =
     let ends = c.args.guide.route.ends.now in
     let below = subst (λ xs. (t : ℕ) × (t < length xs) × ((slice_index_or xs t idle).steps < cut_of ends t)) c.threads.ensures
     (c.are_done.ensures.below c.passes-test.true) in
-    pass_steps_unless_at_ends f ends (length c.passes.tracks) c.passes.state c.pass-state.result c.requires.guide.route.last c.pass-state.ensures.passed
+    steps_left_fall_in_pass_unless_at_ends f ends (length c.passes.tracks) c.passes.state c.pass-state.result c.requires.guide.route.last c.pass-state.ensures.passed
     (c.requires.guide.route.last.size ∙ sym c.passes.invariant.tracks) below.0 below.2
 
 pub returns : goal.returns

@@ -1,6 +1,6 @@
 use Rattle.std.proofs.Common.{◌<◌, refl, sym, subst}
 use Rattle.ir_command.specs.declared.command.Command.TheVariants as command
-use Rattle.ir_timeline.specs.Positions.{threads_of}
+use Rattle.ir_cut.specs.Positions.{threads_of}
 use Rattle.ir_debug.specs.Machine.{Desk}
 use Rattle.ir_debug.proofs.Passed.{named_thread_exists}
 use Rattle.ir_debug.proofs.debugger.Debugger.answer_continue.Goals as goal

@@ -1,8 +1,7 @@
 use Rattle.std.proofs.Common.{◌≡◌, true, sym, ap, subst, ◌∙◌}
 use Rattle.std.specs.Prelude.{nat_lt}
 use Rattle.ir_fit.specs.Fit.{FittedTrace}
-use Rattle.ir_cut.specs.Positions.{IsConsistentCut}
-use Rattle.ir_timeline.specs.Positions.{threads_of}
+use Rattle.ir_cut.specs.Positions.{IsConsistentCut, threads_of}
 use Rattle.ir_timeline.specs.Hand.{IsCutOf}
 use Rattle.ir_debug.specs.Machine.{if_some, thread_named}
 use Rattle.ir_command.specs.declared.command.Command.TheVariants as command

@@ -1,11 +1,11 @@
 use Rattle.std.proofs.Common.{◌<◌, refl, sym, ap, subst, ◌∙◌}
-use Rattle.ir_cut.specs.Positions.{IsConsistentCut, EachRun, cut_of}
+use Rattle.ir_cut.specs.Positions.{IsConsistentCut, EachRun, cut_of, threads_of}
 use Rattle.ir_fit.specs.Fit.{FittedTrace, HasRun}
 use Rattle.ir_command.specs.declared.command.Command.TheVariants as command
-use Rattle.ir_timeline.specs.Positions.{threads_of, Finds}
+use Rattle.ir_hits.specs.Hits.{Finds}
 use Rattle.ir_timeline.specs.Hand.{IsCutOf}
 use Rattle.ir_debug.specs.Debugging.{Debugging}
-use Rattle.ir_debug.proofs.Desks.{spoke}
+use Rattle.ir_debug.proofs.Desks.{is_debugging_if_desk_is_not_fresh}
 use Rattle.ir_debug.proofs.Passed.{named_thread_exists}
 use Rattle.ir_debug.proofs.Leading.{stop_at_most_last_position}
 use Rattle.ir_debug.proofs.debugger.Debugger.go_on.Goals as goal
@@ -16,13 +16,13 @@ search-requires-clause-thread g c κs within =
     (named_thread_exists c.args.self.now.desk (command.Continue c.args.thread c.args.direction) c.args.thread c.requires refl)
 
 pub invariant_of-self : goal.invariant_of-self
-invariant_of-self g c = spoke _ _ _ c.search.ensures.fitted refl refl refl refl c.self.invariant.desk
+invariant_of-self g c = is_debugging_if_desk_is_not_fresh _ _ _ c.search.ensures.fitted refl refl refl refl c.self.invariant.desk
 
 pub invariant_of-self-in_err-cut : goal.invariant_of-self-in_err-cut
-invariant_of-self-in_err-cut g c = spoke _ _ _ c.search.ensures.fitted refl refl refl refl c.self.invariant.desk
+invariant_of-self-in_err-cut g c = is_debugging_if_desk_is_not_fresh _ _ _ c.search.ensures.fitted refl refl refl refl c.self.invariant.desk
 
 pub invariant_of-self-2 : goal.invariant_of-self-2
-invariant_of-self-2 g c = spoke _ _ _ c.search.ensures.fitted refl refl refl refl c.self.invariant.desk
+invariant_of-self-2 g c = is_debugging_if_desk_is_not_fresh _ _ _ c.search.ensures.fitted refl refl refl refl c.self.invariant.desk
 
 pub stop-requires-clause-cut : goal.stop-requires-clause-cut
 stop-requires-clause-cut g c =

@@ -1,4 +1,4 @@
-use Rattle.std.proofs.Common.{refl, sym, subst, ◌∙◌}
+use Rattle.std.proofs.Common.{refl, subst, ◌∙◌}
 use Rattle.ir_fit.specs.Follower.{GoesOn}
 use Rattle.ir_fit.proofs.Moves.{goes_on_is_reflexive, goes_on_is_transitive}
 use Rattle.ir_fit.proofs.follower.Follower.advance.Goals as goal

@@ -21,7 +21,7 @@ steps-preserved c = record {
   goes = goes_on_past_private_steps c.args.self.now.trace c.steps.self.trace c.args.self.now.flat c.steps.self.flat c.run_to_ask-steps.new.self
       c.follow_ask.new.self.flat c.args.self.now.places.items c.steps.self.places.items c.follow_ask.new.self.places.items c.args.t
       c.run_to_ask-steps.result.0 c.steps_left-ahead.result c.steps.invariant.trace c.steps.invariant.goes c.run_to_ask-steps.ensures.went
-      (let a = c.run_to_ask-steps.ensures.within in let m = c.stretch-stretch.ensures in omega (arith, a, m)) c.steps_left-ahead.ensures c.follow_ask.ensures.goes;
+      (let a = c.run_to_ask-steps.ensures.within in let m = c.step_limit-limit.ensures in omega (arith, a, m)) c.steps_left-ahead.ensures c.follow_ask.ensures.goes;
   trace = c.follow_ask.ensures.trace ∙ c.steps.invariant.trace;
   sized = c.follow_ask.ensures.sized;
 }
@@ -42,7 +42,7 @@ returns-in-Some-clause-goes c = subst (λ z. GoesOn c.args.self.now.trace c.args
     (goes_on_past_private_steps c.args.self.now.trace c.steps.self.trace c.args.self.now.flat c.steps.self.flat c.run_to_ask-steps.new.self
     c.follow_ask.new.self.flat c.args.self.now.places.items c.steps.self.places.items c.follow_ask.new.self.places.items c.args.t
     c.run_to_ask-steps.result.0 c.steps_left-ahead.result c.steps.invariant.trace c.steps.invariant.goes c.run_to_ask-steps.ensures.went
-    (let a = c.run_to_ask-steps.ensures.within in let m = c.stretch-stretch.ensures in omega (arith, a, m)) c.steps_left-ahead.ensures c.follow_ask.ensures.goes))
+    (let a = c.run_to_ask-steps.ensures.within in let m = c.step_limit-limit.ensures in omega (arith, a, m)) c.steps_left-ahead.ensures c.follow_ask.ensures.goes))
 
 pub returns-then-steps-pause-clause-goes : goal.returns-then-steps-pause-clause-goes
 returns-then-steps-pause-clause-goes c = subst (λ z. GoesOn c.args.self.now.trace c.args.self.now.flat c.args.self.now.places.items z c.pause.new.self.places.items)
@@ -52,13 +52,13 @@ returns-then-steps-pause-clause-goes c = subst (λ z. GoesOn c.args.self.now.tra
     (goes_on_past_private_steps c.args.self.now.trace c.steps.self.trace c.args.self.now.flat c.steps.self.flat c.run_to_ask-steps.new.self
     c.follow_ask.new.self.flat c.args.self.now.places.items c.steps.self.places.items c.follow_ask.new.self.places.items c.args.t
     c.run_to_ask-steps.result.0 c.steps_left-ahead.result c.steps.invariant.trace c.steps.invariant.goes c.run_to_ask-steps.ensures.went
-    (let a = c.run_to_ask-steps.ensures.within in let m = c.stretch-stretch.ensures in omega (arith, a, m)) c.steps_left-ahead.ensures c.follow_ask.ensures.goes))
+    (let a = c.run_to_ask-steps.ensures.within in let m = c.step_limit-limit.ensures in omega (arith, a, m)) c.steps_left-ahead.ensures c.follow_ask.ensures.goes))
 
 pub returns-then-taken-ge-MOST_UNTOLD-clause-goes : goal.returns-then-taken-ge-MOST_UNTOLD-clause-goes
 returns-then-taken-ge-MOST_UNTOLD-clause-goes c = goes_on_past_private_steps c.args.self.now.trace c.steps.self.trace c.args.self.now.flat c.steps.self.flat c.run_to_ask-steps.new.self
     c.follow_ask.new.self.flat c.args.self.now.places.items c.steps.self.places.items c.follow_ask.new.self.places.items c.args.t
     c.run_to_ask-steps.result.0 c.steps_left-ahead.result c.steps.invariant.trace c.steps.invariant.goes c.run_to_ask-steps.ensures.went
-    (let a = c.run_to_ask-steps.ensures.within in let m = c.stretch-stretch.ensures in omega (arith, a, m)) c.steps_left-ahead.ensures c.follow_ask.ensures.goes
+    (let a = c.run_to_ask-steps.ensures.within in let m = c.step_limit-limit.ensures in omega (arith, a, m)) c.steps_left-ahead.ensures c.follow_ask.ensures.goes
 
 pub returns-then-taken-ge-MOST_UNTOLD-clause-fewer : goal.returns-then-taken-ge-MOST_UNTOLD-clause-fewer
 returns-then-taken-ge-MOST_UNTOLD-clause-fewer c more =

@@ -4,7 +4,7 @@ use Rattle.ir_flat.specs.Flat.{thread_of}
 use Rattle.ir_log.specs.Asked.{Suits}
 use Rattle.ir_thread.specs.declared.ask.Ask.TheVariants.{Env}
 use Rattle.ir_trace.specs.Recorded.{recorded_thread}
-use Rattle.ir_fit.proofs.Seen.{suited_call_can_follow, unsuited_call_disagrees, environment_call_is_not_done}
+use Rattle.ir_fit.proofs.Seen.{suited_call_can_follow, unsuited_call_disagrees, ask_of_environment_is_not_done}
 use Rattle.ir_fit.proofs.follower.Follower.look_call.Goals as goal
 
 pub returns-in-Ok-Answer : goal.returns-in-Ok-Answer
@@ -25,7 +25,7 @@ returns-in-Ok-Answer c =
 
 pub returns-in-Err : goal.returns-in-Err
 returns-in-Err c = (
-  environment_call_is_not_done _ c.args.kind c.requires.asked,
+  ask_of_environment_is_not_done _ c.args.kind c.requires.asked,
   unsuited_call_disagrees c.args.self.now.trace c.args.self.now.flat c.args.t c.args.kind
       c.requires.asked c.in-Err.ensures.disagrees,
 )

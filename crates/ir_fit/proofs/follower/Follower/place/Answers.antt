@@ -1,9 +1,9 @@
 use Rattle.std.proofs.Common.{◌<◌, sym, ◌∙◌, subst, arith, length}
-use Rattle.ir_fit.proofs.Moves.{left_object_is_of_state, room_to_keep_leave, found_growing_is_growing_at}
+use Rattle.ir_fit.proofs.Moves.{object_exists_if_thread_leaves_it, room_to_keep_leave, found_growing_is_growing_at}
 use Rattle.ir_fit.proofs.follower.Follower.place.Goals as goal
 
 pub object-requires : goal.object-requires
-object-requires c = left_object_is_of_state c.args.self.now.flat c.args.next.thread c.in-Leave.object c.in-Leave.access c.thread.ensures.flat
+object-requires c = object_exists_if_thread_leaves_it c.args.self.now.flat c.args.next.thread c.in-Leave.object c.in-Leave.access c.thread.ensures.flat
     c.requires.follows.below (sym c.requires.follows.asked ∙ c.in-Leave.is)
 
 pub leave-requires : goal.leave-requires

@@ -1,8 +1,8 @@
 use Rattle.std.proofs.Common.{◌≡◌, [], ◌∷◌, length, Some, slice_get, sym, ap, ◌∙◌, subst, arith, inl, inr, length-append}
+use Rattle.ir_lemmas.proofs.CallerLemmas.{slice_get_after_push_cases}
 use Rattle.ir_flat.specs.Flat.{start_flat, tables, machine}
 use Rattle.ir_trace.specs.Recorded.{trace_of}
 use Rattle.ir_runs.specs.Standing.{StandsAs}
-use Rattle.ir_fit.proofs.Furthest.{slice_get_after_push_cases}
 use Rattle.ir_fit.proofs.follower.Follower.verdicts.Goals as goal
 
 pub loop-t-preserved : goal.loop-t-preserved

@@ -1,7 +1,7 @@
 use Rattle.std.proofs.Common.{◌∙◌, sym, subst}
 use Rattle.std.specs.List.Sorted.{IsNonDecreasingBy}
 use Rattle.ir_fit.specs.declared.place.Place.{Place}
-use Rattle.ir_fit.proofs.ByVersion.{range_is_exactly_version, take_of_drop_is_non_decreasing}
+use Rattle.ir_fit.proofs.ByVersion.{range_holds_exactly_places_of_version, take_of_drop_is_non_decreasing}
 use Rattle.ir_fit.proofs.object_places.ObjectPlaces.at.Goals as goal
 
 pub count_before-requires : goal.count_before-requires
@@ -13,11 +13,11 @@ count_up_to-requires c = take_of_drop_is_non_decreasing c.as_slice-places.result
     (subst (IsNonDecreasingBy (λ (p : Place). p.version)) (sym (c.as_slice-places.ensures.value ∙ c.self.view_is)) c.requires)
 
 pub returns-clause-emitted : goal.returns-clause-emitted
-returns-clause-emitted c = (range_is_exactly_version c.as_slice-places.result.now c.args.self.now c.count_before.result c.count_up_to.result c.args.version
+returns-clause-emitted c = (range_holds_exactly_places_of_version c.as_slice-places.result.now c.args.self.now c.count_before.result c.count_up_to.result c.args.version
     (c.as_slice-places.ensures.value ∙ c.self.view_is) c.count_up_to.ensures.bound c.count_before.ensures.point
     c.count_up_to.ensures.point).0
 
 pub returns-clause-all : goal.returns-clause-all
-returns-clause-all c = (range_is_exactly_version c.as_slice-places.result.now c.args.self.now c.count_before.result c.count_up_to.result c.args.version
+returns-clause-all c = (range_holds_exactly_places_of_version c.as_slice-places.result.now c.args.self.now c.count_before.result c.count_up_to.result c.args.version
     (c.as_slice-places.ensures.value ∙ c.self.view_is) c.count_up_to.ensures.bound c.count_before.ensures.point
     c.count_up_to.ensures.point).1

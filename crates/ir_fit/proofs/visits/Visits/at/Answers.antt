@@ -1,7 +1,7 @@
 use Rattle.std.proofs.Common.{◌≡◌, ◌∙◌, [], get_or, ap, subst, arith}
 use Rattle.std.proofs.lemmas.List.{get_or_read}
 use Rattle.std.specs.List.{Contains}
-use Rattle.ir_fit.specs.Fit.{listed}
+use Rattle.ir_fit.specs.Placed.{listed}
 use Rattle.ir_fit.proofs.visits.Visits.at.Goals as goal
 
 pub returns-clause-emitted : goal.returns-clause-emitted

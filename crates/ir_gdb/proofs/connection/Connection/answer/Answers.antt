@@ -4,43 +4,36 @@ use Rattle.ir_packet.specs.declared.reply.Reply.TheVariants.{NoMemory}
 use Rattle.ir_gdb.specs.Stub.{Stub}
 use Rattle.ir_gdb.specs.Replies.{Replies}
 use Rattle.ir_gdb.specs.Connection.{Connecting, sent}
-use Rattle.ir_gdb.proofs.Answering.{on_ok_of_implied, on_err_of_implied, replies_if_carried_out, replies_no_memory_if_lacks, sent_reply_packet, sent_part_of_reply_packet}
+use Rattle.ir_stream.proofs.CallerLemmas.{writes_or_fails_weaker}
+use Rattle.ir_gdb.proofs.Answering.{replies_if_carried_out, replies_no_memory_if_lacks, sent_reply_packet, sent_part_of_reply_packet}
 use Rattle.ir_gdb.proofs.connection.Connection.answer.Goals as goal
 
-pub returns-in-Ok-clause-ok : goal.returns-in-Ok-clause-ok
-returns-in-Ok-clause-ok g c =
+pub returns-in-Ok-clause-writes : goal.returns-in-Ok-clause-writes
+returns-in-Ok-clause-writes g c =
     let replies : Replies c.args.self.now.link.stub c.args.request c.reply.new.out.items c.reply.new.self.stub =
     subst (λ (x : Stub). Replies x c.args.request c.reply.new.out.items c.reply.new.self.stub) (ap (λ (x : Connecting). x.link.stub) c.self.view_is)
     (replies_if_carried_out c.self.inside.remote.stub c.args.request c.reply.new.self.stub _ c.reply.new.out.items c.in-Ok.ensures.ok c.clear.ensures.items) in
-    on_ok_of_implied c.send.result _ _ (λ grown. sent_reply_packet c.args.self.now.link c.args.request c.reply.new.self.stub c.reply.new.out.items
+    writes_or_fails_weaker c.send.result
+    (λ grown. sent_reply_packet c.args.self.now.link c.args.request c.reply.new.self.stub c.reply.new.out.items
     (record c.args.self.now.link { stub = c.reply.new.self.stub }) c.send.new.self.link (g.W.Sink.written c.args.writer.now)
     (g.W.Sink.written c.send.new.writer) replies refl (c.send.ensures.link
-    ∙ ap (λ (x : Connecting). sent (record x.link { stub = c.reply.new.self.stub }) c.reply.new.self.stub) c.self.view_is) grown) c.send.ensures.ok
-
-pub returns-in-Ok-clause-prefix : goal.returns-in-Ok-clause-prefix
-returns-in-Ok-clause-prefix g c =
-    let replies : Replies c.args.self.now.link.stub c.args.request c.reply.new.out.items c.reply.new.self.stub =
-    subst (λ (x : Stub). Replies x c.args.request c.reply.new.out.items c.reply.new.self.stub) (ap (λ (x : Connecting). x.link.stub) c.self.view_is)
-    (replies_if_carried_out c.self.inside.remote.stub c.args.request c.reply.new.self.stub _ c.reply.new.out.items c.in-Ok.ensures.ok c.clear.ensures.items) in
-    on_err_of_implied c.send.result _ _ (λ grown. sent_part_of_reply_packet c.args.self.now.link c.args.request c.reply.new.self.stub c.reply.new.out.items
+    ∙ ap (λ (x : Connecting). sent (record x.link { stub = c.reply.new.self.stub }) c.reply.new.self.stub) c.self.view_is) grown)
+    (λ grown. sent_part_of_reply_packet c.args.self.now.link c.args.request c.reply.new.self.stub c.reply.new.out.items
     (record c.args.self.now.link { stub = c.reply.new.self.stub }) (sent (record c.args.self.now.link { stub = c.reply.new.self.stub }) c.reply.new.self.stub)
-    (g.W.Sink.written c.args.writer.now) (g.W.Sink.written c.send.new.writer) replies refl refl grown) c.send.ensures.prefix
+    (g.W.Sink.written c.args.writer.now) (g.W.Sink.written c.send.new.writer) replies refl refl grown)
+    c.send.ensures.writes
 
-pub returns-in-Err-clause-ok : goal.returns-in-Err-clause-ok
-returns-in-Err-clause-ok g c =
+pub returns-in-Err-clause-writes : goal.returns-in-Err-clause-writes
+returns-in-Err-clause-writes g c =
     let replies : Replies c.args.self.now.link.stub c.args.request (reply_text NoMemory) c.reply.new.self.stub =
     subst (λ (x : Stub). Replies x c.args.request (reply_text NoMemory) c.reply.new.self.stub) (ap (λ (x : Connecting). x.link.stub) c.self.view_is)
     (replies_no_memory_if_lacks c.self.inside.remote.stub c.args.request c.reply.new.self.stub c.in-Err.ensures.err.0) in
-    on_ok_of_implied c.send_reply.result _ _ (λ grown. sent_reply_packet c.args.self.now.link c.args.request c.reply.new.self.stub (reply_text NoMemory)
+    writes_or_fails_weaker c.send_reply.result
+    (λ grown. sent_reply_packet c.args.self.now.link c.args.request c.reply.new.self.stub (reply_text NoMemory)
     (record c.args.self.now.link { stub = c.reply.new.self.stub }) c.send_reply.new.self.link (g.W.Sink.written c.args.writer.now)
     (g.W.Sink.written c.send_reply.new.writer) replies refl (c.send_reply.ensures.link
-    ∙ ap (λ (x : Connecting). sent (record x.link { stub = c.reply.new.self.stub }) c.reply.new.self.stub) c.self.view_is) grown) c.send_reply.ensures.ok
-
-pub returns-in-Err-clause-prefix : goal.returns-in-Err-clause-prefix
-returns-in-Err-clause-prefix g c =
-    let replies : Replies c.args.self.now.link.stub c.args.request (reply_text NoMemory) c.reply.new.self.stub =
-    subst (λ (x : Stub). Replies x c.args.request (reply_text NoMemory) c.reply.new.self.stub) (ap (λ (x : Connecting). x.link.stub) c.self.view_is)
-    (replies_no_memory_if_lacks c.self.inside.remote.stub c.args.request c.reply.new.self.stub c.in-Err.ensures.err.0) in
-    on_err_of_implied c.send_reply.result _ _ (λ grown. sent_part_of_reply_packet c.args.self.now.link c.args.request c.reply.new.self.stub (reply_text NoMemory)
+    ∙ ap (λ (x : Connecting). sent (record x.link { stub = c.reply.new.self.stub }) c.reply.new.self.stub) c.self.view_is) grown)
+    (λ grown. sent_part_of_reply_packet c.args.self.now.link c.args.request c.reply.new.self.stub (reply_text NoMemory)
     (record c.args.self.now.link { stub = c.reply.new.self.stub }) (sent (record c.args.self.now.link { stub = c.reply.new.self.stub }) c.reply.new.self.stub)
-    (g.W.Sink.written c.args.writer.now) (g.W.Sink.written c.send_reply.new.writer) replies refl refl grown) c.send_reply.ensures.prefix
+    (g.W.Sink.written c.args.writer.now) (g.W.Sink.written c.send_reply.new.writer) replies refl refl grown)
+    c.send_reply.ensures.writes

@@ -1,7 +1,7 @@
 use Rattle.std.proofs.Common.{◌≡◌, ◌∙◌, ◌++◌, List, ℕ, ap}
 use Rattle.ir_packet.specs.Requests.{console_line}
 use Rattle.ir_gdb.specs.Connection.{Connecting}
-use Rattle.ir_gdb.proofs.Lines.{line_goes_on_if_text_does, responds_as_consulted}
+use Rattle.ir_gdb.proofs.Lines.{line_goes_on_if_text_does, responds_kept_text_if_kept_from_empty}
 use Rattle.ir_gdb.proofs.connection.Connection.answer_of.Goals as goal
 
 pub returns-clause-answer : goal.returns-clause-answer
@@ -13,7 +13,7 @@ returns-clause-answer g c =
           (c.as_slice.ensures.value ∙ line) c.if-quits.false,
       (
         c.respond.new.self.stub,
-        responds_as_consulted c.self.inside.remote.stub c.args.self.now.link.stub c.as_slice-line.result.now
+        responds_kept_text_if_kept_from_empty c.self.inside.remote.stub c.args.self.now.link.stub c.as_slice-line.result.now
             (console_line c.args.self.now.reading.payload) c.respond.new.self.stub c.in-Ok.answered.bytes.items
             c.respond.new.writer.bytes.items (ap (λ (x : Connecting). x.link.stub) c.self.view_is) (c.as_slice-line.ensures.value ∙ line)
             c.in-Ok.ensures.bytes c.in-Ok-respond.ensures.ok,

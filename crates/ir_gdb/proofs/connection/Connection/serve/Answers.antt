@@ -58,12 +58,12 @@ returns-in_err-take-clause-write g c =
     (sym c.self.view_is) c.loop-taken.invariant.at in
     λ _. (
       c.in-Byte.ensures.broken ∙ c.loop-taken.invariant.reads,
-      c.in_err-take.ensures.err,
+      c.in_err-take.ensures.writes.err,
       write_failed c.args.self.now.link (g.R.Source.left c.args.reader.now) (g.W.Sink.written c.args.writer.now)
           (g.R.Source.left c.loop-taken.reader) (g.R.Source.left c.next_byte.new.reader) (g.W.Sink.written c.loop-taken.writer) _
           c.self.inside.reader.place c.loop-taken.taken at c.in-Byte.byte c.in-Some.found c.take.new.self.payload c.in-Byte.ensures.bytes
           c.in-Some.ensures.found
-          c.args.limit c.loop-taken-test.true (g.W.Sink.written c.take-in-loop-taken.new.writer) c.in_err-take.ensures.prefix,
+          c.args.limit c.loop-taken-test.true (g.W.Sink.written c.take-in-loop-taken.new.writer) c.in_err-take.ensures.writes.prefix,
     )
 
 pub returns-in-Quits-clause-ended : goal.returns-in-Quits-clause-ended
@@ -81,7 +81,7 @@ returns-in-Quits-clause-ended g c =
     c.in-Some.ensures.found
     c.args.limit c.loop-taken-test.true c.take-in-loop-taken.new.self.link (g.W.Sink.written c.take-in-loop-taken.new.writer)
     (quit c.in_ok-take.field-0 (ends (record { stub = c.self.inside.remote.stub; acknowledges = c.self.inside.acknowledges; is_owed = c.self.inside.is_owed })
-    (item_found c.in-Some.found c.take.new.self.payload)) c.in_ok-take.ensures.flow c.in-Quits.is) c.in_ok-take.ensures.ok
+    (item_found c.in-Some.found c.take.new.self.payload)) c.in_ok-take.ensures.flow c.in-Quits.is) c.in_ok-take.ensures.writes.ok
 
 pub returns-in-Quits-clause-known : goal.returns-in-Quits-clause-known
 returns-in-Quits-clause-known g c =
@@ -98,7 +98,7 @@ returns-in-Quits-clause-known g c =
     c.in-Some.ensures.found
     c.args.limit c.loop-taken-test.true c.take-in-loop-taken.new.self.link (g.W.Sink.written c.take-in-loop-taken.new.writer)
     (quit c.in_ok-take.field-0 (ends (record { stub = c.self.inside.remote.stub; acknowledges = c.self.inside.acknowledges; is_owed = c.self.inside.is_owed })
-    (item_found c.in-Some.found c.take.new.self.payload)) c.in_ok-take.ensures.flow c.in-Quits.is) c.in_ok-take.ensures.ok
+    (item_found c.in-Some.found c.take.new.self.payload)) c.in_ok-take.ensures.flow c.in-Quits.is) c.in_ok-take.ensures.writes.ok
 
 pub loop-taken-preserved : goal.loop-taken-preserved
 loop-taken-preserved g c =
@@ -117,7 +117,7 @@ loop-taken-preserved g c =
           c.take-in-loop-taken.new.self.link (g.W.Sink.written c.take-in-loop-taken.new.writer) c.take-in-loop-taken.new.self.reading.place
           (ap (λ (r : Reading). r.place) c.in_ok-take.ensures.reading ∙ c.in-Some.ensures.place)
           (goes c.in_ok-take.field-0 (ends (record { stub = c.self.inside.remote.stub; acknowledges = c.self.inside.acknowledges; is_owed = c.self.inside.is_owed })
-          (item_found c.in-Some.found c.take.new.self.payload)) c.in_ok-take.ensures.flow c.in_default-2.not-Quits) c.in_ok-take.ensures.ok;
+          (item_found c.in-Some.found c.take.new.self.payload)) c.in_ok-take.ensures.flow c.in_default-2.not-Quits) c.in_ok-take.ensures.writes.ok;
       reads = c.in-Byte.ensures.broken ∙ c.loop-taken.invariant.reads;
-      writes = c.in_ok-take.ensures.stays ∙ c.loop-taken.invariant.writes;
+      writes = c.in_ok-take.ensures.writes.stays ∙ c.loop-taken.invariant.writes;
     }

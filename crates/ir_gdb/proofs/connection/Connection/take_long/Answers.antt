@@ -1,14 +1,16 @@
-use Rattle.ir_gdb.proofs.Answering.{on_err_from_fact, sent_answer_to_too_long_packet, sent_part_to_too_long_packet, sent_part_of_too_long_sign}
+use Rattle.std.proofs.Common.{◌∙◌}
+use Rattle.ir_stream.proofs.CallerLemmas.{writes_or_fails_if_all_written, writes_or_fails_with_handed_on_error}
+use Rattle.ir_gdb.proofs.Answering.{sent_answer_to_too_long_packet, sent_part_of_answer_to_too_long_packet, sent_part_of_sign_to_too_long_packet}
 use Rattle.ir_gdb.proofs.connection.Connection.take_long.Goals as goal
 
-pub returns-in_err-acknowledge-clause-prefix : goal.returns-in_err-acknowledge-clause-prefix
-returns-in_err-acknowledge-clause-prefix g c = on_err_from_fact c.from_residual.result _
-    (sent_part_of_too_long_sign c.args.self.now.link _ _ c.in_err-acknowledge.ensures.prefix)
+pub returns-in_err-acknowledge-clause-writes : goal.returns-in_err-acknowledge-clause-writes
+returns-in_err-acknowledge-clause-writes g c = writes_or_fails_with_handed_on_error _ c.from_residual.result c.from_residual.ensures.1
+    (sent_part_of_sign_to_too_long_packet c.args.self.now.link _ _ c.in_err-acknowledge.ensures.writes.prefix) c.in_err-acknowledge.ensures.writes.err
 
-pub returns-in_err-send_reply-clause-prefix : goal.returns-in_err-send_reply-clause-prefix
-returns-in_err-send_reply-clause-prefix g c = on_err_from_fact c.from_residual-in_err-send_reply.result _
-    (sent_part_to_too_long_packet c.args.self.now.link _ (g.W.Sink.written c.acknowledge.new.writer) _ c.in_ok-acknowledge.ensures.ok c.in_err-send_reply.ensures.prefix)
+pub returns-in_err-send_reply-clause-writes : goal.returns-in_err-send_reply-clause-writes
+returns-in_err-send_reply-clause-writes g c = writes_or_fails_with_handed_on_error _ c.from_residual-in_err-send_reply.result c.from_residual-in_err-send_reply.ensures.1
+    (sent_part_of_answer_to_too_long_packet c.args.self.now.link _ (g.W.Sink.written c.acknowledge.new.writer) _ c.in_ok-acknowledge.ensures.writes.ok c.in_err-send_reply.ensures.writes.prefix) c.in_err-send_reply.ensures.writes.err
 
-pub returns-clause-ok : goal.returns-clause-ok
-returns-clause-ok g c = sent_answer_to_too_long_packet c.args.self.now.link c.send_reply.new.self.link _ (g.W.Sink.written c.acknowledge.new.writer) _
-    c.in_ok-send_reply.ensures.link c.in_ok-acknowledge.ensures.ok c.in_ok-send_reply.ensures.ok
+pub returns-clause-writes : goal.returns-clause-writes
+returns-clause-writes g c = writes_or_fails_if_all_written (sent_answer_to_too_long_packet c.args.self.now.link c.send_reply.new.self.link _ (g.W.Sink.written c.acknowledge.new.writer) _
+    c.in_ok-send_reply.ensures.link c.in_ok-acknowledge.ensures.writes.ok c.in_ok-send_reply.ensures.writes.ok) (c.in_ok-send_reply.ensures.writes.stays ∙ c.in_ok-acknowledge.ensures.writes.stays)

@@ -1,7 +1,6 @@
 use Rattle.std.proofs.Common.{◌≡◌, ◌<◌, ◌∙◌, ap, subst, sym}
 use Rattle.ir_fit.specs.Fit.{FittedTrace, HasRun}
-use Rattle.ir_cut.specs.Positions.{cut_of}
-use Rattle.ir_timeline.specs.Positions.{threads_of, last_of}
+use Rattle.ir_cut.specs.Positions.{cut_of, threads_of, last_of}
 use Rattle.ir_debug.specs.Machine.{Desk}
 use Rattle.ir_gdb.specs.Serving.{Serving}
 use Rattle.ir_gdb.specs.Stub.{Stub, spoken}

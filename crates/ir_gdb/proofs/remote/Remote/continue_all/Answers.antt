@@ -6,7 +6,7 @@ use Rattle.ir_packet.specs.declared.reply.Reason.TheVariants as reason
 use Rattle.ir_gdb.specs.declared.stopped.Stopped.{Stopped}
 use Rattle.ir_gdb.specs.Stops.{stopped, end_of}
 use Rattle.ir_gdb.specs.Together.{halt, AreStops, or_else, first_met, furthest}
-use Rattle.ir_gdb.proofs.Moving.{stop_of_met_thread, continues_among_and_settles}
+use Rattle.ir_gdb.proofs.Moving.{stop_of_met_thread_ignores_default, continues_among_and_settles}
 use Rattle.ir_gdb.proofs.remote.Remote.continue_all.Goals as goal
 
 pub returns-in-Some-clause-ok : goal.returns-in-Some-clause-ok
@@ -19,7 +19,7 @@ returns-in-Some-clause-ok g c =
     let own = halt t (furthest u d) (end_of d) in
     let first : Stopped = slice_index_or each c.in-Some.other (stopped 0 reason.Step) in
     let h = halt c.in-Some.other c.in-Some.cut first.reason in
-    let same = stop_of_met_thread s u each c.in_ok-each.each.items c.in_ok-other.field-0 c.in-Some.other c.in-Some.cut (stopped 0 reason.Step) c.stops.ensures.stub
+    let same = stop_of_met_thread_ignores_default s u each c.in_ok-each.each.items c.in_ok-other.field-0 c.in-Some.other c.in-Some.cut (stopped 0 reason.Step) c.stops.ensures.stub
     c.as_slice-each.ensures.value c.in_ok-each.ensures.within c.in-Some.is c.in_ok-other.ensures.threads in
     let is = ap (λ (x : Stopped). halt c.in-Some.other c.in-Some.cut x.reason) same in
     let stops = subst (λ (ys : List Stopped). EachRun s.desk.fitted (λ run. AreStops run s d t ys)) (sym c.as_slice-each.ensures.value) c.in_ok-each.ensures.stops in

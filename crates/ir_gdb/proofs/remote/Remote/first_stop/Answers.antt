@@ -1,5 +1,5 @@
 use Rattle.std.proofs.Common.{◌<◌, arith}
-use Rattle.ir_timeline.specs.Positions.{threads_of}
+use Rattle.ir_cut.specs.Positions.{threads_of}
 use Rattle.ir_gdb.proofs.Moving.{first_stop_of_other_thread, none_stops_step}
 use Rattle.ir_gdb.proofs.remote.Remote.first_stop.Goals as goal
 

@@ -1,6 +1,6 @@
 use Rattle.std.proofs.Common.{◌≡◌, ◌≤◌, ◌∙◌, sym, ap, subst}
 use Rattle.ir_fit.specs.Fit.{FittedTrace}
-use Rattle.ir_timeline.specs.Positions.{last_of}
+use Rattle.ir_cut.specs.Positions.{last_of}
 use Rattle.ir_timeline.specs.Hand.{IsCutOf}
 use Rattle.ir_gdb.specs.Serving.{Serving}
 use Rattle.ir_gdb.specs.Stub.{Stub, spoken}

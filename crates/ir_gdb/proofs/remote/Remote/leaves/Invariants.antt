@@ -1,6 +1,5 @@
 use Rattle.std.proofs.Common.{◌≡◌, ◌≤◌, ◌-◌, suc}
-use Rattle.ir_cut.specs.Positions.{EachRun}
-use Rattle.ir_timeline.specs.Positions.{last_of}
+use Rattle.ir_cut.specs.Positions.{EachRun, last_of}
 use Rattle.ir_gdb.specs.Stub.{spoken}
 use Rattle.ir_gdb.specs.Stops.{position_of, StaysWithin}
 use Rattle.ir_gdb.proofs.remote.Remote.leaves.Given as goal

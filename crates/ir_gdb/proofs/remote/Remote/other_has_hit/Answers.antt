@@ -1,8 +1,8 @@
 use Rattle.std.proofs.Common.{◌<◌, ◌≤◌, ◌∙◌, sym, ap, subst, arith}
-use Rattle.ir_timeline.specs.Positions.{threads_of}
+use Rattle.ir_cut.specs.Positions.{threads_of}
 use Rattle.ir_timeline.specs.Hand.{IsCutOf}
 use Rattle.ir_gdb.specs.Stub.{Stub, spoken}
-use Rattle.ir_gdb.proofs.Over.{none_has_hit_step_for_mover, none_has_hit_step, pc_at_read_position, other_has_hit_if_found, no_other_hit_if_none_found}
+use Rattle.ir_gdb.proofs.Over.{none_has_hit_step_for_mover, none_has_hit_step, pc_is_pc_of_at_own_position, other_has_hit_if_found, no_other_hit_if_none_found}
 use Rattle.ir_gdb.proofs.remote.Remote.other_has_hit.Goals as goal
 
 pub threads-preserved-then-other-thread : goal.threads-preserved-then-other-thread
@@ -27,7 +27,7 @@ returns-then-branch-clause-hit g c =
     let below : c.threads.other < threads_of s.desk.fitted = omega (arith, test, count, same) in
     other_has_hit_if_found s c.threads.self.stub c.in_ok-has_hit.field-0 c.in_ok-pc.pc t c.threads.other c.args.cut.now c.threads.invariant.stub c.if-branch.true
     c.if-other-thread.false below
-    (pc_at_read_position s t c.position-position.result c.in_ok-pc.pc c.position-position.ensures.value c.in_ok-pc.ensures.pc) c.in_ok-has_hit.ensures.hit
+    (pc_is_pc_of_at_own_position s t c.position-position.result c.in_ok-pc.pc c.position-position.ensures.value c.in_ok-pc.ensures.pc) c.in_ok-has_hit.ensures.hit
 
 pub threads-preserved : goal.threads-preserved
 threads-preserved g c = record {
@@ -46,4 +46,4 @@ returns-clause-hit g c =
     let same = ap (λ (x : Stub). threads_of x.desk.fitted) c.pc_at.ensures.stub in
     let all : threads_of s.desk.fitted ≤ c.threads.other = omega (arith, test, count, same) in
     no_other_hit_if_none_found s c.in_ok-pc.pc t c.threads.other c.args.cut.now all
-    (pc_at_read_position s t c.position-position.result c.in_ok-pc.pc c.position-position.ensures.value c.in_ok-pc.ensures.pc) c.threads.invariant.none
+    (pc_is_pc_of_at_own_position s t c.position-position.result c.in_ok-pc.pc c.position-position.ensures.value c.in_ok-pc.ensures.pc) c.threads.invariant.none

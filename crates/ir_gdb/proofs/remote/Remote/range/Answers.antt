@@ -1,9 +1,8 @@
 use Rattle.std.proofs.Common.{◌≡◌, ◌≤◌, ◌∙◌, ℕ, List, Option, sym, ap, subst, arith}
 use Rattle.ir_fit.specs.Fit.{HasRun}
-use Rattle.ir_cut.specs.Positions.{EachRun, cut_of}
+use Rattle.ir_cut.specs.Positions.{EachRun, cut_of, last_of}
 use Rattle.ir_command.specs.declared.hit.Hit.{Hit}
 use Rattle.ir_hits.specs.Searching.{IsNextHit}
-use Rattle.ir_timeline.specs.Positions.{last_of}
 use Rattle.ir_timeline.specs.Hand.{IsCutOf}
 use Rattle.ir_gdb.specs.declared.point.Breakpoint.{Breakpoint}
 use Rattle.ir_gdb.specs.declared.point.Watched.{Watched}
@@ -12,8 +11,8 @@ use Rattle.ir_gdb.specs.Serving.{Serving}
 use Rattle.ir_gdb.specs.Stub.{Stub, spoken}
 use Rattle.ir_gdb.specs.Stops.{watches_if, stop_above, ranged}
 use Rattle.ir_gdb.proofs.Bounds.{stop_above_within_last}
-use Rattle.ir_gdb.proofs.Stopping.{serving_seen, watches_if_after_spoken_desk}
-use Rattle.ir_gdb.proofs.Ranging.{after_range_of_spoken_stub, range_end_between_own_and_last, ranges_to_found_stop, next_hit_within_target}
+use Rattle.ir_gdb.proofs.Stopping.{serving_seen, watches_if_ignores_spoken_and_desk}
+use Rattle.ir_gdb.proofs.Ranging.{after_range_ignores_spoken, range_end_between_own_and_last, ranges_to_found_stop, next_hit_within_target}
 use Rattle.ir_gdb.proofs.remote.Remote.range.Goals as goal
 
 pub search_up_to-requires-clause-cut : goal.search_up_to-requires-clause-cut
@@ -30,7 +29,7 @@ search_up_to-requires-clause-within g c κs within =
     let e = c.after_range-end.result in
     let v = c.leaves.new.self.stub in
     let said = c.leaves.ensures.stub in
-    let is = after_range_of_spoken_stub s v t c.last-last.result left e said c.last-last.ensures c.after_range-end.ensures in
+    let is = after_range_ignores_spoken s v t c.last-last.result left e said c.last-last.ensures c.after_range-end.ensures in
     let fits = range_end_between_own_and_last s v t c.args.low c.args.high left c.in_ok-here.here e said
     (subst (λ (x : Serving). HasRun x.stub.desk.fitted) c.self.view_is c.fitted.ensures.desk.run)
     (subst (λ (n : ℕ). n ≤ last_of v.desk.fitted t) c.position.ensures.value c.position.ensures.within) c.in_ok-left.ensures.leaves
@@ -47,10 +46,10 @@ returns-in-Some-clause-stops g c =
     let e = c.after_range-end.result in
     let v = c.leaves.new.self.stub in
     let said = c.leaves.ensures.stub in
-    let is = after_range_of_spoken_stub s v t c.last-last.result left e said c.last-last.ensures c.after_range-end.ensures in
+    let is = after_range_ignores_spoken s v t c.last-last.result left e said c.last-last.ensures c.after_range-end.ensures in
     let h = c.in-Some.hit in
     let w = c.args.watched in
-    let mine = c.watches_if.ensures.value ∙ watches_if_after_spoken_desk s u c.search_up_to.new.self.desk w same in
+    let mine = c.watches_if.ensures.value ∙ watches_if_ignores_spoken_and_desk s u c.search_up_to.new.self.desk w same in
     let breaks = c.as_slice.ensures ∙ ap (λ (x : Stub). x.breaks) same in
     let ends = c.stop_above.ensures ∙ ap (λ (x : List Watched). stop_above x c.as_slice.result.now h) mine
     ∙ ap (λ (x : List Breakpoint). stop_above (watches_if s w) x h) breaks ∙ ap (λ (x : Option Hit). ranged s t w left x) (sym c.in-Some.is) in
@@ -69,7 +68,7 @@ returns-in-Some-clause-within g c =
     let e = c.after_range-end.result in
     let v = c.leaves.new.self.stub in
     let said = c.leaves.ensures.stub in
-    let is = after_range_of_spoken_stub s v t c.last-last.result left e said c.last-last.ensures c.after_range-end.ensures in
+    let is = after_range_ignores_spoken s v t c.last-last.result left e said c.last-last.ensures c.after_range-end.ensures in
     let h = c.in-Some.hit in
     let fits = range_end_between_own_and_last s v t c.args.low c.args.high left c.in_ok-here.here e said
     (subst (λ (x : Serving). HasRun x.stub.desk.fitted) c.self.view_is c.fitted.ensures.desk.run)
@@ -94,7 +93,7 @@ returns-clause-stops g c =
     let e = c.after_range-end.result in
     let v = c.leaves.new.self.stub in
     let said = c.leaves.ensures.stub in
-    let is = after_range_of_spoken_stub s v t c.last-last.result left e said c.last-last.ensures c.after_range-end.ensures in
+    let is = after_range_ignores_spoken s v t c.last-last.result left e said c.last-last.ensures c.after_range-end.ensures in
     let w = c.args.watched in
     let ends = is ∙ ap (λ (x : Option Hit). ranged s t w left x) (sym c.in_default.is) in
     ranges_to_found_stop s v v t c.args.low c.args.high w left c.in_ok-here.here e e c.as_slice-points.result.now c.in_ok-hit.hit said said
@@ -112,7 +111,7 @@ returns-clause-within g c =
     let e = c.after_range-end.result in
     let v = c.leaves.new.self.stub in
     let said = c.leaves.ensures.stub in
-    let is = after_range_of_spoken_stub s v t c.last-last.result left e said c.last-last.ensures c.after_range-end.ensures in
+    let is = after_range_ignores_spoken s v t c.last-last.result left e said c.last-last.ensures c.after_range-end.ensures in
     let fits = range_end_between_own_and_last s v t c.args.low c.args.high left c.in_ok-here.here e said
     (subst (λ (x : Serving). HasRun x.stub.desk.fitted) c.self.view_is c.fitted.ensures.desk.run)
     (subst (λ (n : ℕ). n ≤ last_of v.desk.fitted t) c.position.ensures.value c.position.ensures.within) c.in_ok-left.ensures.leaves

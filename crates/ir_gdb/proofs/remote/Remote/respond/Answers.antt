@@ -6,39 +6,30 @@ use Rattle.ir_debug.specs.Debugging.{IsAnswer}
 use Rattle.ir_gdb.specs.Stub.{Stub}
 use Rattle.ir_gdb.specs.Serving.{Serving, debugging_of}
 use Rattle.ir_gdb.specs.Connection.{Responds, with_desk}
-use Rattle.ir_gdb.proofs.Answering.{on_ok_of_implied, on_err_of_implied}
+use Rattle.ir_stream.proofs.CallerLemmas.{writes_or_fails_if_all_written, writes_or_fails_weaker}
 use Rattle.ir_gdb.proofs.Lines.{responds_by_session_answer, responds_nothing_without_words}
 use Rattle.ir_gdb.proofs.remote.Remote.respond.Goals as goal
 
-pub returns-in_default-clause-ok : goal.returns-in_default-clause-ok
-returns-in_default-clause-ok g c =
-    let none = c.in_default.ensures.none in
+pub returns-in_default : goal.returns-in_default
+returns-in_default g c = writes_or_fails_if_all_written (let none = c.in_default.ensures.none in
     subst (λ (s : Stub). Responds c.args.self.now.stub c.args.line.now s (Appends (g.W.Sink.written c.args.writer.now) (g.W.Sink.written c.args.writer.now)))
     (sym (ap (λ (x : Serving). x.stub) none.1))
     (responds_nothing_without_words c.parse_line-asked.result c.args.line.now c.args.self.now.stub
     (Appends (g.W.Sink.written c.args.writer.now) (g.W.Sink.written c.args.writer.now)) c.parse_line-asked.ensures none.0
-    (Appends-nil (g.W.Sink.written c.args.writer.now)))
+    (Appends-nil (g.W.Sink.written c.args.writer.now)))) refl
 
-pub returns-clause-ok : goal.returns-clause-ok
-returns-clause-ok g c =
+pub returns : goal.returns
+returns g c =
     let answers : IsAnswer c.parse_line-asked.result (debugging_of c.args.self.now) c.self.inside.debugger c.in-Some.answer =
     subst (λ (x : Serving). IsAnswer c.parse_line-asked.result (debugging_of c.args.self.now) (debugging_of x) c.in-Some.answer)
     (sym c.self.view_is) c.in-Some.ensures.some in
     let after : c.consult.new.self.stub ≡ with_desk c.args.self.now.stub c.self.inside.debugger.desk = c.in-Some.ensures.stub
     ∙ ap (λ (x : Serving). with_desk c.args.self.now.stub x.stub.desk) (sym c.self.view_is) in
-    on_ok_of_implied c.write_answer.result _ _ (λ t. responds_by_session_answer c.parse_line-asked.result c.args.line.now c.args.self.now.stub c.consult.new.self.stub
+    writes_or_fails_weaker c.write_answer.result
+    (λ t. responds_by_session_answer c.parse_line-asked.result c.args.line.now c.args.self.now.stub c.consult.new.self.stub
     (debugging_of c.args.self.now) c.self.inside.debugger c.in-Some.answer
     (Appends (g.W.Sink.written c.args.writer.now) (g.W.Sink.written c.write_answer.new.writer)) c.parse_line-asked.ensures refl after answers t)
-    c.write_answer.ensures.ok
-
-pub returns-clause-prefix : goal.returns-clause-prefix
-returns-clause-prefix g c =
-    let answers : IsAnswer c.parse_line-asked.result (debugging_of c.args.self.now) c.self.inside.debugger c.in-Some.answer =
-    subst (λ (x : Serving). IsAnswer c.parse_line-asked.result (debugging_of c.args.self.now) (debugging_of x) c.in-Some.answer)
-    (sym c.self.view_is) c.in-Some.ensures.some in
-    let after : c.consult.new.self.stub ≡ with_desk c.args.self.now.stub c.self.inside.debugger.desk = c.in-Some.ensures.stub
-    ∙ ap (λ (x : Serving). with_desk c.args.self.now.stub x.stub.desk) (sym c.self.view_is) in
-    on_err_of_implied c.write_answer.result _ _ (λ t. responds_by_session_answer c.parse_line-asked.result c.args.line.now c.args.self.now.stub c.consult.new.self.stub
+    (λ t. responds_by_session_answer c.parse_line-asked.result c.args.line.now c.args.self.now.stub c.consult.new.self.stub
     (debugging_of c.args.self.now) c.self.inside.debugger c.in-Some.answer
     (AppendsPrefix (g.W.Sink.written c.args.writer.now) (g.W.Sink.written c.write_answer.new.writer)) c.parse_line-asked.ensures refl after answers t)
-    c.write_answer.ensures.prefix
+    c.write_answer.ensures

@@ -7,7 +7,7 @@ use Rattle.ir_gdb.specs.declared.stopped.Stopped.{Stopped}
 use Rattle.ir_gdb.specs.Stub.{Stub}
 use Rattle.ir_gdb.specs.Stops.{stopped}
 use Rattle.ir_gdb.specs.Together.{halt, AreStops, or_else, first_met}
-use Rattle.ir_gdb.proofs.Moving.{stop_of_met_thread, met_by_first_and_settles}
+use Rattle.ir_gdb.proofs.Moving.{stop_of_met_thread_ignores_default, met_by_first_and_settles}
 use Rattle.ir_gdb.proofs.remote.Remote.settle_first.Goals as goal
 
 pub settle-requires-in-None-clause-cut : goal.settle-requires-in-None-clause-cut
@@ -24,7 +24,7 @@ returns-in-Some-clause-ok g c =
     let own = halt t c.args.cut c.args.reason in
     let first : Stopped = slice_index_or each c.in-Some.other (stopped 0 reason.Step) in
     let h = halt c.in-Some.other c.in-Some.own first.reason in
-    let same = stop_of_met_thread s u each c.in_ok-each.each.items c.in_ok-other.field-0 c.in-Some.other c.in-Some.own (stopped 0 reason.Step) c.stops.ensures.stub
+    let same = stop_of_met_thread_ignores_default s u each c.in_ok-each.each.items c.in_ok-other.field-0 c.in-Some.other c.in-Some.own (stopped 0 reason.Step) c.stops.ensures.stub
     c.as_slice-each.ensures.value c.in_ok-each.ensures.within c.in-Some.is c.in_ok-other.ensures.threads in
     let is = ap (λ (x : Stopped). halt c.in-Some.other c.in-Some.own x.reason) same in
     let stops = subst (λ (ys : List Stopped). EachRun s.desk.fitted (λ run. AreStops run s d t ys)) (sym c.as_slice-each.ensures.value) c.in_ok-each.ensures.stops in

@@ -1,6 +1,6 @@
 use Rattle.std.proofs.Common.{◌∙◌, ℕ, Bool, List, sym, ap, subst}
 use Rattle.std.proofs.lemmas.Result.{on_ok_weaker}
-use Rattle.ir_timeline.specs.Positions.{last_of}
+use Rattle.ir_cut.specs.Positions.{last_of}
 use Rattle.ir_timeline.specs.Hand.{IsCutOf}
 use Rattle.ir_packet.specs.declared.reply.Reason.{Reason}
 use Rattle.ir_packet.specs.declared.reply.Reason.TheVariants as reason

@@ -1,6 +1,5 @@
 use Rattle.std.proofs.Common.{◌≡◌, ◌≤◌, ◌<◌, ℕ, length}
-use Rattle.ir_cut.specs.Positions.{EachRun}
-use Rattle.ir_timeline.specs.Positions.{last_of}
+use Rattle.ir_cut.specs.Positions.{EachRun, last_of}
 use Rattle.ir_gdb.specs.Stub.{spoken}
 use Rattle.ir_gdb.specs.Together.{OwnStop, stop_among}
 use Rattle.ir_gdb.proofs.remote.Remote.stops.Given as goal

@@ -1,10 +1,9 @@
 use Rattle.std.proofs.Common.{◌-◌, ◌∙◌, ℕ, ap, subst}
 use Rattle.std.proofs.lemmas.Result.{IfOk-weaker}
-use Rattle.ir_cut.specs.Positions.{EachRun, cut_of}
-use Rattle.ir_timeline.specs.Positions.{last_of}
+use Rattle.ir_cut.specs.Positions.{EachRun, cut_of, last_of}
 use Rattle.ir_gdb.specs.Stub.{Stub}
 use Rattle.ir_gdb.specs.Stops.{position_of, WatchNext}
-use Rattle.ir_gdb.proofs.Stopping.{watches_are_empty_by_test, watch_next_without_watches, position_before_is_below_last, watch_next_before_spoken}
+use Rattle.ir_gdb.proofs.Stopping.{watches_are_empty_by_test, watch_next_without_watches, position_before_is_below_last, watch_next_in_each_run_ignores_spoken}
 use Rattle.ir_gdb.proofs.remote.Remote.watch_here.Goals as goal
 
 pub watch_next-requires-clause-within : goal.watch_next-requires-clause-within
@@ -24,7 +23,7 @@ returns-clause-watch g c =
     let at = c.in_ok-cut.ensures.there ∙ ap (λ (n : ℕ). n - 1) here in
     IfOk-weaker c.watch_next.result _ (λ reason. EachRun s.desk.fitted (λ run. WatchNext run s t w (position_of s t - 1) reason))
     (λ reason next. subst (λ (n : ℕ). EachRun s.desk.fitted (λ run. WatchNext run s t w n reason)) at
-    (watch_next_before_spoken s c.speak.new.self.stub t (cut_of c.in_ok-cut.cut t) w reason c.speak.ensures next)) c.watch_next.ensures.watch
+    (watch_next_in_each_run_ignores_spoken s c.speak.new.self.stub t (cut_of c.in_ok-cut.cut t) w reason c.speak.ensures next)) c.watch_next.ensures.watch
 
 pub returns-then-is_empty-clause-watch : goal.returns-then-is_empty-clause-watch
 returns-then-is_empty-clause-watch g c =

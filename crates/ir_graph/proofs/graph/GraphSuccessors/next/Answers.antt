@@ -2,19 +2,19 @@ use Rattle.std.proofs.Common.{◌≡◌, ◌⊎◌, ℕ, Bool, Some, length, sym
 use Rattle.std.proofs.lemmas.List.{with_items_is}
 use Rattle.ir_graph.specs.Ahead.{AreTurns}
 use Rattle.ir_graph.specs.Notes.{noted_by}
-use Rattle.ir_graph.proofs.Grown.{is_graph_after_nodes_added, is_graph_after_way_noted, is_graph_of_equal_rows, thread_is_below_if_free, code_of_node}
+use Rattle.ir_graph.proofs.Grown.{is_graph_after_nodes_added, is_graph_after_way_noted, is_graph_of_equal_rows, thread_exists_if_nothing_is_noted, code_of_node}
 use Rattle.ir_graph.proofs.graph.GraphSuccessors.next.Goals as goal
 
 pub successor-requires-clause-thread : goal.successor-requires-clause-thread
 successor-requires-clause-thread c = λ f is.
     let g = c.args.self.now in
-    thread_is_below_if_free g.setup g.flats.items (noted_by g.rows.items g.refusals.items) (length g.rows.items) c.args.thread
+    thread_exists_if_nothing_is_noted g.setup g.flats.items (noted_by g.rows.items g.refused_rows.items) (length g.rows.items) c.args.thread
     c.args.refused c.args.node c.args.node f c.requires.sound.0 (sym c.known.ensures ∙ c.in_default.is) is
 
 pub successor-requires-clause-code : goal.successor-requires-clause-code
 successor-requires-clause-code c = λ f is.
     let g = c.args.self.now in
-    code_of_node g.setup g.flats.items (noted_by g.rows.items g.refusals.items) (length g.rows.items) c.args.node f
+    code_of_node g.setup g.flats.items (noted_by g.rows.items g.refused_rows.items) (length g.rows.items) c.args.node f
     c.requires.sound.0 is
     ∙ sym c.code-code.ensures
 
@@ -26,7 +26,7 @@ pub returns-in_err-next-clause-sound : goal.returns-in_err-next-clause-sound
 returns-in_err-next-clause-sound c =
     let g = c.args.self.now in
     let grown = c.successor.ensures in (
-      is_graph_after_nodes_added g.setup g.flats.items c.successor.new.flats.items (noted_by g.rows.items g.refusals.items)
+      is_graph_after_nodes_added g.setup g.flats.items c.successor.new.flats.items (noted_by g.rows.items g.refused_rows.items)
           (length g.rows.items) c.requires.sound.0 grown.stay grown.nodes (grown.reached g.setup c.requires.sound.0.reached) grown.grown,
       subst (λ z. AreTurns z c.successor.new.flats.shared c.successor.new.ahead) c.code-code.ensures grown.turns,
     )
@@ -37,19 +37,19 @@ returns-in_err-note_way-clause-sound c =
     let flats = c.successor.new.flats.items in
     let grown = c.successor.ensures in
     let new = c.note_way.new.rows in
-    let tries = c.note_way.new.refusals in
+    let tries = c.note_way.new.refused_rows in
     let value = c.deref_mut.ensures.value in
     let values = c.deref_mut-2.ensures.value in
     let threads : length new ≡ length g.rows.items = c.note_way.ensures.threads ∙ ap length value in
-    let many : length tries ≡ length g.refusals.items = c.note_way.ensures.refusals ∙ ap length values in
+    let many : length tries ≡ length g.refused_rows.items = c.note_way.ensures.refused_rows ∙ ap length values in
     let same = with_items_is g.rows new (threads ∙ sym g.rows.ok.0) in
-    let also = with_items_is g.refusals tries (many ∙ sym g.refusals.ok.0) in
-    let only = subst (λ z. (t : ℕ) (refused : Bool) (v : ℕ) → (noted_by new tries t refused v ≡ noted_by z g.refusals.items t refused v)
+    let also = with_items_is g.refused_rows tries (many ∙ sym g.refused_rows.ok.0) in
+    let only = subst (λ z. (t : ℕ) (refused : Bool) (v : ℕ) → (noted_by new tries t refused v ≡ noted_by z g.refused_rows.items t refused v)
     ⊎ ((t ≡ c.args.thread) × (refused ≡ c.args.refused) × (v ≡ c.args.node) × (noted_by new tries t refused v ≡ Some c.in_ok-next.next))) value
     (subst (λ z. (t : ℕ) (refused : Bool) (v : ℕ) → (noted_by new tries t refused v ≡ noted_by c.deref_mut.result.now z t refused v)
     ⊎ ((t ≡ c.args.thread) × (refused ≡ c.args.refused) × (v ≡ c.args.node) × (noted_by new tries t refused v ≡ Some c.in_ok-next.next))) values
     c.note_way.ensures.only) in
-    let noted = is_graph_after_way_noted g.setup g.flats.items flats g.rows.items g.refusals.items new tries c.args.thread
+    let noted = is_graph_after_way_noted g.setup g.flats.items flats g.rows.items g.refused_rows.items new tries c.args.thread
     c.args.refused c.args.node c.in_ok-next.next c.requires.sound.0 grown.stay grown.nodes
     (grown.reached g.setup c.requires.sound.0.reached) grown.grown only threads (sym c.known.ensures ∙ c.in_default.is)
     c.requires.node c.in_ok-next.ensures.within c.in_ok-next.ensures.leads in (
@@ -63,19 +63,19 @@ returns-clause-sound c =
     let flats = c.successor.new.flats.items in
     let grown = c.successor.ensures in
     let new = c.note_way.new.rows in
-    let tries = c.note_way.new.refusals in
+    let tries = c.note_way.new.refused_rows in
     let value = c.deref_mut.ensures.value in
     let values = c.deref_mut-2.ensures.value in
     let threads : length new ≡ length g.rows.items = c.note_way.ensures.threads ∙ ap length value in
-    let many : length tries ≡ length g.refusals.items = c.note_way.ensures.refusals ∙ ap length values in
+    let many : length tries ≡ length g.refused_rows.items = c.note_way.ensures.refused_rows ∙ ap length values in
     let same = with_items_is g.rows new (threads ∙ sym g.rows.ok.0) in
-    let also = with_items_is g.refusals tries (many ∙ sym g.refusals.ok.0) in
-    let only = subst (λ z. (t : ℕ) (refused : Bool) (v : ℕ) → (noted_by new tries t refused v ≡ noted_by z g.refusals.items t refused v)
+    let also = with_items_is g.refused_rows tries (many ∙ sym g.refused_rows.ok.0) in
+    let only = subst (λ z. (t : ℕ) (refused : Bool) (v : ℕ) → (noted_by new tries t refused v ≡ noted_by z g.refused_rows.items t refused v)
     ⊎ ((t ≡ c.args.thread) × (refused ≡ c.args.refused) × (v ≡ c.args.node) × (noted_by new tries t refused v ≡ Some c.in_ok-next.next))) value
     (subst (λ z. (t : ℕ) (refused : Bool) (v : ℕ) → (noted_by new tries t refused v ≡ noted_by c.deref_mut.result.now z t refused v)
     ⊎ ((t ≡ c.args.thread) × (refused ≡ c.args.refused) × (v ≡ c.args.node) × (noted_by new tries t refused v ≡ Some c.in_ok-next.next))) values
     c.note_way.ensures.only) in
-    let noted = is_graph_after_way_noted g.setup g.flats.items flats g.rows.items g.refusals.items new tries c.args.thread
+    let noted = is_graph_after_way_noted g.setup g.flats.items flats g.rows.items g.refused_rows.items new tries c.args.thread
     c.args.refused c.args.node c.in_ok-next.next c.requires.sound.0 grown.stay grown.nodes
     (grown.reached g.setup c.requires.sound.0.reached) grown.grown only threads (sym c.known.ensures ∙ c.in_default.is)
     c.requires.node c.in_ok-next.ensures.within c.in_ok-next.ensures.leads in (

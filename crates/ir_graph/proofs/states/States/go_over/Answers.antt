@@ -1,6 +1,7 @@
 use Rattle.std.proofs.Common.{◌≡◌, inl, inr, length, sym, ap, ◌∙◌}
+use Rattle.ir_lemmas.proofs.CallerLemmas.{on_ok}
 use Rattle.ir_explore.specs.Levels.{rows}
-use Rattle.ir_graph.proofs.Searched.{searched_by, on_ok, if_err}
+use Rattle.ir_graph.proofs.Searched.{searched_by, if_err_of_implied}
 use Rattle.ir_graph.proofs.Stops.{may_stop_by_memory}
 use Rattle.ir_graph.proofs.states.States.go_over.Goals as goal
 
@@ -32,7 +33,7 @@ returns-clause-searched g c =
     let threads : length (rows search.opened.items) ≡ length graph.rows.items =
     c.go_over.ensures.threads ∙ c.requires.is.threads ∙ c.requires.is.graph.number ∙ ap (λ z. length z.guest.entries) (sym setup) ∙ sym sound.number in
     on_ok c.go_over.result
-    (λ between. searched_by graph.setup graph.flats.items graph.rows.items graph.refusals.items search.found.nodes.items
+    (λ between. searched_by graph.setup graph.flats.items graph.rows.items graph.refused_rows.items search.found.nodes.items
     search.found.refusals.items (length (rows search.opened.items))
     search.level.number sound threads between.has) c.go_over.ensures.between
 
@@ -44,14 +45,14 @@ returns-clause-part g c =
     let sound = c.go_over.ensures.sound.0 in
     let threads : length (rows search.opened.items) ≡ length graph.rows.items =
     c.go_over.ensures.threads ∙ c.requires.is.threads ∙ c.requires.is.graph.number ∙ ap (λ z. length z.guest.entries) (sym setup) ∙ sym sound.number in
-    searched_by graph.setup graph.flats.items graph.rows.items graph.refusals.items search.found.nodes.items
+    searched_by graph.setup graph.flats.items graph.rows.items graph.refused_rows.items search.found.nodes.items
     search.found.refusals.items (length (rows search.opened.items))
     c.args.self.now.search.level.number sound threads c.go_over.ensures.has
 
 pub returns-clause-stopped : goal.returns-clause-stopped
 returns-clause-stopped g c =
     let graph = c.go_over.new.graph in
-    if_err c.go_over.result (λ stop why. elim why [
+    if_err_of_implied c.go_over.result (λ stop why. elim why [
       | inl e ↦ may_stop_by_memory graph.setup graph.flats.items graph.bounds.nodes graph.bounds.private stop e
       | inr may ↦ may
     ]) c.go_over.ensures.stopped

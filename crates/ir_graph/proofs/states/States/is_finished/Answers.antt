@@ -6,9 +6,9 @@ returns-clause-finished c = λ over is between.
     let s = c.args.self.now in
     let asked = c.is_finished.ensures.finished over _ _ between in
     record {
-      all = listed_by s.graph.setup s.graph.flats.items s.graph.rows.items s.graph.refusals.items s.search.found.nodes.items
+      all = listed_by s.graph.setup s.graph.flats.items s.graph.rows.items s.graph.refused_rows.items s.search.found.nodes.items
           s.search.found.refusals.items _ _ is.graph is.threads between.has between.all asked;
       nodes = between.all;
-      stand = stand_by s.graph.setup s.graph.flats.items s.graph.rows.items s.graph.refusals.items s.search.found.nodes.items
+      stand = stand_by s.graph.setup s.graph.flats.items s.graph.rows.items s.graph.refused_rows.items s.search.found.nodes.items
           s.search.found.refusals.items _ _ is.graph is.threads between.has between.all asked;
     }

@@ -1,8 +1,8 @@
 use Rattle.std.proofs.Common.{length}
 use Rattle.ir_explore.specs.Levels.{rows}
-use Rattle.ir_explore.proofs.CallerLemmas.{finished_asked}
+use Rattle.ir_explore.proofs.CallerLemmas.{all_are_asked_if_next_level_is_empty}
 use Rattle.ir_graph.specs.Notes.{noted_by}
-use Rattle.ir_graph.proofs.Searched.{marked_by, if_ok}
+use Rattle.ir_graph.proofs.Searched.{marked_by, if_ok_of_implied}
 use Rattle.ir_graph.proofs.states.States.marks.Goals as goal
 
 pub returns : goal.returns
@@ -10,10 +10,10 @@ returns c =
     let graph = c.args.self.now.graph in
     let search = c.args.self.now.search in
     let between = c.requires.between in
-    let asked = finished_asked (noted_by graph.rows.items graph.refusals.items) (length graph.flats.items) search.found.nodes.items
+    let asked = all_are_asked_if_next_level_is_empty (noted_by graph.rows.items graph.refused_rows.items) (length graph.flats.items) search.found.nodes.items
     search.found.refusals.items (rows search.opened.items) search.level between
     c.requires.over in
-    if_ok c.mark_states.result (λ marks ways. marked_by graph.setup graph.flats.items graph.rows.items graph.refusals.items
+    if_ok_of_implied c.mark_states.result (λ marks ways. marked_by graph.setup graph.flats.items graph.rows.items graph.refused_rows.items
     search.found.nodes.items search.found.refusals.items
     (length (rows search.opened.items)) search.level.number c.requires.is.graph c.requires.is.threads between.has between.all asked marks.items ways)
     c.mark_states.ensures

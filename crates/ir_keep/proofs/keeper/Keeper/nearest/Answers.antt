@@ -1,20 +1,20 @@
 use Rattle.std.proofs.Common.{◌≡◌, length, ap, sym, ◌∙◌, subst, arith}
 use Rattle.ir_keep.specs.Store.{Entry, AreEntries, thread_count}
-use Rattle.ir_keep.proofs.Calls.{length_of_cut_for_keeping, number_at_nearest_place_is_nearest}
+use Rattle.ir_keep.proofs.Calls.{cut_for_keeping_has_thread_count_of_store, number_at_nearest_place_is_nearest}
 use Rattle.ir_keep.proofs.keeper.Keeper.nearest.Goals as goal
 
 pub nearest-place-requires-clause-each : goal.nearest-place-requires-clause-each
 nearest-place-requires-clause-each c =
     let entries = c.self.inside.entries.items in
     let same : length c.positions.result.now ≡ thread_count entries =
-    ap length c.positions.ensures ∙ length_of_cut_for_keeping (thread_count entries) c.self.inside.last entries c.args.cut.now c.args.self.now c.self.invariant c.self.view_is c.requires in
+    ap length c.positions.ensures ∙ cut_for_keeping_has_thread_count_of_store (thread_count entries) c.self.inside.last entries c.args.cut.now c.args.self.now c.self.invariant c.self.view_is c.requires in
     subst (AreEntries (length c.positions.result.now)) (sym c.as_slice.ensures.value) (subst (λ n. AreEntries n entries) (sym same) c.self.invariant.each)
 
 pub nearest-place-requires-clause-few : goal.nearest-place-requires-clause-few
 nearest-place-requires-clause-few c =
     let entries = c.self.inside.entries.items in
     let same : length c.positions.result.now ≡ thread_count entries =
-    ap length c.positions.ensures ∙ length_of_cut_for_keeping (thread_count entries) c.self.inside.last entries c.args.cut.now c.args.self.now c.self.invariant c.self.view_is c.requires in
+    ap length c.positions.ensures ∙ cut_for_keeping_has_thread_count_of_store (thread_count entries) c.self.inside.last entries c.args.cut.now c.args.self.now c.self.invariant c.self.view_is c.requires in
     omega (arith, same, c.self.invariant.threads)
 
 pub returns : goal.returns

@@ -2,7 +2,7 @@ use Rattle.std.proofs.Common.{◌<◌, List, length, ap, sym, ◌∙◌, subst, 
 use Rattle.std.specs.List.{All}
 use Rattle.ir_keep.specs.Keeping.{page_count}
 use Rattle.ir_keep.specs.Store.{Entry, stored, thread_count}
-use Rattle.ir_keep.proofs.Counted.{different_origins_are_stored_pages, stored_pages_bound, page_counts_below_bound}
+use Rattle.ir_keep.proofs.Counted.{different_origins_are_stored_pages, stored_pages_bound, page_counts_below_two_to_32}
 use Rattle.ir_keep.proofs.keeper.Keeper.pages.Goals as goal
 
 pub stored-requires-clause-all : goal.stored-requires-clause-all
@@ -16,7 +16,7 @@ pub stored-requires-clause-each : goal.stored-requires-clause-each
 stored-requires-clause-each c =
     let entries = c.self.inside.entries.items in
     let store = c.self.invariant in
-    subst (All (λ (e : Entry). length e.pages < 4294967296)) (sym c.as_slice.ensures.value) (page_counts_below_bound (thread_count entries) entries store.each store.threads)
+    subst (All (λ (e : Entry). length e.pages < 4294967296)) (sym c.as_slice.ensures.value) (page_counts_below_two_to_32 (thread_count entries) entries store.each store.threads)
 
 pub returns : goal.returns
 returns c =

@@ -1,4 +1,5 @@
 use Rattle.std.proofs.Common.{◌≡◌, ◌≤◌, ◌⊎◌, suc, inl, inr, sym, subst, arith}
+use Rattle.ir_lemmas.proofs.CallerLemmas.{on_ok}
 use Rattle.ir_explore.specs.declared.origin.Level.{Level}
 use Rattle.ir_explore.specs.declared.stop.Stop.TheVariants.{Memory}
 use Rattle.ir_graph.specs.Searched.{AreSearched}
@@ -8,7 +9,7 @@ use Rattle.ir_thread.specs.State.{IsAllowed}
 use Rattle.ir_outcomes.specs.Exploring.{HasShown}
 use Rattle.ir_outcomes.specs.Hang.{IsOrder}
 use Rattle.ir_outcomes.proofs.Listed.{shown_among}
-use Rattle.ir_outcomes.proofs.Steps.{really_ok, really_err, either_way, on_ok}
+use Rattle.ir_outcomes.proofs.Steps.{ok_fact_if_no_error, error_fact_of_known_error, new_has_property_if_error_keeps_old}
 use Rattle.ir_outcomes.proofs.exploring.Exploring.go_over.Goals as goal
 
 pub show_new-shown-requires-clause-allowed : goal.show_new-shown-requires-clause-allowed
@@ -18,7 +19,7 @@ show_new-shown-requires-clause-allowed g c =
 pub show_new-shown-requires-clause-searched : goal.show_new-shown-requires-clause-searched
 show_new-shown-requires-clause-searched g c =
     let s = c.go_over-searched.new.self in
-    either_way (λ (l : Level). AreSearched s.graph.setup s.graph.flats.items s.search.found.nodes.items l.number) c.go_over-searched.result s.search.level
+    new_has_property_if_error_keeps_old (λ (l : Level). AreSearched s.graph.setup s.graph.flats.items s.search.found.nodes.items l.number) c.go_over-searched.result s.search.level
     c.args.self.now.states.search.level c.go_over-searched.ensures.searched c.go_over-searched.ensures.level c.go_over-searched.ensures.part
 
 pub show_new-shown-requires-clause-few : goal.show_new-shown-requires-clause-few
@@ -48,28 +49,28 @@ returns-clause-is g c =
     record {
       search = searched.ensures.is;
       explored = shown.ensures.explored;
-      wanted = either_way (λ (l : Level). l.number ≤ suc most) searched.result s.search.level c.args.self.now.states.search.level
+      wanted = new_has_property_if_error_keeps_old (λ (l : Level). l.number ≤ suc most) searched.result s.search.level c.args.self.now.states.search.level
           (on_ok searched.result (λ next. let a = c.requires.wanted in omega (arith, a, next)) searched.ensures.next) searched.ensures.level
           (let a = c.requires.wanted in omega (arith, a));
       going = λ none.
           let n = c.first_stop-self.ensures.none none in
-          let seen = really_ok shown.result n.0 shown.ensures.seen in record {
-            between = really_ok searched.result n.1 searched.ensures.between;
-            searched = λ some. really_ok searched.result n.1 searched.ensures.searched;
-            has = really_ok shown.result n.0 shown.ensures.has;
+          let seen = ok_fact_if_no_error shown.result n.0 shown.ensures.seen in record {
+            between = ok_fact_if_no_error searched.result n.1 searched.ensures.between;
+            searched = λ some. ok_fact_if_no_error searched.result n.1 searched.ensures.searched;
+            has = ok_fact_if_no_error shown.result n.0 shown.ensures.has;
             few = omega (arith, seen);
             seen = λ some. seen;
-            levels = really_ok shown.result n.0 shown.ensures.levels;
+            levels = ok_fact_if_no_error shown.result n.0 shown.ensures.levels;
           };
       stopped = λ why is. elim (c.first_stop-self.ensures.some why is) [
-        | inl e ↦ elim (really_err (λ w. (w ≡ Memory) ⊎ IsOrder w) shown.result why e shown.ensures.refused) [
+        | inl e ↦ elim (error_fact_of_known_error (λ w. (w ≡ Memory) ⊎ IsOrder w) shown.result why e shown.ensures.refused) [
           | inl m ↦ inl (subst may (sym m) tt)
           | inr o ↦ inr o
         ]
-        | inr e ↦ inl (really_err may searched.result why e searched.ensures.stopped)
+        | inr e ↦ inl (error_fact_of_known_error may searched.result why e searched.ensures.stopped)
       ];
     }
 
 pub returns-clause-next : goal.returns-clause-next
 returns-clause-next g c = λ none.
-    really_ok c.go_over-searched.result (c.first_stop-self.ensures.none none).1 c.go_over-searched.ensures.next
+    ok_fact_if_no_error c.go_over-searched.result (c.first_stop-self.ensures.none none).1 c.go_over-searched.ensures.next

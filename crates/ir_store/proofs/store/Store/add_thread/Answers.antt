@@ -1,11 +1,11 @@
 use Rattle.std.proofs.Common.{◌≡◌, ◌<◌, ap, ◌∙◌, length, get_or, Some}
 use Rattle.std.specs.Prelude.{slice_get}
 use Rattle.std.proofs.lemmas.Option.{slice_get_within, get_or_from_slice_get}
+use Rattle.ir_lemmas.proofs.CallerLemmas.{if_ok_weaker}
 use Rattle.ir_sources.specs.Sources.{Source}
 use Rattle.ir_thread.specs.State.{ThreadState}
 use Rattle.ir_store.specs.Nodes.{Shared, Stored}
 use Rattle.ir_store.specs.Table.{idle_beside}
-use Rattle.ir_store.proofs.Lists.{if_ok_weaker}
 use Rattle.ir_store.proofs.Shared.{nodes_grown, states_grown}
 use Rattle.ir_store.proofs.store.Store.add_thread.Goals as goal
 
@@ -13,13 +13,13 @@ pub invariant_of-self : goal.invariant_of-self
 invariant_of-self c =
     let old : Shared = record { threads = c.self.inside.table.items; words = c.self.inside.words } in
     let new : Shared = record { threads = c.add.new.self.items; words = c.self.inside.words } in
-    nodes_grown old new (record { threads = c.add.ensures.keeps; words = λ n s e. e }) c.self.inside.nodes.items c.self.invariant
+    nodes_grown old new (record { threads = c.add.ensures.keeps; words = λ n s e. e }) c.self.inside.nodes c.self.invariant
 
 pub returns-clause-items : goal.returns-clause-items
 returns-clause-items c =
     let old : Shared = record { threads = c.self.inside.table.items; words = c.self.inside.words } in
     let new : Shared = record { threads = c.add.new.self.items; words = c.self.inside.words } in
-    states_grown old new (record { threads = c.add.ensures.keeps; words = λ n s e. e }) c.self.inside.nodes.items c.self.invariant
+    states_grown old new (record { threads = c.add.ensures.keeps; words = λ n s e. e }) c.self.inside.nodes c.self.invariant
     ∙ ap (λ (z : Stored). z.items) c.self.view_is
 
 pub returns-clause-within : goal.returns-clause-within

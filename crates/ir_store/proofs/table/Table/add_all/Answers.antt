@@ -1,10 +1,11 @@
 use Rattle.std.proofs.Common.{◌≡◌, ◌<◌, ◌∙◌, sym, ap, subst, length, get_or, arith}
 use Rattle.std.specs.Prelude.{slice_get, Some}
 use Rattle.std.proofs.lemmas.Option.{slice_get_within, get_or_from_slice_get}
+use Rattle.ir_lemmas.proofs.CallerLemmas.{all_by_recursion_after_push}
 use Rattle.ir_sources.specs.Sources.{Source}
 use Rattle.ir_thread.specs.State.{ThreadState}
 use Rattle.ir_store.specs.Table.{idle_beside, AreIn, threads_at, sources_at}
-use Rattle.ir_store.proofs.Lists.{all_by_recursion_after_push, all_by_recursion_weaker, kept_element_is_equal, place_below_length_kept, map_equal_if_functions_equal, mapped_elements_found_step}
+use Rattle.ir_store.proofs.Lists.{all_by_recursion_weaker, kept_element_is_equal, place_below_length_kept, map_equal_if_functions_equal, mapped_elements_found_step}
 use Rattle.ir_store.proofs.table.Table.add_all.Goals as goal
 
 pub loop-t-preserved : goal.loop-t-preserved
@@ -17,7 +18,7 @@ loop-t-preserved c =
     let numbers = c.loop-t.numbers.items in
     let n = c.in_ok-number.number in
     let x : ThreadState × Source = (c.index-threads-t.result, c.index-sources-t.result) in
-    let at : slice_get new n ≡ Some x = subst (λ k. slice_get new k ≡ Some x) (sym c.in_ok-number.ensures) c.in_ok-n.ensures.found in
+    let at : slice_get new n ≡ Some x = subst (λ k. slice_get new k ≡ Some x) (sym c.in_ok-number.ensures.same) c.in_ok-n.ensures.found in
     let is : get_or new n idle_beside ≡ x = get_or_from_slice_get new n x idle_beside at in
     let lt : i < length c.args.threads.now = (let a = c.loop-t-test.true in let b = c.loop-t.auto.t-end in omega (arith, a, b)) in
     let lt' : i < length c.args.sources.now = (let a = c.requires.each in omega (arith, lt, a)) in

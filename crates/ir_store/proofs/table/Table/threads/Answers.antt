@@ -1,8 +1,9 @@
 use Rattle.std.proofs.Common.{◌≡◌, ◌∙◌, sym, ap, subst, get_or}
+use Rattle.ir_lemmas.proofs.CallerLemmas.{all_by_recursion_after_push}
 use Rattle.ir_thread.specs.State.{ThreadState}
 use Rattle.ir_store.specs.Table.{HaveForm, idle_beside}
 use Rattle.ir_store.specs.Table as table
-use Rattle.ir_store.proofs.Lists.{all_by_recursion_after_push, mapped_elements_made_step}
+use Rattle.ir_store.proofs.Lists.{mapped_elements_made_step}
 use Rattle.ir_store.proofs.table.Table.threads.Goals as goal
 
 pub loop-n-preserved : goal.loop-n-preserved

@@ -1,5 +1,5 @@
 use Rattle.std.proofs.Common.{refl}
-use Rattle.ir_timeline.specs.Positions.{first_cut}
+use Rattle.ir_cut.specs.Positions.{first_cut}
 use Rattle.ir_timeline.proofs.Ends.{start_stands_at_first_cut}
 use Rattle.ir_timeline.proofs.timeline.Timeline.open.Goals as goal
 

@@ -2,12 +2,12 @@ use Rattle.std.proofs.Common.{◌∙◌, ◌<◌, length, ap, sym, arith}
 use Rattle.std.specs.Slots.{slots_items}
 use Rattle.ir_object.specs.Layout.{table_length}
 use Rattle.ir_weave.specs.Woven.{IsEnd}
-use Rattle.ir_weave.proofs.Opening.{final_table_is_end, end_cells_count_guest_objects, no_objects_are_read, objects_with_one_set, read_objects_close_table}
+use Rattle.ir_weave.proofs.Opening.{final_table_is_end, end_cells_count_guest_objects, are_objects_at_zero, are_objects_step, objects_are_closed_if_count_reaches_length}
 use Rattle.ir_weave.proofs.weave.Weave.close.Goals as goal
 use Rattle.ir_weave.proofs.weave.Weave.close.Goals.{After-close_with-closed}
 
 pub loop-o-init : goal.loop-o-init
-loop-o-init c e = no_objects_are_read c.args.self.table.shared.key c.args.seat.me.0 (slots_items c.close_with-closed.result.words) e
+loop-o-init c e = are_objects_at_zero c.args.self.table.shared.key c.args.seat.me.0 (slots_items c.close_with-closed.result.words) e
     c.args.objects.now c.requires.room
 
 pub object_at-requires-clause-table : goal.object_at-requires-clause-table
@@ -27,7 +27,7 @@ pub loop-o-preserved : goal.loop-o-preserved
 loop-o-preserved c e =
     let inv = c.loop-o.invariant e in let size = c.loop-o.auto.objects in let l = c.loop-o-test.true in
     let inside : c.loop-o.o < length c.loop-o.objects = omega (arith, size, l) in
-    objects_with_one_set e.cells c.loop-o.objects c.loop-o.o c.object_at.result inv inside
+    are_objects_step e.cells c.loop-o.objects c.loop-o.o c.object_at.result inv inside
     (c.object_at.ensures c.args.self.table.shared.key c.args.seat.me.0 e (let s = inv.size in omega (arith, s, inside)))
 
 pub free-requires : goal.free-requires
@@ -38,5 +38,5 @@ returns c =
     let e : IsEnd c.args.self.table.shared.key c.args.seat.me.0 (slots_items c.close_with-closed.result.words) =
     final_table_is_end c.args.self.table.shared.key c.args.seat.id c.args.seat.me.0 (slots_items c.close_with-closed.result.words) _
     c.close_with-closed.ensures.values.2 in
-    read_objects_close_table c.args.self.table.shared.key c.args.seat.me.0 (slots_items c.close_with-closed.result.words) e c.loop-o.objects c.loop-o.o
+    objects_are_closed_if_count_reaches_length c.args.self.table.shared.key c.args.seat.me.0 (slots_items c.close_with-closed.result.words) e c.loop-o.objects c.loop-o.o
     (c.loop-o.invariant e) (let size = c.loop-o.auto.objects in let l = c.loop-o-test.false in omega (arith, size, l))

@@ -1,13 +1,13 @@
 use Rattle.std.proofs.Common.{ℕ, ◌<◌, ◌^◌, Fits, w32, arith}
 use Rattle.ir_thread.specs.declared.ask.Ask.TheVariants.{Get}
-use Rattle.ir_weave.proofs.Seats.{ObjectStepReport, get_is_allowed_if_seated, stepped_on_gives_report, read_word_is_32_bits, read_place_below_table}
+use Rattle.ir_weave.proofs.Seats.{ObjectStepReport, get_is_allowed_if_seated, stepped_on_gives_report, word_of_get_is_32_bits, get_place_below_table}
 use Rattle.ir_weave.proofs.weave.Weave.get.Goals as goal
 use Rattle.ir_weave.proofs.weave.Weave.get.Goals.{After-load}
 
 pub load-requires : goal.load-requires
 load-requires c = (
   c.requires.seat,
-  read_place_below_table c.args.self.now.table.shared.key c.args.thread.now c.args.seat.now.me.0 c.args.object c.args.index _ c.requires.thread
+  get_place_below_table c.args.self.now.table.shared.key c.args.thread.now c.args.seat.now.me.0 c.args.object c.args.index _ c.requires.thread
       c.requires.asking c.args.self.now.words,
   get_is_allowed_if_seated c.args.self.now.table.shared.key _ _ c.args.object c.args.index c.args.thread.now c.args.seat.now.me c.requires.thread
       c.requires.asking,
@@ -22,7 +22,7 @@ emitted c = stepped_on_gives_report c.args.self.now.table.shared.key c.args.thre
     c.load.result c.requires.thread c.requires.asking.asks (λ b. b) c.load.ensures.2
 
 pub overflow_cast-result : goal.overflow_cast-result
-overflow_cast-result c = fits_word _ (read_word_is_32_bits c.args.self.now.table.shared.key c.args.thread.now c.args.seat.now.me.0 c.args.object
+overflow_cast-result c = fits_word _ (word_of_get_is_32_bits c.args.self.now.table.shared.key c.args.thread.now c.args.seat.now.me.0 c.args.object
     c.args.index c.load.result c.requires.thread c.requires.asking (emitted c).answers)
 
 pub returns-clause-read : goal.returns-clause-read

@@ -1,5 +1,6 @@
+use Rattle.ir_lemmas.proofs.CallerLemmas.{false_test_refutes}
 use Rattle.ir_weave.specs.Woven.{Opens}
-use Rattle.ir_weave.proofs.Seats.{LookReport, look_is_allowed_if_seated, looked_gives_report, entered_word_place_below_table, granted_if_look_was_open, true_test_proves, false_test_refutes}
+use Rattle.ir_weave.proofs.Seats.{LookReport, look_is_allowed_if_seated, looked_gives_report, entered_word_place_below_table, granted_if_look_was_open, true_test_proves}
 use Rattle.ir_weave.proofs.weave.Weave.look.Goals as goal
 use Rattle.ir_weave.proofs.weave.Weave.look.Goals.{After-opens}
 

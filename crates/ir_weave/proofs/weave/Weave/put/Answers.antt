@@ -1,12 +1,12 @@
 use Rattle.std.proofs.Common.{arith}
 use Rattle.ir_thread.specs.declared.ask.Ask.TheVariants.{Put}
-use Rattle.ir_weave.proofs.Seats.{put_is_allowed_if_seated, stepped_on_gives_report, written_place_below_table}
+use Rattle.ir_weave.proofs.Seats.{put_is_allowed_if_seated, stepped_on_gives_report, put_place_below_table}
 use Rattle.ir_weave.proofs.weave.Weave.put.Goals as goal
 
 pub store-requires : goal.store-requires
 store-requires c = (
   c.requires.seat,
-  written_place_below_table c.args.self.now.table.shared.key c.args.thread.now c.args.seat.now.me.0 c.args.object c.args.index c.args.value _
+  put_place_below_table c.args.self.now.table.shared.key c.args.thread.now c.args.seat.now.me.0 c.args.object c.args.index c.args.value _
       c.requires.thread c.requires.asking c.args.self.now.words,
   put_is_allowed_if_seated c.args.self.now.table.shared.key _ _ c.args.object c.args.index c.args.value c.args.thread.now c.args.seat.now.me
       (omega (arith, c.ranges.value)) c.requires.thread c.requires.asking,

@@ -1,0 +1,33 @@
+use Rattle.std.proofs.Common.{◌<◌, length, ap, ◌∙◌, arith}
+use Rattle.std.proofs.lemmas.List.{get_or_read}
+use Rattle.ir_fit.specs.Fit.{FittedTrace}
+use Rattle.ir_fit.specs.Growing.{none_placed}
+use Rattle.ir_fit.specs.Placed.{Placed, placed_at, placed_of}
+use Rattle.ir_fit.proofs.Placements.{length_of_placed_is_threads}
+use Rattle.ir_fit.proofs.fitted.Fitted.leaves.Goals as goal
+
+pub index-requires : goal.index-requires
+index-requires c =
+    let f : FittedTrace = record { guest = c.self.inside.image; recorded = c.self.inside.trace } in
+    omega (
+      arith,
+      c.requires,
+      c.self.inside.places.ok,
+      ap length c.self.invariant.1,
+      length_of_placed_is_threads f,
+      ap (λ (g : FittedTrace). length g.guest.entries) c.self.view_is,
+    )
+
+pub returns : goal.returns
+returns c =
+    let f : FittedTrace = record { guest = c.self.inside.image; recorded = c.self.inside.trace } in
+    let ps = c.self.inside.places.items in
+    let within : c.args.t < length ps = omega (
+      arith,
+      c.requires,
+      ap length c.self.invariant.1,
+      length_of_placed_is_threads f,
+      ap (λ (g : FittedTrace). length g.guest.entries) c.self.view_is,
+    ) in
+    c.leaves.ensures ∙ ap (λ (p : Placed). p.leaves) (get_or_read ps c.args.t c.index.result.now within c.index.ensures none_placed)
+    ∙ ap (λ qs. (placed_at qs c.args.t).leaves) c.self.invariant.1 ∙ ap (λ (g : FittedTrace). (placed_at (placed_of g) c.args.t).leaves) c.self.view_is

@@ -1,0 +1,4 @@
+mod Bools
+mod Lists
+mod Results
+pub mod CallerLemmas

@@ -1,0 +1,18 @@
+use Rattle.std.proofs.Common.{rules, ◌≡◌, length, sym, subst}
+use Rattle.ir_record.specs.Threads.{Pairs}
+use Rattle.ir_record.specs.Working.{RanToEnd}
+use Rattle.ir_record.proofs.Manning.{pairs_if_each_place_pairs, take_of_overwritten_list}
+use Rattle.ir_record.proofs.by_threads.workers.run_workers.Goals as goal
+
+pub returns : goal.returns
+returns g c =
+    let len : c.args.workers.now.len ≡ length c.args.workers.now.items = search rules in
+    let same : length c.run_side_by_side.new.workers ≡ length c.args.workers.now.items = search rules in
+    subst (Pairs (RanToEnd g.W.World.answers g.W.World.broken g.W.World.origin c.args.crew.now.table.shared.key) c.args.workers.now.items)
+    (sym (take_of_overwritten_list c.run_side_by_side.new.workers c.args.workers.now.items c.args.workers.now.len len same))
+    (pairs_if_each_place_pairs (RanToEnd g.W.World.answers g.W.World.broken g.W.World.origin c.args.crew.now.table.shared.key) c.args.workers.now.items
+    c.run_side_by_side.new.workers same
+    (subst (λ z. (i : _) (d : _) → Rattle.std.proofs.Common.◌<◌ i (length z)
+    → RanToEnd g.W.World.answers g.W.World.broken g.W.World.origin c.args.crew.now.table.shared.key
+    (Rattle.std.proofs.Common.get_or z i d) (Rattle.std.proofs.Common.get_or c.run_side_by_side.new.workers i d))
+    c.as_mut_slice.ensures.value c.run_side_by_side.ensures))

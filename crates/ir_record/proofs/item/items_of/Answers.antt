@@ -1,6 +1,0 @@
-use Rattle.ir_record.proofs.Following.{items_more}
-use Rattle.ir_record.proofs.item.items_of.Goals as goal
-
-pub turns-preserved : goal.turns-preserved
-turns-preserved c = items_more c.args.order.now c.turns.turns-index _ c.turns.items.items c.push.new.self.items c.turns-test.true
-    c.turns.invariant c.in_ok-push.ensures.items
