@@ -34,6 +34,36 @@ def own_objects(threads, rounds):
     return f"        .objects {threads}\n" + "        .thread main\n" * threads + code
 
 
+def acting(threads, rounds):
+    """Threads that look in one entry and act in the next, as of bench/faults.py."""
+    return check_then_act(2, rounds).replace("        .thread main\n" * 2, "        .thread main\n" * threads)
+
+
+def bank(threads, rounds):
+    """Threads that move one from a word to another, both in one entry."""
+    turn = writes(get(0, "s1") + "        addi s1, s1, -1\n" + put(0, "s1") + get(1, "s1") + "        addi s1, s1, 1\n" + put(1, "s1"))
+    return of_threads(["main"] * threads, f"main:\n{repeated('again', rounds, turn)}{call(1, 'zero, 0')}")
+
+
+def philosophers(threads, rounds):
+    """Each thread enters its own object and the next one's, the lower number first, and leaves both."""
+    def life(thread):
+        low, high = sorted((thread, (thread + 1) % threads))
+        meal = "".join(call(number, f"zero, {fork}") for number, fork in ((8, low), (8, high), (9, high), (9, low)))
+        return f"p{thread}:\n{repeated(f'eat{thread}', rounds, meal)}{call(1, 'zero, 0')}"
+
+    heads = f"        .objects {threads}\n" + "".join(f"        .thread p{thread}\n" for thread in range(threads))
+    return heads + "".join(life(thread) for thread in range(threads))
+
+
+def readers_and_writers(readers, writers, rounds):
+    """Writers add one to a word, and readers end with the sum of what they read, each in an entry."""
+    writing = writes(get(0, "s1") + "        addi s1, s1, 1\n" + put(0, "s1"))
+    reading = reads(get(0, "s1")) + "        add s2, s2, s1\n"
+    code = f"write:\n{repeated('writes', rounds, writing)}{call(1, 'zero, 0')}read:\n{repeated('reads', rounds, reading)}{call(1, 's2, 0')}"
+    return of_threads(["write"] * writers + ["read"] * readers, code)
+
+
 def polling(rounds):
     """Thread 0 puts numbers into a word when it is 0, and thread 1 takes them and puts 0 there: each looks until it may."""
     giving = writes(get(0, "s1") + "        bne s1, zero, full\n        addi s2, s2, 1\n" + put(0, "s2") + "full:\n")
@@ -53,6 +83,9 @@ def guests():
         yield f"sequence lock, {1 + readers} threads, {rounds} rounds", sequence_lock(readers, rounds), None, None
     yield "check, then act, 3 rounds", check_then_act(2, 3), None, None
     yield "polling, 4 rounds", polling(4), 1, None
+    yield "bank, 4 threads, 4 rounds", bank(4, 4), 1, None
+    yield "philosophers, 4 threads, 2 rounds", philosophers(4, 2), 1, None
+    yield "2 readers and 2 writers, 2 rounds", readers_and_writers(2, 2, 2), None, None
     for threads, rounds in ((3, 3), (4, 4), (6, 3)):
         yield f"own objects, {threads} threads, {rounds} rounds", own_objects(threads, rounds), 1, (rounds + 1) ** threads
 
@@ -60,6 +93,8 @@ def guests():
 def large():
     """Guests of more than 10^5 states."""
     yield "lost update, 4 threads, 2 rounds", lost_update(4, 2), 7, None
+    yield "sequence lock, 3 threads, 3 rounds", sequence_lock(2, 3), None, None
+    yield "check, then act, 3 threads, 3 rounds", acting(3, 3), None, None
     yield "own objects, 8 threads, 3 rounds", own_objects(8, 3), 1, 4**8
     yield "own objects, 6 threads, 9 rounds", own_objects(6, 9), 1, 10**6
 
