@@ -3,8 +3,7 @@
 
 python3 bench/exploring.py IR [--large]
 
-A line for each guest: its outcomes, its states, the seconds, the states a second and the most memory in megabytes. With --large also the guests of
-more than 10^5 states. The status is 1 if a count isn't the one that stands here.
+A line for each guest: its outcomes, its states, the seconds, the states a second and the most memory in megabytes. With --large also guests that take longer. The status is 1 if a count isn't the one that stands here.
 """
 import argparse
 import os
@@ -91,7 +90,7 @@ def guests():
 
 
 def large():
-    """Guests of more than 10^5 states."""
+    """Guests that take longer."""
     yield "lost update, 4 threads, 2 rounds", lost_update(4, 2), 7, None
     yield "sequence lock, 3 threads, 3 rounds", sequence_lock(2, 3), None, None
     yield "check, then act, 3 threads, 3 rounds", acting(3, 3), None, None
@@ -114,7 +113,7 @@ def explored(program, folder, source):
 def main():
     parser = argparse.ArgumentParser(description=__doc__.splitlines()[0])
     parser.add_argument("program", metavar="IR", help="the built program")
-    parser.add_argument("--large", action="store_true", help="also guests of more than 10^5 states")
+    parser.add_argument("--large", action="store_true", help="also guests that take longer")
     asked = parser.parse_args()
     program, is_bad = os.path.abspath(asked.program), False
     print("| Guest | Outcomes | States | Seconds | States a second | MB |\n|---|---|---|---|---|---|")
