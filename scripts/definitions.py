@@ -53,7 +53,7 @@ contract says `Session`: there is a transcript for the lines up to the first tha
     ("What opens", """The bytes of image and trace are judged. A trace opens a ready machine exactly if some complete run of the guest has it. A step of a run can be taken
 after those before it; of what a complete run is the trace, `IsWhole` says.""",
      [("ir_debug", "Machine", "Opens"), ("ir_debug", "Machine", "OpensImage"), ("ir_debug", "Machine", "OpensTrace"), ("ir_debug", "Machine", "OpensFit"), ("ir_fit", "Fit", "IsRunOf"), ("ir_runs", "Run", "IsWhole"),
-      ("ir_fit", "Fit", "IsRefused"), ("ir_fit", "Fit", "IsRefusal")]),
+      ("ir_fit", "Fit", "IsRefused"), ("ir_fit", "Fit", "IsVerdictOnTrace")]),
     ("What a line is answered", """`Desk` is the small machine: the guest with its trace, a position of each thread, points and kept cuts. What it answers is said for each run with the
 trace. `CarriesOut` has a row for each command; what is shown is read off the run at the cut (`shown`).""",
      [("ir_debug", "Machine", "Replies"), ("ir_debug", "Machine", "RepliesBy"), ("ir_debug", "Machine", "Answers"), ("ir_debug", "Machine", "AnswersBy"),

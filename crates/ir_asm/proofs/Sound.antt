@@ -11,7 +11,7 @@ use Rattle.ir_image.specs.declared.form.ImageForm.{ImageForm}
 use Rattle.ir_image.specs.declared.form.ImageForm.TheVariants.{Large}
 use Rattle.ir_image.specs.Guest.{limits_of, Guest, code_start, memory_size, most_code_words, object_words, object_count}
 use Rattle.ir_image.specs.Bounds.{IsWord, IsByte, IsGuest, IsPlace}
-use Rattle.ir_image.proofs.CallerLemmas.{words_of_form_at_most_limit, form_has_threads, threads_of_form_at_most_limit, objects_of_form_at_most_limit, object_count_of_whole_objects, words_of_whole_objects_divide}
+use Rattle.ir_image.proofs.CallerLemmas.{words_of_form_at_most_limit, thread_limit_of_form_is_positive, threads_of_form_at_most_limit, objects_of_form_at_most_limit, words_divided_by_limit_is_object_count, words_of_whole_objects_divide}
 use Rattle.ir_asm.specs.declared.cause.Cause.TheVariants.{UnknownStatement, WrongSection, WrongOperands, BadNumber, BadSize, BadCount, BadByte, BadLabel, LabelTwice}
 use Rattle.ir_asm.specs.declared.form.Section.{Section}
 use Rattle.ir_asm.specs.declared.form.Section.TheVariants.{Text, Data}
@@ -465,7 +465,7 @@ word_count_of_announced_objects s g p = p.words ∙ length-replicate {A = ℕ} (
 
 put_object_count_within_limit : (s : Seen) (g : Guest) → IsSound s → Puts s s.placed (started s) g → object_count g ≤ (limits_of g.form).objects
 put_object_count_within_limit s g h p =
-    let count = object_count_of_whole_objects g.form (length g.words) s.objects (word_count_of_announced_objects s g p) in
+    let count = words_divided_by_limit_is_object_count g.form (length g.words) s.objects (word_count_of_announced_objects s g p) in
     let few = h.few_objects in
     subst (λ (f : ImageForm). object_count g ≤ (limits_of f).objects) (sym p.form) (omega (arith, count, few))
 
@@ -476,7 +476,7 @@ guest_with_entry_has_limits s g h some p = by_test (length g.entries == 0) refl
     by_test : (b : Bool) → (length g.entries == 0) ≡ b → HasLimits (cond b (record g { entries = code_start ∷ [] }) g)
     by_test true e = record {
       some_thread = omega arith;
-      few_threads = let one = form_has_threads g.form in omega (arith, one);
+      few_threads = let one = thread_limit_of_form_is_positive g.form in omega (arith, one);
       short_code = omega (arith, p.code, h.code, h.short_code);
       short_data = omega (arith, p.bytes, h.bytes, h.short_data);
       whole_objects = words_of_whole_objects_divide g.form (length g.words) s.objects (word_count_of_announced_objects s g p);

@@ -6,7 +6,7 @@ use Rattle.std.proofs.lemmas.List.{get_or_past}
 use Rattle.std.proofs.lemmas.Option.{slice_get_within, slice_get-get_or, get_or_from_slice_get}
 use Rattle.ir_log.specs.declared.event.Event.TheVariants.{Read}
 use Rattle.ir_fit.proofs.CallerLemmas as kept
-use Rattle.ir_fit.proofs.CallerLemmas.{length_of_placed_is_threads, emitting_thread_is_guest_thread, event_positions_are_as_many_as_events, step_at_event_position_emits_event, entry_step_is_of_event, step_of_leave_emits_leave, leave_step_is_kept}
+use Rattle.ir_fit.proofs.CallerLemmas.{length_of_placed_is_threads, emitting_thread_is_guest_thread, event_positions_are_as_many_as_events, step_at_event_position_emits_event, entry_step_is_of_event, step_of_leave_emits_leave, emitted_leave_is_placed}
 use Rattle.ir_cut.proofs.Again.{has_run_from_any_run}
 use Rattle.std.specs.Prelude.{slice_get}
 use Rattle.ir_runs.specs.Machine.{In, Out}
@@ -73,7 +73,7 @@ run_of_trace_is_listed f h run is =
           subst (λ z. Emits (machine_of f) (start_of f) run t z.position (Out z.object z.access z.version))
           (get_or_from_slice_get (placed_at (placed_of f) t).leaves e l l at) (step_of_leave_emits_leave f k t there e l inside);
       leave = λ t i o a v emitted.
-          let e = leave_step_is_kept f k t i o a v emitted in
+          let e = emitted_leave_is_placed f k t i o a v emitted in
           let d : Leave = record { position = i; object = o; access = a; version = v } in
           (e.0, slice_get-get_or (placed_at (placed_of f) t).leaves e.0 d e.1 ∙ ap Some (e.2 d));
       fall = λ t e d l r there less first second.

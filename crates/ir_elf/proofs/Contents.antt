@@ -5,7 +5,7 @@ use Rattle.std.proofs.lemmas.Bool.{cases_lt, cases_Bool, cond_both, ltb-true, lt
 use Rattle.std.proofs.lemmas.List.{get_or-take, get_or_past, get_or-replicate, length-replicate}
 use Rattle.byteorder.specs.Endian.{little_number}
 use Rattle.ir_bytes.specs.Reading.{◌>>=◌, bytes_at, fields_at}
-use Rattle.ir_bytes.proofs.CallerLemmas.{two_steps_succeed, four_steps_succeed, ok_is_injective}
+use Rattle.ir_bytes.proofs.CallerLemmas.{each_of_two_is_ok_if_bind_is_ok, each_of_four_is_ok_if_binds_are_ok, ok_is_injective}
 use Rattle.ir_image.specs.Guest.{Guest, code_start, memory_start, memory_size}
 use Rattle.ir_elf.specs.declared.part.Part.{Part}
 use Rattle.ir_elf.specs.declared.part.Part.TheVariants.{Code, Memory, Table}
@@ -28,7 +28,7 @@ use Rattle.ir_elf.proofs.Words.{length_of_words_in}
 pub segments_at_are_ordered : (file : List ℕ) (ss : List Segment) → segments_at file ≡ Ok ss → AreOrdered 0 ss
 unfolding segments_at
 segments_at_are_ordered file ss e =
-    four_steps_succeed (headers_place_at file) (λ found. bytes_at Short found.place file) (λ found before. fields_at header_at found.number before.1)
+    each_of_four_is_ok_if_binds_are_ok (headers_place_at file) (λ found. bytes_at Short found.place file) (λ found before. fields_at header_at found.number before.1)
     (λ found before headers. segments_from file 0 headers.0) ss e
     (λ found before headers e0 e1 e2 e3. segments_from_are_ordered file 0 headers.0 ss e3)
 
@@ -42,13 +42,13 @@ pub is_guest_of_if_guest_read : (ss : List Segment) (g : Guest) → guest_of ss 
 unfolding guest_of
 is_guest_of_if_guest_read ss g e =
     let p = parts_of_ok_unless (ltb 0 (code_words ss)) NoCode (table_found (code_words ss) (table_of ss) >>= λ t. Ok (guest_by ss t)) g e in
-    two_steps_succeed (table_found (code_words ss) (table_of ss)) (λ t. Ok (guest_by ss t)) g p.1 (λ t e0 e1.
+    each_of_two_is_ok_if_bind_is_ok (table_found (code_words ss) (table_of ss)) (λ t. Ok (guest_by ss t)) g p.1 (λ t e0 e1.
     record { t = t; some_code = ltb-true _ _ p.0; table = e0; guest = ok_is_injective Refusal (guest_by ss t) g e1 })
 
 pub is_guest_of_if_file_read : (file : List ℕ) (ss : List Segment) (g : Guest) → segments_at file ≡ Ok ss → elf_guest_at file ≡ Ok g → IsGuestOf ss g
 unfolding elf_guest_at
 is_guest_of_if_file_read file ss g e h =
-    two_steps_succeed (segments_at file) (λ s. guest_of s) g h (λ s e0 e1.
+    each_of_two_is_ok_if_bind_is_ok (segments_at file) (λ s. guest_of s) g h (λ s e0 e1.
     is_guest_of_if_guest_read ss g (subst (λ (x : List Segment). guest_of x ≡ Ok g) (ok_is_injective Refusal s ss (sym e0 ∙ e)) e1))
 
 -- ---- memory

@@ -4,7 +4,7 @@ use Rattle.std.specs.Prelude.{◌&&◌}
 use Rattle.std.specs.List.{AllByRecursion}
 use Rattle.std.proofs.lemmas.Bool.{leb-true, ltb-true, eqb-true, and_parts}
 use Rattle.ir_bytes.specs.Reading.{◌>>=◌, field_at, fields_at}
-use Rattle.ir_bytes.proofs.CallerLemmas.{two_steps_succeed, four_steps_succeed, test_passed_if_ok, ok_is_injective, test_true_if_no_fault, number_within_if_no_fault}
+use Rattle.ir_bytes.proofs.CallerLemmas.{each_of_two_is_ok_if_bind_is_ok, each_of_four_is_ok_if_binds_are_ok, test_passed_if_ok, ok_is_injective, test_true_if_no_fault, number_within_if_no_fault}
 use Rattle.ir_image.specs.declared.form.ImageForm.{ImageForm}
 use Rattle.ir_image.specs.declared.form.ImageForm.TheVariants.{Small, Large}
 use Rattle.ir_image.specs.Guest.{limits_of, Guest, code_start, memory_size, most_code_words, object_words, object_count}
@@ -70,7 +70,7 @@ table_parts_by form entries own = record { form = form; entries = entries; words
 pub table_read_is_within : (code : ℕ) (bytes : List ℕ) (t : TableParts) → table_at code bytes ≡ Ok t → IsWithin code t
 unfolding table_at
 table_read_is_within code bytes t e =
-    four_steps_succeed (field_at Table form_field bytes) (λ form. field_at Table (threads_field (form_of form.0)) form.1)
+    each_of_four_is_ok_if_binds_are_ok (field_at Table form_field bytes) (λ form. field_at Table (threads_field (form_of form.0)) form.1)
     (λ form threads. fields_at (entry_at code) threads.0 threads.1)
     (λ form threads entries. cond (are_objects (form_of form.0) (length entries.1)) (Ok (table_parts_by (form_of form.0) entries.0 entries.1)) (Err Table))
     t e (λ form threads entries e0 e1 e2 e3.
@@ -134,7 +134,7 @@ unfolding guest_of
 guest_of_segments_has_limits segments g short_code short_data whole e =
     let p = parts_of_ok_unless (ltb 0 (code_words segments)) NoCode
     (table_found (code_words segments) (table_of segments) >>= λ t. Ok (guest_by segments t)) g e in
-    two_steps_succeed (table_found (code_words segments) (table_of segments)) (λ t. Ok (guest_by segments t)) g p.1 (λ t e0 e1.
+    each_of_two_is_ok_if_bind_is_ok (table_found (code_words segments) (table_of segments)) (λ t. Ok (guest_by segments t)) g p.1 (λ t e0 e1.
     let w = table_found_is_within (code_words segments) (table_of segments) t e0 in
     let count = length_of_words_in_taken_memory (code_words segments) (code_memory segments) whole short_code in
     subst HasLimits (ok_is_injective Refusal (guest_by segments t) g e1) (record {

@@ -3,7 +3,7 @@ use Rattle.std.proofs.Common.{◌≡◌, ℕ, ◌+◌, ◌-◌, ◌≤◌, cond,
 use Rattle.std.proofs.lemmas.Bool.{leb-true, and_parts}
 use Rattle.std.proofs.lemmas.Option.{same_Some}
 use Rattle.ir_bytes.specs.Reading.{◌>>=◌, bytes_at}
-use Rattle.ir_bytes.proofs.CallerLemmas.{two_steps_succeed, three_steps_succeed, guard_passed_if_ok, ok_is_injective, conditional_cases, bytes_at_gives_parts}
+use Rattle.ir_bytes.proofs.CallerLemmas.{each_of_two_is_ok_if_bind_is_ok, each_of_three_is_ok_if_binds_are_ok, guard_passed_if_ok, ok_is_injective, conditional_cases, bytes_at_gives_parts}
 use Rattle.ir_elf.specs.declared.part.Part.{Part}
 use Rattle.ir_elf.specs.declared.part.Part.TheVariants.{Code, Memory, Table}
 use Rattle.ir_elf.specs.declared.refusal.Refusal.{Refusal}
@@ -59,8 +59,8 @@ header_fits_part_of h part e =
 length_of_bytes_from : (place n : ℕ) (file own : List ℕ) → bytes_from place n file ≡ Ok own → length own ≡ n
 unfolding bytes_from
 length_of_bytes_from place n file own e =
-    two_steps_succeed (bytes_at Short place file) (λ before. bytes_at Short n before.1 >>= λ x. Ok x.0) own e (λ before e0 e1.
-    two_steps_succeed (bytes_at Short n before.1) (λ x. Ok x.0) own e1 (λ x e2 e3.
+    each_of_two_is_ok_if_bind_is_ok (bytes_at Short place file) (λ before. bytes_at Short n before.1 >>= λ x. Ok x.0) own e (λ before e0 e1.
+    each_of_two_is_ok_if_bind_is_ok (bytes_at Short n before.1) (λ x. Ok x.0) own e1 (λ x e2 e3.
     let p = bytes_at_gives_parts Short n before.1 x e2 in
     subst (λ (y : List ℕ). length y ≡ n) (ok_is_injective Refusal x.0 own e3) (ap length p.prefix ∙ length-take-le n before.1 p.long)))
 
@@ -70,7 +70,7 @@ segment_of_header own part h = record { part = part; place = h.address - start_o
 segment_at_is_next : (file : List ℕ) (last : ℕ) (h : Header) (s : Segment) → segment_at file last h ≡ Ok s → IsNext last s
 unfolding segment_at
 segment_at_is_next file last h s e =
-    three_steps_succeed (bytes_from h.place h.length file) (λ own. part_of h)
+    each_of_three_is_ok_if_binds_are_ok (bytes_from h.place h.length file) (λ own. part_of h)
     (λ own part. unless (leb last h.address) Order (unless (is_protected part h.flags) Writable (Ok (segment_of_header own part h)))) s e
     (λ own part e0 e1 e2.
     let a = parts_of_ok_unless (leb last h.address) Order (unless (is_protected part h.flags) Writable (Ok (segment_of_header own part h))) s e2 in
@@ -100,7 +100,7 @@ loaded_segment_is_next_if_some : (file : List ℕ) (last : ℕ) (h : Header) (fi
 loaded_segment_is_next_if_some file last h first e =
     let g = guard_passed_if_ok (is_refused h.kind) Dynamic (cond (is_loaded h) (segment_at file last h >>= λ s. Ok (Some s)) (Ok None)) first e in
     conditional_cases (is_loaded h) (segment_at file last h >>= λ s. Ok (Some s)) (Ok None) (Ok first) g.1
-    (λ t e1. two_steps_succeed (segment_at file last h) (λ s. Ok (Some s)) first e1 (λ s e2 e3.
+    (λ t e1. each_of_two_is_ok_if_bind_is_ok (segment_at file last h) (λ s. Ok (Some s)) first e1 (λ s e2 e3.
     is_next_if_some_of_equal last (Some s) first (segment_at_is_next file last h s e2) (ok_is_injective Refusal (Some s) first e3)))
     (λ f e1. is_next_if_some_of_equal last None first tt (ok_is_injective Refusal None first e1))
 
@@ -112,7 +112,7 @@ with_first_is_ordered last (Some s) others p q = (p, q)
 pub segments_from_are_ordered : (file : List ℕ) (last : ℕ) (hs : List Header) (ss : List Segment) → segments_from file last hs ≡ Ok ss → AreOrdered last ss
 segments_from_are_ordered file last [] ss e = subst (AreOrdered last) (ok_is_injective Refusal [] ss e) tt
 segments_from_are_ordered file last (h ∷ hs) ss e =
-    three_steps_succeed (loaded_at file last h) (λ first. segments_from file (end_after last first) hs) (λ first others. Ok (with_first first others)) ss e
+    each_of_three_is_ok_if_binds_are_ok (loaded_at file last h) (λ first. segments_from file (end_after last first) hs) (λ first others. Ok (with_first first others)) ss e
     (λ first others e0 e1 e2.
     subst (AreOrdered last) (ok_is_injective Refusal (with_first first others) ss e2)
     (with_first_is_ordered last first others (loaded_segment_is_next_if_some file last h first e0) (segments_from_are_ordered file (end_after last first) hs others e1)))

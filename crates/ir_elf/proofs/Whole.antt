@@ -7,7 +7,7 @@ use Rattle.std.proofs.lemmas.Option.{same_Some}
 use Rattle.std.proofs.lemmas.List.Concat.{flat_map-cons}
 use Rattle.byteorder.specs.Endian.{little_bytes, little_number}
 use Rattle.ir_bytes.specs.Reading.{◌>>=◌, bytes_at, field_at, fields_at}
-use Rattle.ir_bytes.proofs.CallerLemmas.{two_steps_succeed, three_steps_succeed, four_steps_succeed, guard_passed_if_ok, test_passed_if_ok, ok_is_injective, conditional_cases, test_true_if_no_fault, number_within_if_no_fault, IsBytes, drop_of_bytes_is_bytes, prefix_encodes_number, bytes_are_bytes_of_their_number, Takes, field_at_takes_field, bytes_at_takes_bytes, fields_at_takes_fields}
+use Rattle.ir_bytes.proofs.CallerLemmas.{each_of_two_is_ok_if_bind_is_ok, each_of_three_is_ok_if_binds_are_ok, each_of_four_is_ok_if_binds_are_ok, guard_passed_if_ok, test_passed_if_ok, ok_is_injective, conditional_cases, test_true_if_no_fault, number_within_if_no_fault, IsBytes, drop_of_bytes_is_bytes, prefix_encodes_number, bytes_are_bytes_of_their_number, Takes, field_at_takes_field, bytes_at_takes_bytes, fields_at_takes_fields}
 use Rattle.ir_image.specs.declared.form.ImageForm.{ImageForm}
 use Rattle.ir_image.specs.declared.form.ImageForm.TheVariants.{Small, Large}
 use Rattle.ir_image.specs.Guest.{limits_of, Guest, most_code_words}
@@ -55,8 +55,8 @@ bytes_over_bytes_are_bytes place own all p q =
 bytes_from_are_bytes : (place n : ℕ) (file own : List ℕ) → IsBytes file → bytes_from place n file ≡ Ok own → IsBytes own
 unfolding bytes_from
 bytes_from_are_bytes place n file own fits e =
-    two_steps_succeed (bytes_at refusal.Short place file) (λ before. bytes_at refusal.Short n before.1 >>= λ x. Ok x.0) own e (λ before e0 e1.
-    two_steps_succeed (bytes_at refusal.Short n before.1) (λ x. Ok x.0) own e1 (λ x e2 e3.
+    each_of_two_is_ok_if_bind_is_ok (bytes_at refusal.Short place file) (λ before. bytes_at refusal.Short n before.1 >>= λ x. Ok x.0) own e (λ before e0 e1.
+    each_of_two_is_ok_if_bind_is_ok (bytes_at refusal.Short n before.1) (λ x. Ok x.0) own e1 (λ x e2 e3.
     let p = bytes_at_takes_bytes refusal.Short place file before fits e0 in
     let q = bytes_at_takes_bytes refusal.Short n before.1 x p.takes.rest_fits e2 in
     subst IsBytes (ok_is_injective Refusal x.0 own e3) q.fit))
@@ -67,7 +67,7 @@ HasBytes s = IsBytes s.bytes
 segment_at_has_bytes : (file : List ℕ) (last : ℕ) (h : Header) (s : Segment) → IsBytes file → segment_at file last h ≡ Ok s → HasBytes s
 unfolding segment_at
 segment_at_has_bytes file last h s fits e =
-    three_steps_succeed (bytes_from h.place h.length file) (λ own. part_of h)
+    each_of_three_is_ok_if_binds_are_ok (bytes_from h.place h.length file) (λ own. part_of h)
     (λ own part. unless (leb last h.address) refusal.Order (unless (is_protected part h.flags) refusal.Writable (Ok (segment_of_header own part h)))) s e
     (λ own part e0 e1 e2.
     let a = parts_of_ok_unless (leb last h.address) refusal.Order (unless (is_protected part h.flags) refusal.Writable (Ok (segment_of_header own part h))) s e2 in
@@ -82,7 +82,7 @@ loaded_at_has_bytes : (file : List ℕ) (last : ℕ) (h : Header) (first : Optio
 loaded_at_has_bytes file last h first fits e =
     let g = guard_passed_if_ok (is_refused h.kind) refusal.Dynamic (cond (is_loaded h) (segment_at file last h >>= λ s. Ok (Some s)) (Ok None)) first e in
     conditional_cases (is_loaded h) (segment_at file last h >>= λ s. Ok (Some s)) (Ok None) (Ok first) g.1
-    (λ t e1. two_steps_succeed (segment_at file last h) (λ s. Ok (Some s)) first e1 (λ s e2 e3.
+    (λ t e1. each_of_two_is_ok_if_bind_is_ok (segment_at file last h) (λ s. Ok (Some s)) first e1 (λ s e2 e3.
     subst FirstHasBytes (ok_is_injective Refusal (Some s) first e3) (segment_at_has_bytes file last h s fits e2)))
     (λ f e1. subst FirstHasBytes (ok_is_injective Refusal None first e1) tt)
 
@@ -95,7 +95,7 @@ segments_from_have_bytes : (file : List ℕ) (last : ℕ) (hs : List Header) (ss
     → AllByRecursion HasBytes ss
 segments_from_have_bytes file last [] ss fits e = subst (AllByRecursion HasBytes) (ok_is_injective Refusal [] ss e) tt
 segments_from_have_bytes file last (h ∷ hs) ss fits e =
-    three_steps_succeed (loaded_at file last h) (λ first. segments_from file (end_after last first) hs) (λ first others. Ok (with_first first others)) ss e
+    each_of_three_is_ok_if_binds_are_ok (loaded_at file last h) (λ first. segments_from file (end_after last first) hs) (λ first others. Ok (with_first first others)) ss e
     (λ first others e0 e1 e2.
     subst (AllByRecursion HasBytes) (ok_is_injective Refusal (with_first first others) ss e2)
     (with_first_have_bytes first others (loaded_at_has_bytes file last h first fits e0) (segments_from_have_bytes file (end_after last first) hs others fits e1)))
@@ -103,7 +103,7 @@ segments_from_have_bytes file last (h ∷ hs) ss fits e =
 segments_at_have_bytes : (file : List ℕ) (ss : List Segment) → IsBytes file → segments_at file ≡ Ok ss → AllByRecursion HasBytes ss
 unfolding segments_at
 segments_at_have_bytes file ss fits e =
-    four_steps_succeed (headers_place_at file) (λ found. bytes_at refusal.Short found.place file)
+    each_of_four_is_ok_if_binds_are_ok (headers_place_at file) (λ found. bytes_at refusal.Short found.place file)
     (λ found before. fields_at header_at found.number before.1) (λ found before headers. segments_from file 0 headers.0) ss e
     (λ found before headers e0 e1 e2 e3. segments_from_have_bytes file 0 headers.0 ss fits e3)
 
@@ -176,7 +176,7 @@ append_of_four_parts a b c d e x y z w p q r s =
 table_is_encoding_of_parts : (code : ℕ) (bytes : List ℕ) (t : TableParts) → IsBytes bytes → table_at code bytes ≡ Ok t → bytes ≡ table_parts_encoding t
 unfolding table_at
 table_is_encoding_of_parts code bytes t fits e =
-    four_steps_succeed (field_at refusal.Table form_field bytes) (λ form. field_at refusal.Table (threads_field (form_of form.0)) form.1)
+    each_of_four_is_ok_if_binds_are_ok (field_at refusal.Table form_field bytes) (λ form. field_at refusal.Table (threads_field (form_of form.0)) form.1)
     (λ form threads. fields_at (entry_at code) threads.0 threads.1)
     (λ form threads entries. cond (are_objects (form_of form.0) (length entries.1)) (Ok (table_parts_by (form_of form.0) entries.0 entries.1))
     (Err refusal.Table)) t e (λ form threads entries e0 e1 e2 e3.
@@ -228,7 +228,7 @@ greatest_held_in_memory_within_part (s ∷ ss) last o =
 table_words_are_words : (code : ℕ) (bytes : List ℕ) (t : TableParts) → IsBytes bytes → table_at code bytes ≡ Ok t → AllByRecursion IsWord t.words
 unfolding table_at
 table_words_are_words code bytes t fits e =
-    four_steps_succeed (field_at refusal.Table form_field bytes) (λ form. field_at refusal.Table (threads_field (form_of form.0)) form.1)
+    each_of_four_is_ok_if_binds_are_ok (field_at refusal.Table form_field bytes) (λ form. field_at refusal.Table (threads_field (form_of form.0)) form.1)
     (λ form threads. fields_at (entry_at code) threads.0 threads.1)
     (λ form threads entries. cond (are_objects (form_of form.0) (length entries.1)) (Ok (table_parts_by (form_of form.0) entries.0 entries.1))
     (Err refusal.Table)) t e (λ form threads entries e0 e1 e2 e3.
@@ -264,5 +264,5 @@ guest_of_segments_is_guest ss g o have e =
 pub elf_guest_is_guest : (file : List ℕ) (g : Guest) → AllByRecursion IsByte file → elf_guest_at file ≡ Ok g → IsGuest g
 unfolding elf_guest_at
 elf_guest_is_guest file g fits e =
-    two_steps_succeed (segments_at file) (λ s. guest_of s) g e (λ ss e0 e1.
+    each_of_two_is_ok_if_bind_is_ok (segments_at file) (λ s. guest_of s) g e (λ ss e0 e1.
     guest_of_segments_is_guest ss g (segments_at_are_ordered file ss e0) (segments_at_have_bytes file ss fits e0) e1)

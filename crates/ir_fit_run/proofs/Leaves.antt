@@ -17,7 +17,7 @@ use Rattle.ir_fit.specs.Fit.{FittedTrace, HasRun}
 use Rattle.ir_fit.specs.Placed.{placed_at, placed_of}
 use Rattle.ir_fit.specs.Within.{IsFitted}
 use Rattle.ir_fit.specs.declared.leave.Leave.{Leave}
-use Rattle.ir_fit.proofs.CallerLemmas.{event_positions_are_as_many_as_events, event_position_below_steps, get_or_is_item_if_at_index, step_of_leave_emits_leave, leave_step_is_kept, leave_positions_rise}
+use Rattle.ir_fit.proofs.CallerLemmas.{event_positions_are_as_many_as_events, event_position_below_steps, get_or_is_item_if_at_index, step_of_leave_emits_leave, emitted_leave_is_placed, leave_positions_rise}
 use Rattle.ir_cut.specs.Positions.{EachRun, machine_of, start_of}
 use Rattle.ir_cut.proofs.CallerLemmas.{trail_same_in_runs_of_trace}
 use Rattle.ir_past.specs.Past.{event_at, entered}
@@ -63,7 +63,7 @@ leaving_step_is_listed : (f : FittedTrace) (h : HasRun f) (t from : ℕ) (ls : L
     → LeavesFrom f t from o a v k
     → (i : ℕ) × (start ≤ i) × (i < length ls) × ((d : Leave) → get_or ls i d ≡ record { position = k; object = o; access = a; version = v })
 leaving_step_is_listed f h t from ls start o a v k x at =
-    let found = leave_step_is_kept f h t k o a v (at.1 h.run h.whole) in
+    let found = emitted_leave_is_placed f h t k o a v (at.1 h.run h.whole) in
     let same = x.leaves in
     let p : Leave = record { position = k; object = o; access = a; version = v } in
     let within : found.0 < length ls = subst (λ (z : List Leave). found.0 < length z) (sym same) found.1 in

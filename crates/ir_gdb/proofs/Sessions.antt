@@ -94,16 +94,13 @@ pub connected_by_known_input_if_ready : (image trace : List ℕ) (d : Desk) (res
 connected_by_known_input_if_ready image trace d result a w w' opens p = if_served_of_implied result _ _ (if_some_of_implied a _ _
     (λ input serves_if_leads_to. record { opening = opening.Ready d; opens = opens; connects = serves_if_leads_to })) p
 
-if_refused_from_absurd : (result : Result Ended SessionErr) (P : Type 0) → IfRefused result ⊥ → IfRefused result P
-if_refused_from_absurd (Ok ended.Quit) P p = tt
-if_refused_from_absurd (Ok ended.InputEnd) P p = tt
-if_refused_from_absurd (Ok ended.ImageRefused) P p = absurd p
-if_refused_from_absurd (Ok ended.TraceRefused) P p = absurd p
-if_refused_from_absurd (Ok ended.NotFit) P p = absurd p
-if_refused_from_absurd (Err e) P p = tt
-
 pub if_refused_holds_if_never : (result : Result Ended SessionErr) (P : Type 0) → IfRefused result ⊥ → IfRefused result P
-if_refused_holds_if_never result P p = if_refused_from_absurd result P p
+if_refused_holds_if_never (Ok ended.Quit) P p = tt
+if_refused_holds_if_never (Ok ended.InputEnd) P p = tt
+if_refused_holds_if_never (Ok ended.ImageRefused) P p = absurd p
+if_refused_holds_if_never (Ok ended.TraceRefused) P p = absurd p
+if_refused_holds_if_never (Ok ended.NotFit) P p = absurd p
+if_refused_holds_if_never (Err e) P p = tt
 
 -- ---- nothing was opened
 

@@ -1,7 +1,7 @@
 -- The form of the image that threads are of.
 use Rattle.std.proofs.Common.{◌≡◌, ◌<◌, ◌+◌, ℕ, zero, suc, List, [], ◌∷◌, length, get_or, refl, sym, ap, ◌∙◌, subst, arith}
 use Rattle.std.specs.List.{AllByRecursion, range_with_len}
-use Rattle.ir_lemmas.proofs.CallerLemmas.{element_of_all_by_recursion, length_of_map}
+use Rattle.ir_lemmas.proofs.CallerLemmas.{get_or_element_satisfies_all_by_recursion, length_of_map}
 use Rattle.ir_image.specs.Guest.{Guest}
 use Rattle.ir_image.specs.declared.form.ImageForm.{ImageForm}
 use Rattle.ir_thread.specs.State.{ThreadState, most_budget}
@@ -21,7 +21,7 @@ all_by_recursion_of_elements P (x ∷ xs) d each = (each zero (omega arith), all
 pub have_form_of_like_moment : (form : ImageForm) (f g : Flat) → IsLike f g → HaveForm form f.threads → HaveForm form g.threads
 have_form_of_like_moment form f g like all = all_by_recursion_of_elements (λ (s : ThreadState). s.form ≡ form) g.threads idle (λ n lt.
     sym (like.twins n).form
-    ∙ element_of_all_by_recursion (λ (s : ThreadState). s.form ≡ form) f.threads n idle all (subst (λ k. n < k) like.threads lt))
+    ∙ get_or_element_satisfies_all_by_recursion (λ (s : ThreadState). s.form ≡ form) f.threads n idle all (subst (λ k. n < k) like.threads lt))
 
 pub start_threads_have_form : (guest : Guest) (budget : ℕ) (profile : Profile) (from n : ℕ) → HaveForm guest.form (start_threads guest budget profile from n)
 start_threads_have_form guest budget profile from zero = tt

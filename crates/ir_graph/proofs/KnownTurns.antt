@@ -8,7 +8,7 @@ use Rattle.ir_thread.specs.State.{ThreadState, ask_of}
 use Rattle.ir_flat.specs.Flat.{cell_of}
 use Rattle.ir_store.specs.Table.{idle_beside, Keeps}
 use Rattle.ir_store.specs.Nodes.{Shared, SourcedFlat, sourced_thread, cell_in, Grows}
-use Rattle.ir_store.proofs.CallerLemmas.{all_by_recursion_weaker, found_element_of_all_by_recursion, all_by_recursion_after_push, kept_element_is_equal, place_below_length_kept}
+use Rattle.ir_store.proofs.CallerLemmas.{all_by_recursion_weaker, slice_get_element_satisfies_all_by_recursion, all_by_recursion_after_push, kept_element_is_equal, place_below_length_kept}
 use Rattle.ir_graph.specs.declared.known.Turn.{Turn}
 use Rattle.ir_graph.specs.Ahead.{IsTurn, AreTurns, IsTurnOf}
 use Rattle.ir_graph.specs.Lone.{TakesTurn}
@@ -45,7 +45,7 @@ module _ (code : List ℕ) (old new : Shared) (grows : Grows old new) where
 
 pub listed_turn_is_turn : (code : List ℕ) (shared : Shared) (turns : List Turn) (i : ℕ) (turn : Turn) → AreTurns code shared turns
     → slice_get turns i ≡ Some turn → IsTurn code shared turn
-listed_turn_is_turn code shared turns i turn all at = found_element_of_all_by_recursion (IsTurn code shared) turns i turn all at
+listed_turn_is_turn code shared turns i turn all at = slice_get_element_satisfies_all_by_recursion (IsTurn code shared) turns i turn all at
 
 pub are_turns_after_turn_added : (code : List ℕ) (shared : Shared) (turns new : List Turn) (turn : Turn) → AreTurns code shared turns
     → IsTurn code shared turn → (new ≡ turns) ⊎ (new ≡ turns ++ turn ∷ []) → AreTurns code shared new

@@ -20,7 +20,7 @@ use Rattle.ir_sources.specs.Sources.{Source, given}
 use Rattle.ir_flat.specs.Flat.{Flat, IsFlat, thread_of, cell_of, tables, machine, idle}
 use Rattle.ir_flat.specs.Room.{empty}
 use Rattle.ir_flat.specs.Next.{with_thread, with_object, next, MayStep, MayTry}
-use Rattle.ir_flat.proofs.CallerLemmas.{next_is_flat, tables_of_next_are_after, may_step_is_can_for_ask, entered_fields_fit, left_fields_fit, flat_inside_thread_can_leave}
+use Rattle.ir_flat.proofs.CallerLemmas.{next_is_flat, tables_of_next_are_after, may_step_iff_can_for_ask, entered_fields_fit, left_fields_fit, flat_inside_thread_can_leave}
 use Rattle.ir_thread.proofs.CallerLemmas.{ask_of_permitted}
 use Rattle.ir_runs.specs.declared.access.Access.{Access}
 use Rattle.ir_runs.specs.declared.access.Access.TheVariants.{Writing}
@@ -151,7 +151,7 @@ module _ (s : SourcedFlat) (t o : ℕ) (refused : Bool) (state : IsSourced s) (l
           each = length-set s.sources t (left_of given (shared_ask q) (source_of s t)) ∙ state.each
               ∙ sym (length-set f.threads t (after_ask f.code (thread_of f t) q (answer_from refused (cell_of f o) (source_of s t) q)));
         };
-        can = (may_step_is_can_for_ask f t r q state.flat less refl).0 may;
+        can = (may_step_iff_can_for_ask f t r q state.flat less refl).0 may;
         is = full_after_step_if_source_is_set s after_lone_step t r each (ap tables (sym made) ∙ tables_of_next_are_after f t r q state.flat less refl may) refl;
         code = refl;
         threads = length-set f.threads t (after_ask f.code (thread_of f t) q (answer_from refused (cell_of f o) (source_of s t) q));

@@ -4,7 +4,7 @@ use Rattle.std.specs.Prelude.{◌==◌, replicate}
 use Rattle.ir_runs.specs.Machine as machine
 use Rattle.ir_runs.specs.Machine.{target, reply, upd}
 use Rattle.ir_runs.specs.Run.{State, Step, act, Can, after, end, IsRun}
-use Rattle.ir_runs.proofs.CallerLemmas.{upd_by_cases, upd_with_old_value, thread_after_step_of_other, end_append}
+use Rattle.ir_runs.proofs.CallerLemmas.{property_of_upd_by_cases, upd_with_old_value, thread_after_step_of_other, end_append}
 use Rattle.ir_states.specs.Counting.{IsAnswered, is_own}
 use Rattle.ir_states.specs.Sources.{answer_of, left_of}
 use Rattle.ir_states.specs.Views.{beside}
@@ -317,7 +317,7 @@ twins_symmetric x y a = record { number = sym a.number; profile = sym a.profile;
 twins_after_step : (code : List ℕ) (s : State thread.ThreadState) (e : Step) (u : ℕ) → AreTwins (s.now u) ((after (thread_machine code) s e).now u)
 unfolding after after_reply
 twins_after_step code s e u =
-    upd_by_cases s.now e.0 _ u (λ x. AreTwins (s.now u) x)
+    property_of_upd_by_cases s.now e.0 _ u (λ x. AreTwins (s.now u) x)
     (λ same. subst (λ z. AreTwins (s.now z) (after_reply code (s.now e.0) (reply_of (ask_of code (s.now e.0))
     (reply (act (thread_machine code) s e) (s.objects (target (act (thread_machine code) s e))))))) (sym same)
     (twins_after_ask code (s.now e.0) (ask_of code (s.now e.0)) _))

@@ -9,7 +9,7 @@ use Rattle.ir_thread.specs.State.{ThreadState, held_at, ask_of, after_reply, rep
 use Rattle.ir_thread.specs.Permitted.{step_of, run_of}
 use Rattle.ir_thread.specs.Private.{UnmarkedSteps}
 use Rattle.ir_thread.specs.declared.ask.Ask.TheVariants as ask
-use Rattle.ir_thread.proofs.CallerLemmas.{private_steps_prefix, held_after_private_steps, unmarked_steps_prefix, thread_unmarked_step_begins_unmarked, thread_memory_after_unmarked_steps}
+use Rattle.ir_thread.proofs.CallerLemmas.{private_steps_prefix, held_after_private_steps, unmarked_steps_prefix, thread_unmarked_step_begins_unmarked, thread_memory_is_unchanged_by_unmarked_steps}
 use Rattle.ir_flat.specs.Flat.{Flat, thread_of}
 use Rattle.ir_fit.specs.Fit.{FittedTrace, IsRunOf}
 use Rattle.ir_cut.specs.Positions.{machine_of, start_of}
@@ -76,7 +76,7 @@ memory_within_stretch : (f : FittedTrace) (run : List Step) (code : Marked) (poi
 memory_within_stretch f run code points t j n k x y (Break u address) s le c w = absurd w
 memory_within_stretch f run code points t j n k x y (Watch u address) s le c w =
     ap (λ (z : ThreadState). z.core.memory) (thread_within_stretch f run code points t j n k x y s le)
-    ∙ thread_memory_after_unmarked_steps code k x (run_of code.words k x) (c w) (unmarked_steps_prefix code k n x y le s.steps)
+    ∙ thread_memory_is_unchanged_by_unmarked_steps code k x (run_of code.words k x) (c w) (unmarked_steps_prefix code k n x y le s.steps)
 memory_within_stretch f run code points t j n k x y (WatchObject object) s le c w = absurd w
 
 -- ---- no point hits between

@@ -1,6 +1,6 @@
 -- What callers may cite of pictures.
 -- each box of a trace ends before the later ones begin
-pub use Rattle.ir_lemmas.proofs.CallerLemmas.{append_of_four_texts}
+pub use Rattle.ir_lemmas.proofs.CallerLemmas.{four_appends_nest_to_the_right}
 pub use Rattle.ir_picture.proofs.Cuts.{boxes_are_apart}
 -- the picture of a trace has boxes of the trace in their order, an end for each thread, and stale writes by rising thread and event
 pub use Rattle.ir_picture.proofs.OfTrace.{picture_is_of_trace}

@@ -1,7 +1,7 @@
 -- Texts that are put one after the other.
 use Rattle.std.proofs.Common.{◌≡◌, ℕ, suc, ◌+◌, ◌<◌, ◌≤◌, List, [], ◌∷◌, ◌++◌, codes, decimal, length, drop, flat_map, get_or, refl, sym, ap, ◌∙◌, append_assoc, append-nil, arith}
 use Rattle.std.proofs.lemmas.List.{at_drop_more, at_drop_all}
-use Rattle.ir_lemmas.proofs.CallerLemmas.{text_split_after_put, append_of_four_texts}
+use Rattle.ir_lemmas.proofs.CallerLemmas.{append_of_written_and_left_step, four_appends_nest_to_the_right}
 use Rattle.ir_trace.specs.Recorded.{Recorded, RecordedThread}
 use Rattle.ir_log.specs.declared.event.Event.{Event}
 use Rattle.ir_picture.specs.Numbers.{comma, row_start, rows_from, first_numbers, place_numbers, row_with, with_commas, thread_row, thread_rows}
@@ -17,7 +17,7 @@ use Rattle.ir_picture.specs.declared.sights.Sight.{Sight}
 pub text_split_after_two_puts : (so_far one two left more text mid new : List ℕ) → so_far ++ left ≡ text → left ≡ one ++ (two ++ more) → mid ≡ so_far ++ one
     → new ≡ mid ++ two → new ++ more ≡ text
 text_split_after_two_puts so_far one two left more text mid new e first made last =
-    text_split_after_put mid two (two ++ more) more text new (text_split_after_put so_far one left (two ++ more) text mid e first made) refl last
+    append_of_written_and_left_step mid two (two ++ more) more text new (append_of_written_and_left_step so_far one left (two ++ more) text mid e first made) refl last
 
 -- ---- texts that are put one after the other
 
@@ -28,7 +28,7 @@ append_of_three_texts old a b c one two three x y z = z ∙ ap (λ (w : List ℕ
 pub append_of_five_texts : (old a b c d e one two three four five : List ℕ) → one ≡ old ++ a → two ≡ one ++ b → three ≡ two ++ c → four ≡ three ++ d
     → five ≡ four ++ e → five ≡ old ++ (a ++ (b ++ (c ++ (d ++ e))))
 append_of_five_texts old a b c d e one two three four five x y z w v =
-    append_of_four_texts old a b c (d ++ e) one two three five x y z (v ∙ ap (λ (u : List ℕ). u ++ e) w ∙ append_assoc three d e)
+    four_appends_nest_to_the_right old a b c (d ++ e) one two three five x y z (v ∙ ap (λ (u : List ℕ). u ++ e) w ∙ append_assoc three d e)
 
 -- ---- texts with a comma between
 

@@ -19,7 +19,7 @@ use Rattle.ir_thread.specs.declared.ask.Ask.TheVariants as ask
 use Rattle.ir_object.specs.Cell.{Cell}
 use Rattle.ir_object.specs.Order.{Shared, of_thread, order_labels, IsAllowed}
 use Rattle.ir_object.proofs.CallerLemmas.{legal_order_is_allowed, no_steps_of_missing_thread}
-use Rattle.ir_image.proofs.CallerLemmas.{element_of_padded}
+use Rattle.ir_image.proofs.CallerLemmas.{get_or_zero_of_padded_is_unchanged}
 use Rattle.ir_crew.specs.Ends.{AreTracks, IsEnd}
 use Rattle.ir_crew.specs.Plays.{M}
 use Rattle.ir_crew.specs.Rule.{View, IsTrack, start_objects}
@@ -66,7 +66,7 @@ take_of_empty zero = refl
 take_of_empty (suc k) = refl
 
 first_words_of_missing_object_are_zero : (g : Guest) (o j : ℕ) → IsGuest g → object_count g ≤ o → get_or (first_words g o) j 0 ≡ 0
-first_words_of_missing_object_are_zero g o j guest past = element_of_padded (take (object_words g) (drop (object_words g * o) g.words)) j
+first_words_of_missing_object_are_zero g o j guest past = get_or_zero_of_padded_is_unchanged (take (object_words g) (drop (object_words g * o) g.words)) j
     ∙ ap (λ ws. get_or (take (object_words g) ws) j 0)
     (drop_past_length_is_empty (object_words g * o) g.words (words_end_before_missing_object g.form (length g.words) o guest.whole_objects past))
     ∙ ap (λ ws. get_or ws j 0) (take_of_empty (object_words g))

@@ -15,7 +15,7 @@ use Rattle.ir_thread.proofs.CallerLemmas.{ask_of_permitted}
 use Rattle.ir_runs.specs.Machine.{Admits, target}
 use Rattle.ir_flat.specs.Flat.{Flat, thread_of, tables, machine, idle, start_flat, start_threads}
 use Rattle.ir_runs.specs.Run.{State, Step, asked, Can, IsRun, end, log, IsDone, rounds, HasNone}
-use Rattle.ir_flat.proofs.CallerLemmas.{start_thread_is_fresh, length_of_start_threads, length_of_start_cells, nothing_is_stuck, guest_start_is_idle, shared_done_is_done}
+use Rattle.ir_flat.proofs.CallerLemmas.{start_thread_is_fresh, length_of_start_threads, length_of_start_cells, guest_run_can_step_unless_done, guest_start_is_idle, ask_is_done_if_shared_ask_is_done}
 use Rattle.ir_runs.proofs.CallerLemmas.{idle_after_run}
 use Rattle.ir_log.specs.Logged.{Logged}
 use Rattle.ir_log.specs.Logging.{label_of}
@@ -81,7 +81,7 @@ done_if_no_thread_has_step guest budget profile run ok none t =
     let s : State thread.ThreadState = end (thread_machine guest.code) (tables (start_flat guest budget profile)) run in
     elim (ask_is_done_or_not (asked (thread_machine guest.code) s t)) [
       | inl e ↦ e
-      | inr ne ↦ absurd (stuck (nothing_is_stuck guest budget profile run ok t ne))
+      | inr ne ↦ absurd (stuck (guest_run_can_step_unless_done guest budget profile run ok t ne))
     ]
   where
     stuck : ((u : ℕ) × Can (thread_machine guest.code) (end (thread_machine guest.code) (tables (start_flat guest budget profile)) run) (u, 0)) → ⊥
@@ -95,7 +95,7 @@ done_if_no_thread_has_step guest budget profile run ok none t =
 
 -- a thread that is done has ended
 done_thread_has_ended : (code : List ℕ) (x : thread.ThreadState) → shared_ask (ask_of code x) ≡ machine.Done → x.ended ≢ None
-done_thread_has_ended code x e = (subst (Permits x) (shared_done_is_done (ask_of code x) e) (ask_of_permitted code x)).0
+done_thread_has_ended code x e = (subst (Permits x) (ask_is_done_if_shared_ask_is_done (ask_of code x) e) (ask_of_permitted code x)).0
 
 -- ---- the whole recording
 

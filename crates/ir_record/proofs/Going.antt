@@ -10,7 +10,7 @@ use Rattle.ir_flat.specs.Alone.{WentAlone}
 use Rattle.ir_flat.specs.Flat.{Flat, tables, machine, IsFlat}
 use Rattle.ir_runs.specs.Run.{State, Step, Can, after, label, end, join_if, events, log, EntersIfFree, rounds, HasNone}
 use Rattle.ir_runs.specs.Orders.{InTurn}
-use Rattle.ir_runs.proofs.CallerLemmas.{log_append, end_append, turns_append}
+use Rattle.ir_runs.proofs.CallerLemmas.{log_append, end_append, in_turn_of_append}
 use Rattle.ir_record.specs.Ahead.{lead, IsAhead, all_ahead, NoneAhead, Went, WentIf}
 use Rattle.ir_record.specs.Progress.{Progress, Took, TookIf, all_left, labels_at}
 use Rattle.ir_record.specs.Worlds.{answers_at, answers_in}
@@ -217,7 +217,7 @@ went_through_both_orders order more s a b e c d f p q =
     λ u. log_append (machine a.flat) s p.run q.run u ∙ ap (λ z. log (machine a.flat) s p.run u ++ z) (sym (there u)) in
     record {
       run = p.run ++ q.run;
-      turns = turns_append (machine a.flat) s order more p.run q.run p.turns
+      turns = in_turn_of_append (machine a.flat) s order more p.run q.run p.turns
           (subst (λ k. InTurn (thread_machine k) (reached p) more q.run) p.code q.turns);
       ahead = subst (λ z. IsAhead (machine a.flat) f z (tables e.flat)) (sym (end_append (machine a.flat) s p.run q.run))
           (subst (λ k. IsAhead (thread_machine k) f (end (thread_machine k) (reached p) q.run) (tables e.flat)) p.code q.ahead);

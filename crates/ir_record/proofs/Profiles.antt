@@ -9,7 +9,7 @@ use Rattle.ir_thread.specs.declared.ask.Ask.TheVariants.{Private, Env, Enter, Tr
 use Rattle.ir_thread.specs.declared.ask.Reply.{Reply}
 use Rattle.ir_thread.specs.declared.profile.Profile.{Profile}
 use Rattle.ir_runs.specs.Machine.{target, reply}
-use Rattle.ir_runs.proofs.CallerLemmas.{upd_by_cases}
+use Rattle.ir_runs.proofs.CallerLemmas.{property_of_upd_by_cases}
 use Rattle.ir_runs.specs.Run.{State, Step, act, after, end}
 use Rattle.ir_flat.specs.Flat.{Flat, thread_of, tables, machine, idle, start_threads}
 use Rattle.ir_flat.proofs.CallerLemmas.{moved_thread, threads_after_step}
@@ -33,7 +33,7 @@ profile_after_step : (code : List ℕ) (s : State thread.ThreadState) (e : Step)
     → ((after (thread_machine code) s e).now u).profile ≡ (s.now u).profile
 profile_after_step code s e u =
     subst (λ now. (now u).profile ≡ (s.now u).profile) (sym (threads_after_step code s e))
-    (upd_by_cases s.now e.0 (moved_thread code s e) u (λ z. z.profile ≡ (s.now u).profile)
+    (property_of_upd_by_cases s.now e.0 (moved_thread code s e) u (λ z. z.profile ≡ (s.now u).profile)
     (λ same. profile_after_ask code (s.now e.0) (ask_of code (s.now e.0))
     (reply_of (ask_of code (s.now e.0)) (reply (act (thread_machine code) s e) (s.objects (target (act (thread_machine code) s e)))))
     ∙ ap (λ t. (s.now t).profile) (sym same))

@@ -8,7 +8,7 @@ use Rattle.ir_runs.specs.Machine.{Label, Quiet, Answer, In, Out, Refused, logged
 use Rattle.ir_flat.specs.Flat.{Flat, thread_of, tables, machine}
 use Rattle.ir_runs.specs.Run.{Step, Can, asked, after, label, end, join_if, events, log, EntersIfFree, HasNone}
 use Rattle.ir_runs.specs.Orders.{InTurn}
-use Rattle.ir_runs.proofs.CallerLemmas.{log_append, end_append, turns_append}
+use Rattle.ir_runs.proofs.CallerLemmas.{log_append, end_append, in_turn_of_append}
 use Rattle.ir_record.specs.Progress.{Progress, Moved, Took, TookIf, TookTurns, all_left, labels_at}
 use Rattle.ir_record.specs.Refusing.{Turn, plain_turns, InTurns}
 use Rattle.ir_record.specs.Worlds.{answers_at, answers_in}
@@ -203,7 +203,7 @@ took_both_orders order more a b c p q =
     let m : Moved (p.run ++ q.run) a c = moved_both p.run q.run a b c (moved_if_took p) (moved_if_took q) in
     record {
       run = p.run ++ q.run;
-      turns = turns_append (machine a.flat) (tables a.flat) order more p.run q.run p.turns
+      turns = in_turn_of_append (machine a.flat) (tables a.flat) order more p.run q.run p.turns
           (subst (λ s. InTurn (machine a.flat) s more q.run) p.ends
           (subst (λ k. InTurn (thread_machine k) (tables b.flat) more q.run) p.code q.turns));
       ends = m.ends;

@@ -12,7 +12,7 @@ use Rattle.ir_flat.specs.Flat.{Flat, thread_of, tables, machine, start_flat}
 use Rattle.ir_flat.proofs.CallerLemmas.{length_of_start_threads}
 use Rattle.ir_runs.specs.Run.{State, Step, asked, end, log, rounds}
 use Rattle.ir_runs.specs.Orders.{InTurn}
-use Rattle.ir_runs.proofs.CallerLemmas.{log_append, end_append, turns_append}
+use Rattle.ir_runs.proofs.CallerLemmas.{log_append, end_append, in_turn_of_append}
 use Rattle.ir_log.specs.Logged.{Logged}
 use Rattle.ir_record.specs.Ahead.{Went}
 use Rattle.ir_record.specs.Failures.{IsUnanswered, StoppedAt, StoppedTurns}
@@ -76,7 +76,7 @@ stopped_after_run_of_order order more s a b run named answers turns code threads
       left = h.left;
       so_far = ap (λ z. order ++ z) h.so_far ∙ sym (append_assoc order h.taken (named ∷ h.left));
       run = run ++ h.run;
-      turns = turns_append (machine a.flat) s order h.taken run h.run turns
+      turns = in_turn_of_append (machine a.flat) s order h.taken run h.run turns
           (subst (λ k. InTurn (thread_machine k) mid h.taken h.run) code h.turns);
       kind = h.kind;
       asks = ap (λ z. asked (machine a.flat) z named) (end_append (machine a.flat) s run h.run)

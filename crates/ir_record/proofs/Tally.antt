@@ -5,7 +5,7 @@ use Rattle.ir_thread.specs.State.{ask_of, reply_of, thread_machine}
 use Rattle.ir_thread.specs.State as thread
 use Rattle.ir_thread.proofs.CallerLemmas.{ask_of_permitted}
 use Rattle.ir_runs.specs.Machine.{target, reply}
-use Rattle.ir_runs.proofs.CallerLemmas.{upd_by_cases}
+use Rattle.ir_runs.proofs.CallerLemmas.{property_of_upd_by_cases}
 use Rattle.ir_runs.specs.Run.{State, Step, act, Can, after, IsRun, end}
 use Rattle.ir_flat.proofs.CallerLemmas.{moved_thread, threads_after_step, thread_that_steps_is_not_done, length_of_held_after_ask}
 use Rattle.ir_record.specs.Progress.{all_left}
@@ -20,7 +20,7 @@ HoldFewObjects s = (t : ℕ) → length (s.now t).held ≤ most_objects
 pub hold_few_objects_after_step : (code : List ℕ) (s : State thread.ThreadState) (e : Step) → HoldFewObjects s → HoldFewObjects (after (thread_machine code) s e)
 hold_few_objects_after_step code s e few t =
     subst (λ now. length (now t).held ≤ most_objects) (sym (threads_after_step code s e))
-    (upd_by_cases s.now e.0 (moved_thread code s e) t (λ z. length z.held ≤ most_objects)
+    (property_of_upd_by_cases s.now e.0 (moved_thread code s e) t (λ z. length z.held ≤ most_objects)
     (λ _. let same = length_of_held_after_ask code (s.now e.0) (ask_of code (s.now e.0))
     (reply_of (ask_of code (s.now e.0)) (reply (act (thread_machine code) s e) (s.objects (target (act (thread_machine code) s e))))) in
     let was = few e.0 in omega (arith, same, was))

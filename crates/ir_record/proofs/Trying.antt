@@ -10,7 +10,7 @@ use Rattle.ir_runs.specs.Machine.{act_of, target, emitted, Admits, Label, Refuse
 use Rattle.ir_runs.specs.declared.access.Access.TheVariants.{Writing}
 use Rattle.ir_runs.specs.Run.{Can, after}
 use Rattle.ir_flat.specs.Flat.{Flat, thread_of, tables, machine as machine_of, IsFlat}
-use Rattle.ir_flat.proofs.CallerLemmas.{events_added_by, tried_object_is_of_state}
+use Rattle.ir_flat.proofs.CallerLemmas.{events_added_by, tried_object_below_object_count}
 use Rattle.ir_log.specs.Logged.{Logged}
 use Rattle.ir_log.specs.Logging.{label_of}
 use Rattle.ir_log.specs.declared.event.Event.{Event}
@@ -84,7 +84,7 @@ refused_try_logs_one_event f g logs more t o x = record {
   unanswered = refl;
   fits = (
     (subst (Permits (thread_of f t)) x.asked (ask_of_permitted f.code (thread_of f t))).4,
-    tried_object_is_of_state f t o x.flat x.below x.asked,
+    tried_object_below_object_count f t o x.flat x.below x.asked,
   );
   can = x.can;
   taken = x.taken;

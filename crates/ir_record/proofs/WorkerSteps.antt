@@ -11,6 +11,7 @@ use Rattle.ir_thread.specs.State.{held_at, ask_of, after_ask, after_reply, most_
 use Rattle.ir_runs.specs.Machine as machine
 use Rattle.ir_runs.specs.Lawful as lawful
 use Rattle.ir_runs.specs.Machine.{Act, act_of, Machine, Label, Quiet, Answer, In, Out, logged}
+use Rattle.ir_runs.specs.Run.{join_if}
 use Rattle.ir_runs.specs.Shared.{is_shared}
 use Rattle.ir_runs.specs.Lawful.{held_after}
 use Rattle.ir_thread.specs.Private.{PrivateSteps}
@@ -23,7 +24,7 @@ use Rattle.ir_runs.specs.declared.env_kind.EnvKind.{EnvKind}
 use Rattle.ir_thread.specs.declared.ask.Reply.TheVariants.{Go}
 use Rattle.ir_thread.specs.declared.profile.Profile.TheVariants.{Two}
 use Rattle.ir_thread.proofs.CallerLemmas.{ask_of_permitted, thread_machine_is_lawful}
-use Rattle.ir_object.specs.Order.{Shared, keep_if, inside_if, inside_after}
+use Rattle.ir_object.specs.Order.{Shared, inside_if, inside_after}
 use Rattle.ir_object.proofs.CallerLemmas.{inside_after_step}
 use Rattle.ir_flat.specs.Flat.{MayReply}
 use Rattle.ir_flat.specs.Trails.{alone_label}
@@ -59,12 +60,12 @@ answers_in_append (Out o a v ∷ xs) ys = answers_in_append xs ys
 
 -- how a thread is inside an object after a step, which is an object step if b
 inside_after_step_is_held_after : (q : Act) (v o : ℕ) (h : ℕ → Option Access) (xs : List Shared) (b : Bool) → is_shared q ≡ b → inside_after o None xs ≡ h o
-    → inside_after o None (xs ++ keep_if b (q, v) []) ≡ held_after q h o
+    → inside_after o None (xs ++ join_if b (q, v) []) ≡ held_after q h o
 inside_after_step_is_held_after q v o h xs false is e = ap (inside_after o None) (append-nil xs) ∙ e ∙ sym (held_after_own_act q h o is)
 inside_after_step_is_held_after q v o h xs true is e = inside_after_step o None xs (q, v) ∙ ap (inside_if (eqb o (Rattle.ir_runs.specs.Machine.target q)) q) e
     ∙ sym (held_after_is_inside_if q h o is)
 
-appended_act_adds_at_most_its_entry : (q : Act) (v : ℕ) (xs : List Shared) (b : Bool) → entries (xs ++ keep_if b (q, v) []) ≤ entries xs + one_if_entry q
+appended_act_adds_at_most_its_entry : (q : Act) (v : ℕ) (xs : List Shared) (b : Bool) → entries (xs ++ join_if b (q, v) []) ≤ entries xs + one_if_entry q
 appended_act_adds_at_most_its_entry q v xs false = let e = ap entries (append-nil xs) in omega (arith, e)
 appended_act_adds_at_most_its_entry q v xs true = let e = entries_with_step_added xs (q, v) in omega (arith, e)
 
@@ -88,7 +89,7 @@ entry_count_within_events_added ask.Done v = omega arith
 -- the object steps, and the labels and the number of the events, are those of what is asked, with this result
 abbrev pub AreObjectStepsAndEventsOfAsk : Ask → ℕ → List ObjectStep → List Event → Type 0
 AreObjectStepsAndEventsOfAsk q v es evs = ◌≡◌ {A = List Shared × List Label × ℕ} (map shared_of es, map logging.label_of evs, length evs) (
-  keep_if (is_shared (act_of (shared_ask q) v)) (act_of (shared_ask q) v, v) [],
+  join_if (is_shared (act_of (shared_ask q) v)) (act_of (shared_ask q) v, v) [],
   logged (alone_label (act_of (shared_ask q) v) (map label_of es)) [],
   events_added_by q,
 )
@@ -116,7 +117,7 @@ working_after_step g budget profile t before w w' q v es evs i s view =
     ∙ ap (λ z. after_ask g.code w.thread z (reply_of q v)) s.asked in
     let even : length (map label_of i.track) ≡ length (map shared_of i.track) = length-map i.track label_of
     ∙ sym (length-map i.track shared_of) in
-    let steps : map shared_of (i.track ++ es) ≡ map shared_of i.track ++ keep_if (is_shared a) (a, v) [] = map_of_append shared_of i.track es
+    let steps : map shared_of (i.track ++ es) ≡ map shared_of i.track ++ join_if (is_shared a) (a, v) [] = map_of_append shared_of i.track es
     ∙ ap (λ (z : List Shared × List Label × ℕ). map shared_of i.track ++ z.0) s.of in
     let more = worked_with_reply_added m (thread.start_state g t budget profile) w.thread (map shared_of i.track) (map label_of i.track)
     (map logging.label_of w.log.events) v (map label_of es) i.worked even (subst (λ z. MayReply m z v) (sym is) s.may) in
@@ -131,7 +132,7 @@ working_after_step g budget profile t before w w' q v es evs i s view =
         replies = more.replies;
         may = more.may;
         now = more.now ∙ next;
-        steps_are = more.steps_are ∙ ap (λ z. map shared_of i.track ++ keep_if (is_shared z) (z, v) []) is ∙ sym steps;
+        steps_are = more.steps_are ∙ ap (λ z. map shared_of i.track ++ join_if (is_shared z) (z, v) []) is ∙ sym steps;
         logged = ap (λ z. Rattle.ir_runs.specs.Run.events
             (Rattle.ir_flat.specs.Trails.alone_trail m (thread.start_state g t budget profile) more.replies z))
             (map_of_append label_of i.track es) ∙ more.logged ∙ ap (λ z. map logging.label_of w.log.events ++ logged (alone_label z (map label_of es)) []) is

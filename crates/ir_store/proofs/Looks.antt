@@ -3,7 +3,7 @@ use Rattle.std.proofs.Common.{◌≡◌, ◌<◌, ◌+◌, ◌++◌, Bool, true,
 use Rattle.std.specs.Prelude.{slice_get, ◌&&◌, drop}
 use Rattle.std.specs.List.{AllByRecursion, slice_index_or}
 use Rattle.std.proofs.lemmas.Option.{same_Some, slice_get-get_or}
-use Rattle.ir_lemmas.proofs.CallerLemmas.{found_element_of_all_by_recursion}
+use Rattle.ir_lemmas.proofs.CallerLemmas.{slice_get_element_satisfies_all_by_recursion}
 use Rattle.ir_mach.specs.Core.{memory_size}
 use Rattle.ir_freeze.specs.Frozen.{end_bytes, going_bytes, frozen, is_over}
 use Rattle.ir_freeze.specs.Twins.{AreTwins, TellsApart, IsBounded}
@@ -50,8 +50,8 @@ look_same_if_looks_equal tells start items looks size bounded all m n k one othe
     let a = all m k x one here in
     let b = all n k y other there in
     let same : a.kept ≡ b.kept = same_Some a.kept b.kept (sym a.at ∙ b.at) in
-    let bx : IsBounded x.0 = found_element_of_all_by_recursion (λ (z : ThreadState × Source). IsBounded z.0) items m x bounded here in
-    let by : IsBounded y.0 = found_element_of_all_by_recursion (λ (z : ThreadState × Source). IsBounded z.0) items n y bounded there in
+    let bx : IsBounded x.0 = slice_get_element_satisfies_all_by_recursion (λ (z : ThreadState × Source). IsBounded z.0) items m x bounded here in
+    let by : IsBounded y.0 = slice_get_element_satisfies_all_by_recursion (λ (z : ThreadState × Source). IsBounded z.0) items n y bounded there in
     let bytes : frozen start x.0 [] ≡ frozen start y.0 [] = sym a.bytes ∙ ap (λ (z : ThreadState × Source). frozen start z.0 []) same ∙ b.bytes in
     let seen : Same {S = List ℕ} code (view x.0, []) (view y.0, []) = (tells code start size x.0 y.0 twins bx by [] [] refl).0 bytes in
     same_beside_sources tells code start size x y twins bx by bytes (is_over x.0) refl

@@ -5,7 +5,7 @@ use Rattle.std.specs.List.{AllByRecursion}
 use Rattle.std.specs.Option.{option_map}
 use Rattle.std.proofs.lemmas.List.{map-set}
 use Rattle.std.proofs.lemmas.Option.{same_Some, slice_get-map, slice_get-get_or}
-use Rattle.ir_lemmas.proofs.CallerLemmas.{element_of_all_by_recursion, length_of_map}
+use Rattle.ir_lemmas.proofs.CallerLemmas.{get_or_element_satisfies_all_by_recursion, length_of_map}
 use Rattle.ir_flat.specs.Flat.{idle, cell_of}
 use Rattle.ir_flat.specs.Room.{empty}
 use Rattle.ir_sources.specs.Sources.{Source}
@@ -49,7 +49,7 @@ module _ (shared : Shared) (nodes : List Node) (kept : AreKept shared nodes) (v 
   node_less = subst (λ k. v < k) (length_of_map (sourced_in shared) nodes) less
 
   pub node_is : IsNode shared node
-  node_is = subst (IsNode shared) (sym is) (element_of_all_by_recursion (IsNode shared) nodes v no_node kept node_less)
+  node_is = subst (IsNode shared) (sym is) (get_or_element_satisfies_all_by_recursion (IsNode shared) nodes v no_node kept node_less)
 
   pub state_is : sourced_in shared node ≡ s
   state_is = mapped_element_at_place (sourced_in shared) nodes v node no_node s node_less is at

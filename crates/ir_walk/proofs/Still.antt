@@ -10,7 +10,7 @@ use Rattle.ir_thread.specs.State as thread
 use Rattle.ir_runs.specs.Run.{State, Step, asked, act, after, IsRun, end, count, Cut, IsCut, Consistent, part, object_at}
 use Rattle.ir_runs.specs.Admitted.{further, Admitted, AtCut}
 use Rattle.ir_runs.specs.Verdicts.{sum_below}
-use Rattle.ir_runs.proofs.CallerLemmas.{upd_by_cases, StateInvariant, state_invariant_after_step, state_at_consistent_cut, progress_below_consistent_target, min_of_cuts_is_consistent, sum_below_less_if_one_less}
+use Rattle.ir_runs.proofs.CallerLemmas.{property_of_upd_by_cases, StateInvariant, state_invariant_after_step, state_at_consistent_cut, progress_below_consistent_target, min_of_cuts_is_consistent, sum_below_less_if_one_less}
 use Rattle.ir_fit.specs.Fit.{FittedTrace, IsRunOf}
 use Rattle.ir_cut.specs.Positions.{machine_of, start_of}
 use Rattle.ir_cut.proofs.CallerLemmas.{no_trail_of_missing_thread}
@@ -44,7 +44,7 @@ words_kept_by_step_of_other : {T : Type 0} (m : Machine T) → IsLawful m → (s
 unfolding after
 words_kept_by_step_of_other m guest_machine_is_lawful s state_invariant_at_guest_start t o inside e other =
     let q = act m s e in
-    upd_by_cases s.objects (target q) (acted q e.0 (s.objects (target q))) o (λ b. b.words ≡ (s.objects o).words)
+    property_of_upd_by_cases s.objects (target q) (acted q e.0 (s.objects (target q))) o (λ b. b.words ≡ (s.objects o).words)
     (λ same. words_kept_unless_writer (asked m s e.0) e.1 e.0 (s.objects (target q)) (m.held (s.now e.0)) (guest_machine_is_lawful.holds (s.now e.0))
     (λ writes. inside (state_invariant_at_guest_start.exclusive o e.0 t other (subst (λ p. (s.objects p).inside e.0 ≡ Some Writing) (sym same)
     (state_invariant_at_guest_start.linked e.0 (target q) ∙ writes))))

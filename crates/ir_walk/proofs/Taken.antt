@@ -200,9 +200,6 @@ calls_in_split_at_middle code at from mid to l l' =
     ap (calls_in code at from) on ∙ calls_in_sum_of_steps code at from (mid - from) (to - mid)
     ∙ ap (λ j. calls_in code at from (mid - from) ++ calls_in code at j (to - mid)) there
 
-all_suit_append : (xs ys : List Exchange) → AllSuit xs → AllSuit ys → AllSuit (xs ++ ys)
-all_suit_append [] ys a b = b
-all_suit_append (x ∷ xs) ys a b = (a.0, all_suit_append xs ys a.1 b)
-
 pub all_suit_in_append_if_in_both : (xs ys : List Exchange) → AllSuit xs → AllSuit ys → AllSuit (xs ++ ys)
-all_suit_in_append_if_in_both xs ys a b = all_suit_append xs ys a b
+all_suit_in_append_if_in_both [] ys a b = b
+all_suit_in_append_if_in_both (x ∷ xs) ys a b = (a.0, all_suit_in_append_if_in_both xs ys a.1 b)

@@ -24,7 +24,7 @@ use Rattle.ir_object.specs.Word.{reader_unit, left_unit, version_unit, inside_li
 use Rattle.ir_flat.specs.Flat.{Flat, IsFlat, idle, thread_of, cell_of, inside_of, tables}
 use Rattle.ir_flat.specs.Next.{next}
 use Rattle.ir_runs.specs.Run.{count, label, end, trail, At, Emits, part}
-use Rattle.ir_flat.proofs.CallerLemmas.{counts_within_logged_limit, inside_within_most_threads, entered_fields_fit, left_fields_fit, flat_inside_thread_can_leave, next_keeps_thread_count}
+use Rattle.ir_flat.proofs.CallerLemmas.{sum_of_cell_counts_within_event_limit, inside_within_most_threads, entered_fields_fit, left_fields_fit, flat_inside_thread_can_leave, next_keeps_thread_count}
 use Rattle.ir_log.specs.Asked.{ask_of as event_ask, Suits}
 use Rattle.ir_log.proofs.CallerLemmas.{entry_event_suits_enter_or_try}
 use Rattle.ir_log.specs.declared.event.Event.{Event}
@@ -110,7 +110,7 @@ entering_ask_is_not_alone q o a e x is suits enters h = elim (entry_event_suits_
 -- ---- words
 
 pub cell_fields_fit : (s : Flat) (o : ℕ) → IsFlat s → o < length s.objects → IsFields (cell_of s o).fields
-cell_fields_fit s o flat l = let all = counts_within_logged_limit s o flat l in let few = inside_within_most_threads s o flat l in
+cell_fields_fit s o flat l = let all = sum_of_cell_counts_within_event_limit s o flat l in let few = inside_within_most_threads s o flat l in
     record { version = omega (arith, all); left = omega (arith, all); inside = omega (arith, few) }
 
 bit_is_at_most_one : (b : Bool) → bit_of b ≤ 1
@@ -466,7 +466,7 @@ version_load_is_allowed slots id o y q c ahead inside is has x h homes at small 
         y.steps,
         step_is_next_on_object_if_not_alone f t q.position y (Leave o Writing) ahead is (λ b. b),
         refl,
-        (let all = counts_within_logged_limit h.state o h.flat l in let word = h.table.heads o l in omega (arith, all, word)),
+        (let all = sum_of_cell_counts_within_event_limit h.state o h.flat l in let word = h.table.heads o l in omega (arith, all, word)),
         (λ run of p word asked.
             let o_is : o ≡ p = omega (arith, word) in
             let v_is : (cell_of cu.state o).fields.version ≡ n / version_unit = ap (λ (z : Fields). z.version) (sym same) in

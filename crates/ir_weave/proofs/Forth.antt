@@ -18,7 +18,7 @@ use Rattle.ir_log.specs.declared.event.Event.{Event}
 use Rattle.ir_log.specs.declared.event.Event.TheVariants.{Answer as Answered, Read, Write, Try as Refused}
 use Rattle.ir_trace.specs.Recorded.{Recorded, recorded_thread}
 use Rattle.ir_fit.specs.Ahead.{log_ahead}
-use Rattle.ir_flat.proofs.CallerLemmas.{events_added_by, may_step_is_can_for_ask, tables_of_next_are_after, next_is_flat, next_keeps_thread_count, next_keeps_object_count}
+use Rattle.ir_flat.proofs.CallerLemmas.{events_added_by, may_step_iff_can_for_ask, tables_of_next_are_after, next_is_flat, next_keeps_thread_count, next_keeps_object_count}
 use Rattle.ir_runs.specs.Admitted.{further}
 use Rattle.ir_fit.specs.Fit.{FittedTrace, HasRun, IsRunOf}
 use Rattle.ir_runs.specs.Verdicts.{unlogged}
@@ -29,7 +29,7 @@ use Rattle.ir_weave.specs.Stepping.{LogsNext}
 use Rattle.ir_weave.specs.Woven.{AdmittedAt}
 use Rattle.ir_weave.proofs.Behind.{log_after_cut, log_ahead_is_log_after_cut, admitted_thread_logs_next}
 use Rattle.ir_weave.proofs.Onward.{is_at_after_leading_steps, step_logs_first_of_left, position_after_own_step, position_after_step_of_other}
-use Rattle.ir_fit.proofs.CallerLemmas.{labels_ahead_start_with_event}
+use Rattle.ir_fit.proofs.CallerLemmas.{drop_of_mapped_labels_is_label_then_drop}
 use Rattle.ir_weave.proofs.Lone.{logged_step_has_recorded_event, try_result, emitted_try_gives_result}
 use Rattle.ir_weave.proofs.Trails.{StepOf, emitting_step_is_step_of, label_without_entry_needs_nothing}
 
@@ -63,7 +63,7 @@ state_thread_is_guest_thread f s t at l = let e = at.threads in omega (arith, l,
 pub step_goes_on_if_logs_next : (f : FittedTrace) (s : Flat) (t v : ℕ) (q : Ask) → IsFlat s → IsStateAt f (positions s) s → t < length s.threads
     → q ≡ ask_of s.code (thread_of s t) → HasStep f t (positions s t) → LogsNext f.recorded s t v → StepGoesOn f s t v q
 step_goes_on_if_logs_next f s t v q flat at l is has logs =
-    let may : MayStep s v q = (may_step_is_can_for_ask s t v q flat l is).1 logs.0 in
+    let may : MayStep s v q = (may_step_iff_can_for_ask s t v q flat l is).1 logs.0 in
     let new : Flat = next s t v q in
     let taken : tables new ≡ after (machine_in s) (tables s) (t, v) = tables_of_next_are_after s t v q flat l is may in
     let own : positions new t ≡ positions s t + 1 = position_after_own_step s new t v logs.0 taken in
@@ -270,7 +270,7 @@ try_that_logs_has_result r s t v o e is event logs =
     let es : List Label = log_ahead r s t in
     let emits : logged (emitted (act_of (machine.Try o) v) (obj (Try o))) (unlogged (emitted (act_of (machine.Try o) v) (obj (Try o))) es) ≡ es =
     subst (λ q. logged (emitted (act_of (shared_ask q) v) (obj q)) (unlogged (emitted (act_of (shared_ask q) v) (obj q)) es) ≡ es) is logs.1 in
-    by v (obj (Try o)) es can (emits ∙ labels_ahead_start_with_event (recorded_thread r t).events (thread_of s t).events e event)
+    by v (obj (Try o)) es can (emits ∙ drop_of_mapped_labels_is_label_then_drop (recorded_thread r t).events (thread_of s t).events e event)
   where
     by : (v : ℕ) (b : Object) (es : List Label) → Admits (machine_in s) (act_of (machine.Try o) v) b
         → logged (emitted (act_of (machine.Try o) v) b) (unlogged (emitted (act_of (machine.Try o) v) b) es) ≡ label_of e

@@ -65,7 +65,7 @@ emitted_length_is_events_added f Print r b can = refl
 emitted_length_is_events_added f (End e) r b can = refl
 emitted_length_is_events_added f Done r b can = refl
 
-take_is_after_ask : (code : List ℕ) (x : thread.ThreadState) (n : ℕ)
+pub take_is_after_ask : (code : List ℕ) (x : thread.ThreadState) (n : ℕ)
     → (thread_machine code).take x n ≡ after_ask code x (ask_of code x) (reply_of (ask_of code x) n)
 unfolding after_reply
 take_is_after_ask code x n = refl

@@ -1,8 +1,8 @@
 -- A thread of a guest has the number of its place.
-use Rattle.std.proofs.Common.{◌≡◌, ℕ, suc, zero, ◌+◌, ◌<◌, ◌≤◌, List, length, refl, ap, ◌∙◌, arith}
+use Rattle.std.proofs.Common.{◌≡◌, ℕ, suc, zero, ◌+◌, ◌<◌, ◌≤◌, List, length, ap, ◌∙◌, arith}
 use Rattle.std.specs.List.{slice_index_or}
 use Rattle.ir_image.specs.Guest.{Guest}
-use Rattle.ir_thread.specs.State.{ask_of, after_ask, after_reply, shared_ask, reply_of, thread_machine}
+use Rattle.ir_thread.specs.State.{shared_ask, reply_of}
 use Rattle.ir_runs.specs.Machine.{act_of, reply}
 use Rattle.ir_thread.specs.State as thread
 use Rattle.ir_thread.specs.declared.profile.Profile.{Profile}
@@ -12,7 +12,7 @@ use Rattle.ir_fit.specs.Fit.{FittedTrace, HasRun, IsRunOf}
 use Rattle.ir_cut.specs.Positions.{machine_of, start_of}
 use Rattle.ir_weave.specs.Ahead.{IsAhead, thread_at, ask_at}
 use Rattle.ir_weave.specs.Standing.{IsStateAt, positions}
-use Rattle.ir_weave.proofs.Lone.{number_after_ask, step_below_count_emits}
+use Rattle.ir_weave.proofs.Lone.{number_after_ask, step_below_count_emits, take_is_after_ask}
 use Rattle.ir_weave.proofs.Trails.{StepOf, emitting_step_is_step_of, thread_at_position_zero}
 
 number_of_start_thread : (g : Guest) (budget : ℕ) (profile : Profile) (from n t : ℕ) → t < n
@@ -21,11 +21,6 @@ number_of_start_thread g budget profile from zero t l = absurd (omega (arith, l)
 number_of_start_thread g budget profile from (suc n) zero l = omega arith
 number_of_start_thread g budget profile from (suc n) (suc t) l =
     let e = number_of_start_thread g budget profile (suc from) n t (omega (arith, l)) in omega (arith, e)
-
-take_is_after_ask : (code : List ℕ) (x : thread.ThreadState) (n : ℕ)
-    → (thread_machine code).take x n ≡ after_ask code x (ask_of code x) (reply_of (ask_of code x) n)
-unfolding after_reply
-take_is_after_ask code x n = refl
 
 number_of_thread_at_step : (f : FittedTrace) (run : List Step) → IsRunOf f.guest f.recorded run → (t k : ℕ) → t < length f.guest.entries
     → k ≤ count (machine_of f) (start_of f) run t → (thread_at f run t k).number ≡ t

@@ -12,7 +12,7 @@ use Rattle.std.proofs.lemmas.List.{get_or_default}
 use Rattle.ir_object.specs.Cell.{Cell}
 use Rattle.ir_flat.specs.Flat.{Flat, thread_of, cell_of, IsFlat}
 use Rattle.ir_flat.specs.Room.{empty}
-use Rattle.ir_flat.proofs.CallerLemmas.{entered_object_is_of_state}
+use Rattle.ir_flat.proofs.CallerLemmas.{entered_object_below_object_count}
 use Rattle.ir_log.specs.Asked.{Suits}
 use Rattle.ir_log.specs.declared.event.Event.{Event}
 use Rattle.ir_log.specs.declared.event.Event.TheVariants.{Answer, Try as Refused}
@@ -104,7 +104,7 @@ no_next_for_unsuited_try r s t o is steps none v h =
 -- an object that is entered is one of the guest's
 pub entered_object_is_within_objects : (s : Flat) (t o : ℕ) (a : Access) (xs : List Cell) → IsFlat s → t < length s.threads
     → ask_of s.code (thread_of s t) ≡ Enter o a → xs ≡ s.objects → o < length xs
-entered_object_is_within_objects s t o a xs flat l is same = subst (λ z. o < length z) (sym same) (entered_object_is_of_state s t o a flat l is)
+entered_object_is_within_objects s t o a xs flat l is same = subst (λ z. o < length z) (sym same) (entered_object_below_object_count s t o a flat l is)
 
 -- what is read in its place
 pub found_object_is_cell : (s : Flat) (t o : ℕ) (a : Access) (xs : List Cell) (x : Cell) → IsFlat s → t < length s.threads

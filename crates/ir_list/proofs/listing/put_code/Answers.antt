@@ -1,5 +1,5 @@
 use Rattle.std.proofs.Common.{◌∙◌, ◌+◌, ◌*◌, ℕ, List, arith}
-use Rattle.ir_lemmas.proofs.CallerLemmas.{on_err_if_holds}
+use Rattle.ir_lemmas.proofs.CallerLemmas.{on_err_if_proposition_holds}
 use Rattle.ir_image.specs.Guest.{code_start}
 use Rattle.ir_symbols.specs.Symbols.{Symbol}
 use Rattle.ir_list.specs.Listing.{word_lines}
@@ -11,7 +11,7 @@ abbrev code_lines : List Symbol → ℕ → ℕ → List ℕ
 code_lines symbols number word = word_lines symbols (code_start + 4 * number) word
 
 pub returns-in_err-write_all-clause-prefix : goal.returns-in_err-write_all-clause-prefix
-returns-in_err-write_all-clause-prefix g c = on_err_if_holds c.from_residual-in_err-write_all.result
+returns-in_err-write_all-clause-prefix g c = on_err_if_proposition_holds c.from_residual-in_err-write_all.result
     (prefix_written_in_lines (code_lines c.args.symbols.now) (g.O.Sink.written c.args.out.now) (g.O.Sink.written c.loop-number.out) _ c.loop-number.number
     c.args.code.now c.as_bytes.result.now _ c.loop-number-test.true
     (c.as_bytes.ensures.value ∙ c.in_ok-lines.ensures) c.loop-number.invariant.text c.in_err-write_all.ensures.prefix)

@@ -9,7 +9,7 @@ use Rattle.ir_thread.specs.State.{ask_of}
 use Rattle.ir_object.specs.Cell.{Cell}
 use Rattle.ir_flat.specs.Flat.{Flat, IsFlat, thread_of, cell_of}
 use Rattle.ir_flat.specs.Room.{empty}
-use Rattle.ir_flat.proofs.CallerLemmas.{tried_object_is_of_state}
+use Rattle.ir_flat.proofs.CallerLemmas.{tried_object_below_object_count}
 use Rattle.ir_fit.proofs.CallerLemmas.{found_cell_open_if_test_true, found_cell_shut_if_test_false, try_not_refused_got_in}
 use Rattle.ir_weave.proofs.CallerLemmas.{refused_try_logs_next, open_try_logs_next, no_next_for_shut_try, no_next_for_unsuited_try}
 use Rattle.ir_replay.proofs.admission.try_result.Goals as goal
@@ -21,11 +21,11 @@ returns-in-Err c = no_next_for_unsuited_try c.args.fitted.now.recorded c.args.fl
 
 there : (s : Flat) (t o : ℕ) (xs : List Cell) → IsFlat s → t < length s.threads → ask_of s.code (thread_of s t) ≡ Try o → xs ≡ s.objects
     → o < length xs
-there s t o xs flat l is same = subst (λ z. o < length z) (sym same) (tried_object_is_of_state s t o flat l is)
+there s t o xs flat l is same = subst (λ z. o < length z) (sym same) (tried_object_below_object_count s t o flat l is)
 
 found : (s : Flat) (t o : ℕ) (xs : List Cell) (x : Cell) → IsFlat s → t < length s.threads → ask_of s.code (thread_of s t) ≡ Try o
     → xs ≡ s.objects → get_or xs o x ≡ cell_of s o
-found s t o xs x flat l is same = ap (λ z. get_or z o x) same ∙ get_or_default s.objects o x empty (tried_object_is_of_state s t o flat l is)
+found s t o xs x flat l is same = ap (λ z. get_or z o x) same ∙ get_or_default s.objects o x empty (tried_object_below_object_count s t o flat l is)
 
 pub bounds-objects-object : goal.bounds-objects-object
 bounds-objects-object c = there c.args.flat.now c.args.t c.args.object c.objects.result.now c.events_of-before.ensures.flat

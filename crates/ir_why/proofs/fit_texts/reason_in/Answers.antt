@@ -1,5 +1,5 @@
 use Rattle.std.proofs.Common.{◌++◌, ◌∙◌, sym, ap, subst, flat_map}
-use Rattle.ir_lemmas.proofs.CallerLemmas.{append_of_four_texts}
+use Rattle.ir_lemmas.proofs.CallerLemmas.{four_appends_nest_to_the_right}
 use Rattle.ir_past.specs.Answers.{AreCoherent}
 use Rattle.ir_trace.specs.Recorded.{Recorded}
 use Rattle.ir_why.specs.Before.{IsPast}
@@ -30,7 +30,7 @@ returns c = λ ends placed. record {
   placed = placed;
   waits = c.in_ok-waits.waits.items;
   chain = c.in_ok-waits.ensures;
-  lines = append_of_four_texts c.in_ok-text.text.items (flat_map (need_line c.args.at.now) c.in_ok-needs.needs.items) (past_line c.in_ok-past.past.items)
+  lines = four_appends_nest_to_the_right c.in_ok-text.text.items (flat_map (need_line c.args.at.now) c.in_ok-needs.needs.items) (past_line c.in_ok-past.past.items)
       (least_line c.in_ok-least.least) (flat_map wait_line c.in_ok-waits.waits.items) c.push_needs.new.text.items c.extend_from_slice.new.self.items
       c.extend_from_slice-2.new.self.items c.push_waits.new.text.items
       (c.in_ok-push_needs.ensures ∙ ap (λ xs. c.in_ok-text.text.items ++ flat_map (need_line c.args.at.now) xs) c.deref.ensures.value)

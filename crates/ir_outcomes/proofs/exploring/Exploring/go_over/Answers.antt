@@ -1,5 +1,5 @@
 use Rattle.std.proofs.Common.{◌≡◌, ◌≤◌, ◌⊎◌, suc, inl, inr, sym, subst, arith}
-use Rattle.ir_lemmas.proofs.CallerLemmas.{on_ok}
+use Rattle.ir_lemmas.proofs.CallerLemmas.{on_ok_of_implied}
 use Rattle.ir_explore.specs.declared.origin.Level.{Level}
 use Rattle.ir_explore.specs.declared.stop.Stop.TheVariants.{Memory}
 use Rattle.ir_graph.specs.Searched.{AreSearched}
@@ -50,7 +50,7 @@ returns-clause-is g c =
       search = searched.ensures.is;
       explored = shown.ensures.explored;
       wanted = new_has_property_if_error_keeps_old (λ (l : Level). l.number ≤ suc most) searched.result s.search.level c.args.self.now.states.search.level
-          (on_ok searched.result (λ next. let a = c.requires.wanted in omega (arith, a, next)) searched.ensures.next) searched.ensures.level
+          (on_ok_of_implied searched.result (λ next. let a = c.requires.wanted in omega (arith, a, next)) searched.ensures.next) searched.ensures.level
           (let a = c.requires.wanted in omega (arith, a));
       going = λ none.
           let n = c.first_stop-self.ensures.none none in

@@ -1,6 +1,6 @@
 use Rattle.std.proofs.Common.{◌≡◌, ◌<◌, length, get_or, refl, sym, ap, ◌∙◌, subst, arith, Some}
 use Rattle.std.specs.Prelude.{slice_get}
-use Rattle.ir_lemmas.proofs.CallerLemmas.{element_of_all_by_recursion, length_of_map}
+use Rattle.ir_lemmas.proofs.CallerLemmas.{get_or_element_satisfies_all_by_recursion, length_of_map}
 use Rattle.ir_store.specs.Nodes.{SourcedFlat, sourced_thread, IsSourced, Shared, Node, Stored, sourced_in}
 use Rattle.ir_store.specs.Places.{no_node}
 use Rattle.ir_store.specs.Table.{idle_beside}
@@ -33,7 +33,7 @@ returns-clause-within c =
     let one = c.thread.ensures in
     let in_here : c.thread.result < length shared.threads =
     subst (λ n. n < length shared.threads) (sym one)
-    (element_of_all_by_recursion (λ n. n < length shared.threads) node.threads c.args.t 0 is.within.threads (omega (arith, few, many))) in
+    (get_or_element_satisfies_all_by_recursion (λ n. n < length shared.threads) node.threads c.args.t 0 is.within.threads (omega (arith, few, many))) in
     subst (λ (z : Stored). c.thread.result < length z.shared.threads) c.self.view_is in_here
 
 pub returns-clause-thread : goal.returns-clause-thread

@@ -1,4 +1,4 @@
-use Rattle.ir_lemmas.proofs.CallerLemmas.{false_test_refutes}
+use Rattle.ir_lemmas.proofs.CallerLemmas.{proposition_refuted_if_test_is_false}
 use Rattle.ir_weave.specs.Woven.{Opens}
 use Rattle.ir_weave.proofs.Seats.{LookReport, look_is_allowed_if_seated, looked_gives_report, entered_word_place_below_table, granted_if_look_was_open, true_test_proves}
 use Rattle.ir_weave.proofs.weave.Weave.look.Goals as goal
@@ -28,7 +28,7 @@ returns-clause-granted c on =
     )
 
 pub returns-clause-stopped : goal.returns-clause-stopped
-returns-clause-stopped c off = (shown c).shut (false_test_refutes c.opens.result (Opens c.load-seen.result c.args.event) c.opens.ensures off)
+returns-clause-stopped c off = (shown c).shut (proposition_refuted_if_test_is_false c.opens.result (Opens c.load-seen.result c.args.event) c.opens.ensures off)
 
 pub returns-clause-rises : goal.returns-clause-rises
 returns-clause-rises c = (shown c).rises

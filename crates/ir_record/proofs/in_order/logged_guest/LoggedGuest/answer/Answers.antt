@@ -1,5 +1,5 @@
 use Rattle.std.proofs.Common.{ap, ◌∙◌, refl, [], ◌∷◌, ◌++◌, set}
-use Rattle.ir_lemmas.proofs.CallerLemmas.{on_ok_holds_if_can}
+use Rattle.ir_lemmas.proofs.CallerLemmas.{ok_fact_if_error_refuted}
 use Rattle.ir_flat.specs.Flat.{tables, machine}
 use Rattle.ir_runs.specs.Run.{Can}
 use Rattle.ir_log.specs.Logged.{Logged}
@@ -22,7 +22,7 @@ answering c = record {
   below = c.requires.thread;
   asked = c.requires.asked;
   fits = c.requires.fits;
-  taken = on_ok_holds_if_can c.take.result (Can (machine c.args.self.now.flat) (tables c.args.self.now.flat) (c.args.t, c.args.value)) _
+  taken = ok_fact_if_error_refuted c.take.result (Can (machine c.args.self.now.flat) (tables c.args.self.now.flat) (c.args.t, c.args.value)) _
       (environment_call_can_step c.args.self.now.flat c.args.t c.args.value c.args.kind c.requires.asked c.requires.fits) c.take.ensures.refused
       c.take.ensures.taken;
   code = c.take.ensures.code;

@@ -3,7 +3,7 @@ use Rattle.ir_thread.specs.declared.ask.Ask.TheVariants.{Enter}
 use Rattle.ir_runs.specs.Machine.{Label, emitted}
 use Rattle.ir_runs.specs.Machine as machine
 use Rattle.ir_flat.specs.Flat.{thread_of, tables}
-use Rattle.ir_flat.proofs.CallerLemmas.{events_added_by, entered_object_is_of_state}
+use Rattle.ir_flat.proofs.CallerLemmas.{events_added_by, entered_object_below_object_count}
 use Rattle.ir_log.specs.Logged.{Logged}
 use Rattle.ir_record.proofs.Logs.{log_has_room_for_event, found_log_is_log_at}
 use Rattle.ir_record.proofs.Entering.{OneEventLogged, ok_fact_if_is_err_is_false, error_fact_if_is_err_is_true, no_step_if_entry_cannot, turn_taken_by_logged_event, has_logs_after_logged_event, label_is_emitted_by_ask, entry_logs_itself, entry_logs_no_answer, event_count_is_below_limit_at_entry, turn_passed_by_waiting, has_logs_after_waiting}
@@ -11,7 +11,7 @@ use Rattle.ir_record.proofs.Steps.{enters_if_free_unless_ask_is_try}
 use Rattle.ir_record.proofs.in_order.logged_guest.LoggedGuest.enter.Goals as goal
 
 pub entry-event-requires : goal.entry-event-requires
-entry-event-requires c = entered_object_is_of_state c.args.self.now.flat c.args.t c.args.object c.args.access c.requires.flat c.requires.thread
+entry-event-requires c = entered_object_below_object_count c.args.self.now.flat c.args.t c.args.object c.args.access c.requires.flat c.requires.thread
     c.requires.asked
 
 pub returns-then-is_err-clause-took : goal.returns-then-is_err-clause-took

@@ -1,5 +1,5 @@
 use Rattle.std.proofs.Common.{[], ◌∷◌, ◌++◌, set, refl, ap, ◌∙◌}
-use Rattle.ir_lemmas.proofs.CallerLemmas.{on_ok_holds_if_can}
+use Rattle.ir_lemmas.proofs.CallerLemmas.{ok_fact_if_error_refuted}
 use Rattle.ir_runs.specs.Machine.{Refused}
 use Rattle.ir_runs.specs.Run.{Can}
 use Rattle.ir_flat.specs.Flat.{tables, machine}
@@ -29,7 +29,7 @@ refused c =
       below = c.requires.thread;
       asked = c.requires.asked;
       can = can;
-      taken = on_ok_holds_if_can c.take.result (Can (machine f) (tables f) (c.args.t, 0)) _ can c.take.ensures.refused c.take.ensures.taken;
+      taken = ok_fact_if_error_refuted c.take.result (Can (machine f) (tables f) (c.args.t, 0)) _ can c.take.ensures.refused c.take.ensures.taken;
       code = c.take.ensures.code;
       threads = c.take.ensures.threads;
       objects = c.take.ensures.objects;
