@@ -19,7 +19,7 @@ use Rattle.ir_thread.specs.State.{ask_of, shared_ask, is_result, thread_machine}
 use Rattle.ir_thread.specs.State as thread
 use Rattle.ir_thread.specs.declared.ask.Ask.{Ask}
 use Rattle.ir_thread.specs.declared.ask.Ask.TheVariants as asks
-use Rattle.ir_record.proofs.CallerLemmas.{hold_few_objects_if_flat, step_leaves_all_fewer, steps_of_thread_leave_all_fewer}
+use Rattle.ir_record.proofs.CallerLemmas.{hold_few_objects_if_flat, all_left_falls_after_step, all_left_falls_after_steps_of_thread}
 use Rattle.ir_chaos.specs.Moments.{Moment, moment_of, IsReady, Moved, Gained, Took, Ran, IsAtRest, OthersRest, TookSome, IsNoTry, IsNoCall}
 use Rattle.ir_chaos.specs.Schedules.{is_rest, rests, IsChosen, Leads, threads_of}
 use Rattle.ir_chaos.specs.declared.chooser.Chooser.{Chooser}
@@ -27,17 +27,17 @@ use Rattle.ir_chaos.specs.declared.runner.Runner.{Runner}
 
 -- ---- one after the other
 
-leads_append : {T : Type 0} (tries : Bool) (m : Machine T) (n : ℕ) (s : State T) (c d e : Chooser) (run more : List Step)
+leads_by_append_of_runs : {T : Type 0} (tries : Bool) (m : Machine T) (n : ℕ) (s : State T) (c d e : Chooser) (run more : List Step)
     → Leads tries m n s c run d → Leads tries m n (end m s run) d more e → Leads tries m n s c (run ++ more) e
-leads_append tries m n s c d e [] more h k = subst (λ z. Leads tries m n s z more e) h k
-leads_append tries m n s c d e (x ∷ run) more h k = (h.0, h.1, leads_append tries m n (after m s x) h.0 d e run more h.2 k)
+leads_by_append_of_runs tries m n s c d e [] more h k = subst (λ z. Leads tries m n s z more e) h k
+leads_by_append_of_runs tries m n s c d e (x ∷ run) more h k = (h.0, h.1, leads_by_append_of_runs tries m n (after m s x) h.0 d e run more h.2 k)
 
-answers_in_logged : (k : Label) (ys : List Label) → answers_in (logged k ys) ≡ answers_in (logged k []) ++ answers_in ys
-answers_in_logged Quiet ys = refl
-answers_in_logged (Answer i v) ys = refl
-answers_in_logged (In o a v l) ys = refl
-answers_in_logged (Refused o) ys = refl
-answers_in_logged (Out o a v) ys = refl
+answers_in_logged_is_append : (k : Label) (ys : List Label) → answers_in (logged k ys) ≡ answers_in (logged k []) ++ answers_in ys
+answers_in_logged_is_append Quiet ys = refl
+answers_in_logged_is_append (Answer i v) ys = refl
+answers_in_logged_is_append (In o a v l) ys = refl
+answers_in_logged_is_append (Refused o) ys = refl
+answers_in_logged_is_append (Out o a v) ys = refl
 
 answers_in_append : (xs ys : List Label) → answers_in (xs ++ ys) ≡ answers_in xs ++ answers_in ys
 answers_in_append [] ys = refl
@@ -53,8 +53,8 @@ log_after_gained_run : (a b : Moment) (first more : List Step) (t : ℕ) → Gai
 log_after_gained_run a b first more t g = ap (λ c. log (thread_machine c) (tables b.flat) more t) g.code
     ∙ ap (λ s. log (machine a.flat) s more t) g.ends
 
-gained_reflexive : (a : Moment) → Gained [] a a
-gained_reflexive a = record {
+gained_by_no_steps : (a : Moment) → Gained [] a a
+gained_by_no_steps a = record {
   ends = refl;
   code = refl;
   threads = refl;
@@ -63,8 +63,8 @@ gained_reflexive a = record {
   answers = λ t l. sym (append-nil (answers_at a.answers t));
 }
 
-gained_append : (run more : List Step) (a b c : Moment) → Gained run a b → Gained more b c → Gained (run ++ more) a c
-gained_append run more a b c p q =
+gained_by_append_of_runs : (run more : List Step) (a b c : Moment) → Gained run a b → Gained more b c → Gained (run ++ more) a c
+gained_by_append_of_runs run more a b c p q =
     let logs_of : (t : ℕ) → log (machine a.flat) (tables a.flat) (run ++ more) t ≡ log (machine a.flat) (tables a.flat) run t ++ log
     (machine b.flat) (tables b.flat) more t =
     λ t. log_append (machine a.flat) (tables a.flat) run more t
@@ -88,7 +88,7 @@ gained_append run more a b c p q =
     }
 
 pub ran_reflexive : (tries : Bool) (a : Moment) (c : Chooser) → Ran tries a c a c
-ran_reflexive tries a c = record { run = []; leads = refl; gained = gained_reflexive a }
+ran_reflexive tries a c = record { run = []; leads = refl; gained = gained_by_no_steps a }
 
 -- what leads on from where a run leads
 leads_after_gained_run : (tries : Bool) (a b : Moment) (c d : Chooser) (run more : List Step) → Gained run a b
@@ -102,9 +102,9 @@ leads_after_gained_run tries a b c d run more g h =
 pub ran_transitive : (tries : Bool) (a b e : Moment) (c d x : Chooser) → Ran tries a c b d → Ran tries b d e x → Ran tries a c e x
 ran_transitive tries a b e c d x p q = record {
   run = p.run ++ q.run;
-  leads = leads_append tries (machine a.flat) (length a.flat.threads) (tables a.flat) c d x p.run q.run p.leads
+  leads = leads_by_append_of_runs tries (machine a.flat) (length a.flat.threads) (tables a.flat) c d x p.run q.run p.leads
       (leads_after_gained_run tries a b d x p.run q.run p.gained q.leads);
-  gained = gained_append p.run q.run a b e p.gained q.gained;
+  gained = gained_by_append_of_runs p.run q.run a b e p.gained q.gained;
 }
 
 -- ---- one step
@@ -229,12 +229,12 @@ took_if_acted_and_noted answers broken t old new turns a order = record {
 }
 
 -- a step that was taken leaves fewer
-pub step_taken_leaves_fewer : (a b : Moment) (t : ℕ) → IsFlat a.flat → t < length a.flat.threads → Took t a b → TookSome 1 a.flat b.flat
-step_taken_leaves_fewer a b t flat l s = subst (λ z. all_left (length a.flat.threads) z.now + 1 ≤ all_left (length a.flat.threads) (tables a.flat).now)
-    (sym s.gained.ends) (step_leaves_all_fewer a.flat.code (length a.flat.threads) (tables a.flat) (t, s.result) (hold_few_objects_if_flat a.flat flat) l s.can)
+pub step_taken_leaves_at_least_one_fewer : (a b : Moment) (t : ℕ) → IsFlat a.flat → t < length a.flat.threads → Took t a b → TookSome 1 a.flat b.flat
+step_taken_leaves_at_least_one_fewer a b t flat l s = subst (λ z. all_left (length a.flat.threads) z.now + 1 ≤ all_left (length a.flat.threads) (tables a.flat).now)
+    (sym s.gained.ends) (all_left_falls_after_step a.flat.code (length a.flat.threads) (tables a.flat) (t, s.result) (hold_few_objects_if_flat a.flat flat) l s.can)
 
-pub took_some_append : (i j : ℕ) (f g h : Flat) → length g.threads ≡ length f.threads → TookSome i f g → TookSome j g h → TookSome (i + j) f h
-took_some_append i j f g h same p q =
+pub took_some_of_sum : (i j : ℕ) (f g h : Flat) → length g.threads ≡ length f.threads → TookSome i f g → TookSome j g h → TookSome (i + j) f h
+took_some_of_sum i j f g h same p q =
     let more = subst (λ n. all_left n (tables h).now + j ≤ all_left n (tables g).now) same q in
     omega (arith, p, more)
 
@@ -362,9 +362,9 @@ can_answer_call_with_result f t value kind is fits = subst (λ (q : Ask). Admits
     ((tables f).objects (target (act_of (shared_ask q) value)))) is fits
 
 -- private steps leave no more
-pub private_steps_leave_no_more : (f g : Flat) (t k : ℕ) → IsFlat f → t < length f.threads → WentAlone f g t k → TookSome 0 f g
-private_steps_leave_no_more f g t k flat l w =
-    let less = steps_of_thread_leave_all_fewer f.code (length f.threads) t k (tables f) (hold_few_objects_if_flat f flat) l w.runs in
+pub private_steps_leave_no_more_steps : (f g : Flat) (t k : ℕ) → IsFlat f → t < length f.threads → WentAlone f g t k → TookSome 0 f g
+private_steps_leave_no_more_steps f g t k flat l w =
+    let less = all_left_falls_after_steps_of_thread f.code (length f.threads) t k (tables f) (hold_few_objects_if_flat f flat) l w.runs in
     let same : all_left (length f.threads) (tables g).now ≡ all_left (length f.threads)
     (end (machine f) (tables f) (replicate k (t, 0))).now = ap (λ s. all_left (length f.threads) s.now) w.ends in
     omega (arith, less, same)
@@ -388,5 +388,5 @@ pub steps_left_fall_after_step : (f g : Flat) → length g.threads ≡ length f.
 steps_left_fall_after_step f g same h = subst (λ n. all_left n (tables g).now < all_left (length f.threads) (tables f).now) (sym same) (omega (arith, h))
 
 -- a step and more
-pub took_some_weaker : (f g : Flat) → TookSome 1 f g → TookSome 0 f g
-took_some_weaker f g h = omega (arith, h)
+pub took_some_of_one_is_took_some_of_zero : (f g : Flat) → TookSome 1 f g → TookSome 0 f g
+took_some_of_one_is_took_some_of_zero f g h = omega (arith, h)

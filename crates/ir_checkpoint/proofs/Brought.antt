@@ -12,8 +12,8 @@ use Rattle.ir_weave.specs.Standing.{Standing, StandsAt, flat_in, positions}
 use Rattle.ir_checkpoint.specs.Checkpoints.{Stands}
 
 -- what is at a cut is at its own positions
-pub standing_at_own_positions : (f : FittedTrace) (p : Cut) (s : Standing) → StandsAt f p s → Stands f s
-standing_at_own_positions f p s h = subst (λ (q : Cut). StandsAt f q s) (fun_ext (λ t. sym (h.at.steps t))) h
+pub standing_at_cut_stands_at_own_positions : (f : FittedTrace) (p : Cut) (s : Standing) → StandsAt f p s → Stands f s
+standing_at_cut_stands_at_own_positions f p s h = subst (λ (q : Cut). StandsAt f q s) (fun_ext (λ t. sym (h.at.steps t))) h
 
 -- a thread that there isn't has taken no step
 position_of_missing_thread_zero : (f : FittedTrace) (s : Standing) (t : ℕ) → length s.threads ≤ t → positions (flat_in f s) t ≡ 0

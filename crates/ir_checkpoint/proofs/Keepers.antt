@@ -14,8 +14,8 @@ use Rattle.ir_keep.specs.Keeping.{Kept, Keeping, IsNearest, IsNew, without, kept
 use Rattle.ir_checkpoint.specs.Checkpoints.{Stands, AllStand}
 
 -- the start alone is the guest at its own positions
-pub new_keeping_stands : (f : FittedTrace) (k : Keeping) → IsNew f k → AllStand f k.kept
-new_keeping_stands f k new =
+pub kept_states_of_new_keeping_stand : (f : FittedTrace) (k : Keeping) → IsNew f k → AllStand f k.kept
+kept_states_of_new_keeping_stand f k new =
     let at : StandsAt f (λ t. 0) new.0 = new.1 in
     let own : Stands f new.0 = subst (λ (p : Cut). StandsAt f p new.0) (λ i t. sym (at.at.steps t) i) at in
     subst (λ (z : Keeping). AllStand f z.kept) (sym new.2) (own, tt)
@@ -37,17 +37,17 @@ pub kept_states_stand_without_number : (f : FittedTrace) (kept : List Kept) (n :
 kept_states_stand_without_number f [] n all = tt
 kept_states_stand_without_number f (k ∷ kept) n all = kept_states_stand_with_conditional_head f k (without n kept) (k.number == n) all.0 (kept_states_stand_without_number f kept n all.1)
 
-first_or_other_kept_stands : (f : FittedTrace) (k one : Kept) (rest : Option Kept) (b : Bool) → Stands f k.state → (rest ≡ Some one → Stands f one.state)
+conditional_kept_state_stands : (f : FittedTrace) (k one : Kept) (rest : Option Kept) (b : Bool) → Stands f k.state → (rest ≡ Some one → Stands f one.state)
     → (if b then Some k else rest) ≡ Some one → Stands f one.state
-first_or_other_kept_stands f k one rest true first others is = let same : k ≡ one = cc is in subst (λ (x : Kept). Stands f x.state) same first
-first_or_other_kept_stands f k one rest false first others is = others is
+conditional_kept_state_stands f k one rest true first others is = let same : k ≡ one = cc is in subst (λ (x : Kept). Stands f x.state) same first
+conditional_kept_state_stands f k one rest false first others is = others is
 
 -- the one of a number
 pub kept_state_of_number_stands : (f : FittedTrace) (kept : List Kept) (n : ℕ) (one : Kept) → AllStand f kept → kept_as n kept ≡ Some one
     → Stands f one.state
 kept_state_of_number_stands f [] n one all is = absurd cc
 kept_state_of_number_stands f (k ∷ kept) n one all is =
-    first_or_other_kept_stands f k one (kept_as n kept) (k.number == n) all.0 (kept_state_of_number_stands f kept n one all.1) is
+    conditional_kept_state_stands f k one (kept_as n kept) (k.number == n) all.0 (kept_state_of_number_stands f kept n one all.1) is
 
 steps_at_most_cut_if_below : (threads : List thread.ThreadState) (cut : List ℕ) → is_below (map (λ t. t.steps) threads) cut ≡ true → (t : ℕ)
     → (slice_index_or threads t idle).steps ≤ cut_of cut t

@@ -16,7 +16,7 @@ use Rattle.ir_cut.specs.Positions.{machine_of, start_of, cut_of, EachRun, IsCons
 use Rattle.ir_cut.specs.Searching.{AreInside, NeededBy, IsClosed}
 use Rattle.ir_cut.proofs.Again.{emitting_thread_exists}
 use Rattle.ir_cut.proofs.Listing.{run_of_trace_is_listed}
-use Rattle.ir_cut.proofs.Searched.{needing_label_is_entry, elements_at_equal_places_equal}
+use Rattle.ir_cut.proofs.Searched.{needing_label_is_entry, slice_get_at_equal_indexes_is_equal}
 
 -- what the first n events of thread t need is inside
 abbrev pub AreNeedsOfFirstInside : FittedTrace → List ℕ → ℕ → ℕ → Type 0
@@ -24,30 +24,30 @@ AreNeedsOfFirstInside f qs t n = (e : ℕ) (x : Event) → e < n → slice_get (
     → EachRun f (λ run. AreInside f run (NeededBy (label_of x)) (cut_of qs))
 
 -- it is closed, where all events in the cut are among them
-closed_if_events_in_cut_are_among_first : (f : FittedTrace) → IsFitted f → (qs : List ℕ) (t n : ℕ) → AreNeedsOfFirstInside f qs t n
+closed_if_needs_of_events_in_cut_inside : (f : FittedTrace) → IsFitted f → (qs : List ℕ) (t n : ℕ) → AreNeedsOfFirstInside f qs t n
     → ((e i : ℕ) → slice_get (placed_at (placed_of f) t).entries e ≡ Some i → i < cut_of qs t → e < n)
     → EachRun f (λ run. IsClosed f run (cut_of qs) t)
-closed_if_events_in_cut_are_among_first f fit qs t n met first run is i k emits inside w j b at need =
+closed_if_needs_of_events_in_cut_inside f fit qs t n met first run is i k emits inside w j b at need =
     let x = needing_label_is_entry b k need in
     let e = (run_of_trace_is_listed f fit.run run is).entry t i x.object x.access x.version x.left
     (subst (Emits (machine_of f) (start_of f) run t i) x.is emits) in
     met e.0 e.1 (first e.0 i e.2 inside) e.3 run is w j b at (subst (IsNeededBy b) (x.is ∙ sym e.4) need)
 
 -- at the end of the log
-pub closed_at_end_of_log : (f : FittedTrace) → IsFitted f → (qs ks : List ℕ) (t n : ℕ) → ks ≡ (placed_at (placed_of f) t).entries → length ks ≤ n
+pub closed_if_needs_of_whole_log_inside : (f : FittedTrace) → IsFitted f → (qs ks : List ℕ) (t n : ℕ) → ks ≡ (placed_at (placed_of f) t).entries → length ks ≤ n
     → AreNeedsOfFirstInside f qs t n → IsTrue true ↔ EachRun f (λ run. IsClosed f run (cut_of qs) t)
-closed_at_end_of_log f fit qs ks t n list over met = (
-  (λ _. closed_if_events_in_cut_are_among_first f fit qs t n met (λ e i at _. let l = slice_get_within (placed_at (placed_of f) t).entries e i at in
+closed_if_needs_of_whole_log_inside f fit qs ks t n list over met = (
+  (λ _. closed_if_needs_of_events_in_cut_inside f fit qs t n met (λ e i at _. let l = slice_get_within (placed_at (placed_of f) t).entries e i at in
       let same : length ks ≡ length (placed_at (placed_of f) t).entries = ap length list in omega (arith, l, same, over))),
   (λ _. refl),
 )
 
 -- where the next event isn't in the cut
-pub closed_if_next_event_outside : (f : FittedTrace) → IsFitted f → (qs ks : List ℕ) (t n k : ℕ) → t < length f.guest.entries
+pub closed_if_needs_inside_and_next_event_outside : (f : FittedTrace) → IsFitted f → (qs ks : List ℕ) (t n k : ℕ) → t < length f.guest.entries
     → ks ≡ (placed_at (placed_of f) t).entries → n < length ks → k ≡ slice_index_or ks n 0 → cut_of qs t ≤ k → AreNeedsOfFirstInside f qs t n
     → IsTrue true ↔ EachRun f (λ run. IsClosed f run (cut_of qs) t)
-closed_if_next_event_outside f fit qs ks t n k there list l read past met = (
-  (λ _. closed_if_events_in_cut_are_among_first f fit qs t n met (λ e i at inside. elim (cases_lt e n) [
+closed_if_needs_inside_and_next_event_outside f fit qs ks t n k there list l read past met = (
+  (λ _. closed_if_needs_of_events_in_cut_inside f fit qs t n met (λ e i at inside. elim (cases_lt e n) [
     | inl less ↦ less
     | inr behind ↦
         let here : slice_get (placed_at (placed_of f) t).entries n ≡ Some k = ap (λ z. slice_get z n) (sym list) ∙ slice_get-get_or ks n 0 l
@@ -55,7 +55,7 @@ closed_if_next_event_outside f fit qs ks t n k there list l read past met = (
         elim (cases_lt n e) [
           | inl before ↦ let up = (run_of_trace_is_listed f fit.run fit.run.run fit.run.whole).rise t n e k i there before here at in
               absurd (omega (arith, up, inside, past))
-          | inr same ↦ let one : k ≡ i = elements_at_equal_places_equal (placed_at (placed_of f) t).entries n e k i
+          | inr same ↦ let one : k ≡ i = slice_get_at_equal_indexes_is_equal (placed_at (placed_of f) t).entries n e k i
               (let d : n ≡ e = omega (arith, behind, same) in d) here at in absurd (omega (arith, one, inside, past))
         ]
   ])),
@@ -92,7 +92,7 @@ pub needs_of_first_inside_step : (f : FittedTrace) (qs : List ℕ) (es : List Ev
 needs_of_first_inside_step f qs es t n x b log event test is met e y l at = elim (cases_lt e n) [
   | inl less ↦ met e y less at
   | inr past ↦ subst (λ z. EachRun f (λ run. AreInside f run (NeededBy (label_of z)) (cut_of qs)))
-      (elements_at_equal_places_equal es n e x y (let d : n ≡ e = omega (arith, l, past) in d) event (ap (λ z. slice_get z e) log ∙ at)) (test.0 is)
+      (slice_get_at_equal_indexes_is_equal es n e x y (let d : n ≡ e = omega (arith, l, past) in d) event (ap (λ z. slice_get z e) log ∙ at)) (test.0 is)
 ]
 
 -- ---- all threads
@@ -146,9 +146,9 @@ test_of_closed_tells_closed_and_within_steps f qs t n b steps l test = (
   (λ h. test.1 h.1),
 )
 
-pub consistent_cut_at_last_thread : (f : FittedTrace) → HasRun f → (qs : List ℕ) (n : ℕ) → length qs ≡ length f.guest.entries → length qs ≤ n
+pub cut_is_consistent_after_last_closed_thread : (f : FittedTrace) → HasRun f → (qs : List ℕ) (n : ℕ) → length qs ≡ length f.guest.entries → length qs ≤ n
     → AreFirstThreadsClosed f qs n → IsTrue true ↔ IsConsistentCut f qs
-consistent_cut_at_last_thread f h qs n size past first = (
+cut_is_consistent_after_last_closed_thread f h qs n size past first = (
   (λ _. consistent_cut_if_threads_closed f h qs size (λ t l. first t (omega (arith, l, past)))),
   (λ _. refl),
 )

@@ -15,18 +15,18 @@ use Rattle.ir_cut.specs.Positions.{machine_of, start_of, cut_of, EachRun}
 use Rattle.ir_cut.specs.Searching.{AreInside, RaisedFor, LoweredFor, NeededBy, Needing, IsEntryAt}
 use Rattle.ir_fit.specs.Listed.{OnlyLeaves, AllLeaves, OnlyEntries, AllEntries}
 use Rattle.ir_fit.specs.declared.place.Place.{Place}
-use Rattle.ir_cut.proofs.Sought.{places_inside_iff_leaves_inside, raised_for_leaves_if_places_raised, lowered_for_entries_if_places_lowered, raised_for_either_label, raised_for_equivalent_labels, raised_for_no_steps, lowered_for_either_label, lowered_for_equivalent_labels, lowered_for_no_steps}
+use Rattle.ir_cut.proofs.Sought.{places_inside_iff_leaves_inside, raised_for_leaves_if_places_raised, lowered_for_entries_if_places_lowered, raised_for_union_if_raised_for_both, raised_for_equivalent_labels, no_raise_needed_if_no_step_emits_label, lowered_for_union_if_lowered_for_both, lowered_for_equivalent_labels, no_lowering_needed_if_no_step_emits_label}
 use Rattle.ir_cut.proofs.Again.{entered_version_is_word}
 
 -- ---- an entry needs the leave that made its version
 
-pub first_version_needs_nothing : (o v l : ℕ) → v ≡ 0 → (b : Label) → NeededBy (In o Reading v l) b → ⊥
-first_version_needs_nothing o v l is Quiet h = h
-first_version_needs_nothing o v l is (Answer k x) h = h
-first_version_needs_nothing o v l is (In p a w i) h = h
-first_version_needs_nothing o v l is (Refused p) h = h
-first_version_needs_nothing o v l is (Out p Reading w) h = h
-first_version_needs_nothing o v l is (Out p Writing w) h = let e = h.1 in omega (arith, is, e)
+pub reading_of_first_version_needs_nothing : (o v l : ℕ) → v ≡ 0 → (b : Label) → NeededBy (In o Reading v l) b → ⊥
+reading_of_first_version_needs_nothing o v l is Quiet h = h
+reading_of_first_version_needs_nothing o v l is (Answer k x) h = h
+reading_of_first_version_needs_nothing o v l is (In p a w i) h = h
+reading_of_first_version_needs_nothing o v l is (Refused p) h = h
+reading_of_first_version_needs_nothing o v l is (Out p Reading w) h = h
+reading_of_first_version_needs_nothing o v l is (Out p Writing w) h = let e = h.1 in omega (arith, is, e)
 
 pub reading_needs_its_maker : (o v w l : ℕ) → v ≡ w + 1 → (b : Label) → NeededBy (In o Reading v l) b → b ≡ Out o Writing w
 reading_needs_its_maker o v w l is Quiet h = absurd h
@@ -72,9 +72,9 @@ answer_needs_nothing kind x (Out p Writing w) h = h
 -- ---- whether what an event needs is inside
 
 -- where each step of one kind is of the other
-inside_for_implied_labels : (f : FittedTrace) (P R : Label → Type 0) → ((k : Label) → R k → P k) → (c : Cut) → EachRun f (λ run. AreInside f run P c)
+are_inside_of_implying_predicate : (f : FittedTrace) (P R : Label → Type 0) → ((k : Label) → R k → P k) → (c : Cut) → EachRun f (λ run. AreInside f run P c)
     → EachRun f (λ run. AreInside f run R c)
-inside_for_implied_labels f P R to c h run is t i k emits r = h run is t i k emits (to k r)
+are_inside_of_implying_predicate f P R to c h run is t i k emits r = h run is t i k emits (to k r)
 
 pub test_tells_reading_needs_inside_by_makers : (f : FittedTrace) → IsFitted f → (o v w : ℕ) (ps : List Place) → OnlyLeaves f o Writing w ps → AllLeaves f o Writing w ps
     → (xs : List ℕ) (b : Bool) → (1 ≤ v) × (w ≡ v - 1)
@@ -83,9 +83,9 @@ pub test_tells_reading_needs_inside_by_makers : (f : FittedTrace) → IsFitted f
 test_tells_reading_needs_inside_by_makers f k o v w ps only all xs b is test =
     let next : v ≡ w + 1 = (let some = is.0 in let less = is.1 in omega (arith, some, less)) in
     let leaves = places_inside_iff_leaves_inside f k o Writing w ps only all xs in (
-      (λ so. inside_for_implied_labels f (λ z. z ≡ Out o Writing w) (NeededBy (In o Reading v 0)) (reading_needs_its_maker o v w 0 next) (cut_of xs)
+      (λ so. are_inside_of_implying_predicate f (λ z. z ≡ Out o Writing w) (NeededBy (In o Reading v 0)) (reading_needs_its_maker o v w 0 next) (cut_of xs)
           (leaves.0 (test.0 so))),
-      (λ h. test.1 (leaves.1 (inside_for_implied_labels f (NeededBy (In o Reading v 0)) (λ z. z ≡ Out o Writing w) (maker_is_needed_by_reading o v w 0 next) (cut_of xs)
+      (λ h. test.1 (leaves.1 (are_inside_of_implying_predicate f (NeededBy (In o Reading v 0)) (λ z. z ≡ Out o Writing w) (maker_is_needed_by_reading o v w 0 next) (cut_of xs)
           h))),
     )
 
@@ -104,7 +104,7 @@ test_tells_needs_of_write_event_inside f k x o v l ps only all xs a b is so made
     subst (λ z. IsTrue b ↔ EachRun f (λ run. AreInside f run (NeededBy (label_of z)) (cut_of xs))) (sym is) (
       (λ read run is t i m emits n. elim (writing_needs_maker_or_reader o v l m n)
           [ inl maker ↦ made.0 so run is t i m emits maker | inr reader ↦ leaves.0 (test.0 read) run is t i m emits reader ]),
-      (λ h. test.1 (leaves.1 (inside_for_implied_labels f (NeededBy (In o Writing v l)) (λ z. z ≡ Out o Reading v) (reader_is_needed_by_writing o v l) (cut_of xs) h))),
+      (λ h. test.1 (leaves.1 (are_inside_of_implying_predicate f (NeededBy (In o Writing v l)) (λ z. z ≡ Out o Reading v) (reader_is_needed_by_writing o v l) (cut_of xs) h))),
     )
 
 pub test_tells_needs_of_write_event_not_inside : (f : FittedTrace) (x : Event) (o v l : ℕ) (xs : List ℕ) (a : Bool) → x ≡ Write o v l → a ≡ false
@@ -113,36 +113,36 @@ pub test_tells_needs_of_write_event_not_inside : (f : FittedTrace) (x : Event) (
 test_tells_needs_of_write_event_not_inside f x o v l xs a is no_maker made =
     subst (λ z. IsTrue a ↔ EachRun f (λ run. AreInside f run (NeededBy (label_of z)) (cut_of xs))) (sym is) (
       (λ so. absurd (cc (so, no_maker))),
-      (λ h. made.1 (inside_for_implied_labels f (NeededBy (In o Writing v l)) (NeededBy (In o Reading v 0)) (maker_is_needed_by_writing o v l) (cut_of xs) h)),
+      (λ h. made.1 (are_inside_of_implying_predicate f (NeededBy (In o Writing v l)) (NeededBy (In o Reading v 0)) (maker_is_needed_by_writing o v l) (cut_of xs) h)),
     )
 
 -- ---- positions raised for it
 
-pub raised_for_reading_by_makers : (f : FittedTrace) → IsFitted f → (o v w : ℕ) (ps : List Place) → OnlyLeaves f o Writing w ps → AllLeaves f o Writing w ps
+pub raised_for_reading_needs_if_raised_to_makers : (f : FittedTrace) → IsFitted f → (o v w : ℕ) (ps : List Place) → OnlyLeaves f o Writing w ps → AllLeaves f o Writing w ps
     → (old new : List ℕ) → (1 ≤ v) × (w ≡ v - 1) → IsRaised old new ps (length ps)
     → EachRun f (λ run. RaisedFor f run (NeededBy (In o Reading v 0)) old new)
-raised_for_reading_by_makers f k o v w ps only all old new is r run ok =
+raised_for_reading_needs_if_raised_to_makers f k o v w ps only all old new is r run ok =
     let next : v ≡ w + 1 = (let some = is.0 in let less = is.1 in omega (arith, some, less)) in
     raised_for_equivalent_labels f run (λ z. z ≡ Out o Writing w) (NeededBy (In o Reading v 0)) (reading_needs_its_maker o v w 0 next) (maker_is_needed_by_reading o v w 0 next) old new
     (raised_for_leaves_if_places_raised f k o Writing w ps only all old new r run ok)
 
-pub raised_for_write_event : (f : FittedTrace) → IsFitted f → (x : Event) (o v l : ℕ) (ps : List Place) → OnlyLeaves f o Reading v ps
+pub raised_for_write_event_if_raised_for_makers_and_readers : (f : FittedTrace) → IsFitted f → (x : Event) (o v l : ℕ) (ps : List Place) → OnlyLeaves f o Reading v ps
     → AllLeaves f o Reading v ps → (old cur new : List ℕ) → x ≡ Write o v l
     → EachRun f (λ run. RaisedFor f run (NeededBy (In o Reading v 0)) old cur) → IsRaised cur new ps (length ps)
     → EachRun f (λ run. RaisedFor f run (NeededBy (label_of x)) old new)
-raised_for_write_event f k x o v l ps only all old cur new is made r run ok = subst (λ z. RaisedFor f run (NeededBy (label_of z)) old new) (sym is)
-    (raised_for_either_label f run (NeededBy (In o Reading v 0)) (λ z. z ≡ Out o Reading v) (NeededBy (In o Writing v l)) (writing_needs_maker_or_reader o v l)
+raised_for_write_event_if_raised_for_makers_and_readers f k x o v l ps only all old cur new is made r run ok = subst (λ z. RaisedFor f run (NeededBy (label_of z)) old new) (sym is)
+    (raised_for_union_if_raised_for_both f run (NeededBy (In o Reading v 0)) (λ z. z ≡ Out o Reading v) (NeededBy (In o Writing v l)) (writing_needs_maker_or_reader o v l)
     (maker_is_needed_by_writing o v l) (reader_is_needed_by_writing o v l) old cur new (made run ok) (raised_for_leaves_if_places_raised f k o Reading v ps only all cur new r run ok))
 
-pub raised_for_read_event : (f : FittedTrace) (x : Event) (o v : ℕ) (old new : List ℕ) → x ≡ Read o v
+pub raised_for_read_event_if_raised_for_reading : (f : FittedTrace) (x : Event) (o v : ℕ) (old new : List ℕ) → x ≡ Read o v
     → EachRun f (λ run. RaisedFor f run (NeededBy (In o Reading v 0)) old new)
     → EachRun f (λ run. RaisedFor f run (NeededBy (label_of x)) old new)
-raised_for_read_event f x o v old new is h run ok = subst (λ z. RaisedFor f run (NeededBy (label_of z)) old new) (sym is) (h run ok)
+raised_for_read_event_if_raised_for_reading f x o v old new is h run ok = subst (λ z. RaisedFor f run (NeededBy (label_of z)) old new) (sym is) (h run ok)
 
 -- nothing is needed of the first version, and by a result
-pub raised_for_first_version : (f : FittedTrace) (o v : ℕ) (xs : List ℕ) → v ≡ 0
+pub first_version_needs_no_raise : (f : FittedTrace) (o v : ℕ) (xs : List ℕ) → v ≡ 0
     → EachRun f (λ run. RaisedFor f run (NeededBy (In o Reading v 0)) xs xs)
-raised_for_first_version f o v xs is run ok = raised_for_no_steps f run (NeededBy (In o Reading v 0)) (λ t i k emits n. first_version_needs_nothing o v 0 is k n) xs
+first_version_needs_no_raise f o v xs is run ok = no_raise_needed_if_no_step_emits_label f run (NeededBy (In o Reading v 0)) (λ t i k emits n. reading_of_first_version_needs_nothing o v 0 is k n) xs
 
 -- ---- positions lowered from what needs a leave
 
@@ -150,12 +150,12 @@ entry_reads_or_writes : (o v : ℕ) (k : Label) → IsEntryAt o v k → ((l : �
 entry_reads_or_writes o v k (Reading, l, e) = inl (l, e)
 entry_reads_or_writes o v k (Writing, l, e) = inr (l, e)
 
-pub lowered_for_entries_at_version : (f : FittedTrace) → IsFitted f → (o v : ℕ) (ps qs : List Place) → OnlyEntries f o Reading v ps
+pub lowered_for_entries_if_lowered_for_reads_and_writes : (f : FittedTrace) → IsFitted f → (o v : ℕ) (ps qs : List Place) → OnlyEntries f o Reading v ps
     → AllEntries f o Reading v ps → OnlyEntries f o Writing v qs → AllEntries f o Writing v qs
     → (old cur new : List ℕ) → IsLowered old cur ps (length ps) → IsLowered cur new qs (length qs)
     → EachRun f (λ run. LoweredFor f run (IsEntryAt o v) old new)
-lowered_for_entries_at_version f k o v ps qs only all only' all' old cur new r s run ok =
-    lowered_for_either_label f run (λ z. (l : ℕ) × (z ≡ In o Reading v l)) (λ z. (l : ℕ) × (z ≡ In o Writing v l)) (IsEntryAt o v) (entry_reads_or_writes o v)
+lowered_for_entries_if_lowered_for_reads_and_writes f k o v ps qs only all only' all' old cur new r s run ok =
+    lowered_for_union_if_lowered_for_both f run (λ z. (l : ℕ) × (z ≡ In o Reading v l)) (λ z. (l : ℕ) × (z ≡ In o Writing v l)) (IsEntryAt o v) (entry_reads_or_writes o v)
     (λ z e. (Reading, e.0, e.1)) (λ z e. (Writing, e.0, e.1)) old cur new
     (lowered_for_entries_if_places_lowered f k o Reading v ps only all old cur r run ok) (lowered_for_entries_if_places_lowered f k o Writing v qs only' all' cur new s run ok)
 
@@ -171,10 +171,10 @@ needing_read_leave_is_write_entry o w (Out p a v) h = absurd h
 write_entry_needs_read_leave : (o w : ℕ) (k : Label) → (l : ℕ) × (k ≡ In o Writing w l) → IsNeededBy (Out o Reading w) k
 write_entry_needs_read_leave o w k e = subst (IsNeededBy (Out o Reading w)) (sym e.1) (refl, refl)
 
-pub lowered_for_read_leave : (f : FittedTrace) → IsFitted f → (x : Leave) (ps : List Place) → OnlyEntries f x.object Writing x.version ps
+pub lowered_for_read_leave_if_lowered_for_write_entries : (f : FittedTrace) → IsFitted f → (x : Leave) (ps : List Place) → OnlyEntries f x.object Writing x.version ps
     → AllEntries f x.object Writing x.version ps → (old new : List ℕ) → x.access ≡ Reading → IsLowered old new ps (length ps)
     → EachRun f (λ run. LoweredFor f run (Needing x) old new)
-lowered_for_read_leave f k x ps only all old new is r run ok = subst (λ a. LoweredFor f run (IsNeededBy (Out x.object a x.version)) old new) (sym is)
+lowered_for_read_leave_if_lowered_for_write_entries f k x ps only all old new is r run ok = subst (λ a. LoweredFor f run (IsNeededBy (Out x.object a x.version)) old new) (sym is)
     (lowered_for_equivalent_labels f run (λ z. (l : ℕ) × (z ≡ In x.object Writing x.version l)) (IsNeededBy (Out x.object Reading x.version))
     (needing_read_leave_is_write_entry x.object x.version) (write_entry_needs_read_leave x.object x.version) old new
     (lowered_for_entries_if_places_lowered f k x.object Writing x.version ps only all old new r run ok))
@@ -195,18 +195,18 @@ needing_write_leave_is_next_entry o w v is (Out p a u) h = absurd h
 next_entry_needs_write_leave : (o w v : ℕ) → v ≡ w + 1 → (k : Label) → IsEntryAt o v k → IsNeededBy (Out o Writing w) k
 next_entry_needs_write_leave o w v is k e = subst (IsNeededBy (Out o Writing w)) (sym e.2) (refl, (let d : v ≡ suc w = omega (arith, is) in d))
 
-pub lowered_for_write_leave : (f : FittedTrace) (x : Leave) (v : ℕ) (old new : List ℕ) → x.access ≡ Writing → v ≡ x.version + 1
+pub lowered_for_write_leave_if_lowered_for_next_entries : (f : FittedTrace) (x : Leave) (v : ℕ) (old new : List ℕ) → x.access ≡ Writing → v ≡ x.version + 1
     → EachRun f (λ run. LoweredFor f run (IsEntryAt x.object v) old new)
     → EachRun f (λ run. LoweredFor f run (Needing x) old new)
-lowered_for_write_leave f x v old new is next r run ok = subst (λ a. LoweredFor f run (IsNeededBy (Out x.object a x.version)) old new) (sym is)
+lowered_for_write_leave_if_lowered_for_next_entries f x v old new is next r run ok = subst (λ a. LoweredFor f run (IsNeededBy (Out x.object a x.version)) old new) (sym is)
     (lowered_for_equivalent_labels f run (IsEntryAt x.object v) (IsNeededBy (Out x.object Writing x.version)) (needing_write_leave_is_next_entry x.object x.version v next)
     (next_entry_needs_write_leave x.object x.version v next) old new (r run ok))
 
 -- there is no version after the last that can be counted
-pub lowered_for_leave_of_last_version : (f : FittedTrace) → IsFitted f → (x : Leave) (xs : List ℕ) → x.access ≡ Writing → (x.version + 1 < 2 ^ 32 → ⊥)
+pub leave_of_last_version_needs_no_lowering : (f : FittedTrace) → IsFitted f → (x : Leave) (xs : List ℕ) → x.access ≡ Writing → (x.version + 1 < 2 ^ 32 → ⊥)
     → EachRun f (λ run. LoweredFor f run (Needing x) xs xs)
-lowered_for_leave_of_last_version f k x xs is last run ok = subst (λ a. LoweredFor f run (IsNeededBy (Out x.object a x.version)) xs xs) (sym is)
-    (lowered_for_no_steps f run (IsNeededBy (Out x.object Writing x.version))
+leave_of_last_version_needs_no_lowering f k x xs is last run ok = subst (λ a. LoweredFor f run (IsNeededBy (Out x.object a x.version)) xs xs) (sym is)
+    (no_lowering_needed_if_no_step_emits_label f run (IsNeededBy (Out x.object Writing x.version))
     (λ t i m emits n.
     let e = needing_write_leave_is_next_entry x.object x.version (x.version + 1) refl m n in
     last (entered_version_is_word f k.run k.within run ok t i x.object e.0 (x.version + 1) e.1

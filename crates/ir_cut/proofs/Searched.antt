@@ -62,12 +62,12 @@ needed_label_is_leave (Refused p) a h = absurd h
 
 -- ---- an element of a list
 
-pub elements_at_equal_places_equal : {A : Type 0} (xs : List A) (i j : ℕ) (x y : A) → i ≡ j → slice_get xs i ≡ Some x → slice_get xs j ≡ Some y → x ≡ y
-elements_at_equal_places_equal xs i j x y is e d = sym (get_or_from_slice_get xs i x x e) ∙ ap (λ k. slice_index_or xs k x) is
+pub slice_get_at_equal_indexes_is_equal : {A : Type 0} (xs : List A) (i j : ℕ) (x y : A) → i ≡ j → slice_get xs i ≡ Some x → slice_get xs j ≡ Some y → x ≡ y
+slice_get_at_equal_indexes_is_equal xs i j x y is e d = sym (get_or_from_slice_get xs i x x e) ∙ ap (λ k. slice_index_or xs k x) is
     ∙ get_or_from_slice_get xs j y x d
 
-counted_thread_below_length : (next : List ℕ) (n u e : ℕ) → length next ≡ n → e < cut_of next u → u < n
-counted_thread_below_length next n u e size l = elim (cases_lt u n) [
+thread_is_below_length_if_its_count_is_positive : (next : List ℕ) (n u e : ℕ) → length next ≡ n → e < cut_of next u → u < n
+thread_is_below_length_if_its_count_is_positive next n u e size l = elim (cases_lt u n) [
   | inl less ↦ less
   | inr past ↦ let none : cut_of next u ≡ 0 = get_or_past next u 0 (omega (arith, size, past)) in absurd (omega (arith, none, l))
 ]
@@ -109,7 +109,7 @@ rising_at_start f run is list ps qs next t k cut con there steps own rest size f
         | inr ne ↦ let a = over u in omega (arith, rest u ne, a)
       ];
       met = λ u e x l at.
-          let less : u < length f.guest.entries = counted_thread_below_length next (length f.guest.entries) u e size l in
+          let less : u < length f.guest.entries = thread_is_below_length_if_its_count_is_positive next (length f.guest.entries) u e size l in
           let inside : e < length (placed_at (placed_of f) u).entries =
           (let a = slice_get_within (recorded_thread f.recorded u).events e x at in let b = list.sizes u less in omega (arith, a, b)) in
           let i : ℕ = slice_index_or (placed_at (placed_of f) u).entries e 0 in
@@ -142,16 +142,16 @@ rising_step f run list ps qs qs' next next' t k u x r there below at raised own 
             elim (cases_lt e (cut_of next u)) [
               | inl less ↦ inside_larger_cut_if_inside f run (NeededBy (label_of y)) (cut_of qs) (cut_of qs') raised.above (r.met u e y less says')
               | inr past ↦ subst (λ z. AreInside f run (NeededBy (label_of z)) (cut_of qs'))
-                  (elements_at_equal_places_equal (recorded_thread f.recorded u).events (cut_of next u) e x y
+                  (slice_get_at_equal_indexes_is_equal (recorded_thread f.recorded u).events (cut_of next u) e x y
                   (let d : cut_of next u ≡ e = omega (arith, l', past) in d) at says') raised.inside
             ]
       ];
     }
 
 -- an event in the cut is among the first of its thread, where none is below
-event_in_cut_is_counted : (f : FittedTrace) (run : List Step) → IsListed f run → (qs next : List ℕ) (t e i : ℕ) → t < length f.guest.entries
+event_in_cut_is_counted_if_none_below : (f : FittedTrace) (run : List Step) → IsListed f run → (qs next : List ℕ) (t e i : ℕ) → t < length f.guest.entries
     → NoneBelow f qs next t → slice_get (placed_at (placed_of f) t).entries e ≡ Some i → i < cut_of qs t → e < cut_of next t
-event_in_cut_is_counted f run list qs next t e i there none place l = elim (cases_lt e (cut_of next t)) [
+event_in_cut_is_counted_if_none_below f run list qs next t e i there none place l = elim (cases_lt e (cut_of next t)) [
   | inl less ↦ less
   | inr past ↦
       let inside : cut_of next t < length (placed_at (placed_of f) t).entries =
@@ -162,7 +162,7 @@ event_in_cut_is_counted f run list qs next t e i there none place l = elim (case
       let far = none j first in
       elim (cases_lt (cut_of next t) e) [
         | inl before ↦ let up = list.rise t (cut_of next t) e j i there before first place in absurd (omega (arith, far, up, l))
-        | inr same ↦ let one : j ≡ i = elements_at_equal_places_equal (placed_at (placed_of f) t).entries (cut_of next t) e j i
+        | inr same ↦ let one : j ≡ i = slice_get_at_equal_indexes_is_equal (placed_at (placed_of f) t).entries (cut_of next t) e j i
             (let d : cut_of next t ≡ e = omega (arith, same, past) in d) first place in absurd (omega (arith, one, far, l))
       ]
 ]
@@ -176,7 +176,7 @@ rising_end_is_least f h run is list ps qs next t k r none = record {
       let there : u < length f.guest.entries = emitting_thread_exists f h run is u i a at in
       let x = needing_label_is_entry b a n in
       let e = list.entry u i x.object x.access x.version x.left (subst (Emits (machine_of f) (start_of f) run u i) x.is at) in
-      r.met u e.0 e.1 (event_in_cut_is_counted f run list qs next u e.0 i there (none u there) e.2 l) e.3 w j b says (subst (IsNeededBy b) (x.is ∙ sym e.4) n);
+      r.met u e.0 e.1 (event_in_cut_is_counted_if_none_below f run list qs next u e.0 i there (none u there) e.2 l) e.3 w j b says (subst (IsNeededBy b) (x.is ∙ sym e.4) n);
   above = r.above;
   reaches = r.reaches;
   least = r.least;
@@ -242,10 +242,10 @@ falling_step f run list ps qs qs' next next' t k u x last r there was at far low
         let says' : slice_get (placed_at (placed_of f) u).leaves e ≡ Some l =
         subst (λ z. slice_get (placed_at (placed_of f) z).leaves e ≡ Some l) same says in
         elim (cases_lt last e) [
-          | inl event_in_cut_is_counted ↦ outside_smaller_cut_if_outside f run (Needing l) (cut_of qs) (cut_of qs') lowered.below
-              (r.unmet u e l (omega (arith, was, event_in_cut_is_counted)) says')
+          | inl event_in_cut_is_counted_if_none_below ↦ outside_smaller_cut_if_outside f run (Needing l) (cut_of qs) (cut_of qs') lowered.below
+              (r.unmet u e l (omega (arith, was, event_in_cut_is_counted_if_none_below)) says')
           | inr equal ↦ subst (λ z. AreOutside f run (Needing z) (cut_of qs'))
-              (elements_at_equal_places_equal (placed_at (placed_of f) u).leaves last e x l (let d : last ≡ e = omega (arith, equal, past') in d) at says')
+              (slice_get_at_equal_indexes_is_equal (placed_at (placed_of f) u).leaves last e x l (let d : last ≡ e = omega (arith, equal, past') in d) at says')
               lowered.outside
         ]
   ];

@@ -67,17 +67,17 @@ show_at_hand_unless_next (Log t) other = refl
 show_at_hand_unless_next (Next t) other = absurd (other t refl)
 
 -- what is shown doesn't depend on the last answer
-shown_after_spoken_same : (steps : List run.Step) (d : Desk) (s : Show) → shown steps (spoken d) s ≡ shown steps d s
+shown_after_spoken_is_unchanged : (steps : List run.Step) (d : Desk) (s : Show) → shown steps (spoken d) s ≡ shown steps d s
 unfolding shown
-shown_after_spoken_same steps d (Registers t) = refl
-shown_after_spoken_same steps d (Memory t address size) = refl
-shown_after_spoken_same steps d (show.Object o) = refl
-shown_after_spoken_same steps d (Output t) = refl
-shown_after_spoken_same steps d (Log t) = refl
-shown_after_spoken_same steps d (Next t) = refl
+shown_after_spoken_is_unchanged steps d (Registers t) = refl
+shown_after_spoken_is_unchanged steps d (Memory t address size) = refl
+shown_after_spoken_is_unchanged steps d (show.Object o) = refl
+shown_after_spoken_is_unchanged steps d (Output t) = refl
+shown_after_spoken_is_unchanged steps d (Log t) = refl
+shown_after_spoken_is_unchanged steps d (Next t) = refl
 
 pub show_answers_command : (d next : Desk) (s : Show) → next ≡ spoken d → AnswersInEachRun d (command.Show s) (answer.Shown s) next
-show_answers_command d next s is run whole = inl (ap (λ z. shown run z s) is ∙ shown_after_spoken_same run d s, is)
+show_answers_command d next s is run whole = inl (ap (λ z. shown run z s) is ∙ shown_after_spoken_is_unchanged run d s, is)
 
 -- the line of the thread at hand is that of the thread of each run
 pub next_line_shown_in_standing : (d : Desk) (s : Standing) (t : ℕ) (x : thread.ThreadState) (line : List ℕ) → StandsAt d.fitted (cut_of d.at) s
@@ -101,13 +101,13 @@ next_line_shown_by_debugger d e threads code t x line is there all same l read t
 -- ---- all commands
 
 -- what is refused depends on the guest alone
-pub refusal_after_move_same : (d next : Desk) (cut : List ℕ) (c : Command) → next ≡ moved_to d cut → refusal_of next c ≡ refusal_of d c
+pub refusal_after_move_is_unchanged : (d next : Desk) (cut : List ℕ) (c : Command) → next ≡ moved_to d cut → refusal_of next c ≡ refusal_of d c
 unfolding refusal_of
-refusal_after_move_same d next cut c is = ap (λ z. refusal_of z c) is
+refusal_after_move_is_unchanged d next cut c is = ap (λ z. refusal_of z c) is
 
-pub refusal_after_spoken_same : (d next : Desk) (c : Command) → next ≡ spoken d → refusal_of next c ≡ refusal_of d c
+pub refusal_after_spoken_is_unchanged : (d next : Desk) (c : Command) → next ≡ spoken d → refusal_of next c ≡ refusal_of d c
 unfolding refusal_of
-refusal_after_spoken_same d next c is = ap (λ z. refusal_of z c) is
+refusal_after_spoken_is_unchanged d next c is = ap (λ z. refusal_of z c) is
 
 pub refused_command_answers_refusal : (d next : Desk) (c : Command) (r : Refusal) (a : Answer) → refusal_of d c ≡ Some r → next ≡ spoken d
     → a ≡ answer.Refused r → EachRun d.fitted (λ run. Answers run d c (answer_text run next a) next)

@@ -65,8 +65,8 @@ answered_in_part_of_opening_prefix image trace o limit a w0 w1 opens prefix = re
 
 -- ---- where no machine is ready
 
-pub reads_empty_input : (limit : ℕ) (a : Option (List ℕ)) (P : List ℕ → Type 0) → P [] → ReadsUpTo limit a a P
-reads_empty_input limit a P p = record { consumed = []; taken = empty_input_is_consumed a; within = omega arith; holds = p }
+pub reads_up_to_of_empty_input : (limit : ℕ) (a : Option (List ℕ)) (P : List ℕ → Type 0) → P [] → ReadsUpTo limit a a P
+reads_up_to_of_empty_input limit a P p = record { consumed = []; taken = empty_input_is_consumed a; within = omega arith; holds = p }
 
 pub if_some_if_each_holds : (a : Option (List ℕ)) (P : List ℕ → Type 0) → ((input : List ℕ) → P input) → IfSome a P
 if_some_if_each_holds None P p = tt
@@ -90,9 +90,9 @@ session_of_refused_opening image trace o p limit result w0 w1 is says ending ope
 
 -- ---- after the opening lines
 
-pub reads_of_implied : (limit : ℕ) (a b : Option (List ℕ)) (P Q : List ℕ → Type 0) → ((consumed : List ℕ) → P consumed → Q consumed)
+pub reads_up_to_of_implied : (limit : ℕ) (a b : Option (List ℕ)) (P Q : List ℕ → Type 0) → ((consumed : List ℕ) → P consumed → Q consumed)
     → ReadsUpTo limit a b P → ReadsUpTo limit a b Q
-reads_of_implied limit a b P Q go reads = record {
+reads_up_to_of_implied limit a b P Q go reads = record {
   consumed = reads.consumed;
   taken = reads.taken;
   within = reads.within;

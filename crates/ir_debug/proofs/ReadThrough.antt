@@ -15,7 +15,7 @@ use Rattle.ir_debug.specs.declared.ended.Ended.TheVariants as ended
 use Rattle.ir_debug.specs.Machine.{Desk, Replies, quits}
 use Rattle.ir_debug.specs.Session.{ReadsThrough, ended_by}
 use Rattle.ir_debug.proofs.LongLines.{replies_to_line_if_to_kept_bytes, quits_of_kept_bytes_is_quits_of_line}
-use Rattle.ir_debug.proofs.Openings.{reads_of_implied}
+use Rattle.ir_debug.proofs.Openings.{reads_up_to_of_implied}
 
 -- an answer that was written whole is a prefix of itself
 reply_is_prefix_of_itself : {S : Type 0} (R : Replying S) (s next : S) (line : List ℕ) (old new : Option (List ℕ)) → Replied R s line next old new
@@ -54,7 +54,7 @@ module _ (s0 : Desk) (input w0 left left' written : Option (List ℕ)) (s : Desk
   -- a line feed, whose line was answered and quits
   pub read_through_line_that_quits : (next : Desk) (written' : Option (List ℕ)) → Consumes left left' (10 ∷ []) → Replied Replies s line next written written'
       → ReadsUpTo limit input left' (ReadsThrough ended.Quit left')
-  read_through_line_that_quits next written' took p = reads_of_implied limit input left' _ (ReadsThrough ended.Quit left') (λ consumed h. (h.0, h.1))
+  read_through_line_that_quits next written' took p = reads_up_to_of_implied limit input left' _ (ReadsThrough ended.Quit left') (λ consumed h. (h.0, h.1))
       (feed_failed Replies quits replies_to_line_if_to_kept_bytes quits_of_kept_bytes_is_quits_of_line s0 input w0 left left' written s line n at limit below written' took
       (reply_is_prefix_of_itself Replies s next line written written' p))
 
@@ -65,10 +65,10 @@ module _ (s0 : Desk) (input w0 left left' written : Option (List ℕ)) (s : Desk
       → IfOk (ended_by result) (λ e. ReadsUpTo limit input left' (ReadsThrough e left'))
   read_through_end took gone (Ok Quit) written' p served =
       let some : line ≡ [] → ⊥ = nonempty_if_last_line_quits line served in
-      reads_of_implied limit input left' _ (ReadsThrough ended.Quit left') (λ consumed h. (h.0, h.1))
+      reads_up_to_of_implied limit input left' _ (ReadsThrough ended.Quit left') (λ consumed h. (h.0, h.1))
       (finish_failed Replies quits replies_to_line_if_to_kept_bytes quits_of_kept_bytes_is_quits_of_line s0 input w0 left left' written s line n at limit below took (Err Write) written' gone refl some
       (last_reply_is_prefix_of_itself Replies s line written written' some p))
-  read_through_end took gone (Ok InputEnd) written' p served = reads_of_implied limit input left' _ (ReadsThrough ended.InputEnd left')
+  read_through_end took gone (Ok InputEnd) written' p served = reads_up_to_of_implied limit input left' _ (ReadsThrough ended.InputEnd left')
       (λ consumed h. gone)
       (finish_ended Replies quits replies_to_line_if_to_kept_bytes quits_of_kept_bytes_is_quits_of_line s0 input w0 left left' written s line n at limit below took (Ok InputEnd) written' p served tt)
   read_through_end took gone (Err Read) written' p served = tt

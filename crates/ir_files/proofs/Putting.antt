@@ -64,7 +64,7 @@ pub maps_equal_after_push : {A B C : Type 0} (f : A → C) (g : B → C) (old ne
 maps_equal_after_push f g old new a ys b before here e = ap (map f) e ∙ map-append f old (a ∷ []) ∙ ap (λ z. z ++ f a ∷ []) before
     ∙ ap (λ z. map g ys ++ z ∷ []) here ∙ sym (map-append g ys (b ∷ []))
 
-pub map_equals_numbers_after_push : {A C : Type 0} (f : A → C) (g : ℕ → C) (old new : List A) (a : A) (n : ℕ) → map f old ≡ map g (range_with_len 0 n)
+pub map_equals_map_of_range_after_push : {A C : Type 0} (f : A → C) (g : ℕ → C) (old new : List A) (a : A) (n : ℕ) → map f old ≡ map g (range_with_len 0 n)
     → f a ≡ g n → new ≡ old ++ a ∷ [] → map f new ≡ map g (range_with_len 0 (n + 1))
-map_equals_numbers_after_push f g old new a n before here e = ap (map f) e ∙ map-append f old (a ∷ []) ∙ ap (λ z. z ++ f a ∷ []) before
+map_equals_map_of_range_after_push f g old new a n before here e = ap (map f) e ∙ map-append f old (a ∷ []) ∙ ap (λ z. z ++ f a ∷ []) before
     ∙ ap (λ z. map g (range_with_len 0 n) ++ z ∷ []) here ∙ sym (map-range_with_len_more g 0 n n (omega arith))

@@ -18,10 +18,10 @@ short_taken_prefix_is_whole n (Some xs) bytes h known = known ∙ short_prefix_i
     (let e : length bytes ≡ length (take n xs) = ap length known in omega (arith, h, e))
 
 -- what is known of the bytes, where they did not reach the limit
-pub read_bytes_are_all_below_limit : {R : Type 0} (remaining : R → Option (List ℕ)) (n : ℕ) (t : Take R) (reader : R) (old bytes : List ℕ) → take_limit t ≡ n
+pub read_bytes_are_all_if_below_limit : {R : Type 0} (remaining : R → Option (List ℕ)) (n : ℕ) (t : Take R) (reader : R) (old bytes : List ℕ) → take_limit t ≡ n
     → take_inner t ≡ reader → old ≡ [] → length bytes < n →
     IfSome (take_remaining remaining t) (λ xs. bytes ≡ old ++ xs) → IfSome (remaining reader) (λ xs. bytes ≡ xs)
-read_bytes_are_all_below_limit remaining n t reader old bytes limit inner nothing h known =
+read_bytes_are_all_if_below_limit remaining n t reader old bytes limit inner nothing h known =
     short_taken_prefix_is_whole n (remaining reader) bytes h (subst (λ (m : ℕ). IfSome (option_map (take m) (remaining reader)) (λ xs. bytes ≡ xs)) limit
     (subst (λ r. IfSome (option_map (take (take_limit t)) (remaining r)) (λ xs. bytes ≡ xs)) inner
     (subst (λ (l : List ℕ). IfSome (take_remaining remaining t) (λ xs. bytes ≡ l ++ xs)) nothing known)))

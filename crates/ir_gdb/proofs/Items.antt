@@ -41,8 +41,8 @@ packet_payload_within_limit raw a b payload false true l i e =
     omega (arith, most, few, len)
 packet_payload_within_limit raw a b payload false false l i e = absurd cc
 
-head_of_equal_lists : (x y : Item) (xs ys : List Item) → x ∷ xs ≡ y ∷ ys → x ≡ y
-head_of_equal_lists x y xs ys e = cc
+heads_of_equal_lists_are_equal : (x y : Item) (xs ys : List Item) → x ∷ xs ≡ y ∷ ys → x ≡ y
+heads_of_equal_lists_are_equal x y xs ys e = cc
 
 single_byte_item_is_no_packet : (b : ℕ) (payload : List ℕ) (one two three : Bool) → Packet payload ∷ [] ≡ (if one then stream.Interrupt ∷ [] else if two then stream.Acknowledged ∷ []
     else if three then stream.Refused ∷ [] else []) → ⊥
@@ -56,7 +56,7 @@ ended_payload_within_limit Between b payload e = absurd (single_byte_item_is_no_
 ended_payload_within_limit (Inside raw) b payload e = absurd cc
 ended_payload_within_limit (Summing raw) b payload e = absurd cc
 ended_payload_within_limit (Digit raw a) b payload e = packet_payload_within_limit raw a b payload (ltb 4096 (length raw)) (is_number (two_digits a b) (checksum raw)) refl refl
-    (sym (head_of_equal_lists (Packet payload) (packet_item raw a b) [] [] e))
+    (sym (heads_of_equal_lists_are_equal (Packet payload) (packet_item raw a b) [] [] e))
 
 -- a payload that a reader has found is no longer than the most bytes of a packet
 pub found_payload_within_limit : (f : Found) (p : Place) (b : ℕ) (payload : List ℕ) → items_found (Some f) payload ≡ stream.ends p b → f ≡ found.Packet
@@ -105,15 +105,15 @@ rest_past_ending_item true more after next text last go p = p
 rest_past_ending_item false more after next text last go p = go p
 
 -- behind one that ends the connection nothing counts
-answers_past_ending_item : (l : Link) (xs ys : List Item) (text : List ℕ) (last : Link) → Answers l xs true text last → Answers l (xs ++ ys) true text last
+answers_ignore_items_past_ending_item : (l : Link) (xs ys : List Item) (text : List ℕ) (last : Link) → Answers l xs true text last → Answers l (xs ++ ys) true text last
 unfolding Answers
-answers_past_ending_item l [] ys text last a = absurd cc
-answers_past_ending_item l (x ∷ xs) ys text last (first, next, rest, answers, more, is) = (
+answers_ignore_items_past_ending_item l [] ys text last a = absurd cc
+answers_ignore_items_past_ending_item l (x ∷ xs) ys text last (first, next, rest, answers, more, is) = (
   first,
   next,
   rest,
   answers,
-  rest_past_ending_item (ends l x) (Answers next xs) (Answers next (xs ++ ys)) next rest last (λ p. answers_past_ending_item next xs ys rest last p) more,
+  rest_past_ending_item (ends l x) (Answers next xs) (Answers next (xs ++ ys)) next rest last (λ p. answers_ignore_items_past_ending_item next xs ys rest last p) more,
   is,
 )
 
@@ -140,9 +140,9 @@ pub record AfterBytes (l0 : Link) (input w0 left written : Option (List ℕ)) (l
   pub grown : Appends w0 written text
   pub stands : place ≡ kept (place_after Between bytes)
 
-pub after_no_bytes : (l : Link) (input w0 : Option (List ℕ)) (place : Place) → place ≡ Between → AfterBytes l input w0 input w0 l place 0
+pub after_bytes_at_start : (l : Link) (input w0 : Option (List ℕ)) (place : Place) → place ≡ Between → AfterBytes l input w0 input w0 l place 0
 unfolding items_from place_after
-after_no_bytes l input w0 place begins = record {
+after_bytes_at_start l input w0 place begins = record {
   bytes = [];
   count = refl;
   parts = Consumes-nil input;
@@ -162,9 +162,9 @@ place_after_pushed_byte p [] b = refl
 place_after_pushed_byte p (x ∷ bytes) b = place_after_pushed_byte (step p x) bytes b
 
 -- what a byte ends is found, whatever of the packet is kept
-items_of_pushed_byte : (bytes : List ℕ) (b : ℕ) (place : Place) (ended : List Item) → place ≡ kept (place_after Between bytes) → ended ≡ stream.ends place b
+items_after_pushed_byte_add_its_ended_items : (bytes : List ℕ) (b : ℕ) (place : Place) (ended : List Item) → place ≡ kept (place_after Between bytes) → ended ≡ stream.ends place b
     → items (bytes ++ b ∷ []) ≡ items bytes ++ ended
-items_of_pushed_byte bytes b place ended is finds = items_from_of_append Between bytes (b ∷ [])
+items_after_pushed_byte_add_its_ended_items bytes b place ended is finds = items_from_of_append Between bytes (b ∷ [])
     ∙ ap (λ (xs : List Item). items bytes ++ xs) (items_from_single_byte_are_ends (place_after Between bytes) b ∙ sym (ends_ignores_kept (place_after Between bytes) b)
     ∙ ap (λ (p : Place). stream.ends p b) (sym is) ∙ sym finds)
 
@@ -209,7 +209,7 @@ module _ (l0 : Link) (input w0 left left' written : Option (List ℕ)) (l : Link
     parts = Consumes-trans input left left' at.bytes (b ∷ []) at.parts took;
     text = at.text;
     answers = subst (λ (xs : List Item). Answers l0 xs false at.text l)
-        (sym (items_of_pushed_byte at.bytes b place [] at.stands finds ∙ append-nil (items at.bytes))) at.answers;
+        (sym (items_after_pushed_byte_add_its_ended_items at.bytes b place [] at.stands finds ∙ append-nil (items at.bytes))) at.answers;
     grown = at.grown;
     stands = kept_place_after_pushed_byte at.bytes b place next at.stands steps;
   }
@@ -217,7 +217,7 @@ module _ (l0 : Link) (input w0 left left' written : Option (List ℕ)) (l : Link
   module _ (b : ℕ) (f : Found) (payload : List ℕ) (took : Consumes left left' (b ∷ []))
       (finds : items_found (Some f) payload ≡ stream.ends place b) where
     all_items : items (at.bytes ++ b ∷ []) ≡ items at.bytes ++ item_found f payload ∷ []
-    all_items = items_of_pushed_byte at.bytes b place (item_found f payload ∷ []) at.stands finds
+    all_items = items_after_pushed_byte_add_its_ended_items at.bytes b place (item_found f payload ∷ []) at.stands finds
 
     all_taken : Consumes input left' (at.bytes ++ b ∷ [])
     all_taken = Consumes-trans input left left' at.bytes (b ∷ []) at.parts took
@@ -262,7 +262,7 @@ module _ (l0 : Link) (input w0 left left' written : Option (List ℕ)) (l : Link
           answers = subst (λ (bytes : List ℕ). Answers l0 (items bytes) true (at.text ++ s.text) next) (sym (within_limit rest))
               (subst (λ (xs : List Item). Answers l0 xs true (at.text ++ s.text) next)
               (sym (items_from_of_append Between (at.bytes ++ b ∷ []) (take (limit - length (at.bytes ++ b ∷ [])) rest)))
-              (answers_past_ending_item l0 (items (at.bytes ++ b ∷ [])) _ (at.text ++ s.text) next (all_answers next written' true quits s)));
+              (answers_ignore_items_past_ending_item l0 (items (at.bytes ++ b ∷ [])) _ (at.text ++ s.text) next (all_answers next written' true quits s)));
           grown = Appends-trans w0 written written' at.text s.text at.grown s.grown;
         };
       }

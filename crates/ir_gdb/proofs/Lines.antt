@@ -40,8 +40,8 @@ responds_nothing_without_words asked line s P is none p = ([], s.desk, replies, 
 pub line_quits_if_text_quits : (line text : List ℕ) (b : Bool) → b ≡ quits text → text ≡ line → b ≡ true → quits line ≡ true
 line_quits_if_text_quits line text b is same q = sym (ap quits same) ∙ sym is ∙ q
 
-pub line_goes_on_if_text_does : (line text : List ℕ) (b : Bool) → b ≡ quits text → text ≡ line → b ≡ false → quits line ≡ false
-line_goes_on_if_text_does line text b is same q = sym (ap quits same) ∙ sym is ∙ q
+pub line_does_not_quit_if_text_does_not : (line text : List ℕ) (b : Bool) → b ≡ quits text → text ≡ line → b ≡ false → quits line ≡ false
+line_does_not_quit_if_text_does_not line text b is same q = sym (ap quits same) ∙ sym is ∙ q
 
 -- what a session answers, kept from nothing on
 pub responds_kept_text_if_kept_from_empty : (s s0 : Stub) (text line : List ℕ) (next : Stub) (old new : List ℕ) → s ≡ s0 → text ≡ line → old ≡ []

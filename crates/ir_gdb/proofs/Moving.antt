@@ -111,11 +111,11 @@ holds_of_stops_after_push P xs new x n len is all next u below =
         subst (λ (k : ℕ). stop_among (xs ++ x ∷ []) k ≡ x) len (get_or-append_seam xs x [] (stopped 0 reason.End)) in
         subst (λ (k : ℕ). P k (stop_among (xs ++ x ∷ []) k)) (sym same) (subst (P n) (sym at) next)
 
-pub own_stops_after_push : (s u : Stub) (d : Direction) (mover n : ℕ) (w : Bool) (xs new : List Stopped) (x : Stopped) → u ≡ spoken s → length xs ≡ n
+pub stops_are_own_stops_after_push : (s u : Stub) (d : Direction) (mover n : ℕ) (w : Bool) (xs new : List Stopped) (x : Stopped) → u ≡ spoken s → length xs ≡ n
     → w ≡ (n == mover) → new ≡ xs ++ x ∷ [] → EachRun u.desk.fitted (λ run. GoesTo d run u n w x)
     → EachRun s.desk.fitted (λ run. (k : ℕ) → k < n → OwnStop run s d mover k (stop_among xs k))
     → EachRun s.desk.fitted (λ run. (k : ℕ) → k < n + 1 → OwnStop run s d mover k (stop_among new k))
-own_stops_after_push s u d mover n w xs new x same len watched is goes all run whole =
+stops_are_own_stops_after_push s u d mover n w xs new x same len watched is goes all run whole =
     let next = goes_to_ignores_spoken d run s n w x (subst (λ (y : Stub). EachRun y.desk.fitted (λ r. GoesTo d r y n w x)) same goes run whole) in
     holds_of_stops_after_push (OwnStop run s d mover) xs new x n len is (all run whole) (subst (λ (b : Bool). GoesTo d run s n b x) watched next)
 

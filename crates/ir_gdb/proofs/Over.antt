@@ -30,10 +30,10 @@ cut_position_within_last f cut t has is l = subst (λ (n : ℕ). cut_of cut t �
 pub own_position_at_most_target : (to p t : ℕ) (here at : List ℕ) → p < to → here ≡ at → p ≡ cut_of at t → cut_of here t ≤ to
 own_position_at_most_target to p t here at far is from = let same = ap (λ (x : List ℕ). cut_of x t) is in omega (arith, far, same, from)
 
-has_hit_by_hit_on_way : (run : List Step) (s : Stub) (pc u : ℕ) (cut : List ℕ) (hit : Option Hit) → OnWay run s pc cut u hit
+has_hit_tells_if_hit_is_on_way : (run : List Step) (s : Stub) (pc u : ℕ) (cut : List ℕ) (hit : Option Hit) → OnWay run s pc cut u hit
     → HasHit (is_some hit) run s pc cut u
-has_hit_by_hit_on_way run s pc u cut None way = way
-has_hit_by_hit_on_way run s pc u cut (Some h) way = (h, way)
+has_hit_tells_if_hit_is_on_way run s pc u cut None way = way
+has_hit_tells_if_hit_is_on_way run s pc u cut (Some h) way = (h, way)
 
 pub search_points_are_points_over : (s v : Stub) (pc u : ℕ) (points : List Numbered) (ws : List Watched) (bs : List Breakpoint) (own : List Numbered) → v ≡ spoken s
     → points ≡ with_point (points_upwards u ws bs own) u pc → ws ≡ [] → bs ≡ v.breaks → own ≡ v.desk.points → points ≡ points_over s pc u
@@ -42,16 +42,16 @@ search_points_are_points_over s v pc u points ws bs own same is watches breaks m
     ∙ ap (λ (x : List Breakpoint). with_point (points_upwards u [] x own) u pc) (breaks ∙ ap (λ (x : Stub). x.breaks) same)
     ∙ ap (λ (x : List Numbered). with_point (points_upwards u [] s.breaks x) u pc) (mine ∙ ap (λ (x : Stub). x.desk.points) same)
 
-pub has_hit_by_search_on_way : (s : Stub) (f : FittedTrace) (pc u to : ℕ) (cut here : List ℕ) (points : List Numbered) (hit : Option Hit) (is : Bool)
+pub has_hit_tells_if_search_finds_hit_on_way : (s : Stub) (f : FittedTrace) (pc u to : ℕ) (cut here : List ℕ) (points : List Numbered) (hit : Option Hit) (is : Bool)
     → f ≡ s.desk.fitted → here ≡ s.desk.at → to ≡ cut_of cut u → points ≡ points_over s pc u
     → EachRun f (λ run. IsNextHit f run points u (cut_of here u) to hit) → is ≡ is_some hit
     → EachRun s.desk.fitted (λ run. HasHit is run s pc cut u)
-has_hit_by_search_on_way s f pc u to cut here points hit is same at ends are finds found run whole =
+has_hit_tells_if_search_finds_hit_on_way s f pc u to cut here points hit is same at ends are finds found run whole =
     let one = subst (λ (g : FittedTrace). EachRun g (λ r. IsNextHit g r points u (cut_of here u) to hit)) same finds run whole in
     let by_points = subst (λ (ps : List Numbered). IsNextHit s.desk.fitted run ps u (cut_of here u) to hit) are one in
     let by_here = subst (λ (xs : List ℕ). IsNextHit s.desk.fitted run (points_over s pc u) u (cut_of xs u) to hit) at by_points in
     let by_end = subst (λ (n : ℕ). IsNextHit s.desk.fitted run (points_over s pc u) u (position_of s u) n hit) ends by_here in
-    subst (λ (b : Bool). HasHit b run s pc cut u) (sym found) (has_hit_by_hit_on_way run s pc u cut hit by_end)
+    subst (λ (b : Bool). HasHit b run s pc cut u) (sym found) (has_hit_tells_if_hit_is_on_way run s pc u cut hit by_end)
 
 -- ---- hits of the others
 

@@ -4,7 +4,7 @@ use Rattle.std.specs.Prelude.{◌&&◌}
 use Rattle.std.specs.List.{filter, AllByRecursion}
 use Rattle.ir_lemmas.proofs.CallerLemmas.{all_by_recursion_after_push, length_of_append_item}
 use Rattle.ir_mach.specs.Core.{memory_start, memory_size}
-use Rattle.ir_debug.proofs.CallerLemmas.{all_of_filter, filter_is_not_longer}
+use Rattle.ir_debug.proofs.CallerLemmas.{filter_keeps_property_of_all, filter_is_not_longer}
 use Rattle.ir_gdb.specs.declared.point.Breakpoint.{Breakpoint}
 use Rattle.ir_gdb.specs.declared.point.Watched.{Watched}
 use Rattle.ir_gdb.specs.Stub.{Stub, IsStub, IsWatched, most_points, most_watched}
@@ -69,6 +69,6 @@ stub_without_watch_is_stub s w is = record {
   chosen = is.chosen;
   current = is.current;
   told = is.told;
-  watches = all_of_filter IsWatched (λ x. not (is_same_watch x w)) s.watches is.watches;
+  watches = filter_keeps_property_of_all IsWatched (λ x. not (is_same_watch x w)) s.watches is.watches;
   few = let less = filter_is_not_longer (λ x. not (is_same_watch x w)) s.watches in let all = is.few in omega (arith, less, all);
 }

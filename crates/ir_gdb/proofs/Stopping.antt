@@ -39,11 +39,11 @@ watches_if_ignores_spoken s u w same = ap (λ (x : Stub). watches_if x w) same �
 
 -- ---- the next watch
 
-pub watch_next_by_search : (f : FittedTrace) (s : Stub) (t p to : ℕ) (w : Bool) (points : List Numbered) (hit : Option Hit) (first : List Watched)
+pub watch_next_is_reason_of_found_hit : (f : FittedTrace) (s : Stub) (t p to : ℕ) (w : Bool) (points : List Numbered) (hit : Option Hit) (first : List Watched)
     (reason : Option Reason) → f ≡ s.desk.fitted → points ≡ watch_points t 0 (watches_if s w) → first ≡ watches_if s w → to ≡ p + 1
     → EachRun f (λ run. IsNextHit f run points t p to hit) → reason ≡ option_map (λ (h : Hit). watch_reason first h.number) hit
     → EachRun s.desk.fitted (λ run. WatchNext run s t w p reason)
-watch_next_by_search f s t p to w points hit first reason same are mine is finds why run whole =
+watch_next_is_reason_of_found_hit f s t p to w points hit first reason same are mine is finds why run whole =
     let found = subst (λ (g : FittedTrace). EachRun g (λ r. IsNextHit g r points t p to hit)) same finds run whole in
     let by_points = subst (λ (ps : List Numbered). IsNextHit s.desk.fitted run ps t p to hit) are found in
     let by_to = subst (λ (n : ℕ). IsNextHit s.desk.fitted run (watch_points t 0 (watches_if s w)) t p n hit) is by_points in
@@ -61,8 +61,8 @@ unfolding watch_points
 no_next_hit_without_watches f run t p to [] empty = no_next_hit_without_points f run t p to
 no_next_hit_without_watches f run t p to (x ∷ xs) empty = absurd (omega (arith, empty))
 
-pub watches_are_empty_by_test : (ws : List Watched) → true ≡ (length ws == 0) → length ws ≡ 0
-watches_are_empty_by_test ws empty = grind (arith, nat_tests, empty)
+pub watches_are_empty_if_length_test_is_true : (ws : List Watched) → true ≡ (length ws == 0) → length ws ≡ 0
+watches_are_empty_if_length_test_is_true ws empty = grind (arith, nat_tests, empty)
 
 pub watch_next_without_watches : (s u : Stub) (t p : ℕ) (w : Bool) (ws : List Watched) → u ≡ spoken s → ws ≡ watches_if u w → length ws ≡ 0
     → EachRun s.desk.fitted (λ run. WatchNext run s t w p None)
@@ -84,8 +84,8 @@ watch_next_in_each_run_ignores_spoken s u t p w why same next run whole =
 
 -- ---- steps
 
-pub own_position_below_last : (p l other here last : ℕ) → (p ≡ l → ⊥) → l ≡ other → l ≡ last → p ≡ here → p ≤ other → here < last
-own_position_below_last p l other here last differ same is at within = grind (arith, differ, same, is, at, within)
+pub own_position_is_below_last_if_not_at_last : (p l other here last : ℕ) → (p ≡ l → ⊥) → l ≡ other → l ≡ last → p ≡ here → p ≤ other → here < last
+own_position_is_below_last_if_not_at_last p l other here last differ same is at within = grind (arith, differ, same, is, at, within)
 
 pub steps_to_by_watch_next : (s u : Stub) (t p : ℕ) (w : Bool) (why : Option Reason) (to : Stopped) → u ≡ spoken s → p ≡ position_of s t
     → position_of s t < last_of s.desk.fitted t → EachRun u.desk.fitted (λ run. WatchNext run u t w p why) → to ≡ after_step p why
@@ -126,11 +126,11 @@ search_points_are_downwards_of u t w points ws bs own is watches breaks mine =
     is ∙ ap (λ (x : List Watched). points_downwards t x bs own) watches ∙ ap (λ (x : List Breakpoint). points_downwards t (watches_if u w) x own) breaks
     ∙ ap (λ (x : List Numbered). points_downwards t (watches_if u w) u.breaks x) mine
 
-pub stops_below_by_search : (s u : Stub) (e : Desk) (t : ℕ) (w : Bool) (points : List Numbered) (hit : Option Hit) (ws : List Watched) (bs : List Breakpoint)
+pub stops_below_at_end_of_search : (s u : Stub) (e : Desk) (t : ℕ) (w : Bool) (points : List Numbered) (hit : Option Hit) (ws : List Watched) (bs : List Breakpoint)
     (to : Stopped) → u ≡ spoken s → points ≡ downwards_of u t w
     → EachRun u.desk.fitted (λ run. IsLastHit u.desk.fitted run points t (position_of u t) hit) → ws ≡ watches_if (record u { desk = e }) w
     → bs ≡ u.breaks → to ≡ end_below ws bs hit → EachRun s.desk.fitted (λ run. StopsBelow run s t w to)
-stops_below_by_search s u e t w points hit ws bs to same are finds watches breaks is run whole =
+stops_below_at_end_of_search s u e t w points hit ws bs to same are finds watches breaks is run whole =
     let end = is ∙ ap (λ (x : List Watched). end_below x bs hit) (watches ∙ watches_if_ignores_desk u e w)
     ∙ ap (λ (x : List Breakpoint). end_below (watches_if u w) x hit) breaks in
     let stops : EachRun u.desk.fitted (λ r. StopsBelow r u t w to) = λ r all.
@@ -159,11 +159,11 @@ continues_to_ignores_spoken : (run : List Step) (s : Stub) (t : ℕ) (w : Bool) 
 continues_to_ignores_spoken run s t true to stops = stops
 continues_to_ignores_spoken run s t false to stops = stops
 
-pub continues_to_by_search : (s u v : Stub) (e : Desk) (t last : ℕ) (w : Bool) (points : List Numbered) (hit : Option Hit) (ws : List Watched) (bs : List Breakpoint)
+pub continues_to_end_of_search : (s u v : Stub) (e : Desk) (t last : ℕ) (w : Bool) (points : List Numbered) (hit : Option Hit) (ws : List Watched) (bs : List Breakpoint)
     (to : Stopped) → u ≡ spoken s → v ≡ spoken s → points ≡ upwards_of v t w
     → EachRun u.desk.fitted (λ run. IsFirstHit u.desk.fitted run points t (position_of u t) hit) → ws ≡ watches_if (record u { desk = e }) w
     → bs ≡ u.breaks → last ≡ last_of u.desk.fitted t → to ≡ end_above ws bs last hit → EachRun s.desk.fitted (λ run. ContinuesTo run s t w to)
-continues_to_by_search s u v e t last w points hit ws bs to same other are finds watches breaks at is run whole =
+continues_to_end_of_search s u v e t last w points hit ws bs to same other are finds watches breaks at is run whole =
     let end = is ∙ ap (λ (x : List Watched). end_above x bs last hit) (watches ∙ watches_if_ignores_desk u e w)
     ∙ ap (λ (x : List Breakpoint). end_above (watches_if u w) x last hit) breaks ∙ ap (λ (n : ℕ). end_above (watches_if u w) u.breaks n hit) at in
     let mine = are ∙ ap (λ (x : Stub). upwards_of x t w) (other ∙ sym same) in

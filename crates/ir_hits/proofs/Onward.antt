@@ -17,7 +17,7 @@ use Rattle.ir_hits.specs.declared.before.Before.{Before}
 use Rattle.ir_command.specs.declared.hit.Hit.{Hit}
 use Rattle.ir_hits.proofs.Hitting.{AreHitsSeen, AreNothingNoted, hits_seen_after_step, hits_seen_at_start, lowest_seen_number_is_lowest_hit, no_hit_if_none_seen}
 use Rattle.ir_hits.proofs.Standing.{thread_of_standing_is_run_thread, last_position_is_steps_of_thread}
-use Rattle.ir_hits.proofs.Passing.{IsStretch, notes_within_stretch, no_hit_within_stretch}
+use Rattle.ir_hits.proofs.Passing.{IsStretch, notes_still_hold_within_stretch, no_hit_within_stretch}
 use Rattle.ir_hits.proofs.Windows.{no_hit_in_empty_window, no_hit_in_longer_window, start_hit_is_last_at_start, no_last_hit_at_start}
 use Rattle.ir_hits.proofs.CallerLemmas.{no_hit_in_joined_windows}
 
@@ -85,7 +85,7 @@ comes_to_position_by_stretch f last code points notes t to old new s run whole k
     } in
     record {
       all = subst (λ i. AllNoted t (thread_at f run t i) points notes) on
-          (notes_within_stretch f run code points notes t j n (k - j) x y stretch (omega (arith, sum)) s.all);
+          (notes_still_hold_within_stretch f run code points notes t j n (k - j) x y stretch (omega (arith, sum)) s.all);
       none = subst (NoneWithin f run points t (suc j)) (sym sum) (no_hit_within_stretch f run code points t j n x y stretch);
     }
 
@@ -104,10 +104,10 @@ pub record IsAfterPassage (f : FittedTrace) (run : List Step) (points : List Num
   pub seen : AreHitsSeen f run points notes t (positions (flat_in f new) t) end (slice_index_or new.threads t idle)
   pub none : NoneWithin f run points t (suc (positions (flat_in f old) t)) (positions (flat_in f new) t)
 
-is_after_passage_to_position : (f : FittedTrace) (last : List ℕ) (code : Marked) (points : List Numbered) (notes : List Before) (t to : ℕ) (old new : Standing)
+state_is_after_passage_to_position : (f : FittedTrace) (last : List ℕ) (code : Marked) (points : List Numbered) (notes : List Before) (t to : ℕ) (old new : Standing)
     (end k : ℕ) → IsPassage f last code points notes t to old new → end ≡ cut_of last t → (run : List Step)
     → IsRunOf f.guest f.recorded run → positions (flat_in f new) t ≡ suc k → IsAfterPassage f run points notes t end old new
-is_after_passage_to_position f last code points notes t to old new end k s is run whole next =
+state_is_after_passage_to_position f last code points notes t to old new end k s is run whole next =
     let comes = passage_comes_to_position f last code points notes t to old new s run whole k next in
     let within = (s.after.at.each run whole).cut t in
     record {
@@ -118,11 +118,11 @@ is_after_passage_to_position f last code points notes t to old new end k s is ru
       none = subst (NoneWithin f run points t (suc (positions (flat_in f old) t))) (sym next) comes.none;
     }
 
-is_after_passage : (f : FittedTrace) (last : List ℕ) (code : Marked) (points : List Numbered) (notes : List Before) (t to : ℕ) (old new : Standing)
+state_is_after_passage : (f : FittedTrace) (last : List ℕ) (code : Marked) (points : List Numbered) (notes : List Before) (t to : ℕ) (old new : Standing)
     (end : ℕ) → IsPassage f last code points notes t to old new → end ≡ cut_of last t → (run : List Step)
     → IsRunOf f.guest f.recorded run → IsAfterPassage f run points notes t end old new
-is_after_passage f last code points notes t to old new end s is run whole =
-    is_after_passage_to_position f last code points notes t to old new end (positions (flat_in f new) t - 1) s is run whole
+state_is_after_passage f last code points notes t to old new end s is run whole =
+    state_is_after_passage_to_position f last code points notes t to old new end (positions (flat_in f new) t - 1) s is run whole
     (omega (arith, s.passed.taken, s.passed.some))
 
 -- a point hits there
@@ -134,7 +134,7 @@ pub next_hit_after_passage : (f : FittedTrace) (last : List ℕ) (code : Marked)
     → (found : Option ℕ) → found ≡ Some h.number → IsLowestOf t end y notes points (length points) found
     → h.position ≡ positions (flat_in f new) t → EachRun f (λ run. IsNextHit f run points t p to (Some h))
 next_hit_after_passage f last code points notes t to old new end p y h y_is s is low none found some all at run whole =
-    let seen = is_after_passage f last code points notes t to old new end s is run whole in
+    let seen = state_is_after_passage f last code points notes t to old new end s is run whole in
     let lowest : IsLowestOf t end (slice_index_or new.threads t idle) notes points (length points) (Some h.number) =
     subst (λ (z : ThreadState × Option ℕ). IsLowestOf t end z.0 notes points (length points) z.1) (λ i. (y_is i, some i)) all in (
       omega (arith, at, low, s.passed.taken, s.passed.some),
@@ -153,7 +153,7 @@ pub no_hit_after_passage : (f : FittedTrace) (last : List ℕ) (code : Marked) (
     → (found : Option ℕ) → found ≡ None → IsLowestOf t end y notes points (length points) found
     → EachRun f (λ run. NoneWithin f run points t (suc p) (suc (positions (flat_in f new) t)))
 no_hit_after_passage f last code points notes t to old new end p y y_is s is none found none_is all run whole =
-    let seen = is_after_passage f last code points notes t to old new end s is run whole in
+    let seen = state_is_after_passage f last code points notes t to old new end s is run whole in
     no_hit_in_longer_window f run points t (suc p) (positions (flat_in f new) t)
     (no_hit_in_joined_windows f run points t (suc p) (suc (positions (flat_in f old) t)) (positions (flat_in f new) t) (none run whole) seen.none)
     (no_hit_if_none_seen f run points notes t (positions (flat_in f new) t) end (slice_index_or new.threads t idle) seen.seen

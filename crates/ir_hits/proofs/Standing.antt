@@ -43,8 +43,8 @@ last_position_is_steps_of_thread f last are run whole t end is = is ∙ last_pos
 -- ---- where threads are
 
 -- what is at a cut is at its own positions
-pub standing_at_own_positions : (f : FittedTrace) (p : Cut) (s : Standing) → StandsAt f p s → StandsAt f (positions (flat_in f s)) s
-standing_at_own_positions f p s h = subst (λ (q : Cut). StandsAt f q s) (fun_ext (λ t. sym (h.at.steps t))) h
+pub standing_at_cut_stands_at_own_positions : (f : FittedTrace) (p : Cut) (s : Standing) → StandsAt f p s → StandsAt f (positions (flat_in f s)) s
+standing_at_cut_stands_at_own_positions f p s h = subst (λ (q : Cut). StandsAt f q s) (fun_ext (λ t. sym (h.at.steps t))) h
 
 -- a thread of the state is the run's
 pub thread_of_standing_is_run_thread : (f : FittedTrace) (s : Standing) → StandsAt f (positions (flat_in f s)) s → (run : List Step)

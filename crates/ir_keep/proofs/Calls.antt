@@ -12,7 +12,7 @@ use Rattle.ir_keep.specs.Keeping.{Kept, most_states, Keeping, IsNew, IsLike, IsC
 use Rattle.ir_keep.specs.Store.{Entry, in_force, threads_of, kept_of, all_kept, entry_of, taken_over, taken_away, place_of, AreEntries, AreFalling, AreLaid, AreFull, IsStore, IsNearestPlace, thread_count, state_of}
 use Rattle.ir_keep.proofs.Laid.{entry_at_place_is_entry}
 use Rattle.ir_keep.proofs.Whole.{whole_pages_are_full, in_force_pages_are_whole}
-use Rattle.ir_keep.proofs.Again.{all_kept_after_next_entry, all_kept_of_start_entry, next_entry_makes_store, start_entry_makes_store, store_with_own_thread_count, steps_at_start_are_zero, entries_with_start_not_empty}
+use Rattle.ir_keep.proofs.Again.{all_kept_after_next_entry, all_kept_of_start_entry, is_store_with_next_entry, start_entry_alone_is_store, store_is_store_of_its_own_thread_count, steps_at_start_are_zero, entries_with_start_not_empty}
 use Rattle.ir_keep.proofs.Dropped.{all_kept_after_taken_away, without_place_is_without_number, store_after_taken_away}
 use Rattle.ir_keep.proofs.Rebuilt.{older_state_is_kept_state}
 use Rattle.ir_keep.proofs.Found.{kept_as_found_entry, kept_as_none_past_entries, place_of_kept_number_within_entries, kept_cut_is_cut_of_entry, length_of_threads_of, nearest_place_has_nearest_number}
@@ -50,8 +50,8 @@ all_kept_after_next_store_entry m last s (e ∷ older) store all same =
 abbrev pub IsNext : ℕ → Standing → List Entry → List Entry → List Entry → Entry → Type 0
 IsNext last s entries slice new entry = (slice ≡ entries) × (entry ≡ entry_of (last + 1) s slice) × (new ≡ entry ∷ entries)
 
-entries_after_next_entry : (last : ℕ) (s : Standing) (entries slice new : List Entry) (entry : Entry) → IsNext last s entries slice new entry → new ≡ entry_of (suc last) s entries ∷ entries
-entries_after_next_entry last s entries slice new entry next =
+entries_after_keep_have_next_entry_in_front : (last : ℕ) (s : Standing) (entries slice new : List Entry) (entry : Entry) → IsNext last s entries slice new entry → new ≡ entry_of (suc last) s entries ∷ entries
+entries_after_keep_have_next_entry_in_front last s entries slice new entry next =
     let one : last + 1 ≡ suc last = omega arith in
     next.2 ∙ (λ i. (next.1 ∙ λ j. entry_of (one j) s (next.0 j)) i ∷ entries)
 
@@ -59,34 +59,34 @@ pub store_after_keep : (m last : ℕ) (s : Standing) (entries slice new : List E
     → length s.threads ≡ m → IsNext last s entries slice new entry → IsStore (thread_count new) (last + 1) new
 store_after_keep m last s entries slice new entry store few all same next =
     let one : suc last ≡ last + 1 = omega arith in
-    store_with_own_thread_count m (last + 1) new
-    (subst (λ es. IsStore m (last + 1) es) (sym (entries_after_next_entry last s entries slice new entry next))
-    (subst (λ n. IsStore m n (entry_of (suc last) s entries ∷ entries)) one (next_entry_makes_store m last s entries store few all same)))
+    store_is_store_of_its_own_thread_count m (last + 1) new
+    (subst (λ es. IsStore m (last + 1) es) (sym (entries_after_keep_have_next_entry_in_front last s entries slice new entry next))
+    (subst (λ n. IsStore m n (entry_of (suc last) s entries ∷ entries)) one (is_store_with_next_entry m last s entries store few all same)))
 
 pub keeping_after_keep : (m last : ℕ) (s : Standing) (entries slice new : List Entry) (entry : Entry) → IsStore m last entries → All HasMemory s.threads
     → length s.threads ≡ m → IsNext last s entries slice new entry → keeping_of new (last + 1) ≡ after_keep s (keeping_of entries last)
 keeping_after_keep m last s entries slice new entry store all same next =
     let one : last + 1 ≡ suc last = omega arith in
     let kept : all_kept new ≡ with_next (suc last) s (all_kept entries) =
-    ap all_kept (entries_after_next_entry last s entries slice new entry next) ∙ all_kept_after_next_store_entry m last s entries store all same in
+    ap all_kept (entries_after_keep_have_next_entry_in_front last s entries slice new entry next) ∙ all_kept_after_next_store_entry m last s entries store all same in
     λ i. record { kept = kept i; last = one i }
 
 -- ---- new
 
-entries_after_new : (s : Standing) (old new : List Entry) (entry : Entry) → old ≡ [] → entry ≡ entry_of 0 s [] → new ≡ old ++ entry ∷ [] → new ≡ entry_of 0 s [] ∷ []
-entries_after_new s old new entry none made pushed = pushed ∙ λ i. none i ++ made i ∷ []
+entries_after_new_are_start_entry_alone : (s : Standing) (old new : List Entry) (entry : Entry) → old ≡ [] → entry ≡ entry_of 0 s [] → new ≡ old ++ entry ∷ [] → new ≡ entry_of 0 s [] ∷ []
+entries_after_new_are_start_entry_alone s old new entry none made pushed = pushed ∙ λ i. none i ++ made i ∷ []
 
 pub store_after_new : (f : FittedTrace) (s : Standing) (old new : List Entry) (entry : Entry) → StandsAt f (λ t. 0) s → All HasMemory s.threads
     → old ≡ [] → entry ≡ entry_of 0 s [] → new ≡ old ++ entry ∷ [] → IsStore (thread_count new) 0 new
 store_after_new f s old new entry stands all none made pushed =
-    store_with_own_thread_count (length s.threads) 0 new
-    (subst (IsStore (length s.threads) 0) (sym (entries_after_new s old new entry none made pushed))
-    (start_entry_makes_store s stands.flat.few_threads all (steps_at_start_are_zero s.threads stands.at.steps)))
+    store_is_store_of_its_own_thread_count (length s.threads) 0 new
+    (subst (IsStore (length s.threads) 0) (sym (entries_after_new_are_start_entry_alone s old new entry none made pushed))
+    (start_entry_alone_is_store s stands.flat.few_threads all (steps_at_start_are_zero s.threads stands.at.steps)))
 
 pub keeping_after_new_is_new : (f : FittedTrace) (s : Standing) (old new : List Entry) (entry : Entry) → StandsAt f (λ t. 0) s → All HasMemory s.threads
     → old ≡ [] → entry ≡ entry_of 0 s [] → new ≡ old ++ entry ∷ [] → IsNew f (keeping_of new 0)
 keeping_after_new_is_new f s old new entry stands all none made pushed =
-    (s, stands, λ i. record { kept = (ap all_kept (entries_after_new s old new entry none made pushed) ∙ all_kept_of_start_entry s all) i; last = 0 })
+    (s, stands, λ i. record { kept = (ap all_kept (entries_after_new_are_start_entry_alone s old new entry none made pushed) ∙ all_kept_of_start_entry s all) i; last = 0 })
 
 -- ---- by number
 
@@ -101,7 +101,7 @@ pub store_after_drop : (m last n p : ℕ) (entries slice new : List Entry) → I
     → new ≡ taken_away p entries → IsStore (thread_count new) last new
 store_after_drop m last n p entries slice new store later lt same at taken =
     let place : p ≡ place_of n entries = at ∙ ap (place_of n) same in
-    store_with_own_thread_count m last new
+    store_is_store_of_its_own_thread_count m last new
     (subst (IsStore m last) (sym (taken ∙ ap (λ q. taken_away q entries) place)) (store_after_taken_away m last n entries store later (omega (arith, lt, place))))
 
 pub keeping_after_drop : (m last n p : ℕ) (entries slice new : List Entry) → IsStore m last entries → p < length entries → slice ≡ entries → p ≡ place_of n slice
@@ -157,8 +157,8 @@ pub record AreOlderEntries (l : List Entry) : Type 0 where
   pub each : AreEntries (thread_count l) l
   pub full : AreFull (in_force l)
 
-older_entries_of_store : (m last p : ℕ) (entries : List Entry) → IsStore m last entries → p < length entries → AreOlderEntries (drop p entries)
-older_entries_of_store m last p entries store lt =
+dropped_entries_of_store_are_older_entries : (m last p : ℕ) (entries : List Entry) → IsStore m last entries → p < length entries → AreOlderEntries (drop p entries)
+dropped_entries_of_store_are_older_entries m last p entries store lt =
     let count : thread_count (drop p entries) ≡ m = thread_count_of_older_entries m p entries store.each lt in
     record {
       some = omega (arith, length-drop p entries, lt);
@@ -167,8 +167,8 @@ older_entries_of_store m last p entries store lt =
       full = older_pages_of_store_are_full m last p entries store;
     }
 
-pub older_entries_of_slice : (m last p : ℕ) (entries slice : List Entry) → IsStore m last entries → p < length entries → slice ≡ entries → AreOlderEntries (from_place p slice)
-older_entries_of_slice m last p entries slice store lt same = subst AreOlderEntries (sym (from_place_of_slice_is_drop p entries slice same)) (older_entries_of_store m last p entries store lt)
+pub slice_from_place_is_older_entries : (m last p : ℕ) (entries slice : List Entry) → IsStore m last entries → p < length entries → slice ≡ entries → AreOlderEntries (from_place p slice)
+slice_from_place_is_older_entries m last p entries slice store lt same = subst AreOlderEntries (sym (from_place_of_slice_is_drop p entries slice same)) (dropped_entries_of_store_are_older_entries m last p entries store lt)
 
 abbrev no_entry : Entry
 no_entry = record { number = 0; cut = []; frames = []; objects = []; pages = [] }
@@ -273,17 +273,17 @@ number_not_kept_past_end last n p entries slice k view same at le =
 
 -- ---- numbers by their places
 
-kept_number_at_place : (place : ℕ) (entries : List Entry) (d : Entry) → place < length entries
+number_of_kept_at_place_is_entry_number : (place : ℕ) (entries : List Entry) (d : Entry) → place < length entries
     → option_map (λ (x : Kept). x.number) (slice_get (all_kept entries) place) ≡ Some (get_or entries place d).number
-kept_number_at_place place [] d lt = absurd (omega (arith, lt))
-kept_number_at_place zero (e ∷ entries) d lt = refl
-kept_number_at_place (suc place) (e ∷ entries) d lt = kept_number_at_place place entries d (omega (arith, lt))
+number_of_kept_at_place_is_entry_number place [] d lt = absurd (omega (arith, lt))
+number_of_kept_at_place_is_entry_number zero (e ∷ entries) d lt = refl
+number_of_kept_at_place_is_entry_number (suc place) (e ∷ entries) d lt = number_of_kept_at_place_is_entry_number place entries d (omega (arith, lt))
 
 pub entry_number_is_kept_number : (last place number : ℕ) (entries : List Entry) (d : Entry) (k : Keeping) → keeping_of entries last ≡ k
     → place < length entries → number ≡ (get_or entries place d).number
     → Some number ≡ option_map (λ (x : Kept). x.number) (slice_get k.kept place)
 entry_number_is_kept_number last place number entries d k view lt is =
-    ap Some is ∙ sym (kept_number_at_place place entries d lt)
+    ap Some is ∙ sym (number_of_kept_at_place_is_entry_number place entries d lt)
     ∙ ap (λ (x : Keeping). option_map (λ (y : Kept). y.number) (slice_get x.kept place)) view
 
 pub no_kept_number_past_end : (last place : ℕ) (entries : List Entry) (k : Keeping) → keeping_of entries last ≡ k → length entries ≤ place

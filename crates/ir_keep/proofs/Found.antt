@@ -54,28 +54,28 @@ number_at_place_below_bound n zero (e ∷ entries) d below lt = below.0
 number_at_place_below_bound n (suc i) (e ∷ entries) d below lt = number_at_place_below_bound n i entries d below.1 (omega (arith, lt))
 
 -- the entry at a place is kept under its number
-pub kept_as_number_at_place : (i : ℕ) (entries : List Entry) (d : Entry) → AreFalling entries → i < length entries
+pub kept_as_number_of_entry_finds_that_entry : (i : ℕ) (entries : List Entry) (d : Entry) → AreFalling entries → i < length entries
     → kept_as (get_or entries i d).number (all_kept entries) ≡ Some (kept_of (get_or entries i d) (in_force (drop i entries)))
-kept_as_number_at_place i [] d falling lt = absurd (omega (arith, lt))
-kept_as_number_at_place zero (e ∷ entries) d falling lt =
+kept_as_number_of_entry_finds_that_entry i [] d falling lt = absurd (omega (arith, lt))
+kept_as_number_of_entry_finds_that_entry zero (e ∷ entries) d falling lt =
     let same : (e.number == e.number) ≡ true = grind (arith, nat_tests) in
     ap (λ (b : Bool). if b then Some (kept_of e (in_force (e ∷ entries))) else kept_as e.number (all_kept entries)) same
-kept_as_number_at_place (suc i) (e ∷ entries) d falling lt =
+kept_as_number_of_entry_finds_that_entry (suc i) (e ∷ entries) d falling lt =
     let n = (get_or entries i d).number in
     let less : n < e.number = number_at_place_below_bound e.number i entries d falling.0 (omega (arith, lt)) in
     let other : (e.number == n) ≡ false = grind (arith, nat_tests, less) in
     ap (λ (b : Bool). if b then Some (kept_of e (in_force (e ∷ entries))) else kept_as n (all_kept entries)) other
-    ∙ kept_as_number_at_place i entries d falling.1 (omega (arith, lt))
+    ∙ kept_as_number_of_entry_finds_that_entry i entries d falling.1 (omega (arith, lt))
 
-steps_of_threads_of_frames : (frames : List ThreadFrame) (pages : List Page) → map (λ (t : thread.ThreadState). t.steps) (threads_of frames pages) ≡ map (λ (f : ThreadFrame). f.steps) frames
-steps_of_threads_of_frames [] pages = refl
-steps_of_threads_of_frames (frame ∷ frames) pages = ap (λ l. frame.steps ∷ l) (steps_of_threads_of_frames frames (drop 16 pages))
+steps_of_threads_of_frames_are_frame_steps : (frames : List ThreadFrame) (pages : List Page) → map (λ (t : thread.ThreadState). t.steps) (threads_of frames pages) ≡ map (λ (f : ThreadFrame). f.steps) frames
+steps_of_threads_of_frames_are_frame_steps [] pages = refl
+steps_of_threads_of_frames_are_frame_steps (frame ∷ frames) pages = ap (λ l. frame.steps ∷ l) (steps_of_threads_of_frames_are_frame_steps frames (drop 16 pages))
 
 -- the cut of what is kept
 pub kept_cut_is_cut_of_entry : (m i : ℕ) (entries : List Entry) (d : Entry) (pages : List Page) → AreEntries m entries → i < length entries
     → cut_in (kept_of (get_or entries i d) pages) ≡ (get_or entries i d).cut
 kept_cut_is_cut_of_entry m i entries d pages are lt =
-    steps_of_threads_of_frames (get_or entries i d).frames pages ∙ sym (entry_at_place_is_entry m entries i d are lt).cut
+    steps_of_threads_of_frames_are_frame_steps (get_or entries i d).frames pages ∙ sym (entry_at_place_is_entry m entries i d are lt).cut
 
 pub length_of_threads_of : (frames : List ThreadFrame) (pages : List Page) → length (threads_of frames pages) ≡ length frames
 length_of_threads_of [] pages = refl
@@ -123,7 +123,7 @@ nearest_place_has_nearest_number m last entries cut place d are falling best =
     let own : cut_in mine ≡ (get_or entries place d).cut = kept_cut_is_cut_of_entry m place entries d (in_force (drop place entries)) are best.there in
     record {
       one = mine;
-      kept = kept_as_number_at_place place entries d falling best.there;
+      kept = kept_as_number_of_entry_finds_that_entry place entries d falling best.there;
       below = ap (λ c. is_below c cut) own ∙ best.below d;
       nearest =
           λ n other is below.

@@ -5,7 +5,7 @@ use Rattle.std.proofs.lemmas.List.{at_drop_more, at_drop_all}
 use Rattle.std.specs.Io.KnownBytes.{Appends}
 use Rattle.std.proofs.KnownBytes.{Appends-nil, Appends-trans}
 use Rattle.ir_stream.specs.Answers.{AppendsPrefix}
-use Rattle.ir_stream.proofs.CallerLemmas.{prefix_after_whole_text, prefix_of_longer_text}
+use Rattle.ir_stream.proofs.CallerLemmas.{appends_prefix_of_append_if_first_appended, appends_prefix_of_longer_text}
 use Rattle.ir_list.specs.Listing.{lines_from}
 
 -- a first part of the text was written, and the rest is left
@@ -46,8 +46,8 @@ prefix_written_in_lines lines a b c n xs bytes text some same w begun =
     let here : List ℕ = lines n (get_or xs n 0) in
     subst (AppendsPrefix a c) (append_assoc w.part here (lines_left lines (n + 1) xs)
     ∙ ap (λ (l : List ℕ). w.part ++ l) (sym (lines_left_step lines n xs some)) ∙ w.joined)
-    (prefix_of_longer_text a c (w.part ++ here) (lines_left lines (n + 1) xs)
-    (prefix_after_whole_text a b c w.part here w.grown (subst (AppendsPrefix b c) same begun)))
+    (appends_prefix_of_longer_text a c (w.part ++ here) (lines_left lines (n + 1) xs)
+    (appends_prefix_of_append_if_first_appended a b c w.part here w.grown (subst (AppendsPrefix b c) same begun)))
 
 -- nothing more
 pub written_part_is_prefix : (a b : Option (List ℕ)) (rest text : List ℕ) → Written a b rest text → AppendsPrefix a b text
@@ -65,4 +65,4 @@ written_whole_at_end lines a b n xs text none w =
 pub appends_prefix_after_whole_text : {A E : Type 0} (result : Result A E) (a b c : Option (List ℕ)) (first rest : List ℕ) → Appends a b first
     → OnErr result (AppendsPrefix b c rest) → OnErr result (AppendsPrefix a c (first ++ rest))
 appends_prefix_after_whole_text (Ok x) a b c first rest done h = tt
-appends_prefix_after_whole_text (Err e) a b c first rest done h = prefix_after_whole_text a b c first rest done h
+appends_prefix_after_whole_text (Err e) a b c first rest done h = appends_prefix_of_append_if_first_appended a b c first rest done h

@@ -65,9 +65,9 @@ abbrev pub turn_text : ℕ → Bool → List ℕ
 turn_text thread false = decimal thread
 turn_text thread true = decimal thread ++ 33 ∷ []
 
-turn_of-turn_text : (n thread : ℕ) (refused : Bool) → thread < n → thread < 2 ^ 64 → turn_of n (turn_text thread refused) ≡ Some (thread, refused)
-turn_of-turn_text n thread false l small = turn_of_decimal_is_plain n thread l small
-turn_of-turn_text n thread true l small = turn_of_marked_decimal_is_refused n thread l small
+turn_of_turn_text : (n thread : ℕ) (refused : Bool) → thread < n → thread < 2 ^ 64 → turn_of n (turn_text thread refused) ≡ Some (thread, refused)
+turn_of_turn_text n thread false l small = turn_of_decimal_is_plain n thread l small
+turn_of_turn_text n thread true l small = turn_of_marked_decimal_is_refused n thread l small
 
 -- none of its bytes is such a mark
 no_byte_of_turn_text_is_mark : (thread : ℕ) (refused : Bool) (mark : ℕ) → thread < 2 ^ 64 → 57 < mark → (k d : ℕ) → k < length (turn_text thread refused)
@@ -75,20 +75,20 @@ no_byte_of_turn_text_is_mark : (thread : ℕ) (refused : Bool) (mark : ℕ) → 
 no_byte_of_turn_text_is_mark thread false mark small far = no_byte_of_decimal_is_mark thread mark small (inr far)
 no_byte_of_turn_text_is_mark thread true mark small far = no_byte_is_mark_with_byte_added (decimal thread) 33 mark (no_byte_of_decimal_is_mark thread mark small (inr far)) (λ e. omega (arith, e, far))
 
-item_of_single_turn : (n thread : ℕ) (refused : Bool) → thread < n → thread < 2 ^ 64
+item_of_turn_text_is_one_turn : (n thread : ℕ) (refused : Bool) → thread < n → thread < 2 ^ 64
     → item_of n (turn_text thread refused) ≡ Some (replicate 1 (thread, refused))
-item_of_single_turn n thread refused l small =
+item_of_turn_text_is_one_turn n thread refused l small =
     ap (item_by n) (slice_split_none (λ b. b == 120) (turn_text thread refused) (no_byte_of_turn_text_is_mark thread refused 120 small (omega arith)))
-    ∙ ap (λ (z : Option Turn). turns z (Some 1)) (turn_of-turn_text n thread refused l small)
+    ∙ ap (λ (z : Option Turn). turns z (Some 1)) (turn_of_turn_text n thread refused l small)
 
-item_of_counted_turns : (n thread : ℕ) (refused : Bool) (count : ℕ) → thread < n → thread < 2 ^ 64 → 1 ≤ count → count ≤ most_turns
+item_of_counted_turn_text_is_repeated_turn : (n thread : ℕ) (refused : Bool) (count : ℕ) → thread < n → thread < 2 ^ 64 → 1 ≤ count → count ≤ most_turns
     → item_of n (turn_text thread refused ++ 120 ∷ decimal count) ≡ Some (replicate count (thread, refused))
-item_of_counted_turns n thread refused count l small some few =
+item_of_counted_turn_text_is_repeated_turn n thread refused count l small some few =
     ap (item_by n) (slice_split_at (λ b. b == 120) (turn_text thread refused) 120 (decimal count) (no_byte_of_turn_text_is_mark thread refused 120 small (omega arith))
     (eq-eqb 120 120 refl)
     ∙ ap (λ (z : List (List ℕ)). turn_text thread refused ∷ z)
     (slice_split_none (λ b. b == 120) (decimal count) (no_byte_of_decimal_is_mark count 120 (omega (arith, few)) (inr (omega arith)))))
-    ∙ ap (λ (z : Option Turn). turns z (number_within 1 most_turns (decimal count))) (turn_of-turn_text n thread refused l small)
+    ∙ ap (λ (z : Option Turn). turns z (number_within 1 most_turns (decimal count))) (turn_of_turn_text n thread refused l small)
     ∙ ap (turns (Some (thread, refused))) (number_within_of_decimal 1 most_turns count (omega (arith, few)) some few)
 
 -- an item's text, by that of its turn
@@ -107,10 +107,10 @@ item_text_equals_item_text_by_turn thread true count false e = rw e (sym (append
 pub item_of_item_text : (n thread : ℕ) (refused : Bool) (count : ℕ) → thread < n → thread < 2 ^ 8 → 1 ≤ count → count ≤ most_turns
     → item_of n (item_text thread refused count) ≡ Some (replicate count (thread, refused))
 item_of_item_text n thread refused count l small some few = elim (cases_eq count 1) [
-  | inl one ↦ ap (item_of n) (item_text_equals_item_text_by_turn thread refused count true (eq-eqb count 1 one)) ∙ item_of_single_turn n thread refused l (omega (arith, small))
+  | inl one ↦ ap (item_of n) (item_text_equals_item_text_by_turn thread refused count true (eq-eqb count 1 one)) ∙ item_of_turn_text_is_one_turn n thread refused l (omega (arith, small))
       ∙ ap (λ k. Some (replicate k (thread, refused))) (sym one)
   | inr more ↦ ap (item_of n) (item_text_equals_item_text_by_turn thread refused count false (ne_eqb count 1 more))
-      ∙ item_of_counted_turns n thread refused count l (omega (arith, small)) some few
+      ∙ item_of_counted_turn_text_is_repeated_turn n thread refused count l (omega (arith, small)) some few
 ]
 
 -- ---- an item is one part of a list

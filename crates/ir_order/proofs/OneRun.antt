@@ -13,7 +13,7 @@ use Rattle.ir_flat.proofs.CallerLemmas.{guest_start_is_idle}
 use Rattle.ir_thread.specs.declared.profile.Profile.{Profile}
 use Rattle.ir_record.specs.Refusing.{Turn, plain_turns, InTurns, IsByTurns}
 use Rattle.ir_record.specs.Worlds.{answers_in}
-use Rattle.ir_record.proofs.CallerLemmas.{plain_turns-append, by_plain_turns_if_by_order, by_order_if_by_plain_turns}
+use Rattle.ir_record.proofs.CallerLemmas.{plain_turns_of_append, by_plain_turns_if_by_order, by_order_if_by_plain_turns}
 use Rattle.ir_sources.specs.Sources.{MadeWith, Source, source, from_sources, Gave}
 use Rattle.ir_order.specs.OneRun.{AreSame, AreAnswered, IsAnsweredByOrder, IsAnsweredByTurns, OneRunByAnOrder, OneRunByTurns, PlainTurnsAreOrders}
 use Rattle.ir_order.proofs.Given.{source_left_by, AreGiven, step_takes_next_answer, given_after_step, enters_if_it_can_if_tries, act_taken_from_source_is_unique}
@@ -78,7 +78,7 @@ in_turns_with_rounds_split m s n c d turns run l h =
     let e : c + (d - c) ≡ d = omega (arith, l) in
     subst (λ (z : List Turn). InTurns m s z run)
     (ap (λ (k : ℕ). turns ++ plain_turns (rounds n k)) (sym e) ∙ ap (λ (z : List ℕ). turns ++ plain_turns z) (rounds_of_sum n c (d - c))
-    ∙ ap (λ (z : List Turn). turns ++ z) (plain_turns-append (rounds n c) (rounds n (d - c)))
+    ∙ ap (λ (z : List Turn). turns ++ z) (plain_turns_of_append (rounds n c) (rounds n (d - c)))
     ∙ sym (append_assoc turns (plain_turns (rounds n c)) (plain_turns (rounds n (d - c))))) h
 
 -- runs by turns are alike where the one takes no more rounds than the other

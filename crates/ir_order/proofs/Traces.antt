@@ -42,8 +42,8 @@ events_of_labels : (es : List Event) → events_of (map label_of es) ≡ es
 events_of_labels [] = refl
 events_of_labels (e ∷ es) = ap (with_event (label_of e)) (events_of_labels es) ∙ with_event_of_label e es
 
-labels_injective : (xs ys : List Event) → map label_of xs ≡ map label_of ys → xs ≡ ys
-labels_injective xs ys e = sym (events_of_labels xs) ∙ ap events_of e ∙ events_of_labels ys
+map_label_of_is_injective : (xs ys : List Event) → map label_of xs ≡ map label_of ys → xs ≡ ys
+map_label_of_is_injective xs ys e = sym (events_of_labels xs) ∙ ap events_of e ∙ events_of_labels ys
 
 -- ---- the number and the code of an end say which it is
 
@@ -87,7 +87,7 @@ trace_of_run_is_unique guest budget profile run a b x y = recorded_equal_by_fiel
     (λ t l. let below : t < length guest.entries = subst (λ n. t < n) x.threads l in
     recorded_threads_equal_by_fields (recorded_thread a t) (recorded_thread b t) (sym (x.whole.steps t below) ∙ y.whole.steps t below)
     (end_number_and_code_injective (recorded_thread a t).end (recorded_thread b t).end (sym (x.whole.ends t below) ∙ y.whole.ends t below))
-    (labels_injective (recorded_thread a t).events (recorded_thread b t).events (sym (x.whole.logs t below) ∙ y.whole.logs t below))))
+    (map_label_of_is_injective (recorded_thread a t).events (recorded_thread b t).events (sym (x.whole.logs t below) ∙ y.whole.logs t below))))
 
 outputs_of_run_are_unique : (guest : Guest) (budget : ℕ) (profile : Profile) (run : List Step) (x y : List (List ℕ)) → AreOutputs guest budget profile run x
     → AreOutputs guest budget profile run y → x ≡ y

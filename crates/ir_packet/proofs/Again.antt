@@ -86,10 +86,10 @@ two_lower_digits_are_number n below =
     joined_digits_are_number (hex_digit_value (slice_index lower_digits (n / 16))) (hex_digit_value (slice_index lower_digits (n % 16))) (n / 16) (n % 16) n
     (IsDigits-lower_digits (n / 16) (omega (arith, below))) (IsDigits-lower_digits (n % 16) (omega arith)) (omega arith)
 
-packet_item_of_escaped_payload : (payload : List ℕ) → length (escaped payload) ≤ 4096
+packet_item_of_escaped_payload_is_packet : (payload : List ℕ) → length (escaped payload) ≤ 4096
     → packet_item (escaped payload) (slice_index lower_digits (checksum (escaped payload) / 16))
     (slice_index lower_digits (checksum (escaped payload) % 16)) ≡ Packet payload
-packet_item_of_escaped_payload payload fits =
+packet_item_of_escaped_payload_is_packet payload fits =
     let raw = escaped payload in
     let s = checksum raw in
     let below : s < 256 = omega arith in
@@ -114,4 +114,4 @@ items_of_packet_begin_with_payload payload rest fits =
     items_after_packet_mark ((raw ++ 35 ∷ a ∷ b ∷ []) ++ rest)
     ∙ ap (items_from (Inside [])) (append_assoc raw (35 ∷ a ∷ b ∷ []) rest)
     ∙ escaped_payload_stays_inside [] payload (35 ∷ a ∷ b ∷ rest) ∙ items_after_packet_end raw a b rest
-    ∙ ap (λ (i : Item). i ∷ items_from Between rest) (packet_item_of_escaped_payload payload fits)
+    ∙ ap (λ (i : Item). i ∷ items_from Between rest) (packet_item_of_escaped_payload_is_packet payload fits)

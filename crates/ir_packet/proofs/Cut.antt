@@ -47,8 +47,8 @@ bytes_of_parts_from_are_begun_and_bytes p (b ∷ bytes) =
     flat_map-append bytes_of (part_at p b) (parts_from (step p b) bytes)
     ∙ ap (λ (r : List ℕ). flat_map bytes_of (part_at p b) ++ r) (bytes_of_parts_from_are_begun_and_bytes (step p b) bytes) ∙ step_keeps_bytes p b bytes
 
-pub bytes_of_parts : (bytes : List ℕ) → flat_map bytes_of (parts bytes) ≡ bytes
-bytes_of_parts bytes = bytes_of_parts_from_are_begun_and_bytes Between bytes
+pub bytes_of_parts_join_to_stream : (bytes : List ℕ) → flat_map bytes_of (parts bytes) ≡ bytes
+bytes_of_parts_join_to_stream bytes = bytes_of_parts_from_are_begun_and_bytes Between bytes
 
 items_of_part_between_packets_are_byte_items : (b : ℕ) (t : Bool) → eqb b 36 ≡ t → flat_map items_of (cond t [] (Byte b ∷ [])) ≡ byte_items b
 items_of_part_between_packets_are_byte_items b true is = ap byte_items (sym (eqb-true b 36 is))
@@ -75,8 +75,8 @@ items_of_parts_from p (b ∷ bytes) =
     ∙ ap (λ (r : List Item). flat_map items_of (part_at p b) ++ r) (items_of_parts_from (step p b) bytes)
     ∙ ap (λ (r : List Item). r ++ items_from (step p b) bytes) (items_of_part_are_ends p b)
 
-pub items_of_parts : (bytes : List ℕ) → flat_map items_of (parts bytes) ≡ items bytes
-items_of_parts bytes = items_of_parts_from Between bytes
+pub items_of_parts_are_items_of_stream : (bytes : List ℕ) → flat_map items_of (parts bytes) ≡ items bytes
+items_of_parts_are_items_of_stream bytes = items_of_parts_from Between bytes
 
 plain_after_plain_byte : (raw : List ℕ) (b : ℕ) → IsPlain raw → (b ≡ 36 → ⊥) → (b ≡ 35 → ⊥) → IsPlain (raw ++ b ∷ [])
 unfolding IsPlain
@@ -109,8 +109,8 @@ is_between (Inside raw) = false
 is_between (Summing raw) = false
 is_between (Digit raw a) = false
 
-not_between_if_test_false : (p : Place) → is_between p ≡ false → p ≡ Between → ⊥
-not_between_if_test_false p isnt is = false≢true (sym isnt ∙ ap is_between is)
+place_is_not_between_if_is_between_is_false : (p : Place) → is_between p ≡ false → p ≡ Between → ⊥
+place_is_not_between_if_is_between_is_false p isnt is = false≢true (sym isnt ∙ ap is_between is)
 
 abbrev AreAllParts : List Part → Type 0
 AreAllParts parts = AllByRecursion IsPart parts
@@ -121,7 +121,7 @@ part_between_packets_and_rest_are_parts b false rest isnt all = (eqb-false b 36 
 
 part_inside_packet_and_rest_are_parts : (raw : List ℕ) (t : Bool) (rest : List Part) → IsPlain raw → AreAllParts rest
     → AreAllParts (cond t (CutOff (36 ∷ raw) ∷ []) [] ++ rest)
-part_inside_packet_and_rest_are_parts raw true rest plain all = ((Inside raw, refl, plain, not_between_if_test_false (Inside raw) refl), all)
+part_inside_packet_and_rest_are_parts raw true rest plain all = ((Inside raw, refl, plain, place_is_not_between_if_is_between_is_false (Inside raw) refl), all)
 part_inside_packet_and_rest_are_parts raw false rest plain all = all
 
 part_at_place_and_rest_are_parts : (p : Place) (b : ℕ) (rest : List Part) → IsPlainPlace p → AreAllParts rest → AreAllParts (part_at p b ++ rest)
@@ -133,9 +133,9 @@ part_at_place_and_rest_are_parts (Digit raw a) b rest plain all = (plain, all)
 parts_from_are_parts : (p : Place) (bytes : List ℕ) → IsPlainPlace p → AreAllParts (parts_from p bytes)
 unfolding parts_from
 parts_from_are_parts Between [] plain = tt
-parts_from_are_parts (Inside raw) [] plain = ((Inside raw, refl, plain, not_between_if_test_false (Inside raw) refl), tt)
-parts_from_are_parts (Summing raw) [] plain = ((Summing raw, refl, plain, not_between_if_test_false (Summing raw) refl), tt)
-parts_from_are_parts (Digit raw a) [] plain = ((Digit raw a, refl, plain, not_between_if_test_false (Digit raw a) refl), tt)
+parts_from_are_parts (Inside raw) [] plain = ((Inside raw, refl, plain, place_is_not_between_if_is_between_is_false (Inside raw) refl), tt)
+parts_from_are_parts (Summing raw) [] plain = ((Summing raw, refl, plain, place_is_not_between_if_is_between_is_false (Summing raw) refl), tt)
+parts_from_are_parts (Digit raw a) [] plain = ((Digit raw a, refl, plain, place_is_not_between_if_is_between_is_false (Digit raw a) refl), tt)
 parts_from_are_parts p (b ∷ bytes) plain =
     part_at_place_and_rest_are_parts p b (parts_from (step p b) bytes) plain (parts_from_are_parts (step p b) bytes (step_keeps_plain_place p b plain))
 

@@ -4,7 +4,7 @@ use Rattle.std.proofs.lemmas.List.{at_drop_more, at_drop_all}
 use Rattle.std.specs.Io.KnownBytes.{Appends}
 use Rattle.std.proofs.KnownBytes.{Appends-nil, Appends-trans}
 use Rattle.ir_stream.specs.Answers.{AppendsPrefix}
-use Rattle.ir_stream.proofs.CallerLemmas.{prefix_after_whole_text, prefix_of_longer_text}
+use Rattle.ir_stream.proofs.CallerLemmas.{appends_prefix_of_append_if_first_appended, appends_prefix_of_longer_text}
 use Rattle.ir_files.specs.Writers.{writer_of, Failed}
 use Rattle.ir_past.specs.Answers.{Stops}
 use Rattle.ir_past.specs.Lines.{row_line, row_lines}
@@ -61,18 +61,18 @@ pub prefix_appended_if_line_in_part : (a b c : Option (List ℕ)) (left line mor
     → AppendsPrefix b c line → AppendsPrefix a c text
 prefix_appended_if_line_in_part a b c left line more text f e prefix =
     subst (AppendsPrefix a c) (append_assoc f.part line more ∙ ap (λ (x : List ℕ). f.part ++ x) (sym e) ∙ f.others)
-    (prefix_of_longer_text a c (f.part ++ line) more (prefix_after_whole_text a b c f.part line f.written prefix))
+    (appends_prefix_of_longer_text a c (f.part ++ line) more (appends_prefix_of_append_if_first_appended a b c f.part line f.written prefix))
 
 -- a write of the first part of a text failed
 pub failed_in_first_part : (a b : Option (List ℕ)) (failed : Bool) (bytes first rest : List ℕ) → bytes ≡ first → AppendsPrefix a b bytes
     → failed ≡ true → Failed (writer_of a b failed) (first ++ rest)
 failed_in_first_part a b failed bytes first rest same prefix broke =
-    (prefix_of_longer_text a b first rest (subst (AppendsPrefix a b) same prefix), broke)
+    (appends_prefix_of_longer_text a b first rest (subst (AppendsPrefix a b) same prefix), broke)
 
 stops_after_first_part : (e : PastErr) (a b c : Option (List ℕ)) (failed : Bool) (first rest : List ℕ) → Appends a b first
     → Stops e (writer_of b c failed) rest → Stops e (writer_of a c failed) (first ++ rest)
-stops_after_first_part err.NoMem a b c failed first rest done h = (prefix_after_whole_text a b c first rest done h.0, h.1)
-stops_after_first_part err.Write a b c failed first rest done h = (prefix_after_whole_text a b c first rest done h.0, h.1)
+stops_after_first_part err.NoMem a b c failed first rest done h = (appends_prefix_of_append_if_first_appended a b c first rest done h.0, h.1)
+stops_after_first_part err.Write a b c failed first rest done h = (appends_prefix_of_append_if_first_appended a b c first rest done h.0, h.1)
 
 -- the rest of a text was stopped
 pub if_err_stops_after_first_part : {A : Type 0} (result : Result A PastErr) (a b c : Option (List ℕ)) (failed : Bool) (bytes first rest : List ℕ)

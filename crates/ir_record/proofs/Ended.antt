@@ -174,11 +174,11 @@ pub made_recording_is_start : (guest : Guest) (budget : ℕ) (profile : Profile)
     → ◌≡◌ {A = Progress} (record { flat = f; logs = logs; answers = answers }) (start guest budget profile answers)
 made_recording_is_start guest budget profile answers p q = λ i. record { flat = p i; logs = q i; answers = answers }
 
-pub recording_over_from_rounds : {guest : Guest} {budget : ℕ} {profile : Profile} {turns : List Turn} {before : List (List Answered)}
+pub recording_is_over_if_rounds_leave_no_step : {guest : Guest} {budget : ℕ} {profile : Profile} {turns : List Turn} {before : List (List Answered)}
     {f : Flat} {logs : List Logged} {b : Progress} → f ≡ start_flat guest budget profile → logs ≡ replicate (length guest.entries) new_log
     → ((count : ℕ) × TookTurns (turns ++ plain_turns (rounds (length f.threads) count)) (record { flat = f; logs = logs; answers = before }) b)
     → ((t : ℕ) → t < length b.flat.threads → HasNone (machine b.flat) (tables b.flat) t) → RecordingOver guest budget profile turns before b
-recording_over_from_rounds {guest} {budget} {profile} {turns} {before} {f} {logs} {b} p q k none = record {
+recording_is_over_if_rounds_leave_no_step {guest} {budget} {profile} {turns} {before} {f} {logs} {b} p q k none = record {
   count = k.0;
   took = subst (λ n. TookTurns (turns ++ plain_turns (rounds n k.0)) (start guest budget profile before) b)
       (ap (λ z. length z.threads) p ∙ length_of_start_threads guest budget profile 0 (length guest.entries))

@@ -15,8 +15,8 @@ use Rattle.ir_record.specs.Recording.{order_of_turns, turns_of_items}
 use Rattle.ir_record.specs.declared.item.Item.{Item}
 use Rattle.ir_record.specs.declared.in_order.turn.Failed.{Failed}
 use Rattle.ir_record.specs.declared.turns.Turns.{Turns}
-use Rattle.ir_record.proofs.Refusing.{plain_turns-append}
-use Rattle.ir_record.proofs.Steps.{took_no_turns, took_both_orders, turn_without_step_changes_nothing, took_plain_turns_if_took_order, took_turns_of_append, took_turns_of_empty, took_turn_of_thread_without_step}
+use Rattle.ir_record.proofs.Refusing.{plain_turns_of_append}
+use Rattle.ir_record.proofs.Steps.{took_no_turns, took_append_of_orders, turn_without_step_changes_nothing, took_plain_turns_if_took_order, took_turns_of_append, took_turns_of_empty, took_turn_of_thread_without_step}
 use Rattle.ir_record.proofs.Stopped.{stopped_in_plain_turns_if_in_order}
 
 -- what is no thread has no step
@@ -27,7 +27,7 @@ missing_thread_has_no_step f t past r can = subst (λ x. Admits (machine f) (act
 -- many turns of a thread that has no step
 pub turns_without_step_change_nothing : (t k : ℕ) (a : Progress) → HasNone (machine a.flat) (tables a.flat) t → Took (replicate k t) a a
 turns_without_step_change_nothing t zero a none = took_no_turns a
-turns_without_step_change_nothing t (suc k) a none = took_both_orders (t ∷ []) (replicate k t) a a a (turn_without_step_changes_nothing t a a none refl).took (turns_without_step_change_nothing t k a none)
+turns_without_step_change_nothing t (suc k) a none = took_append_of_orders (t ∷ []) (replicate k t) a a a (turn_without_step_changes_nothing t a a none refl).took (turns_without_step_change_nothing t k a none)
 
 -- a thread that took no step in its turn has none after it
 pub no_step_after_passed_turn : (t : ℕ) (a b : Progress) (moved : Bool) → moved ≡ false → TookIf moved (t ∷ []) a b
@@ -49,12 +49,12 @@ no_step_after_passed_turn t a b moved e k =
 pub turns_of_thread_add_up : (t j k n : ℕ) (a b c : Progress) → j + k ≡ n → Took (replicate j t) a b → Took (replicate k t) b c
     → Took (replicate n t) a c
 turns_of_thread_add_up t j k n a b c e p q = subst (λ order. Took order a c) (replicate-append-replicate j k t ∙ ap (λ i. replicate i t) e)
-    (took_both_orders (replicate j t) (replicate k t) a b c p q)
+    (took_append_of_orders (replicate j t) (replicate k t) a b c p q)
 
 -- the turns so far, and those that are left
-pub took_whole_order_if_no_step_left : (t count left : ℕ) (a b : Progress) → left ≤ count → Took (replicate (count - left) t) a b
+pub took_all_repeats_of_thread_if_no_step_left : (t count left : ℕ) (a b : Progress) → left ≤ count → Took (replicate (count - left) t) a b
     → HasNone (machine b.flat) (tables b.flat) t → Took (replicate count t) a b
-took_whole_order_if_no_step_left t count left a b l p none = turns_of_thread_add_up t (count - left) left count a b b (omega (arith, l)) p (turns_without_step_change_nothing t left b none)
+took_all_repeats_of_thread_if_no_step_left t count left a b l p none = turns_of_thread_add_up t (count - left) left count a b b (omega (arith, l)) p (turns_without_step_change_nothing t left b none)
 
 -- private steps and a turn more
 pub turns_so_far_with_private_steps_and_turn_added : (t count left ran : ℕ) (a b c d : Progress) (moved : Bool) → left ≤ count → 0 < left → ran ≤ left - 1
@@ -130,19 +130,19 @@ pub all_turns_followed_at_end : (items : List Item) (at : ℕ) (a b : Progress) 
     → TookTurns (turns_of_items items) a b
 all_turns_followed_at_end items at a b l = subst (λ z. TookTurns (turns_of_items z) a b) (take_all at items l)
 
-plain_turns-replicate : (n t : ℕ) → plain_turns (replicate n t) ≡ replicate n (t, false)
-plain_turns-replicate zero t = refl
-plain_turns-replicate (suc n) t = ap (λ z. (t, false) ∷ z) (plain_turns-replicate n t)
+plain_turns_of_replicate : (n t : ℕ) → plain_turns (replicate n t) ≡ replicate n (t, false)
+plain_turns_of_replicate zero t = refl
+plain_turns_of_replicate (suc n) t = ap (λ z. (t, false) ∷ z) (plain_turns_of_replicate n t)
 
 -- the turns of an item in which no try is refused that may enter
 took_turns_of_plain_item : (n t : ℕ) (refused : Bool) (a b : Progress) → refused ≡ false → Took (replicate n t) a b → TookTurns (replicate n (t, refused)) a b
 took_turns_of_plain_item n t refused a b e k = subst (λ f. TookTurns (replicate n (t, f)) a b) (sym e)
-    (subst (λ z. TookTurns z a b) (plain_turns-replicate n t) (took_plain_turns_if_took_order (replicate n t) a b k))
+    (subst (λ z. TookTurns z a b) (plain_turns_of_replicate n t) (took_plain_turns_if_took_order (replicate n t) a b k))
 
 stopped_in_turns_of_plain_item : (n t : ℕ) (refused : Bool) (p : Progress) (named : ℕ) (answers : List (List Answered)) → refused ≡ false
     → StoppedAt (replicate n t) (tables p.flat) p named answers → StoppedTurns (replicate n (t, refused)) p named answers
 stopped_in_turns_of_plain_item n t refused p named answers e k = subst (λ f. StoppedTurns (replicate n (t, f)) p named answers) (sym e)
-    (subst (λ z. StoppedTurns z p named answers) (plain_turns-replicate n t) (stopped_in_plain_turns_if_in_order (replicate n t) p named answers k))
+    (subst (λ z. StoppedTurns z p named answers) (plain_turns_of_replicate n t) (stopped_in_plain_turns_if_in_order (replicate n t) p named answers k))
 
 -- as many turns, and one more
 pub took_repeated_turns_with_one_more : (one : Turn) (count left : ℕ) (a b c : Progress) → left ≤ count → 0 < left → TookTurns (replicate (count - left) one) a b
@@ -183,8 +183,8 @@ turns_of_items_is_longer_prefix_if_item_added order at none items new l before e
     let item : Item = record { thread = x.thread; count = x.count; refused = false } in
     ap turns_of_items e ∙ turns_of_items_with_last items item
     ∙ ap (λ (z : List Turn). z ++ replicate x.count (x.thread, false)) before
-    ∙ ap (λ (z : List Turn). plain_turns (order_of_turns (take at order)) ++ z) (sym (plain_turns-replicate x.count x.thread))
-    ∙ sym (plain_turns-append (order_of_turns (take at order)) (replicate x.count x.thread))
+    ∙ ap (λ (z : List Turn). plain_turns (order_of_turns (take at order)) ++ z) (sym (plain_turns_of_replicate x.count x.thread))
+    ∙ sym (plain_turns_of_append (order_of_turns (take at order)) (replicate x.count x.thread))
     ∙ ap plain_turns (sym (ap order_of_turns (take_more order at none l) ∙ order_of_turns_with_last (take at order) x))
 
 -- the same of what a call hands back

@@ -64,48 +64,48 @@ thread_not_ahead_is_same m ahead s later t is h = h.threads t ∙ ap (λ k. alon
 abbrev IsAskAdmitted : {T : Type 0} → Machine T → T → (ℕ → Object) → ℕ → Type 0
 IsAskAdmitted m x objects r = Admits m (act_of (m.ask x) r) (objects (target (act_of (m.ask x) r)))
 
-pub can_step_if_can_later : {T : Type 0} (m : Machine T) (ahead : List ℕ) (s later : State T) (t r : ℕ) → lead ahead t ≡ 0 → IsAhead m ahead s later
+pub can_step_if_can_in_state_ahead : {T : Type 0} (m : Machine T) (ahead : List ℕ) (s later : State T) (t r : ℕ) → lead ahead t ≡ 0 → IsAhead m ahead s later
     → Can m later (t, r) → Can m s (t, r)
-can_step_if_can_later m ahead s later t r is h can = subst (λ x. IsAskAdmitted m x s.objects r) (thread_not_ahead_is_same m ahead s later t is h)
+can_step_if_can_in_state_ahead m ahead s later t r is h can = subst (λ x. IsAskAdmitted m x s.objects r) (thread_not_ahead_is_same m ahead s later t is h)
     (subst (λ objects. IsAskAdmitted m (later.now t) objects r) h.objects can)
 
-pub can_step_later_if_can : {T : Type 0} (m : Machine T) (ahead : List ℕ) (s later : State T) (t r : ℕ) → lead ahead t ≡ 0 → IsAhead m ahead s later
+pub can_step_in_state_ahead_if_can : {T : Type 0} (m : Machine T) (ahead : List ℕ) (s later : State T) (t r : ℕ) → lead ahead t ≡ 0 → IsAhead m ahead s later
     → Can m s (t, r) → Can m later (t, r)
-can_step_later_if_can m ahead s later t r is h can = subst (λ x. IsAskAdmitted m x later.objects r) (sym (thread_not_ahead_is_same m ahead s later t is h))
+can_step_in_state_ahead_if_can m ahead s later t r is h can = subst (λ x. IsAskAdmitted m x later.objects r) (sym (thread_not_ahead_is_same m ahead s later t is h))
     (subst (λ objects. IsAskAdmitted m (s.now t) objects r) (sym h.objects) can)
 
 -- a try that enters where it can does so here too
-pub enters_if_free_if_later_does : {T : Type 0} (m : Machine T) (ahead : List ℕ) (s later : State T) (t r : ℕ) → lead ahead t ≡ 0 → IsAhead m ahead s later
+pub enters_if_free_if_it_does_in_state_ahead : {T : Type 0} (m : Machine T) (ahead : List ℕ) (s later : State T) (t r : ℕ) → lead ahead t ≡ 0 → IsAhead m ahead s later
     → EntersIfFree m later (t, r) → EntersIfFree m s (t, r)
-enters_if_free_if_later_does m ahead s later t r is h enters o tries can =
-    enters o (ap m.ask (thread_not_ahead_is_same m ahead s later t is h) ∙ tries) (can_step_later_if_can m ahead s later t 1 is h can)
+enters_if_free_if_it_does_in_state_ahead m ahead s later t r is h enters o tries can =
+    enters o (ap m.ask (thread_not_ahead_is_same m ahead s later t is h) ∙ tries) (can_step_in_state_ahead_if_can m ahead s later t 1 is h can)
 
 -- a private step enters nothing
 pub private_step_enters_if_free : {T : Type 0} (m : Machine T) (s : State T) (t : ℕ) → m.ask (s.now t) ≡ Private → EntersIfFree m s (t, 0)
 private_step_enters_if_free m s t is o tries can = absurd (cc (is, tries))
 
-pub no_step_if_none_later : {T : Type 0} (m : Machine T) (ahead : List ℕ) (s later : State T) (t : ℕ) → lead ahead t ≡ 0 → IsAhead m ahead s later
+pub no_step_if_none_in_state_ahead : {T : Type 0} (m : Machine T) (ahead : List ℕ) (s later : State T) (t : ℕ) → lead ahead t ≡ 0 → IsAhead m ahead s later
     → HasNone m later t → HasNone m s t
-no_step_if_none_later m ahead s later t is h none r can = none r (can_step_later_if_can m ahead s later t r is h can)
+no_step_if_none_in_state_ahead m ahead s later t is h none r can = none r (can_step_in_state_ahead_if_can m ahead s later t r is h can)
 
-pub label_same_as_later : {T : Type 0} (m : Machine T) (ahead : List ℕ) (s later : State T) (t r : ℕ) → lead ahead t ≡ 0 → IsAhead m ahead s later
+pub label_is_same_in_state_ahead : {T : Type 0} (m : Machine T) (ahead : List ℕ) (s later : State T) (t r : ℕ) → lead ahead t ≡ 0 → IsAhead m ahead s later
     → label m later (t, r) ≡ label m s (t, r)
-label_same_as_later m ahead s later t r is h =
+label_is_same_in_state_ahead m ahead s later t r is h =
     ap (λ x. emitted (act_of (m.ask x) r) (later.objects (target (act_of (m.ask x) r)))) (thread_not_ahead_is_same m ahead s later t is h)
     ∙ ap (λ objects. emitted (act_of (m.ask (s.now t)) r) (objects (target (act_of (m.ask (s.now t)) r)))) h.objects
 
-thread_after_step_same_as_later : {T : Type 0} (m : Machine T) (ahead : List ℕ) (s later : State T) (t r : ℕ) → lead ahead t ≡ 0 → IsAhead m ahead s later
+thread_after_step_is_same_in_state_ahead : {T : Type 0} (m : Machine T) (ahead : List ℕ) (s later : State T) (t r : ℕ) → lead ahead t ≡ 0 → IsAhead m ahead s later
     → (after m later (t, r)).now t ≡ (after m s (t, r)).now t
 unfolding after
-thread_after_step_same_as_later m ahead s later t r is h = upd_at_own_place later.now t _
+thread_after_step_is_same_in_state_ahead m ahead s later t r is h = upd_at_own_place later.now t _
     ∙ ap (λ x. m.take x (reply (act_of (m.ask x) r) (later.objects (target (act_of (m.ask x) r))))) (thread_not_ahead_is_same m ahead s later t is h)
     ∙ ap (λ objects. m.take (s.now t) (reply (act_of (m.ask (s.now t)) r) (objects (target (act_of (m.ask (s.now t)) r))))) h.objects
     ∙ sym (upd_at_own_place s.now t _)
 
-objects_after_step_same_as_later : {T : Type 0} (m : Machine T) (ahead : List ℕ) (s later : State T) (t r : ℕ) → lead ahead t ≡ 0 → IsAhead m ahead s later
+objects_after_step_are_same_in_state_ahead : {T : Type 0} (m : Machine T) (ahead : List ℕ) (s later : State T) (t r : ℕ) → lead ahead t ≡ 0 → IsAhead m ahead s later
     → (after m later (t, r)).objects ≡ (after m s (t, r)).objects
 unfolding after
-objects_after_step_same_as_later m ahead s later t r is h =
+objects_after_step_are_same_in_state_ahead m ahead s later t r is h =
     ap (λ x. upd later.objects (target (act_of (m.ask x) r)) (acted (act_of (m.ask x) r) t (later.objects (target (act_of (m.ask x) r)))))
     (thread_not_ahead_is_same m ahead s later t is h)
     ∙ ap (λ objects. upd objects (target (act_of (m.ask (s.now t)) r))
@@ -116,14 +116,14 @@ pub ahead_after_step_of_both : {T : Type 0} (m : Machine T) (ahead : List ℕ) (
 ahead_after_step_of_both m ahead s later t r is h = record {
   threads = λ u. elim (cases_eq u t) [
     | inl e ↦ subst (λ z. (after m later (t, r)).now z ≡ alone m (lead ahead z) ((after m s (t, r)).now z)) (sym e)
-        (thread_after_step_same_as_later m ahead s later t r is h ∙ ap (λ j. alone m j ((after m s (t, r)).now t)) (sym is))
+        (thread_after_step_is_same_in_state_ahead m ahead s later t r is h ∙ ap (λ j. alone m j ((after m s (t, r)).now t)) (sym is))
     | inr ne ↦ thread_after_step_of_other m later t r u ne ∙ h.threads u ∙ ap (alone m (lead ahead u)) (sym (thread_after_step_of_other m s t r u ne))
   ];
   each = λ u j below. elim (cases_eq u t) [
     | inl e ↦ absurd (let none : lead ahead u ≡ 0 = ap (lead ahead) e ∙ is in omega (arith, below, none))
     | inr ne ↦ ap (λ x. m.ask (alone m j x)) (thread_after_step_of_other m s t r u ne) ∙ h.each u j below
   ];
-  objects = objects_after_step_same_as_later m ahead s later t r is h;
+  objects = objects_after_step_are_same_in_state_ahead m ahead s later t r is h;
 }
 
 -- ---- private steps of one thread
@@ -171,8 +171,8 @@ ahead_by_private_steps m ahead s later t k l is h each =
 
 -- ---- no thread ahead
 
-pub state_is_ahead_by_nothing : {T : Type 0} (m : Machine T) (ahead : List ℕ) (s : State T) → ((t : ℕ) → lead ahead t ≡ 0) → IsAhead m ahead s s
-state_is_ahead_by_nothing m ahead s none = record {
+pub state_is_ahead_of_itself_if_leads_are_zero : {T : Type 0} (m : Machine T) (ahead : List ℕ) (s : State T) → ((t : ℕ) → lead ahead t ≡ 0) → IsAhead m ahead s s
+state_is_ahead_of_itself_if_leads_are_zero m ahead s none = record {
   threads = λ t. ap (λ k. alone m k (s.now t)) (sym (none t));
   each = λ t k below. absurd (let is = none t in omega (arith, below, is));
   objects = refl;

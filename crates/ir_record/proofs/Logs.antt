@@ -14,7 +14,7 @@ use Rattle.ir_log.specs.Logging.{label_of}
 use Rattle.ir_log.specs.declared.event.Event.{Event}
 use Rattle.ir_trace.specs.Bounds.{IsEvent}
 use Rattle.ir_record.specs.Progress.{HasLogs, no_log, log_at, labels_at}
-use Rattle.ir_record.proofs.Profiles.{events_fit_if_limits_same, thread_profile_after_step}
+use Rattle.ir_record.proofs.Profiles.{are_events_of_equal_profile_and_object_count, thread_profile_after_step}
 
 -- what a thread counts of its events after a step
 pub event_count_after_own_step : (f g : Flat) (t r : ℕ) → tables g ≡ after (machine f) (tables f) (t, r)
@@ -42,7 +42,7 @@ has_logs_after_unlogged_step f g logs t r has_logs taken threads objects none = 
         (let own = event_count_after_own_step f g t r taken in omega (arith, own, none))
     | inr ne ↦ event_count_after_step_of_other f g t r u taken ne
   ]);
-  events_fit = λ u l. events_fit_if_limits_same (thread_of f u).profile (thread_of g u).profile (length f.objects) (length g.objects) (log_at logs u).events
+  events_fit = λ u l. are_events_of_equal_profile_and_object_count (thread_of f u).profile (thread_of g u).profile (length f.objects) (length g.objects) (log_at logs u).events
       (thread_profile_after_step f g t r u taken) objects (has_logs.events_fit u (omega (arith, l, threads)));
 }
 
@@ -70,7 +70,7 @@ has_logs_after_event_pushed f g logs t r e new has_logs below taken threads obje
         | inr ne ↦ ap (λ z. length z.events) (there u ne) ∙ has_logs.counts u (omega (arith, l, threads))
             ∙ sym (event_count_after_step_of_other f g t r u taken ne)
       ];
-      events_fit = λ u l. events_fit_if_limits_same (thread_of f u).profile (thread_of g u).profile (length f.objects) (length g.objects)
+      events_fit = λ u l. are_events_of_equal_profile_and_object_count (thread_of f u).profile (thread_of g u).profile (length f.objects) (length g.objects)
           (log_at (set logs t new) u).events (thread_profile_after_step f g t r u taken) objects (elim (cases_eq u t) [
             | inl same ↦ subst (λ z. AllByRecursion (IsEvent (thread_of f z).profile (length f.objects)) (log_at (set logs t new) z).events)
                 (sym same) (subst (λ z. AllByRecursion (IsEvent (thread_of f t).profile (length f.objects)) z.events) (sym (here ∙ is))
@@ -99,6 +99,6 @@ log_has_room_for_event f logs t l has_logs below is can =
     omega (arith, count, room, can)
 
 -- the log that was read
-pub found_log_is_log_at : (f : Flat) (logs : List Logged) (t : ℕ) (l : Logged) → HasLogs f logs → t < length f.threads → l ≡ get_or logs t l
+pub looked_up_log_is_log_at : (f : Flat) (logs : List Logged) (t : ℕ) (l : Logged) → HasLogs f logs → t < length f.threads → l ≡ get_or logs t l
     → l ≡ log_at logs t
-found_log_is_log_at f logs t l has_logs below e = e ∙ get_or_default logs t l no_log (omega (arith, below, has_logs.one_each))
+looked_up_log_is_log_at f logs t l has_logs below e = e ∙ get_or_default logs t l no_log (omega (arith, below, has_logs.one_each))

@@ -49,9 +49,9 @@ pub thread_profile_after_step : (f g : Flat) (t r u : ℕ) → tables g ≡ afte
 thread_profile_after_step f g t r u taken = ap (λ s. (s.now u).profile) taken ∙ profile_after_step f.code (tables f) (t, r) u
 
 -- a log fits as it did, where the profile and the number of objects are as they were
-pub events_fit_if_limits_same : (p q : Profile) (n m : ℕ) (es : List Event) → q ≡ p → m ≡ n → AllByRecursion (IsEvent p n) es
+pub are_events_of_equal_profile_and_object_count : (p q : Profile) (n m : ℕ) (es : List Event) → q ≡ p → m ≡ n → AllByRecursion (IsEvent p n) es
     → AllByRecursion (IsEvent q m) es
-events_fit_if_limits_same p q n m es e h = subst (λ (z : Profile × ℕ). AllByRecursion (IsEvent z.0 z.1) es) (λ i. (sym e i, sym h i))
+are_events_of_equal_profile_and_object_count p q n m es e h = subst (λ (z : Profile × ℕ). AllByRecursion (IsEvent z.0 z.1) es) (λ i. (sym e i, sym h i))
 
 -- at the start it is the guest's
 pub profile_of_start_thread : (g : Guest) (budget : ℕ) (profile : Profile) (from n t : ℕ) → t < n

@@ -26,9 +26,9 @@ pub replicate_with_one_more : (t n : ℕ) → replicate n t ++ t ∷ [] ≡ repl
 replicate_with_one_more t n = replicate-append-replicate n 1 t
 
 -- a turn with a step leaves fewer steps
-pub fewer_left_after_turn_alone : (ran : ℕ) (b c d : Progress) (moved : Bool) → moved ≡ true → length b.flat.threads ≡ 1
+pub all_left_falls_after_moved_turn_of_only_thread : (ran : ℕ) (b c d : Progress) (moved : Bool) → moved ≡ true → length b.flat.threads ≡ 1
     → Took (replicate ran 0) b c → TookIf moved (0 ∷ []) c d → all_left 1 (tables d.flat).now < all_left 1 (tables b.flat).now
-fewer_left_after_turn_alone ran b c d moved is one q r =
+all_left_falls_after_moved_turn_of_only_thread ran b c d moved is one q r =
     let x : all_left 1 (tables c.flat).now + length q.run ≤ all_left 1 (tables b.flat).now =
     subst (λ n. all_left n (tables c.flat).now + length q.run ≤ all_left n (tables b.flat).now) one q.fewer in
     let y : all_left 1 (tables d.flat).now + length r.took.run ≤ all_left 1 (tables c.flat).now =

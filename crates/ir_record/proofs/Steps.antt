@@ -12,8 +12,8 @@ use Rattle.ir_runs.proofs.CallerLemmas.{log_append, end_append, in_turn_of_appen
 use Rattle.ir_record.specs.Progress.{Progress, Moved, Took, TookIf, TookTurns, all_left, labels_at}
 use Rattle.ir_record.specs.Refusing.{Turn, plain_turns, InTurns}
 use Rattle.ir_record.specs.Worlds.{answers_at, answers_in}
-use Rattle.ir_record.proofs.Refusing.{in_plain_turns_if_in_turn, in_turns-append}
-use Rattle.ir_record.proofs.Tally.{HoldFewObjects, step_leaves_all_fewer}
+use Rattle.ir_record.proofs.Refusing.{in_plain_turns_if_in_turn, in_turns_of_append}
+use Rattle.ir_record.proofs.Tally.{HoldFewObjects, all_left_falls_after_step}
 
 -- ---- what a step logs
 
@@ -83,7 +83,7 @@ moved_if_one_step t r k a b s = record {
         ∙ ap (λ z. answers_at a.answers u ++ answers_in z) (sym (log_of_step_of_other a.flat t r u ne))
   ];
   fewer = subst (λ z. all_left (length a.flat.threads) z.now + 1 ≤ all_left (length a.flat.threads) (thread_of a.flat)) (sym s.taken)
-      (step_leaves_all_fewer a.flat.code (length a.flat.threads) (tables a.flat) (t, r) s.few s.below s.can);
+      (all_left_falls_after_step a.flat.code (length a.flat.threads) (tables a.flat) (t, r) s.few s.below s.can);
 }
 
 unfoldable pub took_turn_by_step : (t r : ℕ) (k : Label) (a b : Progress) → OneStep t r k a b → EntersIfFree (machine a.flat) (tables a.flat) (t, r)
@@ -120,12 +120,12 @@ took_refused_turn_by_step t k a b s = record {
   moved = moved_if_one_step t 0 k a b s;
 }
 
-answers_in_logged : (k : Label) (ys : List Label) → answers_in (logged k ys) ≡ answers_in (logged k []) ++ answers_in ys
-answers_in_logged Quiet ys = refl
-answers_in_logged (Answer i v) ys = refl
-answers_in_logged (In o a v l) ys = refl
-answers_in_logged (Refused o) ys = refl
-answers_in_logged (Out o a v) ys = refl
+answers_in_logged_is_append : (k : Label) (ys : List Label) → answers_in (logged k ys) ≡ answers_in (logged k []) ++ answers_in ys
+answers_in_logged_is_append Quiet ys = refl
+answers_in_logged_is_append (Answer i v) ys = refl
+answers_in_logged_is_append (In o a v l) ys = refl
+answers_in_logged_is_append (Refused o) ys = refl
+answers_in_logged_is_append (Out o a v) ys = refl
 
 pub answers_in_append : (xs ys : List Label) → answers_in (xs ++ ys) ≡ answers_in xs ++ answers_in ys
 answers_in_append [] ys = refl
@@ -157,8 +157,8 @@ pub log_same_on_first_machine : (a b : Progress) (first : List Step) (run : List
 log_same_on_first_machine a b first run t code ends = ap (λ c. log (thread_machine c) (tables b.flat) run t) code
     ∙ ap (λ s. log (machine a.flat) s run t) ends
 
-unfoldable pub moved_both : (first next : List Step) (a b c : Progress) → Moved first a b → Moved next b c → Moved (first ++ next) a c
-moved_both first next a b c p q =
+unfoldable pub moved_by_append_of_runs : (first next : List Step) (a b c : Progress) → Moved first a b → Moved next b c → Moved (first ++ next) a c
+moved_by_append_of_runs first next a b c p q =
     let logs_of : (t : ℕ) → log (machine a.flat) (tables a.flat) (first ++ next) t ≡ log (machine a.flat) (tables a.flat) first t ++ log
     (machine b.flat) (tables b.flat) next t =
     λ t. log_append (machine a.flat) (tables a.flat) first next t
@@ -198,9 +198,9 @@ moved_if_took k = record {
   fewer = k.fewer;
 }
 
-unfoldable pub took_both_orders : (order more : List ℕ) (a b c : Progress) → Took order a b → Took more b c → Took (order ++ more) a c
-took_both_orders order more a b c p q =
-    let m : Moved (p.run ++ q.run) a c = moved_both p.run q.run a b c (moved_if_took p) (moved_if_took q) in
+unfoldable pub took_append_of_orders : (order more : List ℕ) (a b c : Progress) → Took order a b → Took more b c → Took (order ++ more) a c
+took_append_of_orders order more a b c p q =
+    let m : Moved (p.run ++ q.run) a c = moved_by_append_of_runs p.run q.run a b c (moved_if_took p) (moved_if_took q) in
     record {
       run = p.run ++ q.run;
       turns = in_turn_of_append (machine a.flat) (tables a.flat) order more p.run q.run p.turns
@@ -256,8 +256,8 @@ took_turn_of_thread_without_step t refused a none = record { run = []; in_turns 
 pub took_turns_of_append : (turns more : List Turn) (a b c : Progress) → TookTurns turns a b → TookTurns more b c → TookTurns (turns ++ more) a c
 took_turns_of_append turns more a b c p q = record {
   run = p.run ++ q.run;
-  in_turns = in_turns-append (machine a.flat) (tables a.flat) turns more p.run q.run p.in_turns
+  in_turns = in_turns_of_append (machine a.flat) (tables a.flat) turns more p.run q.run p.in_turns
       (subst (λ s. InTurns (machine a.flat) s more q.run) p.moved.ends
       (subst (λ k. InTurns (thread_machine k) (tables b.flat) more q.run) p.moved.code q.in_turns));
-  moved = moved_both p.run q.run a b c p.moved q.moved;
+  moved = moved_by_append_of_runs p.run q.run a b c p.moved q.moved;
 }

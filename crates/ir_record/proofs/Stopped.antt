@@ -22,13 +22,13 @@ use Rattle.ir_record.specs.Worlds.{answers_at, Answered, answers_in}
 use Rattle.ir_record.specs.Recording.{StoppedInTurns}
 use Rattle.ir_record.proofs.Ended.{start, made_recording_is_start, new_log}
 use Rattle.ir_record.proofs.Going.{reached, range_from_zero_with_last}
-use Rattle.ir_record.proofs.Refusing.{plain_turns-append, in_turns-append, in_plain_turns_if_in_turn}
+use Rattle.ir_record.proofs.Refusing.{plain_turns_of_append, in_turns_of_append, in_plain_turns_if_in_turn}
 use Rattle.ir_record.proofs.Steps.{log_same_on_first_machine, answers_in_append}
 
 -- the error that a `?` hands on
-pub if_err_holds_of_error : {A E : Type 0} (P : E → Type 0) (r : Result A E) (e : E) → IsErrAnd r (λ x. x ≡ e) → P e → IfErr r P
-if_err_holds_of_error P (Ok x) e h p = tt
-if_err_holds_of_error P (Err x) e h p = subst P (sym h) p
+pub if_err_holds_if_holds_of_its_error : {A E : Type 0} (P : E → Type 0) (r : Result A E) (e : E) → IsErrAnd r (λ x. x ≡ e) → P e → IfErr r P
+if_err_holds_if_holds_of_its_error P (Ok x) e h p = tt
+if_err_holds_if_holds_of_its_error P (Err x) e h p = subst P (sym h) p
 
 -- a turn in which the thread asks its world, in any state in which it is the same
 pub stopped_at_own_turn : (t : ℕ) (s : State thread.ThreadState) (p : Progress) (named : ℕ) (answers : List (List Answered)) (failed : List Bool)
@@ -132,7 +132,7 @@ stopped_in_plain_turns_if_in_order order p named answers h = record {
   taken = plain_turns h.taken;
   refused = false;
   left = plain_turns h.left;
-  so_far = ap plain_turns h.so_far ∙ plain_turns-append h.taken (named ∷ h.left);
+  so_far = ap plain_turns h.so_far ∙ plain_turns_of_append h.taken (named ∷ h.left);
   run = h.run;
   in_turns = in_plain_turns_if_in_turn (machine p.flat) (tables p.flat) h.taken h.run h.turns;
   kind = h.kind;
@@ -189,7 +189,7 @@ stopped_turns_after_turns turns more a b named answers p h =
       left = h.left;
       so_far = ap (λ z. turns ++ z) h.so_far ∙ sym (append_assoc turns h.taken ((named, h.refused) ∷ h.left));
       run = p.run ++ h.run;
-      in_turns = in_turns-append (machine a.flat) (tables a.flat) turns h.taken p.run h.run p.in_turns
+      in_turns = in_turns_of_append (machine a.flat) (tables a.flat) turns h.taken p.run h.run p.in_turns
           (subst (λ s. InTurns (machine a.flat) s h.taken h.run) p.moved.ends
           (subst (λ k. InTurns (thread_machine k) (tables b.flat) h.taken h.run) p.moved.code h.in_turns));
       kind = h.kind;
@@ -207,11 +207,11 @@ stopped_turns_after_turns turns more a b named answers p h =
     }
 
 -- the turns from the guest's start
-pub stopped_in_order_from_start : {guest : Guest} {budget : ℕ} {profile : Profile} {turns : List Turn} {before answers : List (List Answered)}
+pub recording_stopped_in_turns_if_stopped_from_start : {guest : Guest} {budget : ℕ} {profile : Profile} {turns : List Turn} {before answers : List (List Answered)}
     {f : Flat} {logs : List Logged} {named : ℕ} → f ≡ start_flat guest budget profile → logs ≡ replicate (length guest.entries) new_log
     → ((count : ℕ) × StoppedTurns (turns ++ plain_turns (rounds (length f.threads) count)) (record { flat = f; logs = logs; answers = before })
     named answers) → StoppedInTurns guest budget profile turns named before answers
-stopped_in_order_from_start {guest} {budget} {profile} {turns} {before} {answers} {f} {logs} {named} p q k =
+recording_stopped_in_turns_if_stopped_from_start {guest} {budget} {profile} {turns} {before} {answers} {f} {logs} {named} p q k =
     let size : length (start_flat guest budget profile).threads ≡ length guest.entries =
     length_of_start_threads guest budget profile 0 (length guest.entries) in
     let h : StoppedTurns (turns ++ plain_turns (rounds (length f.threads) k.0)) (start guest budget profile before) named answers =

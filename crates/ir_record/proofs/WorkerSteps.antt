@@ -44,7 +44,7 @@ use Rattle.ir_record.specs.Worlds.{Answered, answers_in}
 use Rattle.ir_record.specs.declared.by_threads.worker.Worker.{Worker}
 use Rattle.ir_record.specs.Working.{Work, IsWorking, StillWorks, IsOwn, IsInside, IsSeated, Stays}
 use Rattle.ir_record.proofs.Profiles.{profile_after_ask}
-use Rattle.ir_record.proofs.Working.{worked_with_reply_added, held_after_own_act, held_after_is_inside_if}
+use Rattle.ir_record.proofs.Working.{worked_with_reply_added, held_after_own_act_is_unchanged, held_after_is_inside_if}
 
 map_of_append : {A B : Type 0} (f : A → B) (xs ys : List A) → map f (xs ++ ys) ≡ map f xs ++ map f ys
 map_of_append f [] ys = refl
@@ -61,7 +61,7 @@ answers_in_append (Out o a v ∷ xs) ys = answers_in_append xs ys
 -- how a thread is inside an object after a step, which is an object step if b
 inside_after_step_is_held_after : (q : Act) (v o : ℕ) (h : ℕ → Option Access) (xs : List Shared) (b : Bool) → is_shared q ≡ b → inside_after o None xs ≡ h o
     → inside_after o None (xs ++ join_if b (q, v) []) ≡ held_after q h o
-inside_after_step_is_held_after q v o h xs false is e = ap (inside_after o None) (append-nil xs) ∙ e ∙ sym (held_after_own_act q h o is)
+inside_after_step_is_held_after q v o h xs false is e = ap (inside_after o None) (append-nil xs) ∙ e ∙ sym (held_after_own_act_is_unchanged q h o is)
 inside_after_step_is_held_after q v o h xs true is e = inside_after_step o None xs (q, v) ∙ ap (inside_if (eqb o (Rattle.ir_runs.specs.Machine.target q)) q) e
     ∙ sym (held_after_is_inside_if q h o is)
 
@@ -366,9 +366,9 @@ inside_after_deed_is_inside_if me me' o p d e h = ap (λ (z : M). inside_by p (h
     go (k ∷ l ∷ ks) h = absurd h
 
 -- a step on another object
-pub inside_after_deed_elsewhere : (me me' : M) (o p : ℕ) (d : Deed) → me' ≡ (did me.0 o d, me.1) → IsAlone me.0 → p ≢ o
+pub inside_is_unchanged_after_deed_on_other_object : (me me' : M) (o p : ℕ) (d : Deed) → me' ≡ (did me.0 o d, me.1) → IsAlone me.0 → p ≢ o
     → inside_by p (history me'.0) ≡ inside_by p (history me.0)
-inside_after_deed_elsewhere me me' o p d e h ne = inside_after_deed_is_inside_if me me' o p d e h
+inside_is_unchanged_after_deed_on_other_object me me' o p d e h ne = inside_after_deed_is_inside_if me me' o p d e h
     ∙ ap (λ b. inside_if b (shared_by o d).0 (inside_by p (history me.0))) (ne_eqb p o ne)
 
 -- a leave

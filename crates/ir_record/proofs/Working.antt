@@ -23,9 +23,9 @@ may_run_with_reply_added : {T : Type 0} (m : Machine T) (x : T) (vs : List ℕ) 
 may_run_with_reply_added m x [] v h r = (r, tt)
 may_run_with_reply_added m x (u ∷ vs) v h r = (h.0, may_run_with_reply_added m (m.take x u) vs v h.1 r)
 
-alone_after_with_reply_added : {T : Type 0} (m : Machine T) (x : T) (vs : List ℕ) (v : ℕ) → alone_after m x (vs ++ v ∷ []) ≡ m.take (alone_after m x vs) v
-alone_after_with_reply_added m x [] v = refl
-alone_after_with_reply_added m x (u ∷ vs) v = alone_after_with_reply_added m (m.take x u) vs v
+alone_after_with_reply_added_takes_reply : {T : Type 0} (m : Machine T) (x : T) (vs : List ℕ) (v : ℕ) → alone_after m x (vs ++ v ∷ []) ≡ m.take (alone_after m x vs) v
+alone_after_with_reply_added_takes_reply m x [] v = refl
+alone_after_with_reply_added_takes_reply m x (u ∷ vs) v = alone_after_with_reply_added_takes_reply m (m.take x u) vs v
 
 shared_steps_with_reply_added : {T : Type 0} (m : Machine T) (x : T) (vs : List ℕ) (v : ℕ)
     → shared_steps m x (vs ++ v ∷ []) ≡ shared_steps m x vs ++ join_if (is_shared (act_of (m.ask (alone_after m x vs)) v))
@@ -98,7 +98,7 @@ pub worked_with_reply_added : {T : Type 0} (m : Machine T) (x y : T) (steps : Li
 worked_with_reply_added m x y steps labels log v ls w n may = record {
   replies = w.replies ++ v ∷ [];
   may = may_run_with_reply_added m x w.replies v w.may (subst (λ z. MayReply m (act_of (m.ask z) v) v) (sym w.now) may);
-  now = alone_after_with_reply_added m x w.replies v ∙ ap (λ z. m.take z v) w.now;
+  now = alone_after_with_reply_added_takes_reply m x w.replies v ∙ ap (λ z. m.take z v) w.now;
   steps_are = shared_steps_with_reply_added m x w.replies v ∙ (λ i. w.steps_are i ++ join_if (is_shared (act_of (m.ask (w.now i)) v))
       (act_of (m.ask (w.now i)) v, v) []);
   logged = ap events (trail_with_reply_added m x w.replies v labels ls (n ∙ ap (λ z. length z) (sym w.steps_are)))
@@ -109,15 +109,15 @@ worked_with_reply_added m x y steps labels log v ls w n may = record {
 
 -- ---- what a thread holds is what it is inside of
 
-pub held_after_own_act : (q : Act) (h : ℕ → Option Access) (o : ℕ) → is_shared q ≡ false → held_after q h o ≡ h o
-held_after_own_act Silent h o e = refl
-held_after_own_act (Result k v) h o e = refl
-held_after_own_act (Entry i a v) h o e = absurd (cc e)
-held_after_own_act (Refusal i) h o e = refl
-held_after_own_act (Exit i a) h o e = absurd (cc e)
-held_after_own_act (Load i j) h o e = absurd (cc e)
-held_after_own_act (Store i j w) h o e = absurd (cc e)
-held_after_own_act Never h o e = refl
+pub held_after_own_act_is_unchanged : (q : Act) (h : ℕ → Option Access) (o : ℕ) → is_shared q ≡ false → held_after q h o ≡ h o
+held_after_own_act_is_unchanged Silent h o e = refl
+held_after_own_act_is_unchanged (Result k v) h o e = refl
+held_after_own_act_is_unchanged (Entry i a v) h o e = absurd (cc e)
+held_after_own_act_is_unchanged (Refusal i) h o e = refl
+held_after_own_act_is_unchanged (Exit i a) h o e = absurd (cc e)
+held_after_own_act_is_unchanged (Load i j) h o e = absurd (cc e)
+held_after_own_act_is_unchanged (Store i j w) h o e = absurd (cc e)
+held_after_own_act_is_unchanged Never h o e = refl
 
 cond_is_inside_if : (b : Bool) (q : Act) (x : Option Access) (y : Option Access) → inside_then q y ≡ x → cond b x y ≡ inside_if b q y
 cond_is_inside_if true q x y e = sym e

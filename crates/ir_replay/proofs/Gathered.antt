@@ -67,11 +67,11 @@ state_caught_up_with_threads (suc m) f s xs h flat at few ahead =
     }
 
 -- the state of these threads and of the objects at the end of the table
-pub standing_of_ahead_threads : (f : FittedTrace) (s : Flat) (xs : List thread.ThreadState) (cells : List Cell) → HasRun f → IsFlat s
+pub state_of_ahead_threads_stands_at_own_positions : (f : FittedTrace) (s : Flat) (xs : List thread.ThreadState) (cells : List Cell) → HasRun f → IsFlat s
     → IsStateAt f (positions s) s → ((t : ℕ) → t < length s.threads → IsAhead f t (positions s t) (slice_index_or xs t idle))
     → length xs ≡ length s.threads → cells ≡ s.objects
     → StandsAt f (positions (flat_in f (record { threads = xs; objects = cells }))) (record { threads = xs; objects = cells })
-standing_of_ahead_threads f s xs cells h flat at ahead size objects =
+state_of_ahead_threads_stands_at_own_positions f s xs cells h flat at ahead size objects =
     let g : HasCaughtUp f s xs (length s.threads) =
     state_caught_up_with_threads (length s.threads) f s xs h flat at (let e : length s.threads ≤ length s.threads = omega arith in e) ahead in
     let threads : g.state.threads ≡ xs = ext_get_or idle g.state.threads xs (g.size ∙ sym size)

@@ -13,11 +13,11 @@ split_by_test_before_line_feed false x [] r vs q = refl
 split_by_test_before_line_feed false x (w ∷ ws) r vs q = refl
 
 -- a line feed ends a line
-pub split_lines_of_line_feed : (bytes more : List ℕ) → split_lines (bytes ++ 10 ∷ more) ≡ split_of ((split_lines bytes).whole ++ (split_lines bytes).rest ∷ (split_lines more).whole)
+pub split_lines_ends_line_at_line_feed : (bytes more : List ℕ) → split_lines (bytes ++ 10 ∷ more) ≡ split_of ((split_lines bytes).whole ++ (split_lines bytes).rest ∷ (split_lines more).whole)
     (split_lines more).rest
 unfolding split_lines
-split_lines_of_line_feed [] more = refl
-split_lines_of_line_feed (x ∷ bytes) more = ap (λ (k : SplitBytes). split_by_feed_test (eqb x 10) x k) (split_lines_of_line_feed bytes more)
+split_lines_ends_line_at_line_feed [] more = refl
+split_lines_ends_line_at_line_feed (x ∷ bytes) more = ap (λ (k : SplitBytes). split_by_feed_test (eqb x 10) x k) (split_lines_ends_line_at_line_feed bytes more)
     ∙ split_by_test_before_line_feed (eqb x 10) x (split_lines bytes).whole (split_lines bytes).rest (split_lines more).whole (split_lines more).rest
 
 split_by_test_before_other_byte : (t : Bool) (x : ℕ) (ws : List (List ℕ)) (r : List ℕ) (b : ℕ)
@@ -27,10 +27,10 @@ split_by_test_before_other_byte false x [] r b = refl
 split_by_test_before_other_byte false x (w ∷ ws) r b = refl
 
 -- any other byte goes onto the last line
-pub split_lines_of_other_byte : (bytes : List ℕ) (b : ℕ) → eqb b 10 ≡ false → split_lines (bytes ++ b ∷ []) ≡ split_of (split_lines bytes).whole ((split_lines bytes).rest ++ b ∷ [])
+pub split_lines_adds_other_byte_to_rest : (bytes : List ℕ) (b : ℕ) → eqb b 10 ≡ false → split_lines (bytes ++ b ∷ []) ≡ split_of (split_lines bytes).whole ((split_lines bytes).rest ++ b ∷ [])
 unfolding split_lines
-split_lines_of_other_byte [] b e = rw e refl
-split_lines_of_other_byte (x ∷ bytes) b e = ap (λ (k : SplitBytes). split_by_feed_test (eqb x 10) x k) (split_lines_of_other_byte bytes b e)
+split_lines_adds_other_byte_to_rest [] b e = rw e refl
+split_lines_adds_other_byte_to_rest (x ∷ bytes) b e = ap (λ (k : SplitBytes). split_by_feed_test (eqb x 10) x k) (split_lines_adds_other_byte_to_rest bytes b e)
     ∙ split_by_test_before_other_byte (eqb x 10) x (split_lines bytes).whole (split_lines bytes).rest b
 
 -- only the prefix of a line is kept

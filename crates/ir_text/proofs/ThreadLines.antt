@@ -28,6 +28,6 @@ drop_of_all_verdicts (suc n) [] e = absurd cc
 drop_of_all_verdicts (suc n) (v ∷ vs) e = drop_of_all_verdicts n vs (omega (arith, e))
 
 -- no line is left after the last
-pub threads_text_at_end : (t : ℕ) (vs : List ThreadVerdict) → t ≡ length vs → threads_text t (drop t vs) ≡ []
+pub threads_text_at_end_is_empty : (t : ℕ) (vs : List ThreadVerdict) → t ≡ length vs → threads_text t (drop t vs) ≡ []
 unfolding threads_text
-threads_text_at_end t vs end = ap (λ (x : List ThreadVerdict). threads_text t x) (drop_of_all_verdicts t vs end)
+threads_text_at_end_is_empty t vs end = ap (λ (x : List ThreadVerdict). threads_text t x) (drop_of_all_verdicts t vs end)

@@ -105,10 +105,10 @@ logged_of_unlogged_logged (In o a v l) es = refl
 logged_of_unlogged_logged (Refused o) es = refl
 logged_of_unlogged_logged (Out o a v) es = refl
 
-drop_at_place : {A : Type 0} (xs : List A) (n : ℕ) (x : A) → At xs n x → drop n xs ≡ x ∷ drop (suc n) xs
-drop_at_place [] n x h = absurd h
-drop_at_place (y ∷ ys) zero x h = ap (λ z. z ∷ ys) h
-drop_at_place (y ∷ ys) (suc n) x h = drop_at_place ys n x h
+drop_splits_off_element_at_index : {A : Type 0} (xs : List A) (n : ℕ) (x : A) → At xs n x → drop n xs ≡ x ∷ drop (suc n) xs
+drop_splits_off_element_at_index [] n x h = absurd h
+drop_splits_off_element_at_index (y ∷ ys) zero x h = ap (λ z. z ∷ ys) h
+drop_splits_off_element_at_index (y ∷ ys) (suc n) x h = drop_splits_off_element_at_index ys n x h
 
 -- what holds of the guest's lists holds of the end of the part of the run, and the other way round
 pub property_moves_to_part_end : (f : FittedTrace) (p : Cut) (s : Flat) (run : List Step) → IsRunOf f.guest f.recorded run → s.code ≡ f.guest.code
@@ -135,7 +135,7 @@ admitted_thread_logs_next f s state run is t l ad =
     let emitted : Label = label (machine_of f) (end (machine_of f) (start_of f) (part run (positions s))) (t, next.0) in
     let first : log_ahead f.recorded s t ≡ logged emitted (events (drop (suc (positions s t)) (trail (machine_of f) (start_of f) run t))) =
     log_ahead_is_log_after_cut f (positions s) s run is at t l
-    ∙ ap events (drop_at_place (trail (machine_of f) (start_of f) run t) (positions s t) (next.3.0, emitted) next.3.1) in (
+    ∙ ap events (drop_splits_off_element_at_index (trail (machine_of f) (start_of f) run t) (positions s t) (next.3.0, emitted) next.3.1) in (
       next.0,
       property_moves_from_part_end f (positions s) s run is state.code at (CanLog t next.0 (log_ahead f.recorded s t))
           (next.1, ap (λ es. logged emitted (unlogged emitted es)) first ∙ logged_of_unlogged_logged emitted _ ∙ sym first),

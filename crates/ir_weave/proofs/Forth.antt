@@ -28,7 +28,7 @@ use Rattle.ir_weave.specs.Standing.{IsStateAt, positions}
 use Rattle.ir_weave.specs.Stepping.{LogsNext}
 use Rattle.ir_weave.specs.Woven.{AdmittedAt}
 use Rattle.ir_weave.proofs.Behind.{log_after_cut, log_ahead_is_log_after_cut, admitted_thread_logs_next}
-use Rattle.ir_weave.proofs.Onward.{is_at_after_leading_steps, step_logs_first_of_left, position_after_own_step, position_after_step_of_other}
+use Rattle.ir_weave.proofs.Onward.{is_at_after_leading_steps, step_log_is_prefix_of_left, position_after_own_step, position_after_step_of_other}
 use Rattle.ir_fit.proofs.CallerLemmas.{drop_of_mapped_labels_is_label_then_drop}
 use Rattle.ir_weave.proofs.Lone.{logged_step_has_recorded_event, try_result, emitted_try_gives_result}
 use Rattle.ir_weave.proofs.Trails.{StepOf, emitting_step_is_step_of, label_without_entry_needs_nothing}
@@ -85,7 +85,7 @@ step_goes_on_if_logs_next f s t v q flat at l is has logs =
             (record {
               runs = (logs.0, tt);
               ends = taken;
-              logs = step_logs_first_of_left (machine_in s) (tables s) t v (log_after_cut f run (positions s))
+              logs = step_log_is_prefix_of_left (machine_in s) (tables s) t v (log_after_cut f run (positions s))
                   (subst (λ es. logged (label (machine_in s) (tables s) (t, v)) (unlogged (label (machine_in s) (tables s) (t, v)) es) ≡ es)
                   (log_ahead_is_log_after_cut f (positions s) s run of (at.each run of) t (state_thread_is_guest_thread f s t at l)) logs.1);
             });
@@ -163,21 +163,21 @@ refused_option_is_refused_event (Some (Read object version)) h = absurd h
 refused_option_is_refused_event (Some (Write object version readers)) h = absurd h
 refused_option_is_refused_event (Some (Refused object)) h = (object, refl)
 
-at_place_is_unique : {X : Type 0} (xs : List X) (k : ℕ) (a b : X) → At xs k a → At xs k b → a ≡ b
-at_place_is_unique [] k a b h g = absurd h
-at_place_is_unique (x ∷ xs) zero a b h g = sym h ∙ g
-at_place_is_unique (x ∷ xs) (suc k) a b h g = at_place_is_unique xs k a b h g
+element_at_index_is_unique : {X : Type 0} (xs : List X) (k : ℕ) (a b : X) → At xs k a → At xs k b → a ≡ b
+element_at_index_is_unique [] k a b h g = absurd h
+element_at_index_is_unique (x ∷ xs) zero a b h g = sym h ∙ g
+element_at_index_is_unique (x ∷ xs) (suc k) a b h g = element_at_index_is_unique xs k a b h g
 
-pub further_at_own_thread : (p : Cut) (t : ℕ) → further p t t ≡ suc (p t)
-further_at_own_thread p t = rw (eq-eqb t t refl) refl
+pub further_at_own_thread_is_successor : (p : Cut) (t : ℕ) → further p t t ≡ suc (p t)
+further_at_own_thread_is_successor p t = rw (eq-eqb t t refl) refl
 
-pub further_at_other_thread : (p : Cut) (t u : ℕ) → u ≢ t → further p t u ≡ p u
-further_at_other_thread p t u ne = rw (ne_eqb u t ne) refl
+pub further_at_other_thread_is_unchanged : (p : Cut) (t u : ℕ) → u ≢ t → further p t u ≡ p u
+further_at_other_thread_is_unchanged p t u ne = rw (ne_eqb u t ne) refl
 
 cut_below_further : (p : Cut) (t u : ℕ) → p u ≤ further p t u
 cut_below_further p t u = elim (cases_eq u t) [
-  | inl same ↦ subst (λ z. p z ≤ further p t z) (sym same) (let e = further_at_own_thread p t in omega (arith, e))
-  | inr ne ↦ let e = further_at_other_thread p t u ne in omega (arith, e)
+  | inl same ↦ subst (λ z. p z ≤ further p t z) (sym same) (let e = further_at_own_thread_is_successor p t in omega (arith, e))
+  | inr ne ↦ let e = further_at_other_thread_is_unchanged p t u ne in omega (arith, e)
 ]
 
 -- what a thread of the state asks
@@ -195,9 +195,9 @@ free_step_is_admitted f s t at has below free run of = (
     | inr past ↦ absurd (elim (cases_eq u t) [
       | inl same ↦ last run of u k w j a b same
           (let e : k ≡ positions s u = (let up : further (positions s) t u ≡ suc (positions s u) =
-          subst (λ z. further (positions s) t z ≡ suc (positions s z)) (sym same) (further_at_own_thread (positions s) t) in
+          subst (λ z. further (positions s) t z ≡ suc (positions s z)) (sym same) (further_at_own_thread_is_successor (positions s) t) in
           omega (arith, less, past, up)) in e) ha need
-      | inr other ↦ (let e = further_at_other_thread (positions s) t u other in omega (arith, e, less, past))
+      | inr other ↦ (let e = further_at_other_thread_is_unchanged (positions s) t u other in omega (arith, e, less, past))
     ])
   ],
 )
@@ -223,7 +223,7 @@ free_step_is_admitted f s t at has below free run of = (
                 ap (λ (y : thread.ThreadState). slice_get (recorded_thread f.recorded t).events y.events) (sym ((at.each run of).threads t))
                     ∙ refused.1,
               ) in
-              let label : label_of found.0 ≡ a = ap (λ y. y.1) (at_place_is_unique (trail (machine_of f) (start_of f) run t) (positions s t)
+              let label : label_of found.0 ≡ a = ap (λ y. y.1) (element_at_index_is_unique (trail (machine_of f) (start_of f) run t) (positions s t)
               (found.2.0, label_of found.0) (mine.0, a) found.2.1 mine.1) in
               refused_label_needs_nothing b refused.0 (subst (IsNeededBy b) (sym label ∙ ap label_of event) need)
           | inr other ↦
@@ -261,9 +261,9 @@ alone_ask_is_free (End x) e h = tt
 alone_ask_is_free Done e h = tt
 
 -- a try logs its event with one result
-pub try_that_logs_has_result : (r : Recorded) (s : Flat) (t v o : ℕ) (e : Event) → ask_of s.code (thread_of s t) ≡ Try o
+pub value_of_logging_try_is_try_result : (r : Recorded) (s : Flat) (t v o : ℕ) (e : Event) → ask_of s.code (thread_of s t) ≡ Try o
     → slice_get (recorded_thread r t).events (thread_of s t).events ≡ Some e → LogsNext r s t v → v ≡ try_result e
-try_that_logs_has_result r s t v o e is event logs =
+value_of_logging_try_is_try_result r s t v o e is event logs =
     let obj = λ (q : Ask). (tables s).objects (target (act_of (shared_ask q) v)) in
     let can : Admits (machine_in s) (act_of (machine.Try o) v) (obj (Try o)) =
     subst (λ q. Admits (machine_in s) (act_of (shared_ask q) v) (obj q)) is logs.0 in
@@ -292,7 +292,7 @@ step_goes_on_if_alone f s t h flat at l has alone =
       | inl is ↦
           let refused = refused_option_is_refused_event (event_of f t x) (subst (λ p. IsAlone p (event_of f t x)) is.1 alone) in
           let some = admitted_thread_logs_next f s at h.run h.whole t below (ad h.run h.whole) in
-          let none : some.0 ≡ 0 = try_that_logs_has_result f.recorded s t some.0 is.0 (Refused refused.0) is.1 refused.1 some.1 in
+          let none : some.0 ≡ 0 = value_of_logging_try_is_try_result f.recorded s t some.0 is.0 (Refused refused.0) is.1 refused.1 some.1 in
           let goes : StepGoesOn f s t 0 q = step_goes_on_if_logs_next f s t 0 q flat at l refl has (subst (LogsNext f.recorded s t) none some.1) in
           (0, goes, subst (λ p. (next s t 0 p).objects ≡ s.objects) (sym is.1) refl)
       | inr other ↦

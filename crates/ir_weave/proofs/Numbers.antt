@@ -12,7 +12,7 @@ use Rattle.ir_fit.specs.Fit.{FittedTrace, HasRun, IsRunOf}
 use Rattle.ir_cut.specs.Positions.{machine_of, start_of}
 use Rattle.ir_weave.specs.Ahead.{IsAhead, thread_at, ask_at}
 use Rattle.ir_weave.specs.Standing.{IsStateAt, positions}
-use Rattle.ir_weave.proofs.Lone.{number_after_ask, step_below_count_emits, take_is_after_ask}
+use Rattle.ir_weave.proofs.Lone.{number_after_ask, step_below_count_emits, machine_take_is_after_ask}
 use Rattle.ir_weave.proofs.Trails.{StepOf, emitting_step_is_step_of, thread_at_position_zero}
 
 number_of_start_thread : (g : Guest) (budget : ℕ) (profile : Profile) (from n t : ℕ) → t < n
@@ -31,7 +31,7 @@ number_of_thread_at_step f run of t (suc k) there l =
     let z : StepOf (machine_of f) (thread_at f run t k) (thread_at f run t (suc k)) at.0 =
     emitting_step_is_step_of (machine_of f) (start_of f) run of.1.runs t k at.0 at.1 in
     let n : ℕ = reply (act_of (shared_ask (ask_at f run t k)) z.result) z.object in
-    ap (λ (x : thread.ThreadState). x.number) (z.next ∙ take_is_after_ask f.guest.code (thread_at f run t k) n)
+    ap (λ (x : thread.ThreadState). x.number) (z.next ∙ machine_take_is_after_ask f.guest.code (thread_at f run t k) n)
     ∙ number_after_ask f.guest.code (thread_at f run t k) (ask_at f run t k) (reply_of (ask_at f run t k) n)
     ∙ number_of_thread_at_step f run of t k there (omega (arith, l))
 

@@ -35,18 +35,18 @@ state_is_at_cut_if_tables_are_prefix_end f s run prefix is ok left logs ends wit
     is_at_if_tables_are_end f (positions s) s run is at.cut at.consistent (ends ∙ at.same_end)
 
 -- no more steps follow than the trace has
-fits_bounds_length : {T : Type 0} (E : Check T) (n : ℕ) (es : List Label) (xs : List (T × Label)) → Fits E n es xs → length xs ≤ n
-fits_bounds_length E n es [] h = omega arith
-fits_bounds_length E n es (x ∷ xs) h = omega (arith, fits_bounds_length E (pred n) (unlogged x.1 es) xs h.3, h.0)
+length_is_at_most_bound_if_fits : {T : Type 0} (E : Check T) (n : ℕ) (es : List Label) (xs : List (T × Label)) → Fits E n es xs → length xs ≤ n
+length_is_at_most_bound_if_fits E n es [] h = omega arith
+length_is_at_most_bound_if_fits E n es (x ∷ xs) h = omega (arith, length_is_at_most_bound_if_fits E (pred n) (unlogged x.1 es) xs h.3, h.0)
 
 -- a run that follows the trace
 abbrev IsFollowing : FittedTrace → List Step → Type 0
 IsFollowing f prefix = Follows (closing (machine_of f) (trace_of f.recorded)) (machine_of f) (start_of f) (trace_of f.recorded) prefix
 
 -- what it logs of a thread is the first of what each complete run with the trace logs
-following_log_begins_run_log : (f : FittedTrace) (run prefix : List Step) → IsRunOf f.guest f.recorded run → IsFollowing f prefix → (t : ℕ)
+following_log_is_prefix_of_run_log : (f : FittedTrace) (run prefix : List Step) → IsRunOf f.guest f.recorded run → IsFollowing f prefix → (t : ℕ)
     → (left : List Label) × (log (machine_of f) (start_of f) prefix t ++ left ≡ log (machine_of f) (start_of f) run t)
-following_log_begins_run_log f run prefix is follows t =
+following_log_is_prefix_of_run_log f run prefix is follows t =
     let m = machine_of f in let s = start_of f in let tr = trace_of f.recorded in
     elim (cases_lt t (length f.guest.entries)) [
       | inl l ↦ (
@@ -66,21 +66,21 @@ following_counts_within_run : (f : FittedTrace) (run prefix : List Step) → IsR
 following_counts_within_run f run prefix is follows t =
     let m = machine_of f in let s = start_of f in let tr = trace_of f.recorded in
     elim (cases_lt t (length f.guest.entries)) [
-      | inl l ↦ let few = fits_bounds_length (closing m tr t) (tr.steps t) (tr.logs t) (trail m s prefix t) (follows.1 t) in
+      | inl l ↦ let few = length_is_at_most_bound_if_fits (closing m tr t) (tr.steps t) (tr.logs t) (trail m s prefix t) (follows.1 t) in
           let all = is.1.steps t l in omega (arith, few, all)
       | inr past ↦ let none = ap length (idle_thread_has_empty_trail m s (length f.guest.entries)
           (guest_start_is_idle f.guest f.recorded.budget f.recorded.profile) prefix follows.0 t past) in omega (arith, none)
     ]
 
 -- the guest after such a run is the guest at a cut of each complete run with the trace
-pub state_along_trace_is_state_at : (f : FittedTrace) (s : Flat) → IsAlong f.guest f.recorded s → IsStateAt f (positions s) s
-state_along_trace_is_state_at f s along = record {
+pub state_along_trace_is_state_at_own_positions : (f : FittedTrace) (s : Flat) → IsAlong f.guest f.recorded s → IsStateAt f (positions s) s
+state_along_trace_is_state_at_own_positions f s along = record {
   code = along.code;
   threads = along.threads;
   objects = along.objects;
   steps = λ t. refl;
-  each = λ run is. state_is_at_cut_if_tables_are_prefix_end f s run along.run is along.follows.0 (λ t. (following_log_begins_run_log f run along.run is along.follows t).0)
-      (λ t. (following_log_begins_run_log f run along.run is along.follows t).1) along.ends
+  each = λ run is. state_is_at_cut_if_tables_are_prefix_end f s run along.run is along.follows.0 (λ t. (following_log_is_prefix_of_run_log f run along.run is along.follows t).0)
+      (λ t. (following_log_is_prefix_of_run_log f run along.run is along.follows t).1) along.ends
       (λ t. let few = following_counts_within_run f run along.run is along.follows t in
       let counted = ap (λ z. (z.now t).steps) along.ends ∙ thread_steps_are_count f along.run along.follows.0 t in omega (arith, few, counted));
 }
@@ -155,10 +155,10 @@ append_to_logged_empty_is_logged (Refused o) es = refl
 append_to_logged_empty_is_logged (Out o a v) es = refl
 
 -- what a step of thread t logs
-pub step_logs_first_of_left : {T : Type 0} (m : Machine T) (s : State T) (t v : ℕ) (left : ℕ → List Label)
+pub step_log_is_prefix_of_left : {T : Type 0} (m : Machine T) (s : State T) (t v : ℕ) (left : ℕ → List Label)
     → logged (label m s (t, v)) (unlogged (label m s (t, v)) (left t)) ≡ left t → (u : ℕ) → (rest : List Label)
     × (log m s ((t, v) ∷ []) u ++ rest ≡ left u)
-step_logs_first_of_left m s t v left own u = elim (cases_eq u t) [
+step_log_is_prefix_of_left m s t v left own u = elim (cases_eq u t) [
   | inl same ↦ subst (λ w. (rest : List Label) × (log m s ((t, v) ∷ []) w ++ rest ≡ left w)) (sym same) (
     unlogged (label m s (t, v)) (left t),
     ap (λ z. events z ++ unlogged (label m s (t, v)) (left t)) (trail_of_cons_own_thread m s (t, v) [])
@@ -192,11 +192,11 @@ pub record Stepped (f : FittedTrace) (target : List ℕ) (s new : Flat) (t : ℕ
   pub under : IsUnder f target new
   pub gone : HasGone s new t 1
 
-under_target_after_step : (f : FittedTrace) (target : List ℕ) (s new : Flat) (t v : ℕ) → IsTarget f target → IsUnder f target s → t < length target
+stepped_toward_target_by_logged_step : (f : FittedTrace) (target : List ℕ) (s new : Flat) (t v : ℕ) → IsTarget f target → IsUnder f target s → t < length target
     → positions s t < cut_of target t → LogsNext f.recorded s t v
     → tables new ≡ after (machine s) (tables s) (t, v) → new.code ≡ s.code → length new.threads ≡ length s.threads
     → length new.objects ≡ length s.objects → Stepped f target s new t
-under_target_after_step f target s new t v aim under there_is before next taken code threads objects =
+stepped_toward_target_by_logged_step f target s new t v aim under there_is before next taken code threads objects =
     let own : positions new t ≡ positions s t + 1 = position_after_own_step s new t v next.0 taken in
     let others : (u : ℕ) → u ≢ t → positions new u ≡ positions s u = position_after_step_of_other s new t v next.0 taken in
     record {
@@ -205,7 +205,7 @@ under_target_after_step f target s new t v aim under there_is before next taken 
           (λ run is. record {
             runs = (next.0, tt);
             ends = taken;
-            logs = step_logs_first_of_left (machine s) (tables s) t v (log_after_cut f run (positions s))
+            logs = step_log_is_prefix_of_left (machine s) (tables s) t v (log_after_cut f run (positions s))
                 (subst (λ es. logged (label (machine s) (tables s) (t, v)) (unlogged (label (machine s) (tables s) (t, v)) es) ≡ es)
                 (log_ahead_is_log_after_cut f (positions s) s run is (under.state.each run is) t (subst (λ n. t < n) aim.size there_is)) next.1);
           });
@@ -213,13 +213,13 @@ under_target_after_step f target s new t v aim under there_is before next taken 
     }
 
 -- the same by what the step answers
-pub under_target_after_step_if_result_ok : {X E : Type 0} (result : Result X E) (f : FittedTrace) (target : List ℕ) (s new : Flat) (t v : ℕ) → IsTarget f target
+pub stepped_toward_target_if_result_ok : {X E : Type 0} (result : Result X E) (f : FittedTrace) (target : List ℕ) (s new : Flat) (t v : ℕ) → IsTarget f target
     → IsUnder f target s → t < length target → positions s t < cut_of target t → LogsNext f.recorded s t v
     → OnOk result (tables new ≡ after (machine s) (tables s) (t, v)) → new.code ≡ s.code → length new.threads ≡ length s.threads
     → length new.objects ≡ length s.objects → OnErr result (Can (machine s) (tables s) (t, v) → ⊥) → Stepped f target s new t
-under_target_after_step_if_result_ok (Ok x) f target s new t v aim under there_is before next taken code threads objects never =
-    under_target_after_step f target s new t v aim under there_is before next taken code threads objects
-under_target_after_step_if_result_ok (Err x) f target s new t v aim under there_is before next taken code threads objects never = absurd (never next.0)
+stepped_toward_target_if_result_ok (Ok x) f target s new t v aim under there_is before next taken code threads objects never =
+    stepped_toward_target_by_logged_step f target s new t v aim under there_is before next taken code threads objects
+stepped_toward_target_if_result_ok (Err x) f target s new t v aim under there_is before next taken code threads objects never = absurd (never next.0)
 
 -- ---- private steps
 

@@ -369,20 +369,20 @@ granted_if_look_was_open k x e me w n seated shown on =
     let view : w.0 ≡ view_at k x x.steps true (met_of w.0) = ap (λ (z : M). z.0) (shown.opened on) in
     record { seated = subst (λ v. IsSeated k v x) (sym view) (seated_at_own_position k me.0 x true (met_of w.0) seated); view = view }
 
-pub true_test_proves : (b : Bool) (P : Type 0) → IsTrue b ↔ P → b ≡ true → P
-true_test_proves b P h e = h.0 e
+pub proposition_if_its_test_is_true : (b : Bool) (P : Type 0) → IsTrue b ↔ P → b ≡ true → P
+proposition_if_its_test_is_true b P h e = h.0 e
 
 -- after the second
-pub view_after_entry : (k : Plan) (x : thread.ThreadState) (e : Event) (me w u : M) (n m : ℕ) → LookReport k x e me w n → Opens n e → ObjectStepReport k x w u m
+pub view_after_entry_is_one_step_further : (k : Plan) (x : thread.ThreadState) (e : Event) (me w u : M) (n m : ℕ) → LookReport k x e me w n → Opens n e → ObjectStepReport k x w u m
     → ◌≡◌ {A = M} u (view_at k x (suc x.steps) false (met_of w.0), me.1)
-view_after_entry k x e me w u n m shown on emitted = emitted.view ∙ (λ i. (view_at k x (suc x.steps) false (met_of w.0), (shown.opened on i).1))
+view_after_entry_is_one_step_further k x e me w u n m shown on emitted = emitted.view ∙ (λ i. (view_at k x (suc x.steps) false (met_of w.0), (shown.opened on i).1))
 
 -- ---- a writer's leave in two steps
 
 pub seated_after_version_load : (k : Plan) (x : thread.ThreadState) (o : ℕ) (me w : M) (n : ℕ) → IsSeated k me.0 x → VersionReport k x o me w n → IsSeated k w.0 x
 seated_after_version_load k x o me w n seated seen = subst (λ (z : M). IsSeated k z.0 x) (sym seen.view) seated
 
-pub view_after_write_leave : (k : Plan) (x : thread.ThreadState) (o : ℕ) (me w u : M) (n m : ℕ) → VersionReport k x o me w n → ObjectStepReport k x w u m
+pub view_after_write_leave_is_one_step_further : (k : Plan) (x : thread.ThreadState) (o : ℕ) (me w u : M) (n m : ℕ) → VersionReport k x o me w n → ObjectStepReport k x w u m
     → ◌≡◌ {A = M} u (view_at k x (suc x.steps) false (met_of me.0), me.1)
-view_after_write_leave k x o me w u n m seen emitted =
+view_after_write_leave_is_one_step_further k x o me w u n m seen emitted =
     emitted.view ∙ (λ i. (view_at k x (suc x.steps) false (met_of (seen.view i).0), (seen.view i).1))

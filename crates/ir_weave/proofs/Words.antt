@@ -84,5 +84,5 @@ table_after_content_word_set cells words o i v c t l few value sizes same is = r
     ]
 
 -- a word that is written as it was
-pub table_after_word_rewritten : (cells : List Cell) (words : List ℕ) (i : ℕ) → IsTable cells words → IsTable cells (set words i (get_or words i 0))
-table_after_word_rewritten cells words i t = subst (IsTable cells) (sym (set-get_or words i 0)) t
+pub table_after_word_set_to_itself : (cells : List Cell) (words : List ℕ) (i : ℕ) → IsTable cells words → IsTable cells (set words i (get_or words i 0))
+table_after_word_set_to_itself cells words i t = subst (IsTable cells) (sym (set-get_or words i 0)) t

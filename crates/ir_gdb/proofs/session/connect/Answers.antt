@@ -1,7 +1,7 @@
 use Rattle.std.proofs.Common.{refl}
 use Rattle.ir_debug.specs.Session.{most_input}
 use Rattle.ir_debug.specs.Openings.{opening_of}
-use Rattle.ir_gdb.proofs.Sessions.{reads_of_implied, ready_debugger_opens, connected_by_read_input_if_ready, connected_by_known_input_if_ready, if_refused_holds_if_never, if_not_refused_from_fact, connected_by_read_input_if_refused, connected_by_known_input_if_refused, announced_if_refused, if_not_refused_holds_if_refused, text_is_appended_unless_broken}
+use Rattle.ir_gdb.proofs.Sessions.{reads_up_to_of_implied, ready_debugger_opens, connected_by_read_input_if_ready, connected_by_known_input_if_ready, if_refused_holds_vacuously_if_never_refused, if_not_refused_if_holds, connected_by_read_input_if_refused, connected_by_known_input_if_refused, announced_if_refused, if_not_refused_holds_vacuously_if_refused, text_is_appended_unless_broken}
 use Rattle.ir_gdb.proofs.session.connect.Goals as goal
 
 pub returns-in-Ready-clause-ended : goal.returns-in-Ready-clause-ended
@@ -17,20 +17,20 @@ returns-in-Ready-clause-known g c =
     (ready_debugger_opens c.args.image.now c.args.trace.now c.in-Ok.opened c.in-Ready.debugger c.in-Ready.is c.in-Ok.ensures) c.serve.ensures.known
 
 pub returns-in-Ready-clause-unread : goal.returns-in-Ready-clause-unread
-returns-in-Ready-clause-unread g c = if_refused_holds_if_never c.serve.result _ c.serve.ensures.opened
+returns-in-Ready-clause-unread g c = if_refused_holds_vacuously_if_never_refused c.serve.result _ c.serve.ensures.opened
 
 pub returns-in-Ready-clause-announced : goal.returns-in-Ready-clause-announced
-returns-in-Ready-clause-announced g c = if_refused_holds_if_never c.serve.result _ c.serve.ensures.opened
+returns-in-Ready-clause-announced g c = if_refused_holds_vacuously_if_never_refused c.serve.result _ c.serve.ensures.opened
 
 pub returns-in-Ready-clause-quiet : goal.returns-in-Ready-clause-quiet
-returns-in-Ready-clause-quiet g c = if_not_refused_from_fact c.serve.result _ refl
+returns-in-Ready-clause-quiet g c = if_not_refused_if_holds c.serve.result _ refl
 
 pub returns-in-Ready-clause-read : goal.returns-in-Ready-clause-read
 returns-in-Ready-clause-read g c = λ e.
     let r = c.serve.ensures.read e in (
       r.0,
       r.1,
-      reads_of_implied most_input _ _ _ _ (λ consumed p. record {
+      reads_up_to_of_implied most_input _ _ _ _ (λ consumed p. record {
         desk = c.in-Ready.debugger.desk;
         opens = ready_debugger_opens c.args.image.now c.args.trace.now c.in-Ok.opened c.in-Ready.debugger c.in-Ready.is c.in-Ok.ensures;
         wrote = p;
@@ -42,7 +42,7 @@ returns-in-Ready-clause-write g c = λ e.
     let r = c.serve.ensures.write e in (
       r.0,
       r.1,
-      reads_of_implied most_input _ _ _ _ (λ consumed p. record {
+      reads_up_to_of_implied most_input _ _ _ _ (λ consumed p. record {
         desk = c.in-Ready.debugger.desk;
         opens = ready_debugger_opens c.args.image.now c.args.trace.now c.in-Ok.opened c.in-Ready.debugger c.in-Ready.is c.in-Ok.ensures;
         wrote = p;
@@ -66,4 +66,4 @@ returns-in_default-opened-clause-announced g c =
     _ c.announce.ensures.ok c.announce.ensures.prefix c.announce.ensures.err)
 
 pub returns-in_default-opened-clause-quiet : goal.returns-in_default-opened-clause-quiet
-returns-in_default-opened-clause-quiet g c = if_not_refused_holds_if_refused (opening_of c.in-Ok.opened) c.refusal_of.result _ c.refusal_of.ensures
+returns-in_default-opened-clause-quiet g c = if_not_refused_holds_vacuously_if_refused (opening_of c.in-Ok.opened) c.refusal_of.result _ c.refusal_of.ensures

@@ -11,11 +11,11 @@ use Rattle.ir_flat.specs.Flat.{Flat, IsFlat, thread_of, cell_of}
 use Rattle.ir_flat.specs.Room.{empty}
 use Rattle.ir_flat.proofs.CallerLemmas.{tried_object_below_object_count}
 use Rattle.ir_fit.proofs.CallerLemmas.{found_cell_open_if_test_true, found_cell_shut_if_test_false, try_not_refused_got_in}
-use Rattle.ir_weave.proofs.CallerLemmas.{refused_try_logs_next, open_try_logs_next, no_next_for_shut_try, no_next_for_unsuited_try}
+use Rattle.ir_weave.proofs.CallerLemmas.{refused_try_logs_next_with_result_zero, open_try_logs_next_with_result_one, no_result_logs_next_for_shut_try, no_result_logs_next_for_unsuited_try}
 use Rattle.ir_replay.proofs.admission.try_result.Goals as goal
 
 pub returns-in-Err : goal.returns-in-Err
-returns-in-Err c = no_next_for_unsuited_try c.args.fitted.now.recorded c.args.flat.now c.args.t c.args.object c.requires.asked c.requires.steps
+returns-in-Err c = no_result_logs_next_for_unsuited_try c.args.fitted.now.recorded c.args.flat.now c.args.t c.args.object c.requires.asked c.requires.steps
     (subst (λ (z : Recorded × ℕ). (e : Event) → slice_get (recorded_thread z.0 c.args.t).events z.1 ≡ Some e → Suits (Try c.args.object) e → ⊥)
     (λ i. (c.trace.ensures.value i, c.events_of-before.ensures.value i)) c.in-Err.ensures.disagrees)
 
@@ -32,14 +32,14 @@ bounds-objects-object c = there c.args.flat.now c.args.t c.args.object c.objects
     c.requires.thread c.requires.asked c.objects.ensures.value
 
 pub returns-in-Try : goal.returns-in-Try
-returns-in-Try c = refused_try_logs_next c.args.fitted.now.recorded c.args.flat.now c.args.t c.args.object c.in-Try.object c.requires.asked
+returns-in-Try c = refused_try_logs_next_with_result_zero c.args.fitted.now.recorded c.args.flat.now c.args.t c.args.object c.in-Try.object c.requires.asked
     c.requires.steps
     (subst (λ (z : Recorded × ℕ × Event). slice_get (recorded_thread z.0 c.args.t).events z.1 ≡ Some z.2)
     (λ i. (c.trace.ensures.value i, c.events_of-before.ensures.value i, c.in-Try.is i)) c.in-Ok.ensures.next)
     (subst (λ e. Suits (Try c.args.object) e) c.in-Try.is c.in-Ok.ensures.suits)
 
 pub returns-then-is_open : goal.returns-then-is_open
-returns-then-is_open c = open_try_logs_next c.args.fitted.now.recorded c.args.flat.now c.args.t c.args.object c.in-Ok.event
+returns-then-is_open c = open_try_logs_next_with_result_one c.args.fitted.now.recorded c.args.flat.now c.args.t c.args.object c.in-Ok.event
     c.events_of-before.ensures.flat c.requires.thread c.requires.asked c.requires.steps
     (subst (λ (z : Recorded × ℕ). slice_get (recorded_thread z.0 c.args.t).events z.1 ≡ Some c.in-Ok.event)
     (λ i. (c.trace.ensures.value i, c.events_of-before.ensures.value i)) c.in-Ok.ensures.next) c.in-Ok.ensures.suits
@@ -49,7 +49,7 @@ returns-then-is_open c = open_try_logs_next c.args.fitted.now.recorded c.args.fl
     c.is_open.ensures c.if-is_open.true)
 
 pub returns-else-is_open : goal.returns-else-is_open
-returns-else-is_open c = no_next_for_shut_try c.args.fitted.now.recorded c.args.flat.now c.args.t c.args.object c.in-Ok.event
+returns-else-is_open c = no_result_logs_next_for_shut_try c.args.fitted.now.recorded c.args.flat.now c.args.t c.args.object c.in-Ok.event
     c.events_of-before.ensures.flat c.requires.thread c.requires.asked c.requires.steps
     (subst (λ (z : Recorded × ℕ). slice_get (recorded_thread z.0 c.args.t).events z.1 ≡ Some c.in-Ok.event)
     (λ i. (c.trace.ensures.value i, c.events_of-before.ensures.value i)) c.in-Ok.ensures.next) c.in-Ok.ensures.suits

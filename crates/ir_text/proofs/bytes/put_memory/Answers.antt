@@ -1,5 +1,5 @@
 use Rattle.std.proofs.Common.{rules, ◌≡◌, ◌<◌, length}
-use Rattle.ir_text.proofs.Lines.{memory_text_step, memory_text_at_end, room_for_memory_line_step}
+use Rattle.ir_text.proofs.Lines.{memory_text_step, put_memory_text_is_whole_at_end, room_for_memory_line_step}
 use Rattle.ir_text.proofs.bytes.put_memory.Goals as goal
 
 pub loop-rest-preserved : goal.loop-rest-preserved
@@ -15,4 +15,4 @@ loop-rest-preserved c =
 pub returns : goal.returns
 returns c =
     let none : length c.loop-rest.rest.now ≡ 0 = search rules in
-    memory_text_at_end _ _ _ c.loop-rest.at none c.loop-rest.invariant.text
+    put_memory_text_is_whole_at_end _ _ _ c.loop-rest.at none c.loop-rest.invariant.text

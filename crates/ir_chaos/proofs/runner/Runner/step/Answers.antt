@@ -1,5 +1,5 @@
 use Rattle.std.proofs.Common.{◌∙◌, refl, sym, subst}
-use Rattle.ir_chaos.proofs.Runs.{Acted, acted_without_call, acted_by_answered_call, took_if_acted_and_noted, others_rest_after_step_taken, step_taken_leaves_fewer, is_no_call_unless_environment}
+use Rattle.ir_chaos.proofs.Runs.{Acted, acted_without_call, acted_by_answered_call, took_if_acted_and_noted, others_rest_after_step_taken, step_taken_leaves_at_least_one_fewer, is_no_call_unless_environment}
 use Rattle.ir_chaos.specs.Moments.{IsNoCall, Took, moment_of}
 use Rattle.ir_chaos.proofs.runner.Runner.step.Given.{Over}
 use Rattle.ir_chaos.proofs.runner.Runner.step.Goals.{in-Env+in_ok-value-in-Env, in-Try, in_default}
@@ -41,6 +41,6 @@ returns-clause-others g c = λ tries. others_rest_after_step_taken tries (moment
     (record (moment_of g.W.World.answers c.match-asked.self) { turns = c.note.new.turns.items }) c.args.t (took g c)
 
 pub returns-clause-fewer : goal.returns-clause-fewer
-returns-clause-fewer g c = step_taken_leaves_fewer (moment_of g.W.World.answers c.args.self.now)
+returns-clause-fewer g c = step_taken_leaves_at_least_one_fewer (moment_of g.W.World.answers c.args.self.now)
     (record (moment_of g.W.World.answers c.match-asked.self) { turns = c.note.new.turns.items }) c.args.t c.requires.flat
     c.requires.thread (took g c)

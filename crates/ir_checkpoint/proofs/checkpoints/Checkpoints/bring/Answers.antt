@@ -1,7 +1,7 @@
 use Rattle.std.proofs.Common.{◌≡◌, ◌<◌, ℕ, length, slice_index_or, subst}
 use Rattle.ir_flat.specs.Flat.{idle}
 use Rattle.ir_cut.specs.Positions.{cut_of}
-use Rattle.ir_checkpoint.proofs.Brought.{standing_at_target_if_threads_there, standing_at_own_positions}
+use Rattle.ir_checkpoint.proofs.Brought.{standing_at_target_if_threads_there, standing_at_cut_stands_at_own_positions}
 use Rattle.ir_checkpoint.proofs.checkpoints.Checkpoints.bring.Goals as goal
 
 pub returns-then-is_there-clause-there : goal.returns-then-is_there-clause-there
@@ -11,4 +11,4 @@ returns-then-is_there-clause-there g c =
     (c.is_there.ensures.there c.if-is_there.true))
 
 pub returns-in-Ok-clause-stands : goal.returns-in-Ok-clause-stands
-returns-in-Ok-clause-stands g c = standing_at_own_positions c.args.fitted.now (cut_of c.args.target.now) c.in-Ok.there c.in-Ok.ensures.ok
+returns-in-Ok-clause-stands g c = standing_at_cut_stands_at_own_positions c.args.fitted.now (cut_of c.args.target.now) c.in-Ok.there c.in-Ok.ensures.ok

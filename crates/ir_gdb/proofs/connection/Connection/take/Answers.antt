@@ -2,7 +2,7 @@ use Rattle.std.proofs.Common.{◌∙◌, refl, sym, ap}
 use Rattle.ir_stream.specs.Endings.{flow_after}
 use Rattle.ir_packet.specs.Reading.{item_found}
 use Rattle.ir_gdb.specs.Connection.{before_reply}
-use Rattle.ir_stream.proofs.CallerLemmas.{writes_or_fails_if_all_written, writes_or_fails_weaker}
+use Rattle.ir_stream.proofs.CallerLemmas.{writes_or_fails_if_all_written, writes_or_fails_is_monotone}
 use Rattle.ir_gdb.proofs.Arms.{copy_dropped, copy_ends_no_connection, new_sent, new_part, flow_after_new_item}
 use Rattle.ir_gdb.proofs.connection.Connection.take.Goals as goal
 
@@ -15,7 +15,7 @@ returns-then-is_copy-clause-flow g c = ap flow_after (sym (copy_ends_no_connecti
     (item_found c.args.found c.args.self.now.reading.payload) (sym (c.is_copy.ensures c.args.self.now.reading.payload) ∙ c.if-is_copy.true)))
 
 pub returns-clause-writes : goal.returns-clause-writes
-returns-clause-writes g c = writes_or_fails_weaker c.take_new.result
+returns-clause-writes g c = writes_or_fails_is_monotone c.take_new.result
     (new_sent c.args.self.now.link (item_found c.args.found c.args.self.now.reading.payload)
     c.take_new.new.self.link (g.W.Sink.written c.args.writer.now) (g.W.Sink.written c.take_new.new.writer)
     (sym (c.is_copy.ensures c.args.self.now.reading.payload) ∙ c.if-is_copy.false))

@@ -6,7 +6,7 @@ use Rattle.ir_lemmas.proofs.CallerLemmas.{all_by_recursion_after_push, all_split
 use Rattle.ir_thread.specs.State.{most_output}
 use Rattle.ir_trace.specs.Bounds.{IsRecordedThread}
 use Rattle.ir_record.specs.Threads.{IsEmptyFor, IsOver, AreTraces}
-use Rattle.ir_record.proofs.Gathering.{split_moves_past_item, length_of_rest_is_one_less, map_with_item_added}
+use Rattle.ir_record.proofs.Gathering.{prefix_with_next_item_and_rest_is_whole, length_of_rest_is_one_less, map_with_item_added}
 use Rattle.ir_record.proofs.Manning.{worker_traces_with_one_added, traces_are_as_many_as_workers, middle_element_has_property_of_all, map_with_last_added, empty_if_length_zero, length_with_item_added}
 use Rattle.ir_record.proofs.by_threads.results.gathered.Goals as goal
 
@@ -37,7 +37,7 @@ loop-worker-preserved g c =
     let fewer = length_with_item_added c.pop.new.self.items at.rooms.items c.unwrap.result rooms in
     let count = at.invariant.rooms.count in
     record {
-      parts = split_moves_past_item at.yielded old rest c.args.workers.items x at.invariant.parts c.in-Some.ensures.steps.0;
+      parts = prefix_with_next_item_and_rest_is_whole at.yielded old rest c.args.workers.items x at.invariant.parts c.in-Some.ensures.steps.0;
       size = length_of_rest_is_one_less old rest x (into_iter_len at.worker-iterator) (into_iter_len c.next.new.self) at.invariant.size
           c.in-Some.ensures.steps.0 c.in-Some.ensures.steps.1;
       seats = c.push_reserved.ensures.items ∙ map_with_last_added (λ w. w.seat) at.yielded x at.seats.items x.seat at.invariant.seats refl;

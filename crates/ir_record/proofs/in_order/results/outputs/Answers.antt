@@ -1,7 +1,7 @@
 use Rattle.std.proofs.Common.{rules, ◌≡◌, ◌∷◌, ◌++◌, length, sym, ap, ◌∙◌, subst, arith, get_or}
 use Rattle.std.proofs.lemmas.List.{length-map}
 use Rattle.std.specs.Vec.Iter.{into_iter_items, into_iter_len}
-use Rattle.ir_record.proofs.Gathering.{split_place_below_length, split_moves_past_item, length_of_rest_is_one_less, map_with_item_added, mapped_prefix_with_item_added}
+use Rattle.ir_record.proofs.Gathering.{length_of_prefix_is_below_length, prefix_with_next_item_and_rest_is_whole, length_of_rest_is_one_less, map_with_item_added, mapped_prefix_with_item_added}
 use Rattle.ir_record.proofs.in_order.results.outputs.Goals as goal
 
 pub loop-world-preserved : goal.loop-world-preserved
@@ -15,9 +15,9 @@ loop-world-preserved g c =
     let size : length c.args.worlds.items ≡ length c.args.threads.now = search rules in
     let count : length at.each.items ≡ length at.yielded = sym (length-map at.each.items (λ o. o.world))
     ∙ ap (λ z. length z) at.invariant.worlds in
-    let below = split_place_below_length at.yielded rest c.args.worlds.items x parts in
+    let below = length_of_prefix_is_below_length at.yielded rest c.args.worlds.items x parts in
     record {
-      parts = split_moves_past_item at.yielded (into_iter_items at.world-iterator) rest c.args.worlds.items x at.invariant.parts
+      parts = prefix_with_next_item_and_rest_is_whole at.yielded (into_iter_items at.world-iterator) rest c.args.worlds.items x at.invariant.parts
           c.in-Some.ensures.steps.0;
       size = length_of_rest_is_one_less (into_iter_items at.world-iterator) rest x (into_iter_len at.world-iterator) (into_iter_len c.next.new.self)
           at.invariant.size c.in-Some.ensures.steps.0 c.in-Some.ensures.steps.1;

@@ -1,6 +1,6 @@
 use Rattle.std.proofs.Common.{◌≡◌, ◌-◌, ℕ, suc, length, [], ◌∷◌, ap, subst, sym, ◌∙◌, arith, length-append}
 use Rattle.ir_weave.specs.Woven.{M, AreSeats}
-use Rattle.ir_weave.proofs.Opening.{tracks_split_off_first, seats_with_last_added, view_after_dealing_first, dealt_view_is_first_thread, view_is_tracks_of_successor}
+use Rattle.ir_weave.proofs.Opening.{tracks_split_off_first, seats_with_last_added, view_after_dealing_first_has_later_tracks, dealt_view_is_first_thread, view_is_tracks_of_successor}
 use Rattle.ir_weave.proofs.weave.Weave.deal.Goals as goal
 
 pub split_seat-requires : goal.split_seat-requires
@@ -27,7 +27,7 @@ loop-thread-preserved c = let i = c.loop-thread.invariant in let l : ℕ = lengt
       me = (
         k,
         omega (arith, long, n, t, q, p),
-        view_after_dealing_first c.args.self.now.table.shared.key l k (length c.push.new.self.items)
+        view_after_dealing_first_has_later_tracks c.args.self.now.table.shared.key l k (length c.push.new.self.items)
             c.loop-thread.seat.me c.split_seat.new.seat.me old e.2 long,
       );
       seats = subst (AreSeats c.args.self.now.table.shared.table_id c.args.self.now.table.shared.key 0) (sym items)

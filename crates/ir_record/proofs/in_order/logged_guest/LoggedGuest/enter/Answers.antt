@@ -5,7 +5,7 @@ use Rattle.ir_runs.specs.Machine as machine
 use Rattle.ir_flat.specs.Flat.{thread_of, tables}
 use Rattle.ir_flat.proofs.CallerLemmas.{events_added_by, entered_object_below_object_count}
 use Rattle.ir_log.specs.Logged.{Logged}
-use Rattle.ir_record.proofs.Logs.{log_has_room_for_event, found_log_is_log_at}
+use Rattle.ir_record.proofs.Logs.{log_has_room_for_event, looked_up_log_is_log_at}
 use Rattle.ir_record.proofs.Entering.{OneEventLogged, ok_fact_if_is_err_is_false, error_fact_if_is_err_is_true, no_step_if_entry_cannot, turn_taken_by_logged_event, has_logs_after_logged_event, label_is_emitted_by_ask, entry_logs_itself, entry_logs_no_answer, event_count_is_below_limit_at_entry, turn_passed_by_waiting, has_logs_after_waiting}
 use Rattle.ir_record.proofs.Steps.{enters_if_free_unless_ask_is_try}
 use Rattle.ir_record.proofs.in_order.logged_guest.LoggedGuest.enter.Goals as goal
@@ -30,7 +30,7 @@ returns-then-is_err-clause-waits c = λ none.
 
 pub push-requires : goal.push-requires
 push-requires c = log_has_room_for_event c.args.self.now.flat c.args.self.now.logs.items c.args.t c.index_mut.result.now c.requires.has_logs c.requires.thread
-    (found_log_is_log_at c.args.self.now.flat c.args.self.now.logs.items c.args.t c.index_mut.result.now c.requires.has_logs c.requires.thread
+    (looked_up_log_is_log_at c.args.self.now.flat c.args.self.now.logs.items c.args.t c.index_mut.result.now c.requires.has_logs c.requires.thread
     c.index_mut.ensures.value)
     (event_count_is_below_limit_at_entry c.args.self.now.flat c.args.t c.args.object c.args.access c.requires.asked)
 
@@ -56,7 +56,7 @@ entering c = record {
   objects = c.take.ensures.objects;
   new = c.push.new.self;
   pushed = c.push.ensures ∙ ap {A = Logged} {B = Logged} (λ l. record l { events = l.events ++ c.entry-event.result ∷ [] })
-      (found_log_is_log_at c.args.self.now.flat c.args.self.now.logs.items c.args.t c.index_mut.result.now c.requires.has_logs c.requires.thread
+      (looked_up_log_is_log_at c.args.self.now.flat c.args.self.now.logs.items c.args.t c.index_mut.result.now c.requires.has_logs c.requires.thread
       c.index_mut.ensures.value);
   logs_are = refl;
 }

@@ -4,7 +4,7 @@ use Rattle.ir_record.specs.Recorders.{progress_of}
 use Rattle.ir_record.specs.Recording.{turns_of_items}
 use Rattle.ir_record.proofs.Steps.{took_turns_of_empty}
 use Rattle.ir_record.proofs.Following.{followed_turns_with_item_added, turns_of_items_splits_at_item, all_turns_followed_at_end}
-use Rattle.ir_record.proofs.Stopped.{if_err_holds_of_error, stopped_in_longer_turns, stopped_turns_after_turns}
+use Rattle.ir_record.proofs.Stopped.{if_err_holds_if_holds_of_its_error, stopped_in_longer_turns, stopped_turns_after_turns}
 use Rattle.ir_record.proofs.Ready.{stays_ready_with_handed_on_error}
 use Rattle.ir_record.proofs.in_order.recorder.Recorder.follow.Goals as goal
 
@@ -33,7 +33,7 @@ returns-clause-took g c = all_turns_followed_at_end c.args.order.now c.order.ite
     (progress_of g.W.World.answers c.order.self) c.order-test.false c.order.invariant.took
 
 pub returns-in_err-follow_item-clause-stopped : goal.returns-in_err-follow_item-clause-stopped
-returns-in_err-follow_item-clause-stopped g c = if_err_holds_of_error _ c.from_residual.result c.in_err-follow_item.field-0.0 c.from_residual.ensures.1 (
+returns-in_err-follow_item-clause-stopped g c = if_err_holds_if_holds_of_its_error _ c.from_residual.result c.in_err-follow_item.field-0.0 c.from_residual.ensures.1 (
     let entry : Progress = progress_of g.W.World.answers c.args.self.now in
     let before : Progress = progress_of g.W.World.answers c.order.self in
     let first = turns_of_items (take c.order.item-index c.args.order.now) in

@@ -7,7 +7,7 @@ use Rattle.ir_record.specs.Progress.{Progress}
 use Rattle.ir_record.specs.Recorders.{progress_of}
 use Rattle.ir_record.proofs.Going.{lead_is_looked_up_element, no_turns_take_no_step, reached, ahead_of_reached_state}
 use Rattle.ir_record.proofs.RoundResults.{round_after_no_turns, round_after_turn, round_with_noted_turn_added}
-use Rattle.ir_record.proofs.Stopped.{if_err_holds_of_error, range_splits_at_number, stopped_in_longer_order, stopped_after_turns_ahead}
+use Rattle.ir_record.proofs.Stopped.{if_err_holds_if_holds_of_its_error, range_splits_at_number, stopped_in_longer_order, stopped_after_turns_ahead}
 use Rattle.ir_record.proofs.Ready.{stays_ready_with_handed_on_error}
 use Rattle.ir_record.proofs.in_order.recorder.Recorder.round.Goals as goal
 
@@ -78,7 +78,7 @@ returns-clause-free g c =
     c.loop-t.invariant.so_far.each
 
 pub returns-in_err-outcome-clause-stopped : goal.returns-in_err-outcome-clause-stopped
-returns-in_err-outcome-clause-stopped g c = if_err_holds_of_error _ c.from_residual.result c.in_err-outcome.field-0.0 c.from_residual.ensures.1 (
+returns-in_err-outcome-clause-stopped g c = if_err_holds_if_holds_of_its_error _ c.from_residual.result c.in_err-outcome.field-0.0 c.from_residual.ensures.1 (
     λ s h.
     let a : Progress = progress_of g.W.World.answers c.args.self.now in
     let b : Progress = progress_of g.W.World.answers c.loop-t.self in

@@ -13,7 +13,7 @@ use Rattle.ir_record.proofs.Skipping.{RoundThenSkips, round_then_skipped_rounds}
 use Rattle.ir_record.proofs.Single.{rounds_taken_if_turns_of_only_thread_taken, rounds_stopped_if_turns_of_only_thread_stopped}
 use Rattle.ir_record.proofs.Ready.{stays_ready_with_handed_on_error}
 use Rattle.ir_record.proofs.in_order.recorder.Recorder.rounds.Given as given
-use Rattle.ir_record.proofs.Stopped.{if_err_holds_of_error, stopped_after_turns_ahead}
+use Rattle.ir_record.proofs.Stopped.{if_err_holds_if_holds_of_its_error, stopped_after_turns_ahead}
 use Rattle.ir_record.proofs.in_order.recorder.Recorder.rounds.Goals as goal
 
 pub rounds-init : goal.rounds-init
@@ -56,7 +56,7 @@ returns-then-not-round-clause-over g c =
     (not-true c.in_ok-round.round.moved c.if-not-round.true)
 
 pub returns-in_err-round-clause-stopped : goal.returns-in_err-round-clause-stopped
-returns-in_err-round-clause-stopped g c = if_err_holds_of_error _ c.from_residual.result c.in_err-round.field-0.0 c.from_residual.ensures.1 (
+returns-in_err-round-clause-stopped g c = if_err_holds_if_holds_of_its_error _ c.from_residual.result c.in_err-round.field-0.0 c.from_residual.ensures.1 (
     let n : ℕ = length c.args.self.now.guest.flat.threads in
     let a : Progress = progress_of g.W.World.answers c.args.self.now in
     let b : Progress = progress_of g.W.World.answers c.rounds.self in

@@ -3,10 +3,10 @@ use Rattle.ir_flat.specs.Flat.{machine, tables}
 use Rattle.ir_record.specs.Ahead.{alone, lead, AreAsks, WentIf}
 use Rattle.ir_record.specs.Progress.{Progress, progress, TookIf}
 use Rattle.ir_record.specs.Recorders.{progress_of}
-use Rattle.ir_record.proofs.Going.{lead_is_looked_up_element, no_step_after_passed_turn, turn_of_thread_ahead_is_spent, went_without_step_in_passed_turn, went_by_turn_and_private_steps}
+use Rattle.ir_record.proofs.Going.{lead_is_looked_up_element, no_step_after_passed_turn, turn_of_thread_ahead_lowers_lead, went_without_step_in_passed_turn, went_by_turn_and_private_steps}
 use Rattle.ir_record.proofs.Kept.{kept_ask_is_looked_up_element, asks_kept_after_turn}
 use Rattle.ir_record.proofs.Joining.{ready_after_took_order}
-use Rattle.ir_record.proofs.Stopped.{if_err_holds_of_error, stopped_at_own_turn}
+use Rattle.ir_record.proofs.Stopped.{if_err_holds_if_holds_of_its_error, stopped_at_own_turn}
 use Rattle.ir_record.proofs.Ready.{stays_ready_with_handed_on_error}
 use Rattle.ir_record.proofs.in_order.recorder.Recorder.turn_ahead.Goals as goal
 
@@ -16,7 +16,7 @@ returns-then-lead-gt0-clause-went g c = λ s h.
     let l : c.args.t < length c.args.ahead.now.items = omega (arith, c.requires.places.leads, c.requires.thread) in
     let here : lead c.args.ahead.now.items c.args.t ≡ c.index-lead.result.now =
     lead_is_looked_up_element c.args.ahead.now.items c.args.t c.index-lead.result.now l c.index-lead.ensures in
-    turn_of_thread_ahead_is_spent s a c.args.ahead.now.items c.args.t (c.index-lead.result.now - 1) l
+    turn_of_thread_ahead_lowers_lead s a c.args.ahead.now.items c.args.t (c.index-lead.result.now - 1) l
     (here ∙ (let e : c.index-lead.result.now ≡ suc (c.index-lead.result.now - 1) = omega (arith, c.if-lead-gt0.true) in e)) h
 
 pub returns-then-not-branch-clause-went : goal.returns-then-not-branch-clause-went
@@ -49,7 +49,7 @@ turn_asked-requires-clause-asked g c =
     sym (kept_ask_is_looked_up_element c.args.asks.now.items c.args.t c.index.result.now l c.index.ensures) ∙ c.requires.places.asks.asked c.args.t c.requires.thread
 
 pub returns-in_err-turn_asked-clause-stopped : goal.returns-in_err-turn_asked-clause-stopped
-returns-in_err-turn_asked-clause-stopped g c = if_err_holds_of_error _ c.from_residual.result c.in_err-turn_asked.field-0.0 c.from_residual.ensures.1 (
+returns-in_err-turn_asked-clause-stopped g c = if_err_holds_if_holds_of_its_error _ c.from_residual.result c.in_err-turn_asked.field-0.0 c.from_residual.ensures.1 (
     λ s h.
     let a : Progress = progress_of g.W.World.answers c.args.self.now in
     let l : c.args.t < length c.args.ahead.now.items = omega (arith, c.requires.places.leads, c.requires.thread) in

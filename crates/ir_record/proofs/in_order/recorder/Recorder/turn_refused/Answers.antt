@@ -4,7 +4,7 @@ use Rattle.ir_record.specs.Recorders.{progress_of}
 use Rattle.ir_record.proofs.Following.{missing_thread_has_no_step, no_step_after_passed_turn}
 use Rattle.ir_record.proofs.Joining.{ready_after_took_turns}
 use Rattle.ir_record.proofs.Steps.{took_turn_of_thread_without_step}
-use Rattle.ir_record.proofs.Stopped.{if_err_holds_of_error, stopped_turns_at_own_turn}
+use Rattle.ir_record.proofs.Stopped.{if_err_holds_if_holds_of_its_error, stopped_turns_at_own_turn}
 use Rattle.ir_record.proofs.Ready.{stays_ready_with_handed_on_error}
 use Rattle.ir_record.proofs.in_order.recorder.Recorder.turn_refused.Goals as goal
 
@@ -15,7 +15,7 @@ returns-then-t-threads-clause-took g c = took_turn_of_thread_without_step c.args
     omega (arith, e, c.if-t-threads.true)))
 
 pub returns-in_err-moved-clause-stopped : goal.returns-in_err-moved-clause-stopped
-returns-in_err-moved-clause-stopped g c = if_err_holds_of_error _ c.from_residual.result c.in_err-moved.field-0.0 c.from_residual.ensures.1
+returns-in_err-moved-clause-stopped g c = if_err_holds_if_holds_of_its_error _ c.from_residual.result c.in_err-moved.field-0.0 c.from_residual.ensures.1
     (stopped_turns_at_own_turn c.args.t true (progress_of g.W.World.answers c.args.self.now) _ _ (map g.W.World.broken c.args.self.now.worlds.items)
     c.requires.ready c.in_err-moved.ensures.stopped)
 
