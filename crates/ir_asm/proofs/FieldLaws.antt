@@ -77,11 +77,11 @@ upper_of_own_value i = sym (upper_of_equal_value i (pos (i.value / 2 ^ 12)) (ome
 pub amount_of_own_bits : (a : ShiftAmount) → amount_of (pos a.bits) ≡ a
 amount_of_own_bits a = sym (amount_of_equal_bits a (pos a.bits) (omega (arith, a.in_range)))
 
-low_bits_12_are_reduced : (z : ℤ) → low_bits 12 z ≡ low_bits 12 z % 2 ^ 12
-low_bits_12_are_reduced (pos n) = omega arith
-low_bits_12_are_reduced (negsuc n) = omega arith
+low_bits_12_modulo_4096_is_itself : (z : ℤ) → low_bits 12 z ≡ low_bits 12 z % 2 ^ 12
+low_bits_12_modulo_4096_is_itself (pos n) = omega arith
+low_bits_12_modulo_4096_is_itself (negsuc n) = omega arith
 
 -- the lowest bits alone make the same immediate
 pub immediate_of_own_low_bits : (i : Immediate) → immediate_of (pos (low_bits 12 i.value)) ≡ i
 immediate_of_own_low_bits i = sym (immediate_of_equal_value i (pos (low_bits 12 i.value))
-    (sym (ap (sign_extended 12) (sym (low_bits_12_are_reduced i.value)) ∙ sign_extended_12_of_low_bits i.value i.low i.high)))
+    (sym (ap (sign_extended 12) (sym (low_bits_12_modulo_4096_is_itself i.value)) ∙ sign_extended_12_of_low_bits i.value i.low i.high)))

@@ -32,7 +32,7 @@ use Rattle.ir_asm.specs.Operands.{operands_of, int_le}
 use Rattle.ir_asm.specs.Items.{instruction, item_of}
 use Rattle.ir_asm.specs.Source.{operand_texts, texts_of, is_source_byte, may_stand}
 use Rattle.ir_asm.specs.Passes.{assembled, IsWordGuest}
-use Rattle.ir_asm.proofs.Pieces.{lacks, all_pass_in_append, clean, IsPiece, skip_blanks_keeps_clean_start, append_of_nonempty_is_nonempty, until_blank_is_name, from_blank_is_operands, split_at_first_separator, split_without_separator, clean_text_lacks_unclean_byte, trim_of_clean_text, trim_end_of_clean_text, lacks_in_head_and_tail, before_without_separator}
+use Rattle.ir_asm.proofs.Pieces.{lacks, all_pass_in_append, clean, IsPiece, skip_blanks_keeps_clean_start, append_of_nonempty_is_nonempty, until_blank_is_name, from_blank_is_operands, split_at_first_separator, split_without_separator, clean_text_lacks_unclean_byte, trim_of_clean_text, trim_end_of_clean_text, head_and_tail_lack_byte_if_list_does, before_without_separator}
 use Rattle.ir_asm.proofs.Numbers.{register_of_printed_name, register_name_is_piece, number_of_signed_decimal, signed_decimal_is_piece}
 use Rattle.ir_asm.proofs.FieldLaws.{immediate_of_own_value}
 use Rattle.ir_asm.proofs.Statements.{Says, line_that_says_word_assembles}
@@ -45,11 +45,11 @@ trim_end_keeps_prefix (b ∷ x) y z e n = rw (trim_end_keeps_prefix x y z e n, a
 
 pub before_keeps_prefix : (c : ℕ) (x y : List ℕ) → lacks c x ≡ true → before c (x ++ y) ≡ x ++ before c y
 before_keeps_prefix c [] y h = refl
-before_keeps_prefix c (b ∷ x) y h = rw ((lacks_in_head_and_tail c b x h).0) (ap (λ (l : List ℕ). b ∷ l) (before_keeps_prefix c x y (lacks_in_head_and_tail c b x h).1))
+before_keeps_prefix c (b ∷ x) y h = rw ((head_and_tail_lack_byte_if_list_does c b x h).0) (ap (λ (l : List ℕ). b ∷ l) (before_keeps_prefix c x y (head_and_tail_lack_byte_if_list_does c b x h).1))
 
 pub before_lacks_byte_if_text_does : (c d : ℕ) (x : List ℕ) → lacks c x ≡ true → lacks c (before d x) ≡ true
 before_lacks_byte_if_text_does c d [] h = refl
-before_lacks_byte_if_text_does c d (b ∷ x) h = by_test c d b x (lacks_in_head_and_tail c b x h).0 (before_lacks_byte_if_text_does c d x (lacks_in_head_and_tail c b x h).1)
+before_lacks_byte_if_text_does c d (b ∷ x) h = by_test c d b x (head_and_tail_lack_byte_if_list_does c b x h).0 (before_lacks_byte_if_text_does c d x (head_and_tail_lack_byte_if_list_does c b x h).1)
   where
     by_test : (c d b : ℕ) (x : List ℕ) → (b == c) ≡ false → lacks c (before d x) ≡ true → lacks c (cond (b == d) [] (b ∷ before d x)) ≡ true
     by_test c d b x e h = go (b == d)
@@ -58,9 +58,9 @@ before_lacks_byte_if_text_does c d (b ∷ x) h = by_test c d b x (lacks_in_head_
         go true = refl
         go false = rw (e, h) refl
 
-pub all_pass_weaker_test : (p : ℕ → Bool) → ((b : ℕ) → clean b ≡ true → p b ≡ true) → (a : List ℕ) → list_all clean a ≡ true → list_all p a ≡ true
-all_pass_weaker_test p w [] h = refl
-all_pass_weaker_test p w (b ∷ a) h = rw (w b (and_parts (clean b) (list_all clean a) h).0) (all_pass_weaker_test p w a (and_parts (clean b) (list_all clean a) h).1)
+pub all_pass_if_all_clean_and_clean_bytes_pass : (p : ℕ → Bool) → ((b : ℕ) → clean b ≡ true → p b ≡ true) → (a : List ℕ) → list_all clean a ≡ true → list_all p a ≡ true
+all_pass_if_all_clean_and_clean_bytes_pass p w [] h = refl
+all_pass_if_all_clean_and_clean_bytes_pass p w (b ∷ a) h = rw (w b (and_parts (clean b) (list_all clean a) h).0) (all_pass_if_all_clean_and_clean_bytes_pass p w a (and_parts (clean b) (list_all clean a) h).1)
 
 -- the last operand as printed, perhaps with a comment, and as it is read
 pub record IsLastOperand (raw piece : List ℕ) : Type 0 where
@@ -78,7 +78,7 @@ piece_is_last_operand a p = record {
   trimmed = rw (before_without_separator 35 a (clean_text_lacks_unclean_byte 35 a refl p.all)) (trim_end_of_clean_text a p.all);
   piece_is = p;
   feed = clean_text_lacks_unclean_byte 10 a refl p.all;
-  source = all_pass_weaker_test is_source_byte clean_byte_is_source_byte a p.all;
+  source = all_pass_if_all_clean_and_clean_bytes_pass is_source_byte clean_byte_is_source_byte a p.all;
   colon = clean_text_lacks_unclean_byte 58 a refl p.all;
 }
 
@@ -139,8 +139,8 @@ three_operands_say_word name a b raw c word form xs n p q r e s o m = record {
   xs = xs;
   feed = all_pass_in_three_operands (λ b. not (b == 10)) refl refl name a b raw (clean_text_lacks_unclean_byte 10 name refl n.all) (clean_text_lacks_unclean_byte 10 a refl p.all)
       (clean_text_lacks_unclean_byte 10 b refl q.all) r.feed;
-  source = all_pass_in_three_operands is_source_byte refl refl name a b raw (all_pass_weaker_test is_source_byte clean_byte_is_source_byte name n.all)
-      (all_pass_weaker_test is_source_byte clean_byte_is_source_byte a p.all) (all_pass_weaker_test is_source_byte clean_byte_is_source_byte b q.all) r.source;
+  source = all_pass_in_three_operands is_source_byte refl refl name a b raw (all_pass_if_all_clean_and_clean_bytes_pass is_source_byte clean_byte_is_source_byte name n.all)
+      (all_pass_if_all_clean_and_clean_bytes_pass is_source_byte clean_byte_is_source_byte a p.all) (all_pass_if_all_clean_and_clean_bytes_pass is_source_byte clean_byte_is_source_byte b q.all) r.source;
   colon = before_lacks_byte_if_text_does 58 35 (three name a b raw)
       (all_pass_in_three_operands (λ b. not (b == 58)) refl refl name a b raw (clean_text_lacks_unclean_byte 58 name refl n.all) (clean_text_lacks_unclean_byte 58 a refl p.all)
       (clean_text_lacks_unclean_byte 58 b refl q.all) r.colon);

@@ -91,27 +91,27 @@ take_past_words_leaves_fewer_zeros (w ∷ ws) k n l =
     rw e (ap (λ (xs : List ℕ). w ∷ xs) (take_past_words_leaves_fewer_zeros ws k n l))
 
 -- fewer words of an object
-pub take_of_padded_words : (count most : ℕ) (words : List ℕ) → length words ≤ count → count ≤ most
+pub take_of_padded_words_is_padded_to_fewer : (count most : ℕ) (words : List ℕ) → length words ≤ count → count ≤ most
     → take count (padded_to most words) ≡ padded_to count words
-take_of_padded_words count most words l m =
+take_of_padded_words_is_padded_to_fewer count most words l m =
     let e : length words + (count - length words) ≡ count = omega (arith, l) in
     ap (λ (k : ℕ). take k (padded_to most words)) (sym e)
     ∙ take_past_words_leaves_fewer_zeros words (count - length words) (most - length words) (omega (arith, m))
 
 -- an object has its place
-object_has_room_by_limits : (form : ImageForm) (object objects : ℕ) → object < objects
+end_of_object_within_words_of_all_objects : (form : ImageForm) (object objects : ℕ) → object < objects
     → (limits_of form).words * object + (limits_of form).words ≤ (limits_of form).words * objects
-object_has_room_by_limits Small object objects l = omega (arith, l)
-object_has_room_by_limits Large object objects l = omega (arith, l)
+end_of_object_within_words_of_all_objects Small object objects l = omega (arith, l)
+end_of_object_within_words_of_all_objects Large object objects l = omega (arith, l)
 
 pub object_has_room : (g : Guest) (object objects : ℕ) → object < objects → length g.words ≡ object_words g * objects
     → object_words g * object + object_words g ≤ length g.words
-object_has_room g object objects l there = let r = object_has_room_by_limits g.form object objects l in omega (arith, r, there)
+object_has_room g object objects l there = let r = end_of_object_within_words_of_all_objects g.form object objects l in omega (arith, r, there)
 
 -- words take the place of as many
-length_after_words_replaced : (all words : List ℕ) (start count : ℕ) → length words ≤ count → start + count ≤ length all
+length_is_unchanged_after_words_replaced : (all words : List ℕ) (start count : ℕ) → length words ≤ count → start + count ≤ length all
     → length (take start all ++ (padded_to count words ++ drop (start + count) all)) ≡ length all
-length_after_words_replaced all words start count few there =
+length_is_unchanged_after_words_replaced all words start count few there =
     let drop_begins_with_get_or : List ℕ = take start all in
     let back : List ℕ = drop (start + count) all in
     omega (
@@ -126,9 +126,9 @@ length_after_words_replaced all words start count few there =
       there,
     )
 
-pub length_of_words_with_object : (g : Guest) (object : ℕ) (words : List ℕ) → length words ≤ object_words g
+pub with_object_keeps_number_of_words : (g : Guest) (object : ℕ) (words : List ℕ) → length words ≤ object_words g
     → object_words g * object + object_words g ≤ length g.words → length (with_object g object words).words ≡ length g.words
-length_of_words_with_object g object words few there = length_after_words_replaced g.words words (object_words g * object) (object_words g) few there
+with_object_keeps_number_of_words g object words few there = length_is_unchanged_after_words_replaced g.words words (object_words g * object) (object_words g) few there
 
 -- what an item adds to a guest
 pub record Adds (s : Seen) (item : Item) (g h : Guest) : Type 0 where
@@ -196,7 +196,7 @@ put_adds_item s a (First object words) g h few there e =
       code = omega arith;
       bytes = omega arith;
       entries = omega arith;
-      words = length_of_words_with_object g object words few (object_has_room g object s.objects below there);
+      words = with_object_keeps_number_of_words g object words few (object_has_room g object s.objects below there);
       fit = λ fits k m all. all;
     })
 put_adds_item s a Enlarged g h few there e = adds_if_guest_unchanged s Enlarged g h refl refl refl (ok_is_injective _ h e)

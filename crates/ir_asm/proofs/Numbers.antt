@@ -20,19 +20,19 @@ use Rattle.ir_asm.proofs.Pieces.{clean, IsPiece}
 use Rattle.ir_asm.proofs.FieldLaws.{register_of_own_number}
 
 -- a test that each number of a list passes, which counts on from a number
-range_test_holds_for_number : (p : ℕ → Bool) (low count : ℕ) → list_all p (range_with_len low count) ≡ true → (n : ℕ) → low ≤ n → n < low + count → p n ≡ true
-range_test_holds_for_number p low zero h n l k = absurd (omega (arith, l, k))
-range_test_holds_for_number p low (suc count) h n l k =
+number_in_range_passes_if_all_in_range_pass : (p : ℕ → Bool) (low count : ℕ) → list_all p (range_with_len low count) ≡ true → (n : ℕ) → low ≤ n → n < low + count → p n ≡ true
+number_in_range_passes_if_all_in_range_pass p low zero h n l k = absurd (omega (arith, l, k))
+number_in_range_passes_if_all_in_range_pass p low (suc count) h n l k =
     let both = and_parts (p low) (list_all p (range_with_len (low + 1) count)) h in
-    by_test (n == low) refl both.0 (λ m. range_test_holds_for_number p (low + 1) count both.1 n m (omega (arith, k)))
+    by_test (n == low) refl both.0 (λ m. number_in_range_passes_if_all_in_range_pass p (low + 1) count both.1 n m (omega (arith, k)))
   where
     by_test : (b : Bool) → (n == low) ≡ b → p low ≡ true → (low + 1 ≤ n → p n ≡ true) → p n ≡ true
     by_test true e first rest = subst (λ m. p m ≡ true) (sym (eqb-true n low e)) first
     by_test false e first rest = let other = eqb-false n low e in rest (omega (arith, l, other))
 
 -- a test that each number of a register passes
-range_test_holds_for_register : (p : ℕ → Bool) → list_all p (range_with_len 0 32) ≡ true → (r : Register) → p r.number ≡ true
-range_test_holds_for_register p h r = range_test_holds_for_number p 0 32 h r.number (omega arith) (omega (arith, r.in_range))
+register_number_passes_if_all_below_32_pass : (p : ℕ → Bool) → list_all p (range_with_len 0 32) ≡ true → (r : Register) → p r.number ≡ true
+register_number_passes_if_all_below_32_pass p h r = number_in_range_passes_if_all_in_range_pass p 0 32 h r.number (omega arith) (omega (arith, r.in_range))
 
 -- this very number is there
 abbrev holds_number : ℕ → Option ℕ → Bool
@@ -46,13 +46,13 @@ some_if_holds_number n None e = absurd (cc e)
 pub register_of_printed_name : (r : Register) → register (register_name r.number) ≡ Some r
 register_of_printed_name r =
     let found = some_if_holds_number r.number (named register_rows (register_name r.number))
-    (range_test_holds_for_register (λ n. holds_number n (named register_rows (register_name n))) refl r) in
+    (register_number_passes_if_all_below_32_pass (λ n. holds_number n (named register_rows (register_name n))) refl r) in
     ap (option_map register_of) found ∙ ap (λ (x : Register). Some x) (register_of_own_number r)
 
 pub register_name_is_piece : (r : Register) → IsPiece (register_name r.number)
 register_name_is_piece r = record {
-  some = false_if_not_is_true (is_nil (register_name r.number)) (range_test_holds_for_register (λ n. not (is_nil (register_name n))) refl r);
-  all = range_test_holds_for_register (λ n. list_all clean (register_name n)) refl r;
+  some = false_if_not_is_true (is_nil (register_name r.number)) (register_number_passes_if_all_below_32_pass (λ n. not (is_nil (register_name n))) refl r);
+  all = register_number_passes_if_all_below_32_pass (λ n. list_all clean (register_name n)) refl r;
 }
 
 digit_is_not_x : (b : ℕ) → digit_value b < 10 → (b == 120) ≡ false
@@ -185,7 +185,7 @@ signed_decimal_has_no_parenthesis (pos n) h = digits_have_no_parenthesis (decima
 signed_decimal_has_no_parenthesis (negsuc n) h = digits_have_no_parenthesis (decimal (suc n)) (decimal_is_IsNumeral (suc n) h).0.1
 
 pub register_name_has_no_parenthesis : (r : Register) → list_all is_not_parenthesis (register_name r.number) ≡ true
-register_name_has_no_parenthesis r = range_test_holds_for_register (λ n. list_all is_not_parenthesis (register_name n)) refl r
+register_name_has_no_parenthesis r = register_number_passes_if_all_below_32_pass (λ n. list_all is_not_parenthesis (register_name n)) refl r
 
 pub no_opening_if_no_parenthesis : (a : List ℕ) → list_all is_not_parenthesis a ≡ true → list_all (λ b. not (b == 40)) a ≡ true
 no_opening_if_no_parenthesis [] h = refl

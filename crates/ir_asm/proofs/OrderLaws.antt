@@ -60,9 +60,9 @@ in_order_after_entered_item line a (Filled bytes) s t l o e = subst (λ u. AreIn
 in_order_after_entered_item line a (First object words) s t l o e =
     subst (λ u. AreInOrderBefore (line + 1) u.placed) (ok_is_injective _ t e) (in_order_after_placed_item line a (First object words) s l o)
 
-grown_places_nothing : (section : Section) (n : ℕ) (s t : Seen) → grown section n s ≡ Ok t → s.placed ≡ t.placed
-grown_places_nothing Text n s t e = ap (λ (u : Seen). u.placed) (test_and_value_of_ok_unless (nat_le (s.code + n) (4 * most_code_words)) BadSize _ t e).1
-grown_places_nothing Data n s t e = ap (λ (u : Seen). u.placed) (test_and_value_of_ok_unless (nat_le (s.filled + n) memory_size) BadSize _ t e).1
+grown_section_places_nothing : (section : Section) (n : ℕ) (s t : Seen) → grown section n s ≡ Ok t → s.placed ≡ t.placed
+grown_section_places_nothing Text n s t e = ap (λ (u : Seen). u.placed) (test_and_value_of_ok_unless (nat_le (s.code + n) (4 * most_code_words)) BadSize _ t e).1
+grown_section_places_nothing Data n s t e = ap (λ (u : Seen). u.placed) (test_and_value_of_ok_unless (nat_le (s.filled + n) memory_size) BadSize _ t e).1
 
 in_order_after_statement : (line : ℕ) (statement : List ℕ) (s t : Seen) → 1 ≤ line → AreInOrderBefore line s.placed → with_statement line statement s ≡ Ok t
     → AreInOrderBefore (line + 1) t.placed
@@ -71,7 +71,7 @@ in_order_after_statement line (b ∷ bs) s t l o e =
     let i = parts_of_ok_bind (item_in s.form s.section (b ∷ bs)) _ t e in
     let g = parts_of_ok_bind (grown s.section (size_of i.0) (begun s)) _ t i.2 in
     in_order_after_entered_item line (here (begun s)).address (laid s.section i.0) g.0 t l
-    (subst (AreInOrderBefore line) (grown_places_nothing s.section (size_of i.0) (begun s) g.0 g.1) o) g.2
+    (subst (AreInOrderBefore line) (grown_section_places_nothing s.section (size_of i.0) (begun s) g.0 g.1) o) g.2
 
 labels_place_nothing : (labels : List (List ℕ)) (s t : Seen) → with_labels labels s ≡ Ok t → s.placed ≡ t.placed
 labels_place_nothing [] s t e = ap (λ (u : Seen). u.placed) (ok_is_injective s t e)

@@ -26,8 +26,8 @@ use Rattle.ir_asm.proofs.Pieces.{all_pass_in_append, IsPiece, skip_blanks_keeps_
 use Rattle.ir_asm.proofs.Numbers.{register_of_printed_name, register_name_is_piece}
 use Rattle.ir_asm.proofs.FieldLaws.{jump_offset_of_own_value}
 use Rattle.ir_asm.proofs.Statements.{Says, line_that_says_word_assembles}
-use Rattle.ir_asm.proofs.Formats.{IsLastOperand, trim_end_keeps_prefix, before_keeps_prefix, before_lacks_byte_if_text_does, all_pass_weaker_test, clean_byte_is_source_byte}
-use Rattle.ir_asm.proofs.Branches.{far_target_is_last_operand, distance_text_of_printed_distance, is_even_is_true_if_even}
+use Rattle.ir_asm.proofs.Formats.{IsLastOperand, trim_end_keeps_prefix, before_keeps_prefix, before_lacks_byte_if_text_does, all_pass_if_all_clean_and_clean_bytes_pass, clean_byte_is_source_byte}
+use Rattle.ir_asm.proofs.Branches.{last_operand_of_far_target_is_distance, distance_text_of_printed_distance, is_even_is_true_if_even}
 
 all_pass_in_two_operands : (p : ℕ → Bool) → p 32 ≡ true → p 44 ≡ true → (name a c : List ℕ) → list_all p name ≡ true → list_all p a ≡ true
     → list_all p c ≡ true → list_all p (two name a c) ≡ true
@@ -72,8 +72,8 @@ two_operands_say_word name a raw c word form xs n p r e s o m = record {
   form = form;
   xs = xs;
   feed = all_pass_in_two_operands (λ b. not (b == 10)) refl refl name a raw (clean_text_lacks_unclean_byte 10 name refl n.all) (clean_text_lacks_unclean_byte 10 a refl p.all) r.feed;
-  source = all_pass_in_two_operands is_source_byte refl refl name a raw (all_pass_weaker_test is_source_byte clean_byte_is_source_byte name n.all)
-      (all_pass_weaker_test is_source_byte clean_byte_is_source_byte a p.all) r.source;
+  source = all_pass_in_two_operands is_source_byte refl refl name a raw (all_pass_if_all_clean_and_clean_bytes_pass is_source_byte clean_byte_is_source_byte name n.all)
+      (all_pass_if_all_clean_and_clean_bytes_pass is_source_byte clean_byte_is_source_byte a p.all) r.source;
   colon = before_lacks_byte_if_text_does 58 35 (two name a raw) (all_pass_in_two_operands (λ b. not (b == 58)) refl refl name a raw (clean_text_lacks_unclean_byte 58 name refl n.all)
       (clean_text_lacks_unclean_byte 58 a refl p.all) r.colon);
   trimmed = ap trim (before_comment_of_two_operands name a raw n p) ∙ trim_of_two_operands name a (before 35 raw) c n r.trimmed r.piece_is;
@@ -107,5 +107,5 @@ printed_jump_assembles pc rd i =
     let small = jump_offset_magnitude_fits_33_bits i.value i.low i.high in
     line_that_says_word_assembles _ _ _ (two_operands_say_word (codes "jal") (register_name rd.number) (far pc i.value) (distance i.value) (word_of (Jal rd i)) Jumps
     (Index rd ∷ Integer i.value ∷ [])
-    (record { some = refl; all = refl }) (register_name_is_piece rd) (far_target_is_last_operand pc i.value (omega (arith, small)))
+    (record { some = refl; all = refl }) (register_name_is_piece rd) (last_operand_of_far_target_is_distance pc i.value (omega (arith, small)))
     refl refl (operands_of_printed_jump rd i.value (distance_in_of_printed_jump_offset i)) (ap (λ (x : JumpOffset). instruction (Jal rd x)) (jump_offset_of_own_value i)))

@@ -33,28 +33,28 @@ clean_text_lacks_unclean_byte c (x ∷ a) k h =
     let p = and_parts (clean x) (list_all clean a) h in
     rw (clean_byte_differs_from_unclean x c p.0 k) (clean_text_lacks_unclean_byte c a k p.1)
 
-number_equals_itself : (c : ℕ) → (c == c) ≡ true
-number_equals_itself c = grind (arith, common_steps)
+equality_test_of_same_number_is_true : (c : ℕ) → (c == c) ≡ true
+equality_test_of_same_number_is_true c = grind (arith, common_steps)
 
 -- the first byte isn't c, and nor are the others
-pub lacks_in_head_and_tail : (c x : ℕ) (a : List ℕ) → lacks c (x ∷ a) ≡ true → ((x == c) ≡ false) × (lacks c a ≡ true)
-lacks_in_head_and_tail c x a h = let p = and_parts (not (x == c)) (lacks c a) h in (false_if_not_is_true (x == c) p.0, p.1)
+pub head_and_tail_lack_byte_if_list_does : (c x : ℕ) (a : List ℕ) → lacks c (x ∷ a) ≡ true → ((x == c) ≡ false) × (lacks c a ≡ true)
+head_and_tail_lack_byte_if_list_does c x a h = let p = and_parts (not (x == c)) (lacks c a) h in (false_if_not_is_true (x == c) p.0, p.1)
 
 pub split_without_separator : (c : ℕ) (a : List ℕ) → lacks c a ≡ true → split c a ≡ a ∷ []
 split_without_separator c [] h = refl
-split_without_separator c (x ∷ a) h = rw ((lacks_in_head_and_tail c x a h).0, split_without_separator c a (lacks_in_head_and_tail c x a h).1) refl
+split_without_separator c (x ∷ a) h = rw ((head_and_tail_lack_byte_if_list_does c x a h).0, split_without_separator c a (head_and_tail_lack_byte_if_list_does c x a h).1) refl
 
 pub split_at_first_separator : (c : ℕ) (a b : List ℕ) → lacks c a ≡ true → split c (a ++ c ∷ b) ≡ a ∷ split c b
-split_at_first_separator c [] b h = rw (number_equals_itself c) refl
-split_at_first_separator c (x ∷ a) b h = rw ((lacks_in_head_and_tail c x a h).0, split_at_first_separator c a b (lacks_in_head_and_tail c x a h).1) refl
+split_at_first_separator c [] b h = rw (equality_test_of_same_number_is_true c) refl
+split_at_first_separator c (x ∷ a) b h = rw ((head_and_tail_lack_byte_if_list_does c x a h).0, split_at_first_separator c a b (head_and_tail_lack_byte_if_list_does c x a h).1) refl
 
 pub before_without_separator : (c : ℕ) (a : List ℕ) → lacks c a ≡ true → before c a ≡ a
 before_without_separator c [] h = refl
-before_without_separator c (x ∷ a) h = rw ((lacks_in_head_and_tail c x a h).0) (ap (λ (l : List ℕ). x ∷ l) (before_without_separator c a (lacks_in_head_and_tail c x a h).1))
+before_without_separator c (x ∷ a) h = rw ((head_and_tail_lack_byte_if_list_does c x a h).0) (ap (λ (l : List ℕ). x ∷ l) (before_without_separator c a (head_and_tail_lack_byte_if_list_does c x a h).1))
 
 pub before_first_separator : (c : ℕ) (a b : List ℕ) → lacks c a ≡ true → before c (a ++ c ∷ b) ≡ a
-before_first_separator c [] b h = rw (number_equals_itself c) refl
-before_first_separator c (x ∷ a) b h = rw ((lacks_in_head_and_tail c x a h).0) (ap (λ (l : List ℕ). x ∷ l) (before_first_separator c a b (lacks_in_head_and_tail c x a h).1))
+before_first_separator c [] b h = rw (equality_test_of_same_number_is_true c) refl
+before_first_separator c (x ∷ a) b h = rw ((head_and_tail_lack_byte_if_list_does c x a h).0) (ap (λ (l : List ℕ). x ∷ l) (before_first_separator c a b (head_and_tail_lack_byte_if_list_does c x a h).1))
 
 -- the name ends at the first blank
 pub until_blank_is_name : (a b : List ℕ) → list_all clean a ≡ true → until is_blank (a ++ 32 ∷ b) ≡ a

@@ -241,9 +241,9 @@ sound_after_item s line a c d n item h few whole is_code is_data is_entry short_
     }
 
 -- nothing more
-sound_without_new_item : (s : Seen) (section : Section) (c d o : ℕ) → IsSound s → c ≡ s.code → d ≡ s.filled → o ≤ (limits_of (stated s.form)).objects
+sound_after_section_or_object_count_changed : (s : Seen) (section : Section) (c d o : ℕ) → IsSound s → c ≡ s.code → d ≡ s.filled → o ≤ (limits_of (stated s.form)).objects
     → IsSound (record s { section = section; code = c; filled = d; objects = o })
-sound_without_new_item s section c d o h is_code is_data few = record {
+sound_after_section_or_object_count_changed s section c d o h is_code is_data few = record {
   code = h.code ∙ sym is_code;
   bytes = h.bytes ∙ sym is_data;
   entries = h.entries;
@@ -314,19 +314,19 @@ sound_after_text_item s t line a (LoadAddress rd label) h m l e =
 sound_after_text_item s t line a (Filled bytes) h m l e = absurd m
 sound_after_text_item s t line a Enlarged h m l e = subst IsSound (ok_is_injective _ t e) (sound_after_large s (s.code + 0) s.filled h (omega arith) refl)
 sound_after_text_item s t line a (Within section) h m l e =
-    subst IsSound (ok_is_injective _ t e) (sound_without_new_item s section (s.code + 0) s.filled s.objects h (omega arith) refl h.few_objects)
+    subst IsSound (ok_is_injective _ t e) (sound_after_section_or_object_count_changed s section (s.code + 0) s.filled s.objects h (omega arith) refl h.few_objects)
 sound_after_text_item s t line a (Entry label) h m l e =
     let u = test_and_value_of_ok_unless (nat_lt s.threads (limits_of (stated s.form)).threads) BadCount _ t e in
     let below : s.threads < (limits_of (stated s.form)).threads = ltb-true s.threads (limits_of (stated s.form)).threads u.0 in
     subst IsSound u.1 (sound_after_item s line a (s.code + 0) s.filled (s.threads + 1) (Entry label) h tt refl refl (omega arith) refl l
     h.short_data (omega (arith, below)))
 sound_after_text_item s t line a (Count n) h m l e = subst IsSound (ok_is_injective _ t e)
-    (sound_without_new_item s s.section (s.code + 0) s.filled n h (omega arith) refl m)
+    (sound_after_section_or_object_count_changed s s.section (s.code + 0) s.filled n h (omega arith) refl m)
 sound_after_text_item s t line a (First object words) h m l e =
     subst IsSound (ok_is_injective _ t e) (sound_after_item s line a (s.code + 0) s.filled s.threads (First object words) h m refl refl (omega arith)
     (omega arith) l h.short_data h.few_threads)
 sound_after_text_item s t line a Nothing h m l e = subst IsSound (ok_is_injective _ t e)
-    (sound_without_new_item s s.section (s.code + 0) s.filled s.objects h (omega arith) refl h.few_objects)
+    (sound_after_section_or_object_count_changed s s.section (s.code + 0) s.filled s.objects h (omega arith) refl h.few_objects)
 
 length_of_little_bytes_of_words : (words : List ℕ) → length (flat_map (little_bytes 4) words) ≡ 4 * length words
 length_of_little_bytes_of_words [] = refl
@@ -346,19 +346,19 @@ sound_after_data_item s t line a (Filled bytes) h m l e = subst IsSound (ok_is_i
     h.few_threads)
 sound_after_data_item s t line a Enlarged h m l e = subst IsSound (ok_is_injective _ t e) (sound_after_large s s.code (s.filled + 0) h refl (omega arith))
 sound_after_data_item s t line a (Within section) h m l e =
-    subst IsSound (ok_is_injective _ t e) (sound_without_new_item s section s.code (s.filled + 0) s.objects h refl (omega arith) h.few_objects)
+    subst IsSound (ok_is_injective _ t e) (sound_after_section_or_object_count_changed s section s.code (s.filled + 0) s.objects h refl (omega arith) h.few_objects)
 sound_after_data_item s t line a (Entry label) h m l e =
     let u = test_and_value_of_ok_unless (nat_lt s.threads (limits_of (stated s.form)).threads) BadCount _ t e in
     let below : s.threads < (limits_of (stated s.form)).threads = ltb-true s.threads (limits_of (stated s.form)).threads u.0 in
     subst IsSound u.1 (sound_after_item s line a s.code (s.filled + 0) (s.threads + 1) (Entry label) h tt refl (omega arith)
     refl refl h.short_code l (omega (arith, below)))
 sound_after_data_item s t line a (Count n) h m l e = subst IsSound (ok_is_injective _ t e)
-    (sound_without_new_item s s.section s.code (s.filled + 0) n h refl (omega arith) m)
+    (sound_after_section_or_object_count_changed s s.section s.code (s.filled + 0) n h refl (omega arith) m)
 sound_after_data_item s t line a (First object words) h m l e =
     subst IsSound (ok_is_injective _ t e) (sound_after_item s line a s.code (s.filled + 0) s.threads (First object words) h m refl (omega arith)
     refl (omega arith) h.short_code l h.few_threads)
 sound_after_data_item s t line a Nothing h m l e = subst IsSound (ok_is_injective _ t e)
-    (sound_without_new_item s s.section s.code (s.filled + 0) s.objects h refl (omega arith) h.few_objects)
+    (sound_after_section_or_object_count_changed s s.section s.code (s.filled + 0) s.objects h refl (omega arith) h.few_objects)
 
 -- an item of a section
 sound_after_section_item : (section : Section) (s t : Seen) (line a : ℕ) (item : Item) → IsSound s → MayStand (stated s.form) section item
@@ -459,13 +459,13 @@ second_pass_puts_all s (x ∷ xs) g h fits few there e =
     }
 
 -- the objects that were announced
-word_count_of_announced_objects : (s : Seen) (g : Guest) → Puts s s.placed (started s) g → length g.words ≡ object_words g * s.objects
-word_count_of_announced_objects s g p = p.words ∙ length-replicate {A = ℕ} ((limits_of (stated s.form)).words * s.objects) 0
+word_count_after_puts_is_of_announced_objects : (s : Seen) (g : Guest) → Puts s s.placed (started s) g → length g.words ≡ object_words g * s.objects
+word_count_after_puts_is_of_announced_objects s g p = p.words ∙ length-replicate {A = ℕ} ((limits_of (stated s.form)).words * s.objects) 0
     ∙ ap (λ (f : ImageForm). (limits_of f).words * s.objects) (sym p.form)
 
 put_object_count_within_limit : (s : Seen) (g : Guest) → IsSound s → Puts s s.placed (started s) g → object_count g ≤ (limits_of g.form).objects
 put_object_count_within_limit s g h p =
-    let count = words_divided_by_limit_is_object_count g.form (length g.words) s.objects (word_count_of_announced_objects s g p) in
+    let count = words_divided_by_limit_is_object_count g.form (length g.words) s.objects (word_count_after_puts_is_of_announced_objects s g p) in
     let few = h.few_objects in
     subst (λ (f : ImageForm). object_count g ≤ (limits_of f).objects) (sym p.form) (omega (arith, count, few))
 
@@ -479,7 +479,7 @@ guest_with_entry_has_limits s g h some p = by_test (length g.entries == 0) refl
       few_threads = let one = thread_limit_of_form_is_positive g.form in omega (arith, one);
       short_code = omega (arith, p.code, h.code, h.short_code);
       short_data = omega (arith, p.bytes, h.bytes, h.short_data);
-      whole_objects = words_of_whole_objects_divide g.form (length g.words) s.objects (word_count_of_announced_objects s g p);
+      whole_objects = words_of_whole_objects_divide g.form (length g.words) s.objects (word_count_after_puts_is_of_announced_objects s g p);
       few_objects = put_object_count_within_limit s g h p;
       entries_fit = (record { aligned = refl; low = omega arith; high = omega (arith, p.code, h.code, some) }, tt);
     }
@@ -489,7 +489,7 @@ guest_with_entry_has_limits s g h some p = by_test (length g.entries == 0) refl
           (omega (arith, p.entries, h.entries, h.few_threads));
       short_code = omega (arith, p.code, h.code, h.short_code);
       short_data = omega (arith, p.bytes, h.bytes, h.short_data);
-      whole_objects = words_of_whole_objects_divide g.form (length g.words) s.objects (word_count_of_announced_objects s g p);
+      whole_objects = words_of_whole_objects_divide g.form (length g.words) s.objects (word_count_after_puts_is_of_announced_objects s g p);
       few_objects = put_object_count_within_limit s g h p;
       entries_fit = p.fit (length g.code) (omega (arith, p.code, h.code)) tt;
     }

@@ -32,9 +32,9 @@ can_follow_in_larger_part a b f c t above same h = record {
   made = is_made_in_larger_part a f c above h.event h.made;
 }
 
-condition_counts_one_at_most : (b : Bool) → cond b 1 0 ≤ 1
-condition_counts_one_at_most true = omega arith
-condition_counts_one_at_most false = omega arith
+cond_one_or_zero_is_at_most_one : (b : Bool) → cond b 1 0 ≤ 1
+cond_one_or_zero_is_at_most_one true = omega arith
+cond_one_or_zero_is_at_most_one false = omega arith
 
 -- where no thread can follow, no part is greater
 part_is_greatest_if_none_follow : (a b : Recorded) (c : ℕ → ℕ) → ((t : ℕ) → CanFollow a b c t → ⊥) → (longer : List ℕ) → IsPart a b longer
@@ -45,7 +45,7 @@ part_is_greatest_if_none_follow a b c rests (u ∷ us) is t =
     let here = below t in
     elim (cases_eq u t) [
       | inl same ↦ elim (cases_lt (part us t) (c t)) [
-        | inl less ↦ let one = condition_counts_one_at_most (eqb u t) in omega (arith, less, one)
+        | inl less ↦ let one = cond_one_or_zero_is_at_most_one (eqb u t) in omega (arith, less, one)
         | inr past ↦
             let all : part us t ≡ c t = omega (arith, here, past) in
             let own : part us u ≡ c u = subst (λ w. part us w ≡ c w) (sym same) all in

@@ -37,8 +37,8 @@ get_or_of_over_after place own all i low fits =
     get_or-append_right (take place all ++ own) (drop (place + length own) all) (place + length own) i 0 joined low
     ∙ get_or-drop (place + length own) all (i - (place + length own)) 0 ∙ ap (λ (k : ℕ). get_or all k 0) back
 
-length_of_over : (place : ℕ) (own all : List ℕ) → place + length own ≤ length all → length (over place own all) ≡ length all
-length_of_over place own all fits =
+over_keeps_length : (place : ℕ) (own all : List ℕ) → place + length own ≤ length all → length (over place own all) ≡ length all
+over_keeps_length place own all fits =
     let taken = length-take-le place all (omega arith) in
     let joined = length-append (take place all) own in
     let whole = length-append (take place all ++ own) (drop (place + length own) all) in
@@ -85,7 +85,7 @@ pub length_of_with_segment : (part : Part) (s : Segment) (last : ℕ) (all : Lis
     → length (with_segment part s all) ≡ size_of part
 length_of_with_segment part s last all next whole =
     cond_both (is_same s.part part) (over s.place s.bytes all) all (λ xs. length xs ≡ size_of part)
-    (λ same. length_of_over s.place s.bytes all (segment_fits_in_part part s last all next whole same) ∙ whole) (λ other. whole)
+    (λ same. over_keeps_length s.place s.bytes all (segment_fits_in_part part s last all next whole same) ∙ whole) (λ other. whole)
 
 -- below a segment nothing changes
 with_segment_below_is_unchanged : (part : Part) (s : Segment) (last : ℕ) (all : List ℕ) (i : ℕ) → IsNext last s → length all ≡ size_of part

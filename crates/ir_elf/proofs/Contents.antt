@@ -117,9 +117,9 @@ guest_byte_is_byte_at file segments g i e h lt =
 abbrev word_of_four_bytes : List ℕ → ℕ → ℕ
 word_of_four_bytes xs i = little_number 4 (get_or xs i 0 ∷ get_or xs (i + 1) 0 ∷ get_or xs (i + 2) 0 ∷ get_or xs (i + 3) 0 ∷ [])
 
-little_number_of_equal_bytes : (a b c d x y z w : ℕ) → a ≡ x → b ≡ y → c ≡ z → d ≡ w
+little_numbers_of_equal_bytes_are_equal : (a b c d x y z w : ℕ) → a ≡ x → b ≡ y → c ≡ z → d ≡ w
     → little_number 4 (a ∷ b ∷ c ∷ d ∷ []) ≡ little_number 4 (x ∷ y ∷ z ∷ w ∷ [])
-little_number_of_equal_bytes a b c d x y z w p q r s = λ i. little_number 4 (p i ∷ q i ∷ r i ∷ s i ∷ [])
+little_numbers_of_equal_bytes_are_equal a b c d x y z w p q r s = λ i. little_number 4 (p i ∷ q i ∷ r i ∷ s i ∷ [])
 
 word_in_is_of_four_bytes : (xs : List ℕ) (k : ℕ) → k < length (words_in xs) → get_or (words_in xs) k 0 ≡ word_of_four_bytes xs (4 * k)
 word_in_is_of_four_bytes [] k lt = absurd (omega (arith, lt))
@@ -133,7 +133,7 @@ word_in_is_of_four_bytes (a ∷ b ∷ c ∷ d ∷ more) (suc k) lt =
     ap (λ (m : ℕ). get_or all m 0) {x = suc (suc (suc (suc n)))} (omega (arith, e)) in
     let start : get_or more (4 * k) 0 ≡ get_or all (4 * suc k) 0 = ap (λ (m : ℕ). get_or all m 0) {x = suc (suc (suc (suc (4 * k))))}
     (omega arith) in
-    word_in_is_of_four_bytes more k (omega (arith, lt)) ∙ little_number_of_equal_bytes _ _ _ _ _ _ _ _ start (step 1 (4 * k + 1) refl) (step 2 (4 * k + 2) refl)
+    word_in_is_of_four_bytes more k (omega (arith, lt)) ∙ little_numbers_of_equal_bytes_are_equal _ _ _ _ _ _ _ _ start (step 1 (4 * k + 1) refl) (step 2 (4 * k + 2) refl)
     (step 3 (4 * k + 3) refl)
 
 code_word_is_word_at : (ss : List Segment) (k : ℕ) → AreOrdered 0 ss → k < length (words_in (take (4 * code_words ss) (code_memory ss)))
@@ -150,7 +150,7 @@ code_word_is_word_at ss k o lt =
     ap (byte_at ss) (omega arith) in
     let first : byte_at ss (code_start + (4 * k + 0)) ≡ byte_at ss (code_start + 4 * k) = ap (byte_at ss) (omega arith) in
     let start : get_or own (4 * k) 0 ≡ get_or own (4 * k + 0) 0 = ap (λ (n : ℕ). get_or own n 0) (omega arith) in
-    word_in_is_of_four_bytes own k lt ∙ little_number_of_equal_bytes _ _ _ _ _ _ _ _ (start ∙ at 0 (omega arith) ∙ first) (at 1 (omega arith) ∙ moved 1)
+    word_in_is_of_four_bytes own k lt ∙ little_numbers_of_equal_bytes_are_equal _ _ _ _ _ _ _ _ (start ∙ at 0 (omega arith) ∙ first) (at 1 (omega arith) ∙ moved 1)
     (at 2 (omega arith) ∙ moved 2) (at 3 (omega arith) ∙ moved 3)
 
 pub guest_code_word_is_word_at : (file : List ℕ) (segments : List Segment) (g : Guest) (k : ℕ) → segments_at file ≡ Ok segments → elf_guest_at file ≡ Ok g
@@ -182,9 +182,9 @@ address_of_byte_is_in_parts (s ∷ ss) last a b words o most e =
 number_at_most_four_times_quotient_rounded_up : (n : ℕ) → n ≤ 4 * ((n + 3) / 4)
 number_at_most_four_times_quotient_rounded_up n = omega arith
 
-code_words_reach_segments : (ss : List Segment) → AreOrdered 0 ss → greatest (size_in Code) ss ≤ size_of Code
+greatest_size_in_code_within_code_words : (ss : List Segment) → AreOrdered 0 ss → greatest (size_in Code) ss ≤ size_of Code
     → greatest (size_in Code) ss ≤ 4 * length (words_in (take (4 * code_words ss) (code_memory ss)))
-code_words_reach_segments ss o most =
+greatest_size_in_code_within_code_words ss o most =
     let own = take (4 * code_words ss) (code_memory ss) in
     let count = length_of_words_in own in
     let least = length-take (4 * code_words ss) (code_memory ss) in
@@ -210,4 +210,4 @@ file_byte_is_in_parts file segments g a b e h there =
     let p = is_guest_of_if_file_read file segments g e h in
     let o = segments_at_are_ordered file segments e in
     subst (λ (x : Guest). IsInParts (length x.code) a) p.guest
-    (address_of_byte_is_in_parts segments 0 a b _ o (code_words_reach_segments segments o (greatest_size_in_code_within_part segments 0 o)) there)
+    (address_of_byte_is_in_parts segments 0 a b _ o (greatest_size_in_code_within_code_words segments o (greatest_size_in_code_within_part segments 0 o)) there)

@@ -149,9 +149,9 @@ table_of_is_bytes (s ∷ ss) table h e =
     conditional_cases (is_same s.part Table) (Some s.bytes) (table_of ss) (Some table) e
     (λ t e1. subst IsBytes (same_Some s.bytes table e1) h.0) (λ f e1. table_of_is_bytes ss table h.1 e1)
 
-entry_at_takes_little_bytes : (words : ℕ) (bytes : List ℕ) (n : ℕ × List ℕ) → IsBytes bytes → entry_at words bytes ≡ Ok n
+entry_at_takes_little_bytes_of_place : (words : ℕ) (bytes : List ℕ) (n : ℕ × List ℕ) → IsBytes bytes → entry_at words bytes ≡ Ok n
     → Takes bytes (little_bytes 4 n.0) n.1 × IsPlace words n.0
-entry_at_takes_little_bytes words bytes n fits e =
+entry_at_takes_little_bytes_of_place words bytes n fits e =
     let t = field_at_takes_field refusal.Table (entry_field words) bytes n fits e in
     (t.takes, number_is_place_if_is_place_is_true words n.0 (test_true_if_no_fault _ refusal.Entry t.passes))
 
@@ -169,8 +169,8 @@ abbrev table_parts_encoding : TableParts → List ℕ
 table_parts_encoding t =
     little_bytes 4 (number_of t.form) ++ (little_bytes 4 (length t.entries) ++ (words_encoding t.entries ++ words_encoding t.words))
 
-append_of_four_parts : (a b c d e : List ℕ) (x y z w : List ℕ) → a ≡ x ++ b → b ≡ y ++ c → c ≡ z ++ d → d ≡ w → a ≡ x ++ (y ++ (z ++ w))
-append_of_four_parts a b c d e x y z w p q r s =
+append_of_four_successive_splits : (a b c d e : List ℕ) (x y z w : List ℕ) → a ≡ x ++ b → b ≡ y ++ c → c ≡ z ++ d → d ≡ w → a ≡ x ++ (y ++ (z ++ w))
+append_of_four_successive_splits a b c d e x y z w p q r s =
     p ∙ ap (λ (k : List ℕ). x ++ k) (q ∙ ap (λ (k : List ℕ). y ++ k) (r ∙ ap (λ (k : List ℕ). z ++ k) s))
 
 table_is_encoding_of_parts : (code : ℕ) (bytes : List ℕ) (t : TableParts) → IsBytes bytes → table_at code bytes ≡ Ok t → bytes ≡ table_parts_encoding t
@@ -184,13 +184,13 @@ table_is_encoding_of_parts code bytes t fits e =
     let t0 = field_at_takes_field refusal.Table form_field bytes form fits e0 in
     let n = number_within_if_no_fault 1 2 form.0 refusal.Table t0.passes in
     let t1 = field_at_takes_field refusal.Table (threads_field f) form.1 threads t0.takes.rest_fits e1 in
-    let t2 = fields_at_takes_fields (IsPlace code) (little_bytes 4) (entry_at code) (entry_at_takes_little_bytes code) threads.0 threads.1 entries t1.takes.rest_fits e2 in
+    let t2 = fields_at_takes_fields (IsPlace code) (little_bytes 4) (entry_at code) (entry_at_takes_little_bytes_of_place code) threads.0 threads.1 entries t1.takes.rest_fits e2 in
     let p = test_passed_if_ok (are_objects f (length entries.1)) refusal.Table (table_parts_by f entries.0 entries.1) t e3 in
     let both = and_parts (eqb (length entries.1 % (4 * (limits_of f).words)) 0)
     (leb (length entries.1) (4 * ((limits_of f).words * (limits_of f).objects))) p.0 in
     let whole = words_encoding_of_words_in entries.1 t2.takes.rest_fits (size_of_whole_objects_is_multiple_of_4 f (length entries.1) (eqb-true _ _ both.0)) in
     subst (λ (x : TableParts). bytes ≡ table_parts_encoding x) p.1
-    (append_of_four_parts bytes form.1 threads.1 entries.1 [] (little_bytes 4 (number_of f)) (little_bytes 4 (length entries.0)) (words_encoding entries.0)
+    (append_of_four_successive_splits bytes form.1 threads.1 entries.1 [] (little_bytes 4 (number_of f)) (little_bytes 4 (length entries.0)) (words_encoding entries.0)
     (words_encoding (words_in entries.1))
     (t0.takes.parts ∙ ap (λ (k : ℕ). little_bytes 4 k ++ form.1) (sym (number_of_form_of form.0 n.0 n.1)))
     (t1.takes.parts ∙ ap (λ (k : ℕ). little_bytes 4 k ++ threads.1) (sym t2.count)) t2.takes.parts (sym whole)))
@@ -235,7 +235,7 @@ table_words_are_words code bytes t fits e =
     let f = form_of form.0 in
     let t0 = field_at_takes_field refusal.Table form_field bytes form fits e0 in
     let t1 = field_at_takes_field refusal.Table (threads_field f) form.1 threads t0.takes.rest_fits e1 in
-    let t2 = fields_at_takes_fields (IsPlace code) (little_bytes 4) (entry_at code) (entry_at_takes_little_bytes code) threads.0 threads.1 entries t1.takes.rest_fits e2 in
+    let t2 = fields_at_takes_fields (IsPlace code) (little_bytes 4) (entry_at code) (entry_at_takes_little_bytes_of_place code) threads.0 threads.1 entries t1.takes.rest_fits e2 in
     let p = test_passed_if_ok (are_objects f (length entries.1)) refusal.Table (table_parts_by f entries.0 entries.1) t e3 in
     subst (λ (x : TableParts). AllByRecursion IsWord x.words) p.1 (words_in_are_words entries.1 t2.takes.rest_fits))
 

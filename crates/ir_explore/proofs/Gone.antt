@@ -11,32 +11,32 @@ use Rattle.ir_explore.specs.Following.{Leading, BothWays, Keeps, GoesTo}
 use Rattle.ir_explore.specs.Levels.{AllFollowed, AllOpen, AreWithin, LevelEnds, AreAsked, Covered, AreGoneOver}
 use Rattle.ir_explore.specs.Origins.{BeginsAt, Adds}
 use Rattle.ir_explore.proofs.Opens.{open_if_get_or_false_is_true, get_or_false_is_true_if_open}
-use Rattle.ir_explore.proofs.Reached.{place_of_element_is_below_length}
+use Rattle.ir_explore.proofs.Reached.{index_of_element_is_below_length}
 
 -- whether node v is opened for thread t
 abbrev pub is_opened_for : List (List Bool) → ℕ → ℕ → Bool
 is_opened_for opened v t = get_or (get_or opened t []) v false
 
-row_below_length_is_element : (opened : List (List Bool)) (t : ℕ) → t < length opened → slice_get opened t ≡ Some (get_or opened t [])
-row_below_length_is_element opened t l = slice_get-get_or opened t [] l
+slice_get_below_length_is_get_or : (opened : List (List Bool)) (t : ℕ) → t < length opened → slice_get opened t ≡ Some (get_or opened t [])
+slice_get_below_length_is_get_or opened t l = slice_get-get_or opened t [] l
 
 pub opened_if_all_open : (opened : List (List Bool)) (n threads t v : ℕ) → AllOpen opened 0 n threads → threads ≤ length opened → t < threads → v < n
     → is_opened_for opened v t ≡ true
 opened_if_all_open opened n threads t v all wide l less =
-    get_or_false_is_true_if_open (get_or opened t []) v (all t (get_or opened t []) l (row_below_length_is_element opened t (omega (arith, l, wide))) v (omega arith) less)
+    get_or_false_is_true_if_open (get_or opened t []) v (all t (get_or opened t []) l (slice_get_below_length_is_get_or opened t (omega (arith, l, wide))) v (omega arith) less)
 
 pub opened_node_is_followed : (noted : ℕ → BothWays) (opened : List (List Bool)) (t v : ℕ) → AllFollowed noted opened → t < length opened
     → is_opened_for opened v t ≡ true → (refused : Bool) → GoesTo (noted t refused) (λ w. is_opened_for opened w t ≡ true) v
 opened_node_is_followed noted opened t v all l is refused =
-    elim (all t (get_or opened t []) (row_below_length_is_element opened t l) v (open_if_get_or_false_is_true (get_or opened t []) v is) refused) [
+    elim (all t (get_or opened t []) (slice_get_below_length_is_get_or opened t l) v (open_if_get_or_false_is_true (get_or opened t []) v is) refused) [
       | inl none ↦ inl none
       | inr s ↦ inr (s.0, s.1, get_or_false_is_true_if_open (get_or opened t []) s.0 s.2)
     ]
 
 pub opened_node_is_within : (opened : List (List Bool)) (n t v : ℕ) → AreWithin opened n → t < length opened → is_opened_for opened v t ≡ true → v < n
 opened_node_is_within opened n t v within l is =
-    let a = within t (get_or opened t []) (row_below_length_is_element opened t l) in
-    let b = place_of_element_is_below_length (get_or opened t []) v true (open_if_get_or_false_is_true (get_or opened t []) v is) in
+    let a = within t (get_or opened t []) (slice_get_below_length_is_get_or opened t l) in
+    let b = index_of_element_is_below_length (get_or opened t []) v true (open_if_get_or_false_is_true (get_or opened t []) v is) in
     omega (arith, a, b)
 
 pub element_below_length_exists : (xs : List Origin) (v : ℕ) → v < length xs → (n : Origin) × (slice_get xs v ≡ Some n)
@@ -144,7 +144,7 @@ unfolding covered_if_notes_kept
 gone_over_after_level noted more threads nodes new opened zero kept adds gone some now = covered_start more threads new opened (length nodes) now some
 gone_over_after_level noted more threads nodes new opened (suc c) kept adds gone some now =
     covered_more more threads new opened (length nodes) c (covered_if_notes_kept noted more threads nodes new c kept adds.stays gone) now
-    (λ v t few is. let n = gone.within c v t (omega arith) few is in place_of_element_is_below_length nodes v n.0 n.1)
+    (λ v t few is. let n = gone.within c v t (omega arith) few is in index_of_element_is_below_length nodes v n.0 n.1)
 
 -- the levels of the nodes, once these were added
 pub node_levels_bounded_after_adds : (k : ℕ) (nodes new : List Origin) → ((v : ℕ) (n : Origin) → slice_get nodes v ≡ Some n → n.level ≤ k) → Adds k nodes new

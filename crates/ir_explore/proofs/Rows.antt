@@ -5,10 +5,10 @@ use Rattle.std.specs.Global.{Vec}
 use Rattle.std.proofs.lemmas.Option.{same_Some}
 use Rattle.ir_explore.specs.Levels.{rows}
 
-pub row_at_place_is_items_of_element : (vs : List (Vec Bool)) (t : ℕ) (d : Vec Bool) → t < length vs → slice_get (rows vs) t ≡ Some (get_or vs t d).items
-row_at_place_is_items_of_element [] t d l = absurd (omega (arith, l))
-row_at_place_is_items_of_element (v ∷ vs) zero d l = refl
-row_at_place_is_items_of_element (v ∷ vs) (suc t) d l = row_at_place_is_items_of_element vs t d (omega (arith, l))
+pub slice_get_of_rows_is_items_of_element : (vs : List (Vec Bool)) (t : ℕ) (d : Vec Bool) → t < length vs → slice_get (rows vs) t ≡ Some (get_or vs t d).items
+slice_get_of_rows_is_items_of_element [] t d l = absurd (omega (arith, l))
+slice_get_of_rows_is_items_of_element (v ∷ vs) zero d l = refl
+slice_get_of_rows_is_items_of_element (v ∷ vs) (suc t) d l = slice_get_of_rows_is_items_of_element vs t d (omega (arith, l))
 
 -- a row of a list in which one was replaced: that one, or another that stays
 pub row_after_set_cases : (vs : List (Vec Bool)) (i t : ℕ) (w : Vec Bool) (row : List Bool) → i < length vs

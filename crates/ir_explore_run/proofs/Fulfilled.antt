@@ -7,7 +7,7 @@ use Rattle.std.proofs.lemmas.List.Folds.{list_all-map}
 use Rattle.ir_chaos.specs.Conditions as conditions
 use Rattle.ir_chaos.specs.Conditions.{Condition, as_condition, fulfils}
 use Rattle.ir_chaos.specs.declared.condition.Condition as declared
-use Rattle.ir_explore.proofs.CallerLemmas.{place_of_element_is_below_length}
+use Rattle.ir_explore.proofs.CallerLemmas.{index_of_element_is_below_length}
 use Rattle.ir_flat.proofs.CallerLemmas.{length_of_start_threads, length_of_start_cells}
 use Rattle.ir_flat.specs.Flat.{Flat, IsFlat, idle, thread_of, cell_of, tables}
 use Rattle.ir_store.specs.Nodes.{SourcedFlat}
@@ -57,27 +57,27 @@ pub outcomes_decide : OutcomesDecide
 outcomes_decide guest c f threads objects words = ap (fulfils c) (outcome_equals_seen_outcome guest f threads objects words)
 
 -- whether a state's outcome fulfils each condition
-pub reached_state_fulfils_as_outcome : (setup : Setup) (cs : List Condition) (s : SourcedFlat) → IsReached setup s → IsFlat s.flat
+pub reached_state_fulfils_conditions_as_its_outcome_does : (setup : Setup) (cs : List Condition) (s : SourcedFlat) → IsReached setup s → IsFlat s.flat
     → list_all (λ c. fulfils c (conditions.outcome_of s.flat)) cs ≡ fulfils_each setup.guest cs (outcome_of (tables s.flat))
-reached_state_fulfils_as_outcome setup cs s reached flat =
+reached_state_fulfils_conditions_as_its_outcome_does setup cs s reached flat =
     ap (λ z. list_all (λ c. fulfils c z) cs)
     (outcome_equals_seen_outcome setup.guest s.flat
     (reached.like.threads ∙ length_of_start_threads setup.guest most_budget setup.profile 0 (length setup.guest.entries))
     (reached.like.objects ∙ length_of_start_cells setup.guest 0 (object_count setup.guest)) (λ o l. (flat.objects o l).words))
 
 -- the same of conditions as the code has them
-pub reached_state_fulfils_declared_conditions : (setup : Setup) (cs : List declared.Condition) (s : SourcedFlat) → IsReached setup s → IsFlat s.flat
+pub reached_state_fulfils_declared_conditions_as_outcome_does : (setup : Setup) (cs : List declared.Condition) (s : SourcedFlat) → IsReached setup s → IsFlat s.flat
     → list_all (λ c. fulfils (as_condition c) (conditions.outcome_of s.flat)) cs ≡ fulfils_each setup.guest (map as_condition cs) (outcome_of (tables s.flat))
-reached_state_fulfils_declared_conditions setup cs s reached flat = sym (list_all-map (λ x. fulfils x (conditions.outcome_of s.flat)) as_condition cs)
-    ∙ reached_state_fulfils_as_outcome setup (map as_condition cs) s reached flat
+reached_state_fulfils_declared_conditions_as_outcome_does setup cs s reached flat = sym (list_all-map (λ x. fulfils x (conditions.outcome_of s.flat)) as_condition cs)
+    ∙ reached_state_fulfils_conditions_as_its_outcome_does setup (map as_condition cs) s reached flat
 
 -- ---- what the list says of runs
 
 -- none that is listed fulfils them
-pub none_before_step : (guest : Guest) (cs : List Condition) (flats : List SourcedFlat) (outcomes : List Shown) (n : ℕ) (x : Shown) (f : SourcedFlat)
+pub none_before_step_for_unfulfilling_outcome : (guest : Guest) (cs : List Condition) (flats : List SourcedFlat) (outcomes : List Shown) (n : ℕ) (x : Shown) (f : SourcedFlat)
     → NoneBefore guest cs flats outcomes n → IsAt flats outcomes n x f → fulfils_each guest cs (outcome_of (tables f.flat)) ≡ false
     → NoneBefore guest cs flats outcomes (suc n)
-none_before_step guest cs flats outcomes n x f before at not i y g less there = elim (cases_lt i n) [
+none_before_step_for_unfulfilling_outcome guest cs flats outcomes n x f before at not i y g less there = elim (cases_lt i n) [
   | inl l ↦ before i y g l there
   | inr m ↦
       let place : i ≡ n = omega (arith, less, m) in
@@ -94,14 +94,14 @@ pub never_within_if_none_before : (setup : Setup) (cs : List Condition) (flats :
     → AreExplored setup flats levels outcomes → NoneBefore setup.guest cs flats outcomes (length outcomes) → NeverWithin setup cs levels
 never_within_if_none_before setup cs flats outcomes levels e none budget steps counted less =
     let h = e.covered (switches_by setup budget steps) less budget steps counted (omega arith) in
-    ap (fulfils_each setup.guest cs) (sym h.4) ∙ none h.0 h.1 h.2 (place_of_element_is_below_length outcomes h.0 h.1 h.3.0) h.3
+    ap (fulfils_each setup.guest cs) (sym h.4) ∙ none h.0 h.1 h.2 (index_of_element_is_below_length outcomes h.0 h.1 h.3.0) h.3
 
 -- if all are listed, no run does
 pub never_fulfils_if_none_before : (setup : Setup) (cs : List Condition) (flats : List SourcedFlat) (outcomes : List Shown) → AreAll setup flats outcomes
     → NoneBefore setup.guest cs flats outcomes (length outcomes) → NeverFulfils setup cs
 never_fulfils_if_none_before setup cs flats outcomes all none x is =
     let h = (all x).0 is in
-    ap (fulfils_each setup.guest cs) (sym h.4) ∙ none h.0 h.1 h.2 (place_of_element_is_below_length outcomes h.0 h.1 h.3.0) h.3
+    ap (fulfils_each setup.guest cs) (sym h.4) ∙ none h.0 h.1 h.2 (index_of_element_is_below_length outcomes h.0 h.1 h.3.0) h.3
 
 -- before the first that does, no run of fewer switches does
 pub never_within_level_of_first : (setup : Setup) (cs : List Condition) (flats : List SourcedFlat) (outcomes : List Shown) (levels place : ℕ) (x : Shown)

@@ -5,7 +5,7 @@ use Rattle.std.proofs.lemmas.List.{length-drop, take_all, append-nil}
 use Rattle.std.proofs.lemmas.Grind.{flat_map-append}
 use Rattle.std.proofs.lemmas.Option.{same_Some, slice_get-get_or}
 use Rattle.ir_explore.specs.Following.{Stay}
-use Rattle.ir_explore.proofs.CallerLemmas.{slice_get_after_push_cases, place_of_element_is_below_length}
+use Rattle.ir_explore.proofs.CallerLemmas.{slice_get_after_push_cases, index_of_element_is_below_length}
 use Rattle.ir_store.specs.Nodes.{SourcedFlat}
 use Rattle.ir_outcomes.specs.Explored.{IsAt}
 use Rattle.ir_outcomes.specs.declared.shown.Shown.{Shown}
@@ -51,7 +51,7 @@ texts_kept_among_more_outcomes o flats flats' outcomes outcomes' many text t few
   texts = t.texts;
   count = t.count;
   each = λ i x f own at is.
-      let less : i < length outcomes = (let a = place_of_element_is_below_length t.texts i own is in let b = t.count in omega (arith, a, b, few)) in
+      let less : i < length outcomes = (let a = index_of_element_is_below_length t.texts i own is in let b = t.count in omega (arith, a, b, few)) in
       let y = get_or outcomes i x in
       let here : slice_get outcomes i ≡ Some y = slice_get-get_or outcomes i x less in
       let same : y ≡ x = same_Some y x (sym (stays i y here) ∙ at.0) in

@@ -5,7 +5,7 @@ use Rattle.std.specs.Io.KnownBytes.{Appends}
 use Rattle.std.proofs.KnownBytes.{Appends-nil}
 use Rattle.std.proofs.lemmas.Option.{slice_get-get_or}
 use Rattle.ir_explore.specs.Following.{Stay}
-use Rattle.ir_explore.proofs.CallerLemmas.{place_of_element_is_below_length}
+use Rattle.ir_explore.proofs.CallerLemmas.{index_of_element_is_below_length}
 use Rattle.ir_files.proofs.CallerLemmas.{appends_prefix_after_whole_text}
 use Rattle.ir_stream.specs.Answers.{AppendsPrefix}
 use Rattle.ir_graph.specs.Setup.{Setup}
@@ -47,21 +47,21 @@ printed_outcomes_are_part setup o e text same explored printed = record {
 }
 
 -- out of memory before anything is printed
-pub stops_before_first_line : (guest : Guest) (plan : ExplorePlan) (w : Writer) → w.before ≡ w.after → StopsPrinting NoMem guest plan w
-stops_before_first_line guest plan w same =
+pub out_of_memory_before_first_line_stops_printing : (guest : Guest) (plan : ExplorePlan) (w : Writer) → w.before ≡ w.after → StopsPrinting NoMem guest plan w
+out_of_memory_before_first_line_stops_printing guest plan w same =
     inl ([], empty_text_is_part (setup_of guest plan), subst (λ z. Took (record w { after = z }) []) same (Appends-nil w.before))
 
 -- the writer fails in a whole answer
-pub stops_in_answer : (guest : Guest) (plan : ExplorePlan) (answered : ExitStatus) (text : List ℕ) (w : Writer) → IsAnswerAbout guest plan answered text
+pub failed_writer_in_answer_stops_printing : (guest : Guest) (plan : ExplorePlan) (answered : ExitStatus) (text : List ℕ) (w : Writer) → IsAnswerAbout guest plan answered text
     → Failed w text → StopsPrinting Write guest plan w
-stops_in_answer guest plan answered text w answer failed = inr (refl, answered, text, answer, failed)
+failed_writer_in_answer_stops_printing guest plan answered text w answer failed = inr (refl, answered, text, answer, failed)
 
 -- a list whose elements stay is no longer than what it becomes
 pub kept_list_is_not_longer : {A : Type 0} (xs ys : List A) → Stay xs ys → length xs ≤ length ys
 kept_list_is_not_longer [] ys stay = omega arith
 kept_list_is_not_longer (x ∷ xs) ys stay =
     let at = slice_get-get_or (x ∷ xs) (length xs) x (omega arith) in
-    let less = place_of_element_is_below_length ys (length xs) (get_or (x ∷ xs) (length xs) x) (stay (length xs) (get_or (x ∷ xs) (length xs) x) at) in
+    let less = index_of_element_is_below_length ys (length xs) (get_or (x ∷ xs) (length xs) x) (stay (length xs) (get_or (x ∷ xs) (length xs) x) at) in
     omega (arith, less)
 
 -- what was printed, among the outcomes that were found since

@@ -179,8 +179,8 @@ event_without_entry_never_leaves f t from k (Try p) none at = at
 -- ---- within a thread
 
 -- the position of an event fits, and one more
-pub entry_position_fits : (f : FittedTrace) → IsFitted f → (t i : ℕ) → IsInside f t i → entry_of f t i + 1 < 2 ^ 64
-entry_position_fits f fitted t i recorded_event_is_inside =
+pub entry_position_plus_one_fits_64_bits : (f : FittedTrace) → IsFitted f → (t i : ℕ) → IsInside f t i → entry_of f t i + 1 < 2 ^ 64
+entry_position_plus_one_fits_64_bits f fitted t i recorded_event_is_inside =
     let within = event_position_below_steps f fitted.run t recorded_event_is_inside.thread i recorded_event_is_inside.event in
     let same = fitted.run.whole.0.threads in
     let fits = (recorded_thread_at_number_is_recorded f.recorded fitted.within t (let l = recorded_event_is_inside.thread in omega (arith, l, same))).steps_fit in
@@ -219,8 +219,8 @@ pub leave_is_past_event : (f : FittedTrace) (t i k : ℕ) → LeavesAfter f t i 
 leave_is_past_event f t i k at = entry_leave_is_past_start f t (entry_of f t i + 1) k (event_at f.recorded t i) at
 
 -- its position fits, and one more
-pub leave_position_fits : (f : FittedTrace) → IsFitted f → (t i k : ℕ) → t < length f.guest.entries → LeavesAfter f t i k → k + 1 < 2 ^ 64
-leave_position_fits f fitted t i k l at =
+pub leave_position_plus_one_fits_64_bits : (f : FittedTrace) → IsFitted f → (t i k : ℕ) → t < length f.guest.entries → LeavesAfter f t i k → k + 1 < 2 ^ 64
+leave_position_plus_one_fits_64_bits f fitted t i k l at =
     let within = leave_is_within_thread f fitted.run t i k l at in
     let same = fitted.run.whole.0.threads in
     let fits = (recorded_thread_at_number_is_recorded f.recorded fitted.within t (omega (arith, l, same))).steps_fit in

@@ -18,7 +18,7 @@ use Rattle.ir_seen.specs.Seen.{Same, view}
 use Rattle.ir_freeze.specs.Frozen.{word, held_byte, end_bytes, changes, is_over, fixed_bytes, going_bytes, frozen}
 use Rattle.ir_freeze.specs.Twins.{AreTwins, IsBounded}
 use Rattle.ir_freeze.proofs.Apart.{parts_equal_if_appends_equal, word_bytes_injective, flat_words_injective, flat_words_length_equal, held_bytes_injective, changes_injective}
-use Rattle.ir_freeze.proofs.Back.{length_of_end_bytes, length_of_held_bytes, length_of_fixed_bytes}
+use Rattle.ir_freeze.proofs.Back.{length_of_end_bytes_is_five, length_of_held_bytes, length_of_fixed_bytes_is_132_plus_held_and_mark}
 
 -- the ends that aren't exits
 abbrev ends_but_exits : ℕ → List End
@@ -94,14 +94,14 @@ over_if_shared_ask_done code s h =
     let p = subst (Permits s) (ask_done_if_shared_ask_done (ask_of code s) h) (ask_of_permitted code s) in
     over_if_ended_and_holds_none s.ended (highest s.held) p.0 p.1
 
-shared_ask_done_if_over_parts : (code : List ℕ) (s : ThreadState) (e : Option End) (h : Option (ℕ × Access)) → highest s.held ≡ h → is_some e && is_none h ≡ true
+shared_ask_done_if_end_is_some_and_nothing_held : (code : List ℕ) (s : ThreadState) (e : Option End) (h : Option (ℕ × Access)) → highest s.held ≡ h → is_some e && is_none h ≡ true
     → shared_ask (ask_by code e s) ≡ machine.Done
-shared_ask_done_if_over_parts code s None h is over = absurd (cc over)
-shared_ask_done_if_over_parts code s (Some e) None is over = ap (λ z. shared_ask (release_ask z)) is
-shared_ask_done_if_over_parts code s (Some e) (Some top) is over = absurd (cc over)
+shared_ask_done_if_end_is_some_and_nothing_held code s None h is over = absurd (cc over)
+shared_ask_done_if_end_is_some_and_nothing_held code s (Some e) None is over = ap (λ z. shared_ask (release_ask z)) is
+shared_ask_done_if_end_is_some_and_nothing_held code s (Some e) (Some top) is over = absurd (cc over)
 
 pub shared_ask_done_if_over : (code : List ℕ) (s : ThreadState) → is_over s ≡ true → shared_ask (ask_of code s) ≡ machine.Done
-shared_ask_done_if_over code s over = shared_ask_done_if_over_parts code s s.ended (highest s.held) refl over
+shared_ask_done_if_over code s over = shared_ask_done_if_end_is_some_and_nothing_held code s s.ended (highest s.held) refl over
 
 -- ---- the bytes of a thread that goes on
 
@@ -156,7 +156,7 @@ view_equal_if_going_bytes_equal start size x y twins bx by m n lm ends e =
     sym (append_of_four_nested (fixed_bytes x m) (word (length x.output)) x.output cx) ∙ e ∙ append_of_four_nested (fixed_bytes y n) (word (length y.output)) y.output cy in
     let objects = twins.objects in
     let lf : length (fixed_bytes x m) ≡ length (fixed_bytes y n) =
-    length_of_fixed_bytes x m bx.core.register_count ∙ omega (arith, objects, lm) ∙ sym (length_of_fixed_bytes y n by.core.register_count) in
+    length_of_fixed_bytes_is_132_plus_held_and_mark x m bx.core.register_count ∙ omega (arith, objects, lm) ∙ sym (length_of_fixed_bytes_is_132_plus_held_and_mark y n by.core.register_count) in
     let s1 = parts_equal_if_appends_equal (fixed_bytes x m) (fixed_bytes y n) (word (length x.output) ++ (x.output ++ cx)) (word (length y.output) ++ (y.output ++ cy))
     lf apart in
     let p = parts_equal_if_fixed_bytes_equal x y twins bx by m n lm s1.0 in
@@ -205,7 +205,7 @@ pub frozen_bytes_equal_iff_same_looks : (code start : List ℕ) → length start
 frozen_bytes_equal_iff_same_looks code start size x y twins bx by m n lm = (
   λ e.
       let s = parts_equal_if_appends_equal (end_bytes x.ended) (end_bytes y.ended) (cond (is_over x) (1 ∷ x.output) (0 ∷ going_bytes start x m))
-      (cond (is_over y) (1 ∷ y.output) (0 ∷ going_bytes start y n)) (length_of_end_bytes x.ended ∙ sym (length_of_end_bytes y.ended)) e in
+      (cond (is_over y) (1 ∷ y.output) (0 ∷ going_bytes start y n)) (length_of_end_bytes_is_five x.ended ∙ sym (length_of_end_bytes_is_five y.ended)) e in
       same_looks_if_flagged_bytes_equal code start size x y twins bx by m n lm (end_bytes_injective x.ended y.ended bx.code by.code s.0) (is_over x) (is_over y) refl refl s.1,
   λ h. elim h [
     | inl e ↦ ap (λ z. frozen start z.0 z.1) e

@@ -72,8 +72,8 @@ set_at_prefix_length : (before rest : List ℕ) (old new : ℕ) → set (before 
 set_at_prefix_length [] rest old new = refl
 set_at_prefix_length (x ∷ before) rest old new = ap (λ l. x ∷ l) (set_at_prefix_length before rest old new)
 
-element_joined_to_prefix : (before rest : List ℕ) (x : ℕ) → before ++ x ∷ rest ≡ (before ++ x ∷ []) ++ rest
-element_joined_to_prefix before rest x = sym (append_assoc before (x ∷ []) rest)
+append_of_cons_regroups : (before rest : List ℕ) (x : ℕ) → before ++ x ∷ rest ≡ (before ++ x ∷ []) ++ rest
+append_of_cons_regroups before rest x = sym (append_assoc before (x ∷ []) rest)
 
 -- the changes give the memory, from the place on before which all is as it is there
 changed_by_changes_gives_memory : (before start memory : List ℕ) → length memory ≡ length start → length before + length start ≤ 2 ^ 16
@@ -86,33 +86,33 @@ changed_by_changes_gives_memory before (x ∷ start) (y ∷ memory) same room =
     let less : length (before ++ y ∷ []) + length start ≤ 2 ^ 16 = omega (arith, place, room) in
     let next : changed ((before ++ y ∷ []) ++ start) (changes (suc (length before)) start memory) ≡ before ++ y ∷ memory =
     ap (λ p. changed ((before ++ y ∷ []) ++ start) (changes p start memory)) (sym place)
-    ∙ changed_by_changes_gives_memory (before ++ y ∷ []) start memory (omega (arith, same)) less ∙ sym (element_joined_to_prefix before memory y) in
+    ∙ changed_by_changes_gives_memory (before ++ y ∷ []) start memory (omega (arith, same)) less ∙ sym (append_of_cons_regroups before memory y) in
     elim (change_is_empty_or_written (length before) x y) [
       | inl p ↦
           ap (λ l. changed (before ++ x ∷ start) (l ++ changes (suc (length before)) start memory)) p.1
           ∙ ap (λ z. changed (before ++ z ∷ start) (changes (suc (length before)) start memory)) (sym p.0)
-          ∙ ap (λ l. changed l (changes (suc (length before)) start memory)) (element_joined_to_prefix before start y)
+          ∙ ap (λ l. changed l (changes (suc (length before)) start memory)) (append_of_cons_regroups before start y)
           ∙ next
       | inr p ↦
           ap (λ l. changed (before ++ x ∷ start) (l ++ changes (suc (length before)) start memory)) p
           ∙ ap (λ q. changed (set (before ++ x ∷ start) q y) (changes (suc (length before)) start memory))
           (from_le_bytes-to_le_bytes_2 (length before) (omega (arith, room)))
-          ∙ ap (λ l. changed l (changes (suc (length before)) start memory)) (set_at_prefix_length before start x y ∙ element_joined_to_prefix before start y)
+          ∙ ap (λ l. changed l (changes (suc (length before)) start memory)) (set_at_prefix_length before start x y ∙ append_of_cons_regroups before start y)
           ∙ next
     ]
 
 -- what is behind the bytes of a fixed length, the output's length, and the output
-pub length_of_flat_words : (xs : List ℕ) → length (flat_map word xs) ≡ 4 * length xs
-length_of_flat_words [] = refl
-length_of_flat_words (x ∷ xs) = ap (λ n. suc (suc (suc (suc n)))) (length_of_flat_words xs) ∙ omega arith
+pub length_of_flat_words_is_four_times_length : (xs : List ℕ) → length (flat_map word xs) ≡ 4 * length xs
+length_of_flat_words_is_four_times_length [] = refl
+length_of_flat_words_is_four_times_length (x ∷ xs) = ap (λ n. suc (suc (suc (suc n)))) (length_of_flat_words_is_four_times_length xs) ∙ omega arith
 
 pub length_of_held_bytes : (xs : List (Option Access)) → length (map held_byte xs) ≡ length xs
 length_of_held_bytes [] = refl
 length_of_held_bytes (x ∷ xs) = ap suc (length_of_held_bytes xs)
 
-pub length_of_end_bytes : (e : Option End) → length (end_bytes e) ≡ 5
-length_of_end_bytes None = refl
-length_of_end_bytes (Some e) = refl
+pub length_of_end_bytes_is_five : (e : Option End) → length (end_bytes e) ≡ 5
+length_of_end_bytes_is_five None = refl
+length_of_end_bytes_is_five (Some e) = refl
 
 frozen_bytes_of_going_thread : (start : List ℕ) (s : ThreadState) (mark : List ℕ) → is_over s ≡ false
     → frozen start s mark ≡ (end_bytes s.ended ++ 0 ∷ ((fixed_bytes s mark ++ word (length s.output)) ++ s.output)) ++ changes 0 start s.core.memory
@@ -130,16 +130,16 @@ length_of_flagged_parts : (e a b c : List ℕ) → length (e ++ 0 ∷ ((a ++ b) 
 length_of_flagged_parts e a b c =
     let p = length-append e (0 ∷ ((a ++ b) ++ c)) in let q = length-append (a ++ b) c in let r = length-append a b in omega (arith, p, q, r)
 
-pub length_of_fixed_bytes : (s : ThreadState) (mark : List ℕ) → length s.core.registers ≡ 32 → length (fixed_bytes s mark) ≡ 132 + length s.held + length mark
-length_of_fixed_bytes s mark many =
+pub length_of_fixed_bytes_is_132_plus_held_and_mark : (s : ThreadState) (mark : List ℕ) → length s.core.registers ≡ 32 → length (fixed_bytes s mark) ≡ 132 + length s.held + length mark
+length_of_fixed_bytes_is_132_plus_held_and_mark s mark many =
     length_of_four_parts (word s.core.pc) (flat_map word s.core.registers) (map held_byte s.held) mark
-    ∙ (let r = length_of_flat_words s.core.registers in let h = length_of_held_bytes s.held in omega (arith, r, h, many))
+    ∙ (let r = length_of_flat_words_is_four_times_length s.core.registers in let h = length_of_held_bytes s.held in omega (arith, r, h, many))
 
 length_of_bytes_before_changes : (s : ThreadState) (mark : List ℕ) → length s.core.registers ≡ 32
     → length (end_bytes s.ended ++ 0 ∷ ((fixed_bytes s mark ++ word (length s.output)) ++ s.output)) ≡ before_changes s (length mark)
 length_of_bytes_before_changes s mark many =
     length_of_flagged_parts (end_bytes s.ended) (fixed_bytes s mark) (word (length s.output)) s.output
-    ∙ (let e = length_of_end_bytes s.ended in let f = length_of_fixed_bytes s mark many in omega (arith, e, f))
+    ∙ (let e = length_of_end_bytes_is_five s.ended in let f = length_of_fixed_bytes_is_132_plus_held_and_mark s mark many in omega (arith, e, f))
 
 pub thawed_of_frozen_thread : (start : List ℕ) → length start ≡ memory_size → (s : ThreadState) → IsBounded s → (mark : List ℕ) → is_over s ≡ false
     → thawed start (frame_of s) (before_changes s (length mark)) (frozen start s mark) ≡ s
@@ -154,8 +154,8 @@ thawed_of_frozen_thread start size s bounded mark goes =
     (changed_by_changes_gives_memory [] start s.core.memory (bounded.core.memory_length ∙ sym size) (omega (arith, size)))
     ∙ ap (λ c. record s { core = c }) (core_of_own_pages s.core bounded.core.memory_length)
 
-pub thawed_of_changes : (start : List ℕ) → length start ≡ memory_size → (s : ThreadState) → length s.core.memory ≡ memory_size
+pub thawed_of_changes_is_thread : (start : List ℕ) → length start ≡ memory_size → (s : ThreadState) → length s.core.memory ≡ memory_size
     → thawed start (frame_of s) 0 (changes 0 start s.core.memory) ≡ s
-thawed_of_changes start size s same =
+thawed_of_changes_is_thread start size s same =
     ap (λ l. thread_of (frame_of s) (pages_of l)) (changed_by_changes_gives_memory [] start s.core.memory (same ∙ sym size) (omega (arith, size)))
     ∙ ap (λ c. record s { core = c }) (core_of_own_pages s.core same)

@@ -58,8 +58,8 @@ pub append_of_empty : (out more : List ℕ) → more ≡ [] → out ≡ out ++ m
 append_of_empty out more e = sym (append-nil out) ∙ ap (λ l. out ++ l) (sym e)
 
 -- a page, and what is behind it
-page_before_remaining_memory : (memory : List ℕ) (i : ℕ) → page_of memory i ++ drop (4096 * (i + 1)) memory ≡ drop (4096 * i) memory
-page_before_remaining_memory memory i =
+page_append_rest_is_drop_at_page : (memory : List ℕ) (i : ℕ) → page_of memory i ++ drop (4096 * (i + 1)) memory ≡ drop (4096 * i) memory
+page_append_rest_is_drop_at_page memory i =
     ap (λ n. page_of memory i ++ drop n memory) (omega arith)
     ∙ ap (λ l. page_of memory i ++ l) (sym (drop-drop page_size (4096 * i) memory))
     ∙ take-append-drop page_size (drop (4096 * i) memory)
@@ -78,6 +78,6 @@ changes_page_step i start memory out more old new whole is is' size size' e befo
     ∙ ap (λ l. out ++ l)
     (sym (changes_append (4096 * i) old (drop (4096 * (i + 1)) start) new (drop (4096 * (i + 1)) memory) (size ∙ sym size')))
     ∙ ap (λ l. out ++ changes (4096 * i) l (new ++ drop (4096 * (i + 1)) memory))
-    (ap (λ l. l ++ drop (4096 * (i + 1)) start) is ∙ page_before_remaining_memory start i)
-    ∙ ap (λ l. out ++ changes (4096 * i) (drop (4096 * i) start) l) (ap (λ l. l ++ drop (4096 * (i + 1)) memory) is' ∙ page_before_remaining_memory memory i)
+    (ap (λ l. l ++ drop (4096 * (i + 1)) start) is ∙ page_append_rest_is_drop_at_page start i)
+    ∙ ap (λ l. out ++ changes (4096 * i) (drop (4096 * i) start) l) (ap (λ l. l ++ drop (4096 * (i + 1)) memory) is' ∙ page_append_rest_is_drop_at_page memory i)
     ∙ before

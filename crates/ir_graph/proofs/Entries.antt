@@ -38,14 +38,14 @@ noted_in_is_row_element [] t v d l = absurd (omega (arith, l))
 noted_in_is_row_element (row ∷ rows) zero v d l = refl
 noted_in_is_row_element (row ∷ rows) (suc t) v d l = noted_in_is_row_element rows t v d (omega (arith, l))
 
-pub noted_in_after_row_set : (rows : List (Vec NotedLead)) (i : ℕ) (w : Vec NotedLead) → i < length rows → (t v : ℕ)
+pub noted_in_after_row_set_cases : (rows : List (Vec NotedLead)) (i : ℕ) (w : Vec NotedLead) → i < length rows → (t v : ℕ)
     → ((t ≡ i) × (noted_in (slice_set rows i w) t v ≡ slice_index_or w.items v None))
     ⊎ ((t ≡ i → ⊥) × (noted_in (slice_set rows i w) t v ≡ noted_in rows t v))
-noted_in_after_row_set [] i w l t v = absurd (omega (arith, l))
-noted_in_after_row_set (row ∷ rows) zero w l zero v = inl (refl, refl)
-noted_in_after_row_set (row ∷ rows) zero w l (suc t) v = inr ((λ e. let n : suc t ≡ zero = e in omega (arith, n)), refl)
-noted_in_after_row_set (row ∷ rows) (suc i) w l zero v = inr ((λ e. let n : zero ≡ suc i = e in omega (arith, n)), refl)
-noted_in_after_row_set (row ∷ rows) (suc i) w l (suc t) v = elim (noted_in_after_row_set rows i w (omega (arith, l)) t v) [
+noted_in_after_row_set_cases [] i w l t v = absurd (omega (arith, l))
+noted_in_after_row_set_cases (row ∷ rows) zero w l zero v = inl (refl, refl)
+noted_in_after_row_set_cases (row ∷ rows) zero w l (suc t) v = inr ((λ e. let n : suc t ≡ zero = e in omega (arith, n)), refl)
+noted_in_after_row_set_cases (row ∷ rows) (suc i) w l zero v = inr ((λ e. let n : zero ≡ suc i = e in omega (arith, n)), refl)
+noted_in_after_row_set_cases (row ∷ rows) (suc i) w l (suc t) v = elim (noted_in_after_row_set_cases rows i w (omega (arith, l)) t v) [
   | inl p ↦ inl (ap suc p.0, p.1)
   | inr n ↦ inr ((λ e. n.0 (let q : suc t ≡ suc i = e in omega (arith, q))), n.1)
 ]
@@ -55,7 +55,7 @@ pub noted_in_after_place_set_cases : (rows : List (Vec NotedLead)) (i : ℕ) (w 
     → ((v : ℕ) → (v ≡ node → ⊥) → slice_index_or w.items v None ≡ slice_index_or (slice_index_or rows i d).items v None)
     → (slice_index_or w.items node None ≡ Some next) ⊎ (w.items ≡ (slice_index_or rows i d).items) → (t v : ℕ)
     → (noted_in (slice_set rows i w) t v ≡ noted_in rows t v) ⊎ ((t ≡ i) × (v ≡ node) × (noted_in (slice_set rows i w) t v ≡ Some next))
-noted_in_after_place_set_cases rows i w d node next l others here t v = elim (noted_in_after_row_set rows i w l t v) [
+noted_in_after_place_set_cases rows i w d node next l others here t v = elim (noted_in_after_row_set_cases rows i w l t v) [
   | inl p ↦
       let was : noted_in rows t v ≡ slice_index_or (slice_index_or rows i d).items v None =
       ap (λ z. noted_in rows z v) p.0 ∙ noted_in_is_row_element rows i v d l in
@@ -85,7 +85,7 @@ index_within_ignores_default (x ∷ xs) (suc i) d d' l = index_within_ignores_de
 
 pub noted_in_set_row_is_its_element : (rows : List (Vec NotedLead)) (i : ℕ) (w : Vec NotedLead) (node : ℕ) (x : NotedLead) → i < length rows
     → slice_index_or w.items node None ≡ x → noted_in (slice_set rows i w) i node ≡ x
-noted_in_set_row_is_its_element rows i w node x l is = elim (noted_in_after_row_set rows i w l i node) [ inl p ↦ p.1 ∙ is | inr n ↦ absurd (n.0 refl) ]
+noted_in_set_row_is_its_element rows i w node x l is = elim (noted_in_after_row_set_cases rows i w l i node) [ inl p ↦ p.1 ∙ is | inr n ↦ absurd (n.0 refl) ]
 
 noted_in_earlier_row : (rows : List (Vec NotedLead)) (w : Vec NotedLead) (t v : ℕ) → t < length rows → noted_in (rows ++ w ∷ []) t v ≡ noted_in rows t v
 noted_in_earlier_row [] w t v l = absurd (omega (arith, l))

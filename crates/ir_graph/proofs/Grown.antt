@@ -169,9 +169,9 @@ is_graph_after_way_noted x old flats rows refused_rows new tries thread way node
     (omega (arith, inside, grown)) within leads)
 
 -- each node has all threads
-pub thread_count_of_node : (x : Setup) (flats : List SourcedFlat) (noted : ℕ → BothWays) (threads v : ℕ) (f : SourcedFlat)
+pub thread_count_of_node_is_that_of_graph : (x : Setup) (flats : List SourcedFlat) (noted : ℕ → BothWays) (threads v : ℕ) (f : SourcedFlat)
     → IsGraph x flats noted threads → slice_get flats v ≡ Some f → length f.flat.threads ≡ threads
-thread_count_of_node x flats noted threads v f g is =
+thread_count_of_node_is_that_of_graph x flats noted threads v f g is =
     let first = element_below_length_exists flats 0 g.some in
     (g.nodes.like 0 v first.0 f first.1 is).threads ∙ g.many first.0 first.1
 
@@ -179,7 +179,7 @@ thread_count_of_node x flats noted threads v f g is =
 pub thread_exists_if_nothing_is_noted : (x : Setup) (flats : List SourcedFlat) (noted : ℕ → BothWays) (threads t : ℕ) (refused : Bool)
     (v w : ℕ) (f : SourcedFlat) → IsGraph x flats noted threads → noted t refused v ≡ None → slice_get flats w ≡ Some f → t < length f.flat.threads
 thread_exists_if_nothing_is_noted x flats noted threads t refused v w f g free is = elim (cases_lt t threads) [
-  | inl l ↦ subst (λ n. t < n) (sym (thread_count_of_node x flats noted threads w f g is)) l
+  | inl l ↦ subst (λ n. t < n) (sym (thread_count_of_node_is_that_of_graph x flats noted threads w f g is)) l
   | inr l ↦ absurd (cc (sym free ∙ g.past t refused v l))
 ]
 
@@ -192,9 +192,9 @@ is_graph_of_equal_rows x flats new tries {rows} {refused_rows} same also g =
     (subst (λ z. IsGraph x flats (noted_by new z) (length new)) (sym also) g)
 
 -- each node has the guest's code
-pub code_of_node : (x : Setup) (flats : List SourcedFlat) (noted : ℕ → BothWays) (threads v : ℕ) (f : SourcedFlat)
+pub code_of_node_is_guest_code : (x : Setup) (flats : List SourcedFlat) (noted : ℕ → BothWays) (threads v : ℕ) (f : SourcedFlat)
     → IsGraph x flats noted threads → slice_get flats v ≡ Some f → f.flat.code ≡ x.guest.code
-code_of_node x flats noted threads v f g is =
+code_of_node_is_guest_code x flats noted threads v f g is =
     let first = element_below_length_exists flats 0 g.some in
     (g.nodes.like 0 v first.0 f first.1 is).code ∙ g.code first.0 first.1
 

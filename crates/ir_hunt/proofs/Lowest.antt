@@ -19,32 +19,32 @@ some_is_not_none : (s : ℕ) → Some s ≡ None → ⊥
 some_is_not_none s e = none-some s (sym e)
 
 -- what is in a list is in it with one more after its first
-contains_after_inserted_second : {X : Type 0} (x y z : X) (xs : List X) → Contains (x ∷ xs) z → Contains (x ∷ y ∷ xs) z
-contains_after_inserted_second x y z xs h = elim (Contains-append_cases (x ∷ []) xs z h) [
+contains_kept_by_insert_after_first : {X : Type 0} (x y z : X) (xs : List X) → Contains (x ∷ xs) z → Contains (x ∷ y ∷ xs) z
+contains_kept_by_insert_after_first x y z xs h = elim (Contains-append_cases (x ∷ []) xs z h) [
   | inl first ↦ Contains-append_left (x ∷ []) (y ∷ xs) z first
   | inr rest ↦ Contains-append_right (x ∷ y ∷ []) xs z rest
 ]
 
 -- and with one more before it
-contains_after_inserted_first : {X : Type 0} (x z : X) (xs : List X) → Contains xs z → Contains (x ∷ xs) z
-contains_after_inserted_first x z xs h = Contains-append_right (x ∷ []) xs z h
+contains_kept_by_cons : {X : Type 0} (x z : X) (xs : List X) → Contains xs z → Contains (x ∷ xs) z
+contains_kept_by_cons x z xs h = Contains-append_right (x ∷ []) xs z h
 
 -- the lower of two is the later one
 lowest_with_lower_second : (s n : ℕ) (r : Option ℕ) (xs : List (Option ℕ)) → n < s → IsLowest (Some n ∷ xs) r → IsLowest (Some s ∷ Some n ∷ xs) r
 lowest_with_lower_second s n None xs below h = absurd (some_is_not_none n h.0)
-lowest_with_lower_second s n (Some l) xs below h = (contains_after_inserted_first (Some s) (Some l) (Some n ∷ xs) h.0, (let most = h.1.0 in omega (arith, most, below), (h.1.0, h.1.1)))
+lowest_with_lower_second s n (Some l) xs below h = (contains_kept_by_cons (Some s) (Some l) (Some n ∷ xs) h.0, (let most = h.1.0 in omega (arith, most, below), (h.1.0, h.1.1)))
 
 -- the lower of two is the earlier one
 lowest_with_lower_first : (s n : ℕ) (r : Option ℕ) (xs : List (Option ℕ)) → s ≤ n → IsLowest (Some s ∷ xs) r → IsLowest (Some s ∷ Some n ∷ xs) r
 lowest_with_lower_first s n None xs above h = absurd (some_is_not_none s h.0)
-lowest_with_lower_first s n (Some l) xs above h = (contains_after_inserted_second (Some s) (Some n) (Some l) xs h.0, (h.1.0, (let most = h.1.0 in omega (arith, most, above), h.1.1)))
+lowest_with_lower_first s n (Some l) xs above h = (contains_kept_by_insert_after_first (Some s) (Some n) (Some l) xs h.0, (h.1.0, (let most = h.1.0 in omega (arith, most, above), h.1.1)))
 
 -- of the lower of two and others the lowest is that of both and the others
 lowest_of_lower_of_two : (a b r : Option ℕ) (xs : List (Option ℕ)) → IsLowest (lower a b ∷ xs) r → IsLowest (a ∷ b ∷ xs) r
 lowest_of_lower_of_two None b None xs h = (refl, h)
-lowest_of_lower_of_two None b (Some l) xs h = (contains_after_inserted_first None (Some l) (b ∷ xs) h.0, (tt, h.1))
+lowest_of_lower_of_two None b (Some l) xs h = (contains_kept_by_cons None (Some l) (b ∷ xs) h.0, (tt, h.1))
 lowest_of_lower_of_two (Some s) None None xs h = absurd (some_is_not_none s h.0)
-lowest_of_lower_of_two (Some s) None (Some l) xs h = (contains_after_inserted_second (Some s) None (Some l) xs h.0, (h.1.0, (tt, h.1.1)))
+lowest_of_lower_of_two (Some s) None (Some l) xs h = (contains_kept_by_insert_after_first (Some s) None (Some l) xs h.0, (h.1.0, (tt, h.1.1)))
 lowest_of_lower_of_two (Some s) (Some n) r xs h = elim (cases_lt n s) [
   | inl below ↦ lowest_with_lower_second s n r xs below (subst (λ b. IsLowest ((if b then Some n else Some s) ∷ xs) r) (lt-ltb n s below) h)
   | inr above ↦ lowest_with_lower_first s n r xs above (subst (λ b. IsLowest ((if b then Some n else Some s) ∷ xs) r) (le-ltb n s above) h)

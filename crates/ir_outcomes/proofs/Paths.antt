@@ -8,17 +8,17 @@ use Rattle.ir_explore.specs.Origins.{AreWaysUnder, Refused}
 use Rattle.ir_outcomes.specs.Path.{IsPathTo, ways_of}
 
 -- one turn more at the beginning of a path
-path_through_origin : (origins : List Origin) (v : ℕ) (n : Origin) (more : List Origin) → slice_get origins v ≡ Some n
+path_to_node_begins_with_its_origin : (origins : List Origin) (v : ℕ) (n : Origin) (more : List Origin) → slice_get origins v ≡ Some n
     → IsPathTo origins n.from more → IsPathTo origins v (n ∷ more)
-path_through_origin origins v n [] at path = absurd path
-path_through_origin origins v n (m ∷ more) at path = (at, path)
+path_to_node_begins_with_its_origin origins v n [] at path = absurd path
+path_to_node_begins_with_its_origin origins v n (m ∷ more) at path = (at, path)
 
 -- so is one at the end of those that were found
-pub path_with_origin_pushed : (origins : List Origin) (node v : ℕ) (n : Origin) (found : List Origin) → slice_get origins v ≡ Some n
+pub found_turns_with_origin_pushed_begin_path_to_node : (origins : List Origin) (node v : ℕ) (n : Origin) (found : List Origin) → slice_get origins v ≡ Some n
     → ((more : List Origin) → IsPathTo origins v more → IsPathTo origins node (found ++ more))
     → (more : List Origin) → IsPathTo origins n.from more → IsPathTo origins node ((found ++ n ∷ []) ++ more)
-path_with_origin_pushed origins node v n found at path more rest =
-    subst (IsPathTo origins node) (sym (append_assoc found (n ∷ []) more)) (path (n ∷ more) (path_through_origin origins v n more at rest))
+found_turns_with_origin_pushed_begin_path_to_node origins node v n found at path more rest =
+    subst (IsPathTo origins node) (sym (append_assoc found (n ∷ []) more)) (path (n ∷ more) (path_to_node_begins_with_its_origin origins v n more at rest))
 
 pushed_refusal_comes_first_in_ways : (refusals : List Refusal) (x : Refusal) → ways_of (refusals ++ x ∷ []) ≡ (replicate x.entries false ++ true ∷ []) ++ ways_of refusals
 pushed_refusal_comes_first_in_ways [] x = sym (append-nil (replicate x.entries false ++ true ∷ []))

@@ -7,8 +7,8 @@ use Rattle.ir_runs.proofs.CallerLemmas.{StateInvariant, end_append}
 use Rattle.ir_states.specs.Counting.{Answers, Counts, GoesAhead, entering, Brought}
 use Rattle.ir_states.specs.Nodes.{TellsNothing, Noted, Path, IsClosed, Chain, Arrives}
 use Rattle.ir_states.specs.Outcomes.{IsOutcome, Begins, IsFinished}
-use Rattle.ir_states.proofs.Rest.{goes_ahead_counts, goes_ahead_append, state_invariant_after_counting_run, steps_ahead_may_come_first, nothing_goes_ahead_if_done}
-use Rattle.ir_states.proofs.Closed.{arrives_along_chain, RunByEntries, shows}
+use Rattle.ir_states.proofs.Rest.{run_that_goes_ahead_counts, goes_ahead_append, state_invariant_after_counting_run, steps_ahead_may_come_first, nothing_goes_ahead_if_done}
+use Rattle.ir_states.proofs.Closed.{counting_run_arrives_along_chain, RunByEntries, shows}
 
 pub is_done_from_alike_state : {T : Type 0} (m : Machine T) (answers : Answers T) (Alike : State T → State T → Type 0) → TellsNothing m answers Alike
     → (s v : State T) → Alike s v → IsDone m s → IsDone m v
@@ -24,8 +24,8 @@ pub counting_run_arrives : {T I K : Type 0} (m : Machine T) → IsLawful m → (
 counting_run_arrives m law answers Alike tells Moves state_of Node Next closed s first good begins i j is run ok chain =
     let b : Brought m answers s begins.ahead run = steps_ahead_may_come_first m law answers s good begins.ahead begins.goes run ok in
     let a : Arrives m answers Alike state_of Node Next (end m s begins.ahead) first b.rest j =
-    arrives_along_chain m law answers Alike tells Moves state_of Node Next closed (entering m s run) i j chain (end m s begins.ahead) first
-    (state_invariant_after_counting_run m law answers s good begins.ahead (goes_ahead_counts m answers s begins.ahead begins.goes)) begins.alike is b.rest b.counts
+    counting_run_arrives_along_chain m law answers Alike tells Moves state_of Node Next closed (entering m s run) i j chain (end m s begins.ahead) first
+    (state_invariant_after_counting_run m law answers s good begins.ahead (run_that_goes_ahead_counts m answers s begins.ahead begins.goes)) begins.alike is b.rest b.counts
     b.same_entering in
     record {
       left = b.left ++ a.left;

@@ -10,17 +10,17 @@ use Rattle.ir_states.specs.Nodes.{LeadsTo}
 use Rattle.ir_states.specs.Orders.{threads_of, EachEnters, IsAlone}
 
 -- a run goes by its threads' turns
-pub run_is_in_turn : {T : Type 0} (m : Machine T) (s : State T) (run : List Step) → IsRun m s run → EachEnters m s run
+pub run_is_in_turn_of_its_threads : {T : Type 0} (m : Machine T) (s : State T) (run : List Step) → IsRun m s run → EachEnters m s run
     → InTurn m s (threads_of run) run
-run_is_in_turn m s [] ok enters = refl
-run_is_in_turn m s (e ∷ run) ok enters = inr (e.1, run, refl, ok.0, enters.0, run_is_in_turn m (after m s e) run ok.1 enters.1)
+run_is_in_turn_of_its_threads m s [] ok enters = refl
+run_is_in_turn_of_its_threads m s (e ∷ run) ok enters = inr (e.1, run, refl, ok.0, enters.0, run_is_in_turn_of_its_threads m (after m s e) run ok.1 enters.1)
 
 -- a complete run is the run by the order of its threads
 pub complete_run_is_by_order : {T : Type 0} (m : Machine T) (s : State T) (n : ℕ) (run : List Step) → IsRun m s run → EachEnters m s run
     → IsDone m (end m s run) → IsByOrder m s n (threads_of run) run
 complete_run_is_by_order m s n run ok enters done = record {
   count = 0;
-  turns = subst (λ z. InTurn m s z run) (sym (append-nil (threads_of run))) (run_is_in_turn m s run ok enters);
+  turns = subst (λ z. InTurn m s z run) (sym (append-nil (threads_of run))) (run_is_in_turn_of_its_threads m s run ok enters);
   done = done;
 }
 

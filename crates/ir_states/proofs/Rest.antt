@@ -16,10 +16,10 @@ counting_run_is_run m answers s [] ok = tt
 counting_run_is_run m answers s (e ∷ run) ok = (ok.0.0, counting_run_is_run m answers (after m s e) run ok.1)
 
 -- steps that no other can refuse count
-pub goes_ahead_counts : {T : Type 0} (m : Machine T) (answers : Answers T) (s : State T) (run : List Step) → GoesAhead m answers s run
+pub run_that_goes_ahead_counts : {T : Type 0} (m : Machine T) (answers : Answers T) (s : State T) (run : List Step) → GoesAhead m answers s run
     → Counts m answers s run
-goes_ahead_counts m answers s [] ok = tt
-goes_ahead_counts m answers s (e ∷ run) ok = (ok.1, goes_ahead_counts m answers (after m s e) run ok.2)
+run_that_goes_ahead_counts m answers s [] ok = tt
+run_that_goes_ahead_counts m answers s (e ∷ run) ok = (ok.1, run_that_goes_ahead_counts m answers (after m s e) run ok.2)
 
 -- runs one after the other
 pub counts_append : {T : Type 0} (m : Machine T) (answers : Answers T) (s : State T) (run more : List Step) → Counts m answers s run
@@ -46,12 +46,12 @@ entering_append m s (e ∷ run) more =
     join false ts = refl
 
 -- steps that no other can refuse enter nothing
-pub goes_ahead_enters_nothing : {T : Type 0} (m : Machine T) (answers : Answers T) (s : State T) (run : List Step) → GoesAhead m answers s run
+pub run_that_goes_ahead_enters_nothing : {T : Type 0} (m : Machine T) (answers : Answers T) (s : State T) (run : List Step) → GoesAhead m answers s run
     → entering m s run ≡ []
-goes_ahead_enters_nothing m answers s [] ok = refl
-goes_ahead_enters_nothing m answers s (e ∷ run) ok =
+run_that_goes_ahead_enters_nothing m answers s [] ok = refl
+run_that_goes_ahead_enters_nothing m answers s (e ∷ run) ok =
     ap (λ b. cond b (entering m (after m s e) run) (e.0 ∷ entering m (after m s e) run)) ok.0
-    ∙ goes_ahead_enters_nothing m answers (after m s e) run ok.2
+    ∙ run_that_goes_ahead_enters_nothing m answers (after m s e) run ok.2
 
 pub state_invariant_after_counting_run : {T : Type 0} (m : Machine T) → IsLawful m → (answers : Answers T) (s : State T) → StateInvariant m s → (run : List Step)
     → Counts m answers s run → StateInvariant m (end m s run)

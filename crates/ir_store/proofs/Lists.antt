@@ -28,17 +28,17 @@ all_by_recursion_after_put P xs new y all is either = elim either [
 ]
 
 -- one element more
-pub keeps_after_push : {X : Type 0} (old : List X) (s : X) → Keeps old (old ++ s ∷ [])
-keeps_after_push [] s n x e = absurd (cc e)
-keeps_after_push (y ∷ old) s zero x e = e
-keeps_after_push (y ∷ old) s (suc n) x e = keeps_after_push old s n x e
+pub push_keeps_old_elements : {X : Type 0} (old : List X) (s : X) → Keeps old (old ++ s ∷ [])
+push_keeps_old_elements [] s n x e = absurd (cc e)
+push_keeps_old_elements (y ∷ old) s zero x e = e
+push_keeps_old_elements (y ∷ old) s (suc n) x e = push_keeps_old_elements old s n x e
 
 -- what was kept stays
 pub kept_element_is_equal : {X : Type 0} (old new : List X) (d : X) → Keeps old new → (n : ℕ) → n < length old → get_or new n d ≡ get_or old n d
 kept_element_is_equal old new d keeps n lt = get_or_from_slice_get new n (get_or old n d) d (keeps n (get_or old n d) (slice_get-get_or old n d lt))
 
-pub place_below_length_kept : {X : Type 0} (old new : List X) (d : X) → Keeps old new → (n : ℕ) → n < length old → n < length new
-place_below_length_kept old new d keeps n lt = slice_get_within new n (get_or old n d) (keeps n (get_or old n d) (slice_get-get_or old n d lt))
+pub index_below_length_kept_if_elements_kept : {X : Type 0} (old new : List X) (d : X) → Keeps old new → (n : ℕ) → n < length old → n < length new
+index_below_length_kept_if_elements_kept old new d keeps n lt = slice_get_within new n (get_or old n d) (keeps n (get_or old n d) (slice_get-get_or old n d lt))
 
 -- elements found one by one
 pub mapped_elements_found_step : {X Y : Type 0} (f : X → Y) (xs : List X) (x : X) (ys : List Y) (i : ℕ) (d : Y) → i < length ys → map f xs ≡ take i ys

@@ -9,7 +9,7 @@ use Rattle.ir_lemmas.proofs.CallerLemmas.{all_by_recursion_after_push, slice_get
 use Rattle.ir_sources.specs.Sources.{Source}
 use Rattle.ir_thread.specs.State.{ThreadState}
 use Rattle.ir_store.specs.Table.{Keeps, LooksLike, AreLooks}
-use Rattle.ir_store.proofs.Lists.{keeps_after_push}
+use Rattle.ir_store.proofs.Lists.{push_keeps_old_elements}
 
 pub looked_up_row_is_element_of_mapped_rows : {R X : Type 0} (f : R → X) (rows : List R) (row : R) (n : ℕ) (x : X) → n < length (map f rows) → row ≡ get_or rows n row
     → x ≡ f row → slice_get (map f rows) n ≡ Some x
@@ -38,7 +38,7 @@ pub looks_after_thread_pushed : (start : List ℕ) (items : List (ThreadState ×
     → AreLooks start (items ++ x ∷ []) (looks ++ k ∷ [])
 looks_after_thread_pushed start items looks x k size all is n j y stands at = elim (slice_get_after_push_cases looks k n j stands) [
   | inl old ↦ elim (slice_get_after_push_cases items x n y at) [
-    | inl here ↦ looks_like_if_kept start items (items ++ x ∷ []) j y (keeps_after_push items x) (all n j y old here)
+    | inl here ↦ looks_like_if_kept start items (items ++ x ∷ []) j y (push_keeps_old_elements items x) (all n j y old here)
     | inr last ↦ absurd (old_less looks n j old (last.0 ∙ sym size))
   ]
   | inr last ↦ elim (slice_get_after_push_cases items x n y at) [
@@ -53,7 +53,7 @@ looks_after_thread_pushed start items looks x k size all is n j y stands at = el
 
     new_one : (k ≡ length items) ⊎ LooksLike start items k x → LooksLike start (items ++ x ∷ []) k x
     new_one (inl e) = record { kept = x; at = ap (slice_get (items ++ x ∷ [])) e ∙ added_element_is_last items x; bytes = refl; source = λ going. refl }
-    new_one (inr like) = looks_like_if_kept start items (items ++ x ∷ []) k x (keeps_after_push items x) like
+    new_one (inr like) = looks_like_if_kept start items (items ++ x ∷ []) k x (push_keeps_old_elements items x) like
 
 pub looks_after_row_put : {R : Type 0} (f : R → ThreadState × Source) (g : R → ℕ) (start : List ℕ) (rows new : List R) (row : R)
     → AreLooks start (map f rows) (map g rows)

@@ -4,19 +4,19 @@ use Rattle.std.specs.List.{AllByRecursion}
 use Rattle.ir_store.specs.declared.spot.Spot.{Spot}
 use Rattle.ir_store.specs.Nodes.{Shared, Node, cell_in, sourced_in, IsSourced, IsWithin, IsNode, AreKept, Grows}
 use Rattle.ir_store.specs.Table.{idle_beside}
-use Rattle.ir_store.proofs.Lists.{kept_element_is_equal, place_below_length_kept, all_by_recursion_weaker, map_equal_if_functions_equal}
+use Rattle.ir_store.proofs.Lists.{kept_element_is_equal, index_below_length_kept_if_elements_kept, all_by_recursion_weaker, map_equal_if_functions_equal}
 
-pub numbers_within_after_growth : {X : Type 0} (old new : List X) (d : X) → ((n : ℕ) → n < length old → n < length new) → (numbers : List ℕ)
+pub numbers_below_length_after_growth : {X : Type 0} (old new : List X) (d : X) → ((n : ℕ) → n < length old → n < length new) → (numbers : List ℕ)
     → AllByRecursion (λ n. n < length old) numbers → AllByRecursion (λ n. n < length new) numbers
-numbers_within_after_growth old new d within numbers all = all_by_recursion_weaker (λ n. n < length old) (λ n. n < length new) numbers within all
+numbers_below_length_after_growth old new d within numbers all = all_by_recursion_weaker (λ n. n < length old) (λ n. n < length new) numbers within all
 
 module _ (old new : Shared) (grows : Grows old new) where
   pub within_grown : (node : Node) → IsWithin old node → IsWithin new node
   within_grown node is = record {
     threads = all_by_recursion_weaker (λ n. n < length old.threads) (λ n. n < length new.threads) node.threads
-        (place_below_length_kept old.threads new.threads idle_beside grows.threads) is.threads;
+        (index_below_length_kept_if_elements_kept old.threads new.threads idle_beside grows.threads) is.threads;
     words = all_by_recursion_weaker (λ (s : Spot). s.words < length old.words) (λ (s : Spot). s.words < length new.words) node.objects
-        (λ s. place_below_length_kept old.words new.words [] grows.words s.words) is.words;
+        (λ s. index_below_length_kept_if_elements_kept old.words new.words [] grows.words s.words) is.words;
   }
 
   pub sourced_grown : (node : Node) → IsWithin old node → sourced_in new node ≡ sourced_in old node

@@ -15,7 +15,7 @@ use Rattle.ir_explore_run.specs.Printed.{EndsEarly}
 use Rattle.ir_explore_run.specs.Texts.{Objects, objects_of, IsReason, IsStopped, IsEnding, IsAnswerAbout, known_of}
 use Rattle.ir_explore_run.specs.declared.fault.ExploreFault.TheVariants.{NoMem, Write}
 use Rattle.ir_explore_run.specs.Plan.{ExplorePlan, setup_of}
-use Rattle.ir_explore_run.proofs.Printed.{stops_before_first_line, printed_outcomes_are_part, failed_after_taken_text, answer_of_lines_and_ending}
+use Rattle.ir_explore_run.proofs.Printed.{out_of_memory_before_first_line_stops_printing, printed_outcomes_are_part, failed_after_taken_text, answer_of_lines_and_ending}
 use Rattle.ir_explore_run.proofs.run.show.Goals as goal
 
 pub returns-in_err-start-clause-fails : goal.returns-in_err-start-clause-fails
@@ -24,7 +24,7 @@ returns-in_err-start-clause-fails g c =
     let out = g.O.Sink.written c.args.out.now in
     let w = writer_of out out (g.O.Sink.broken c.args.out.now) in
     if_err_for_handed_on_error (λ e. StopsPrinting e c.args.image.now c.args.plan.now w) c.from_residual.result NoMem p.0 p.1 p.2
-    (stops_before_first_line c.args.image.now c.args.plan.now w refl)
+    (out_of_memory_before_first_line_stops_printing c.args.image.now c.args.plan.now w refl)
 
 pub returns-in-Err-clause-ok : goal.returns-in-Err-clause-ok
 returns-in-Err-clause-ok g c =

@@ -8,7 +8,7 @@ use Rattle.ir_explore_run.specs.Faults.{StopsPrinting}
 use Rattle.ir_explore_run.specs.Texts.{IsReason}
 use Rattle.ir_explore_run.specs.declared.fault.ExploreFault.TheVariants.{NoMem, Write}
 use Rattle.ir_explore_run.specs.Plan.{ExplorePlan}
-use Rattle.ir_explore_run.proofs.Printed.{stops_before_first_line, stops_in_answer}
+use Rattle.ir_explore_run.proofs.Printed.{out_of_memory_before_first_line_stops_printing, failed_writer_in_answer_stops_printing}
 use Rattle.ir_explore_run.proofs.run.show_stop.Goals as goal
 
 pub returns-in_err-text-clause-fails : goal.returns-in_err-text-clause-fails
@@ -17,7 +17,7 @@ returns-in_err-text-clause-fails g c =
     let out = g.O.Sink.written c.args.out.now in
     let w = writer_of out out (g.O.Sink.broken c.args.out.now) in
     if_err_for_handed_on_error (λ e. (guest : Guest) (plan : ExplorePlan) → IsReason guest plan c.args.why → StopsPrinting e guest plan w)
-    c.from_residual.result NoMem p.0 p.1 p.2 (λ guest plan reason. stops_before_first_line guest plan w refl)
+    c.from_residual.result NoMem p.0 p.1 p.2 (λ guest plan reason. out_of_memory_before_first_line_stops_printing guest plan w refl)
 
 pub returns-in_err-write_all-clause-fails : goal.returns-in_err-write_all-clause-fails
 returns-in_err-write_all-clause-fails g c =
@@ -27,5 +27,5 @@ returns-in_err-write_all-clause-fails g c =
     let w = writer_of old new (g.O.Sink.broken c.write_all.new.writer) in
     if_err_for_handed_on_error (λ e. (guest : Guest) (plan : ExplorePlan) → IsReason guest plan c.args.why → StopsPrinting e guest plan w)
     c.from_residual-in_err-write_all.result Write p.0 p.1 p.2
-    (λ guest plan reason. stops_in_answer guest plan c.in_ok-text.answered c.in_ok-text.text.items w (inr (c.in_ok-text.ensures guest plan reason))
+    (λ guest plan reason. failed_writer_in_answer_stops_printing guest plan c.in_ok-text.answered c.in_ok-text.text.items w (inr (c.in_ok-text.ensures guest plan reason))
     (subst (λ (z : List ℕ). AppendsPrefix old new z) c.as_slice.ensures.value c.in_err-write_all.ensures.prefix, c.in_err-write_all.ensures.err))

@@ -11,7 +11,7 @@ use Rattle.ir_graph.proofs.Reached.{step_of_reached_is_reached}
 use Rattle.ir_graph.proofs.Stops.{is_stop_after_entry, may_stop_by_thread_stop}
 use Rattle.ir_graph.proofs.Found.{leads_nowhere_if_no_step, reached_like, reached_each, reached_rests, leads_to_node_if_reached_state_looks_alike}
 use Rattle.ir_graph.proofs.Forms.{have_form_of_like_moment}
-use Rattle.ir_graph.proofs.Plain.{TakesStep, takes_step_at_rest, like_transitive, like_after_step, like_after_plain_steps}
+use Rattle.ir_graph.proofs.Plain.{TakesStep, takes_step_at_rest, like_transitive, flat_after_step_is_like_flat_before, flat_after_plain_steps_is_like_flat_before}
 use Rattle.ir_graph.proofs.nodes.node_by_steps.Goals as goal
 
 pub run_to_rest-requires-clause-source : goal.run_to_rest-requires-clause-source
@@ -61,7 +61,7 @@ by_numbers-requires-clause-form c =
     let goes = c.run_to_rest.ensures.goes in
     let form = subst (λ (z : SourcedFlat). HaveForm c.args.flats.now.form z.flat.threads) (sym c.state.view_is) c.in_ok-state.ensures.form in
     have_form_of_like_moment c.args.flats.now.form f w.flat
-    (like_transitive f g w.flat (like_after_step s u t c.in-Some.answer step) (like_after_plain_steps u w goes)) form
+    (like_transitive f g w.flat (flat_after_step_is_like_flat_before s u t c.in-Some.answer step) (flat_after_plain_steps_is_like_flat_before u w goes)) form
 
 pub returns-in-Err-clause-leads : goal.returns-in-Err-clause-leads
 returns-in-Err-clause-leads c =

@@ -2,7 +2,7 @@ use Rattle.std.proofs.Common.{◌≡◌, ◌<◌, ◌∙◌, [], sym, ap, subst,
 use Rattle.ir_lemmas.proofs.CallerLemmas.{all_by_recursion_after_push}
 use Rattle.ir_store.specs.declared.spot.Spot.{Spot}
 use Rattle.ir_store.specs.Nodes.{HaveWords, cell_in, cells_at}
-use Rattle.ir_store.proofs.Lists.{all_by_recursion_weaker, kept_element_is_equal, place_below_length_kept, map_equal_if_functions_equal, mapped_elements_found_step}
+use Rattle.ir_store.proofs.Lists.{all_by_recursion_weaker, kept_element_is_equal, index_below_length_kept_if_elements_kept, map_equal_if_functions_equal, mapped_elements_found_step}
 use Rattle.ir_store.proofs.objects.spots_of.Goals as goal
 
 pub loop-object-preserved : goal.loop-object-preserved
@@ -22,7 +22,7 @@ loop-object-preserved c =
       within = subst (HaveWords new) (sym c.in_ok-push.ensures.items)
           (all_by_recursion_after_push (λ (s : Spot). s.words < length new) spots spot
           (all_by_recursion_weaker (λ (s : Spot). s.words < length old) (λ (s : Spot). s.words < length new) spots
-          (λ s. place_below_length_kept old new [] keeps s.words) before.within) c.in_ok-spot.ensures.within);
+          (λ s. index_below_length_kept_if_elements_kept old new [] keeps s.words) before.within) c.in_ok-spot.ensures.within);
       found = ap (cells_at new) c.in_ok-push.ensures.items
           ∙ mapped_elements_found_step (cell_in new) spots spot c.args.objects.now i c.object-item.result c.loop-object-test.true (was ∙ before.found)
           (c.in_ok-spot.ensures.found ∙ c.object-item.is);

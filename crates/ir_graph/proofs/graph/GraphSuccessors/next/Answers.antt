@@ -2,7 +2,7 @@ use Rattle.std.proofs.Common.{◌≡◌, ◌⊎◌, ℕ, Bool, Some, length, sym
 use Rattle.std.proofs.lemmas.List.{with_items_is}
 use Rattle.ir_graph.specs.Ahead.{AreTurns}
 use Rattle.ir_graph.specs.Notes.{noted_by}
-use Rattle.ir_graph.proofs.Grown.{is_graph_after_nodes_added, is_graph_after_way_noted, is_graph_of_equal_rows, thread_exists_if_nothing_is_noted, code_of_node}
+use Rattle.ir_graph.proofs.Grown.{is_graph_after_nodes_added, is_graph_after_way_noted, is_graph_of_equal_rows, thread_exists_if_nothing_is_noted, code_of_node_is_guest_code}
 use Rattle.ir_graph.proofs.graph.GraphSuccessors.next.Goals as goal
 
 pub successor-requires-clause-thread : goal.successor-requires-clause-thread
@@ -14,7 +14,7 @@ successor-requires-clause-thread c = λ f is.
 pub successor-requires-clause-code : goal.successor-requires-clause-code
 successor-requires-clause-code c = λ f is.
     let g = c.args.self.now in
-    code_of_node g.setup g.flats.items (noted_by g.rows.items g.refused_rows.items) (length g.rows.items) c.args.node f
+    code_of_node_is_guest_code g.setup g.flats.items (noted_by g.rows.items g.refused_rows.items) (length g.rows.items) c.args.node f
     c.requires.sound.0 is
     ∙ sym c.code-code.ensures
 

@@ -5,7 +5,7 @@ use Rattle.ir_lemmas.proofs.CallerLemmas.{all_by_recursion_after_push}
 use Rattle.ir_sources.specs.Sources.{Source}
 use Rattle.ir_thread.specs.State.{ThreadState}
 use Rattle.ir_store.specs.Table.{idle_beside, AreIn, threads_at, sources_at}
-use Rattle.ir_store.proofs.Lists.{all_by_recursion_weaker, kept_element_is_equal, place_below_length_kept, map_equal_if_functions_equal, mapped_elements_found_step}
+use Rattle.ir_store.proofs.Lists.{all_by_recursion_weaker, kept_element_is_equal, index_below_length_kept_if_elements_kept, map_equal_if_functions_equal, mapped_elements_found_step}
 use Rattle.ir_store.proofs.table.Table.add_all.Goals as goal
 
 pub loop-t-preserved : goal.loop-t-preserved
@@ -33,7 +33,7 @@ loop-t-preserved c =
       form = c.add.ensures.form ∙ before.form;
       within = subst (AreIn new) (sym c.in_ok-push.ensures.items)
           (all_by_recursion_after_push (λ k. k < length new) numbers n
-          (all_by_recursion_weaker (λ k. k < length old) (λ k. k < length new) numbers (place_below_length_kept old new idle_beside keeps) before.within)
+          (all_by_recursion_weaker (λ k. k < length old) (λ k. k < length new) numbers (index_below_length_kept_if_elements_kept old new idle_beside keeps) before.within)
           (slice_get_within new n x at));
       threads = ap (threads_at new) c.in_ok-push.ensures.items
           ∙ mapped_elements_found_step (λ k. (get_or new k idle_beside).0) numbers n c.args.threads.now i x.0 lt (was ∙ before.threads)
