@@ -40,14 +40,14 @@ buffered_after_piece a b c held kept left text f g = buffered_after_line_written
     (ap (λ (x : List ℕ). x ++ left) (sym g.others) ∙ append_assoc g.part kept left) g.written
 
 -- nothing is left
-pub buffered_if_nothing_left : (a b : Option (List ℕ)) (held left text : List ℕ) → Buffered a b (held ++ left) text → left ≡ [] → Buffered a b held text
-buffered_if_nothing_left a b held left text f none =
+pub only_held_text_is_unwritten_if_nothing_left : (a b : Option (List ℕ)) (held left text : List ℕ) → Buffered a b (held ++ left) text → left ≡ [] → Buffered a b held text
+only_held_text_is_unwritten_if_nothing_left a b held left text f none =
     subst (λ (x : List ℕ). Buffered a b x text) (ap (λ (x : List ℕ). held ++ x) none ∙ append-nil held) f
 
 -- the writing of a piece failed
-pub prefix_written_if_write_fails : (a b c : Option (List ℕ)) (held left text : List ℕ) → Buffered a b (held ++ left) text → AppendsPrefix b c held
+pub prefix_of_text_appended_if_prefix_of_held_is : (a b c : Option (List ℕ)) (held left text : List ℕ) → Buffered a b (held ++ left) text → AppendsPrefix b c held
     → AppendsPrefix a c text
-prefix_written_if_write_fails a b c held left text f prefix =
+prefix_of_text_appended_if_prefix_of_held_is a b c held left text f prefix =
     subst (AppendsPrefix a c) (append_assoc f.part held left ∙ f.others)
     (appends_prefix_of_longer_text a c (f.part ++ held) left (appends_prefix_of_append_if_first_appended a b c f.part held f.written prefix))
 

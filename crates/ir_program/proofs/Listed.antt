@@ -21,15 +21,15 @@ pub nothing_appended_is_prefix : (a : Option (List ℕ)) (text : List ℕ) → A
 nothing_appended_is_prefix a text = record { part = []; more = text; splits = refl; grown = Appends-nil a }
 
 -- a write of the first part of a text failed
-pub failed_in_first_part : (a b : Option (List ℕ)) (failed : Bool) (bytes first rest : List ℕ) → bytes ≡ first → AppendsPrefix a b bytes
+pub writer_failed_in_text_if_prefix_of_first_part_appended : (a b : Option (List ℕ)) (failed : Bool) (bytes first rest : List ℕ) → bytes ≡ first → AppendsPrefix a b bytes
     → failed ≡ true → Failed (writer_of a b failed) (first ++ rest)
-failed_in_first_part a b failed bytes first rest same prefix broke =
+writer_failed_in_text_if_prefix_of_first_part_appended a b failed bytes first rest same prefix broke =
     (appends_prefix_of_longer_text a b first rest (subst (AppendsPrefix a b) same prefix), broke)
 
 -- a write of the rest failed
-pub failed_in_second_part : (a b c : Option (List ℕ)) (failed : Bool) (bytes first rest : List ℕ) → bytes ≡ first → Appends a b bytes
+pub writer_failed_in_text_if_prefix_of_second_part_appended : (a b c : Option (List ℕ)) (failed : Bool) (bytes first rest : List ℕ) → bytes ≡ first → Appends a b bytes
     → AppendsPrefix b c rest → failed ≡ true → Failed (writer_of a c failed) (first ++ rest)
-failed_in_second_part a b c failed bytes first rest same done prefix broke =
+writer_failed_in_text_if_prefix_of_second_part_appended a b c failed bytes first rest same done prefix broke =
     (appends_prefix_of_append_if_first_appended a b c first rest (subst (Appends a b) same done) prefix, broke)
 
 -- a prefix of the log of these events
