@@ -61,8 +61,8 @@ label_twice_is_fault = refl
 pub unknown_register_is_fault : assembled (codes "addi a0, zer, 2048\n") ≡ Err (record { line = 1; cause = UnknownRegister })
 unknown_register_is_fault = refl
 
-pub number_out_of_range_is_fault : assembled (codes "addi a0, zero, 2048\n") ≡ Err (record { line = 1; cause = BadNumber })
-number_out_of_range_is_fault = refl
+pub number_out_of_range_is_bad_number : assembled (codes "addi a0, zero, 2048\n") ≡ Err (record { line = 1; cause = BadNumber })
+number_out_of_range_is_bad_number = refl
 
 pub missing_label_is_fault : assembled (codes "beq a0, a1, far\n") ≡ Err (record { line = 1; cause = LabelMissing })
 missing_label_is_fault = refl
@@ -70,8 +70,8 @@ missing_label_is_fault = refl
 pub space_in_text_is_wrong_section : assembled (codes "nop\n.space 1\n") ≡ Err (record { line = 2; cause = WrongSection })
 space_in_text_is_wrong_section = refl
 
-pub end : assembled (codes "nop\nend: .thread end\n") ≡ Err (record { line = 2; cause = WrongSection })
-end = refl
+pub thread_entry_label_at_end_of_code_is_wrong_section : assembled (codes "nop\nend: .thread end\n") ≡ Err (record { line = 2; cause = WrongSection })
+thread_entry_label_at_end_of_code_is_wrong_section = refl
 
 pub li_carries_into_upper_bits : assembled (codes "li a0, 0x12345FFF") ≡ Ok
     (record { form = Small; entries = 0x00010000 ∷ []; code = 0x12346537 ∷ 0xFFF50513 ∷ []; bytes = []; words = [] })
@@ -125,9 +125,9 @@ large_object_of_sixteen_words_assembles : assembled (codes "a: # large\nb: .larg
     })
 large_object_of_sixteen_words_assembles = refl
 
-pub large : assembled (codes ".large\nnop") ≡ Ok
+pub large_directive_assembles_to_large_image : assembled (codes ".large\nnop") ≡ Ok
     (record { form = Large; entries = 0x00010000 ∷ []; code = 0x13 ∷ []; bytes = []; words = [] })
-large = refl
+large_directive_assembles_to_large_image = refl
 
 pub late_large_is_wrong_section : assembled (codes "nop\n.large\n") ≡ Err (record { line = 2; cause = WrongSection })
 late_large_is_wrong_section = refl
