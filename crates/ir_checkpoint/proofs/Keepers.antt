@@ -21,11 +21,11 @@ kept_states_of_new_keeping_stand f k new =
     subst (λ (z : Keeping). AllStand f z.kept) (sym new.2) (own, tt)
 
 -- each has as many threads as the guest
-pub kept_states_have_guest_threads : (f : FittedTrace) (kept : List Kept) (n : ℕ) → AllStand f kept → n ≡ length f.guest.entries
+pub kept_states_have_guest_thread_count : (f : FittedTrace) (kept : List Kept) (n : ℕ) → AllStand f kept → n ≡ length f.guest.entries
     → All (λ (k : Kept). length k.state.threads ≡ n) kept
-kept_states_have_guest_threads f [] n all same = All-nil (λ (k : Kept). length k.state.threads ≡ n)
-kept_states_have_guest_threads f (k ∷ kept) n all same =
-    All-cons (λ (x : Kept). length x.state.threads ≡ n) k kept (all.0.at.threads ∙ sym same) (kept_states_have_guest_threads f kept n all.1 same)
+kept_states_have_guest_thread_count f [] n all same = All-nil (λ (k : Kept). length k.state.threads ≡ n)
+kept_states_have_guest_thread_count f (k ∷ kept) n all same =
+    All-cons (λ (x : Kept). length x.state.threads ≡ n) k kept (all.0.at.threads ∙ sym same) (kept_states_have_guest_thread_count f kept n all.1 same)
 
 kept_states_stand_with_conditional_head : (f : FittedTrace) (k : Kept) (rest : List Kept) (b : Bool) → Stands f k.state → AllStand f rest
     → AllStand f (if b then rest else k ∷ rest)
@@ -60,13 +60,13 @@ steps_at_most_cut_if_below (x ∷ threads) (k ∷ cut) below (suc t) =
     steps_at_most_cut_if_below threads cut (right_of_true_and (nat_le x.steps k) (is_below (map (λ t. t.steps) threads) cut) below) t
 
 -- what was restored is what was found
-pub restored_state_is_kept_state : (o : Option Kept) (one : Kept) (s : Standing) → o ≡ Some one → (option_map (λ k. k.state) o ≡ Some s) → one.state ≡ s
-restored_state_is_kept_state o one s is found = let e : Some one.state ≡ Some s = sym (ap (option_map (λ (k : Kept). k.state)) is) ∙ found in cc
+pub kept_state_is_state_mapped_from_its_option : (o : Option Kept) (one : Kept) (s : Standing) → o ≡ Some one → (option_map (λ k. k.state) o ≡ Some s) → one.state ≡ s
+kept_state_is_state_mapped_from_its_option o one s is found = let e : Some one.state ≡ Some s = sym (ap (option_map (λ (k : Kept). k.state)) is) ∙ found in cc
 
 pub nearest_kept_state_stands : (f : FittedTrace) (keeping : Keeping) (target : List ℕ) (n : ℕ) (s : Standing) → AllStand f keeping.kept
     → IsNearest target keeping n → option_map (λ k. k.state) (kept_as n keeping.kept) ≡ Some s → Stands f s
 nearest_kept_state_stands f keeping target n s all nearest found =
-    subst (Stands f) (restored_state_is_kept_state (kept_as n keeping.kept) nearest.one s nearest.kept found)
+    subst (Stands f) (kept_state_is_state_mapped_from_its_option (kept_as n keeping.kept) nearest.one s nearest.kept found)
     (kept_state_of_number_stands f keeping.kept n nearest.one all nearest.kept)
 
 pub nearest_kept_state_below_target : (f : FittedTrace) (keeping : Keeping) (target : List ℕ) (n : ℕ) (s : Standing)
@@ -74,5 +74,5 @@ pub nearest_kept_state_below_target : (f : FittedTrace) (keeping : Keeping) (tar
     → (t : ℕ) → positions (flat_in f s) t ≤ cut_of target t
 nearest_kept_state_below_target f keeping target n s nearest found =
     subst (λ (x : Standing). (t : ℕ) → positions (flat_in f x) t ≤ cut_of target t)
-    (restored_state_is_kept_state (kept_as n keeping.kept) nearest.one s nearest.kept found)
+    (kept_state_is_state_mapped_from_its_option (kept_as n keeping.kept) nearest.one s nearest.kept found)
     (steps_at_most_cut_if_below nearest.one.state.threads target nearest.below)

@@ -42,9 +42,9 @@ own_cut_is_consistent f s cut h same run whole =
     (at.cut, at.consistent)
 
 -- they are the beginning of the way
-pub way_begins_at_own_cut : (f : FittedTrace) (s : Standing) (target cut : List ℕ) → Stands f s → cut ≡ map (λ t. t.steps) s.threads
+pub own_cut_is_on_way_if_below_target : (f : FittedTrace) (s : Standing) (target cut : List ℕ) → Stands f s → cut ≡ map (λ t. t.steps) s.threads
     → ((t : ℕ) → positions (flat_in f s) t ≤ cut_of target t) → IsOnWay f (cut_of cut) (cut_of target) cut
-way_begins_at_own_cut f s target cut h is below =
+own_cut_is_on_way_if_below_target f s target cut h is below =
     let same = list_of_steps_is_own_cut f s cut is in
     record {
       size = ap length is ∙ length-map s.threads (λ (x : thread.ThreadState). x.steps) ∙ h.at.threads;
@@ -53,9 +53,9 @@ way_begins_at_own_cut f s target cut h is below =
       below = subst (λ (q : Cut). (t : ℕ) → q t ≤ cut_of target t) (sym same) below;
     }
 
-pub way_from_own_positions : (f : FittedTrace) (s : Standing) (target from cut : List ℕ) → from ≡ map (λ t. t.steps) s.threads
+pub is_on_way_from_own_positions_if_from_list_of_steps : (f : FittedTrace) (s : Standing) (target from cut : List ℕ) → from ≡ map (λ t. t.steps) s.threads
     → IsOnWay f (cut_of from) (cut_of target) cut → IsOnWay f (positions (flat_in f s)) (cut_of target) cut
-way_from_own_positions f s target from cut is way = subst (λ (q : Cut). IsOnWay f q (cut_of target) cut) (list_of_steps_is_own_cut f s from is) way
+is_on_way_from_own_positions_if_from_list_of_steps f s target from cut is way = subst (λ (q : Cut). IsOnWay f q (cut_of target) cut) (list_of_steps_is_own_cut f s from is) way
 
 -- what is at such a cut isn't past the target
 pub standing_on_way_below_target : (f : FittedTrace) (low : Cut) (target cut : List ℕ) (s : Standing) → IsOnWay f low (cut_of target) cut

@@ -67,8 +67,8 @@ unfolding skip_blanks
 first_word_not_empty [] some = absurd cc
 first_word_not_empty (b ∷ bytes) some = first_word_not_empty_step (is_blank b) b bytes refl (first_word_not_empty bytes) some
 
-filter_keeps_first_word : (word : List ℕ) (rest : List (List ℕ)) → is_empty word ≡ false → filter is_nonempty (word ∷ rest) ≡ word ∷ filter is_nonempty rest
-filter_keeps_first_word word rest some = rw some refl
+filter_keeps_nonempty_first_word : (word : List ℕ) (rest : List (List ℕ)) → is_empty word ≡ false → filter is_nonempty (word ∷ rest) ≡ word ∷ filter is_nonempty rest
+filter_keeps_nonempty_first_word word rest some = rw some refl
 
 -- the first word, and the words of what is left
 pub words_are_first_word_and_words_of_rest : (line : List ℕ) → is_empty (skip_blanks line) ≡ false
@@ -78,7 +78,7 @@ unfolding words_of
 words_are_first_word_and_words_of_rest line some =
     let l = skip_blanks line in
     let split : words_of l ≡ filter is_nonempty (take (word_end l) l ∷ parts_after_word (drop (word_end l) l)) = ap (filter is_nonempty) (split_is_first_word_and_later_parts l) in
-    let first = filter_keeps_first_word (take (word_end l) l) (parts_after_word (drop (word_end l) l)) (first_word_not_empty line some) in
+    let first = filter_keeps_nonempty_first_word (take (word_end l) l) (parts_after_word (drop (word_end l) l)) (first_word_not_empty line some) in
     let rest = ap (λ (words : List (List ℕ)). take (word_end l) l ∷ words) (sym (rest_after_first_word_has_words_after_blank l).words) in
     sym (words_of_skipped_blanks_are_unchanged line) ∙ split ∙ first ∙ rest
 

@@ -14,7 +14,7 @@ use Rattle.ir_fit.specs.Placed.{placed_at, placed_of}
 use Rattle.ir_fit.specs.Within.{IsFitted}
 use Rattle.ir_cut.specs.Positions.{machine_of, start_of, cut_of, EachRun, IsConsistentCut}
 use Rattle.ir_cut.specs.Searching.{AreInside, NeededBy, IsClosed}
-use Rattle.ir_cut.proofs.Again.{emitting_thread_exists}
+use Rattle.ir_cut.proofs.Again.{emitting_thread_index_is_below_thread_count}
 use Rattle.ir_cut.proofs.Listing.{run_of_trace_is_listed}
 use Rattle.ir_cut.proofs.Searched.{needing_label_is_entry, slice_get_at_equal_indexes_is_equal}
 
@@ -64,9 +64,9 @@ closed_if_needs_inside_and_next_event_outside f fit qs ks t n k there list l rea
 
 -- where what it needs isn't inside
 -- the log has an event for each position
-pub event_within_log_if_position : (f : FittedTrace) (ks : List ℕ) (es : List Event) (t n : ℕ) → ks ≡ (placed_at (placed_of f) t).entries
+pub index_is_below_events_length_if_below_entries_length : (f : FittedTrace) (ks : List ℕ) (es : List Event) (t n : ℕ) → ks ≡ (placed_at (placed_of f) t).entries
     → length es ≡ length (placed_at (placed_of f) t).entries → n < length ks → n < length es
-event_within_log_if_position f ks es t n list size l = let same : length ks ≡ length (placed_at (placed_of f) t).entries = ap length list in
+index_is_below_events_length_if_below_entries_length f ks es t n list size l = let same : length ks ≡ length (placed_at (placed_of f) t).entries = ap length list in
     omega (arith, l, same, size)
 
 pub not_closed_if_need_outside : (f : FittedTrace) → IsFitted f → (qs ks : List ℕ) (es : List Event) (t n k : ℕ) (x : Event) (b : Bool)
@@ -110,13 +110,13 @@ consistent_cut_if_threads_closed f h qs size first run is = (
     | inr past ↦ let none : cut_of qs t ≡ 0 = get_or_past qs t 0 past in omega (arith, none)
   ]),
   (λ t i u j a b at says n inside.
-      let there : t < length f.guest.entries = emitting_thread_exists f h run is t i a at in
+      let there : t < length f.guest.entries = emitting_thread_index_is_below_thread_count f h run is t i a at in
       (first t (omega (arith, there, size))).1 run is i a at inside u j b says n),
 )
 
-pub threads_of_consistent_cut_closed : (f : FittedTrace) → IsFitted f → (qs : List ℕ) → IsConsistentCut f qs → (t : ℕ) → t < length f.guest.entries
+pub threads_of_consistent_cut_are_closed_and_within_steps : (f : FittedTrace) → IsFitted f → (qs : List ℕ) → IsConsistentCut f qs → (t : ℕ) → t < length f.guest.entries
     → (cut_of qs t ≤ (recorded_thread f.recorded t).steps) × EachRun f (λ run. IsClosed f run (cut_of qs) t)
-threads_of_consistent_cut_closed f fit qs h t there = (
+threads_of_consistent_cut_are_closed_and_within_steps f fit qs h t there = (
   (let a = (h fit.run.run fit.run.whole).0 t in let b = fit.run.whole.1.steps t there in omega (arith, a, b)),
   (λ run is i k emits inside u j b says n. (h run is).1 t i u j k b emits says n inside),
 )
@@ -135,13 +135,13 @@ pub inconsistent_if_thread_not_closed : (f : FittedTrace) → IsFitted f → (qs
     → IsTrue false ↔ IsConsistentCut f qs
 inconsistent_if_thread_not_closed f fit qs n b there test is = (
   (λ h. absurd (cc h)),
-  (λ h. absurd (cc (is, test.1 (threads_of_consistent_cut_closed f fit qs h n there)))),
+  (λ h. absurd (cc (is, test.1 (threads_of_consistent_cut_are_closed_and_within_steps f fit qs h n there)))),
 )
 
-pub test_of_closed_tells_closed_and_within_steps : (f : FittedTrace) (qs : List ℕ) (t n : ℕ) (b : Bool) → n ≡ (recorded_thread f.recorded t).steps → cut_of qs t ≤ n
+pub closed_test_tells_closed_and_within_steps_if_within_steps : (f : FittedTrace) (qs : List ℕ) (t n : ℕ) (b : Bool) → n ≡ (recorded_thread f.recorded t).steps → cut_of qs t ≤ n
     → IsTrue b ↔ EachRun f (λ run. IsClosed f run (cut_of qs) t)
     → IsTrue b ↔ (cut_of qs t ≤ (recorded_thread f.recorded t).steps) × EachRun f (λ run. IsClosed f run (cut_of qs) t)
-test_of_closed_tells_closed_and_within_steps f qs t n b steps l test = (
+closed_test_tells_closed_and_within_steps_if_within_steps f qs t n b steps l test = (
   (λ is. ((let a : cut_of qs t ≤ (recorded_thread f.recorded t).steps = omega (arith, l, steps) in a), test.0 is)),
   (λ h. test.1 h.1),
 )

@@ -17,7 +17,7 @@ use Rattle.ir_fit.specs.Placed.{placed_at, placed_of}
 use Rattle.ir_fit.specs.declared.leave.Leave.{Leave}
 use Rattle.ir_cut.specs.Positions.{machine_of, start_of, cut_of}
 use Rattle.ir_cut.specs.Searching.{AreInside, AreOutside, RaisedFor, LoweredFor, NeededBy, Needing, Rising, Falling, NoneBelow, NoneAbove, HasBelow, AreFirst, AreRest}
-use Rattle.ir_cut.proofs.Again.{emitting_thread_exists, emitting_step_below_count}
+use Rattle.ir_cut.proofs.Again.{emitting_thread_index_is_below_thread_count, emitting_step_below_count}
 use Rattle.ir_cut.proofs.Listing.{IsListed}
 
 -- ---- what needs something is an entry
@@ -79,9 +79,9 @@ pub inside_larger_cut_if_inside : (f : FittedTrace) (run : List Step) (P : Label
 inside_larger_cut_if_inside f run P c d up h t i k emits is = let l = h t i k emits is in let m = up t in omega (arith, l, m)
 
 -- what an event of a step in a consistent cut needs is inside
-pub needs_inside_consistent_cut : (f : FittedTrace) (run : List Step) (c : Cut) → Consistent (machine_of f) (start_of f) run c → (t i : ℕ) (k : Label)
+pub needs_of_step_inside_consistent_cut_are_inside : (f : FittedTrace) (run : List Step) (c : Cut) → Consistent (machine_of f) (start_of f) run c → (t i : ℕ) (k : Label)
     → Emits (machine_of f) (start_of f) run t i k → i < c t → AreInside f run (NeededBy k) c
-needs_inside_consistent_cut f run c con t i k emits l u j b at n = con t i u j k b emits at n l
+needs_of_step_inside_consistent_cut_are_inside f run c con t i k emits l u j b at n = con t i u j k b emits at n l
 
 pub rising_at_start : (f : FittedTrace) (run : List Step) → IsRunOf f.guest f.recorded run → IsListed f run → (ps qs next : List ℕ) (t k : ℕ)
     → IsCut (machine_of f) (start_of f) run (cut_of ps) → Consistent (machine_of f) (start_of f) run (cut_of ps)
@@ -115,7 +115,7 @@ rising_at_start f run is list ps qs next t k cut con there steps own rest size f
           let i : ℕ = slice_index_or (placed_at (placed_of f) u).entries e 0 in
           let place : slice_get (placed_at (placed_of f) u).entries e ≡ Some i = slice_get-get_or (placed_at (placed_of f) u).entries e 0 inside in
           inside_larger_cut_if_inside f run (NeededBy (label_of x)) (cut_of ps) (cut_of qs) up
-          (needs_inside_consistent_cut f run (cut_of ps) con u i (label_of x) (list.event u e i x less at place) (first u less e i l place));
+          (needs_of_step_inside_consistent_cut_are_inside f run (cut_of ps) con u i (label_of x) (list.event u e i x less at place) (first u less e i l place));
     }
 
 pub rising_step : (f : FittedTrace) (run : List Step) → IsListed f run → (ps qs qs' next next' : List ℕ) (t k u : ℕ) (x : Event)
@@ -131,7 +131,7 @@ rising_step f run list ps qs qs' next next' t k u x r there below at raised own 
       cut = raised.least (count (machine_of f) (start_of f) run) r.cut (λ w j b says _. emitting_step_below_count f run w j b says);
       least = λ c cut con over reach.
           let low = r.least c cut con over reach in
-          raised.least c low (needs_inside_consistent_cut f run c con u below.0 (label_of x) emits (let a = below.2 in let b = low u in omega (arith, a, b)));
+          raised.least c low (needs_of_step_inside_consistent_cut_are_inside f run c con u below.0 (label_of x) emits (let a = below.2 in let b = low u in omega (arith, a, b)));
       met = λ w e y l says. elim (cases_eq w u) [
         | inr ne ↦ inside_larger_cut_if_inside f run (NeededBy (label_of y)) (cut_of qs) (cut_of qs') raised.above
             (r.met w e y (omega (arith, l, rest w ne)) says)
@@ -173,7 +173,7 @@ pub rising_end_is_least : (f : FittedTrace) → HasRun f → (run : List Step) �
 rising_end_is_least f h run is list ps qs next t k r none = record {
   cut = r.cut;
   consistent = λ u i w j a b at says n l.
-      let there : u < length f.guest.entries = emitting_thread_exists f h run is u i a at in
+      let there : u < length f.guest.entries = emitting_thread_index_is_below_thread_count f h run is u i a at in
       let x = needing_label_is_entry b a n in
       let e = list.entry u i x.object x.access x.version x.left (subst (Emits (machine_of f) (start_of f) run u i) x.is at) in
       r.met u e.0 e.1 (event_in_cut_is_counted_if_none_below f run list qs next u e.0 i there (none u there) e.2 l) e.3 w j b says (subst (IsNeededBy b) (x.is ∙ sym e.4) n);
@@ -189,9 +189,9 @@ pub outside_smaller_cut_if_outside : (f : FittedTrace) (run : List Step) (P : La
 outside_smaller_cut_if_outside f run P c d down h t i k emits is = let l = h t i k emits is in let m = down t in omega (arith, l, m)
 
 -- what needs a leave that isn't in a consistent cut is outside
-pub needing_steps_outside_consistent_cut : (f : FittedTrace) (run : List Step) (c : Cut) → Consistent (machine_of f) (start_of f) run c → (t i : ℕ) (b : Label)
+pub steps_needing_step_outside_consistent_cut_are_outside : (f : FittedTrace) (run : List Step) (c : Cut) → Consistent (machine_of f) (start_of f) run c → (t i : ℕ) (b : Label)
     → Emits (machine_of f) (start_of f) run t i b → c t ≤ i → AreOutside f run (λ a. IsNeededBy b a) c
-needing_steps_outside_consistent_cut f run c con t i b emits l u j a at n = elim (cases_lt j (c u)) [
+steps_needing_step_outside_consistent_cut_are_outside f run c con t i b emits l u j a at n = elim (cases_lt j (c u)) [
   | inr past ↦ past
   | inl less ↦ let inside = con u j t i a b at emits n less in absurd (omega (arith, inside, l))
 ]
@@ -219,7 +219,7 @@ falling_at_start f run list ps qs next t k con there own rest each known =
       unmet = λ u e l past at.
           let less : u < length f.guest.entries = known u e l at in
           outside_smaller_cut_if_outside f run (Needing l) (cut_of ps) (cut_of qs) down
-          (needing_steps_outside_consistent_cut f run (cut_of ps) con u l.position (Out l.object l.access l.version) (list.left u e l less at)
+          (steps_needing_step_outside_consistent_cut_are_outside f run (cut_of ps) con u l.position (Out l.object l.access l.version) (list.left u e l less at)
           ((each u less).outside e l past at));
     }
 
@@ -233,7 +233,7 @@ falling_step f run list ps qs qs' next next' t k u x last r there was at far low
   reaches = let a = r.reaches in let b = lowered.below t in omega (arith, a, b);
   greatest = λ c cut con under reach.
       let high = r.greatest c cut con under reach in
-      lowered.greatest c high (needing_steps_outside_consistent_cut f run c con u x.position (Out x.object x.access x.version) (list.left u last x there at)
+      lowered.greatest c high (steps_needing_step_outside_consistent_cut_are_outside f run c con u x.position (Out x.object x.access x.version) (list.left u last x there at)
       (let a = high u in omega (arith, a, far)));
   unmet = λ w e l past says. elim (cases_eq w u) [
     | inr ne ↦ outside_smaller_cut_if_outside f run (Needing l) (cut_of qs) (cut_of qs') lowered.below (r.unmet w e l (omega (arith, past, rest w ne)) says)
@@ -258,7 +258,7 @@ pub falling_end_is_greatest : (f : FittedTrace) → HasRun f → (run : List Ste
 falling_end_is_greatest f h run is list ps qs next t k cut r none = record {
   cut = λ u. let a = r.below u in let b = cut u in omega (arith, a, b);
   consistent = λ u i w j a b at says n l.
-      let there : w < length f.guest.entries = emitting_thread_exists f h run is w j b says in
+      let there : w < length f.guest.entries = emitting_thread_index_is_below_thread_count f h run is w j b says in
       let x = needed_label_is_leave b a n in
       let e = list.leave w j x.object x.access x.version (subst (Emits (machine_of f) (start_of f) run w j) x.is says) in
       elim (cases_lt e.0 (cut_of next w)) [

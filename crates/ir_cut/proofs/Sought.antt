@@ -15,7 +15,7 @@ use Rattle.ir_cut.specs.Positions.{machine_of, start_of, cut_of, EachRun}
 use Rattle.ir_cut.specs.Searching.{AreInside, RaisedFor, LoweredFor}
 use Rattle.ir_fit.specs.Listed.{OnlyLeaves, AllLeaves, OnlyEntries, AllEntries}
 use Rattle.ir_fit.specs.declared.place.Place.{Place}
-use Rattle.ir_cut.proofs.Again.{has_run_from_any_run, emitting_thread_exists, emitting_step_below_count}
+use Rattle.ir_cut.proofs.Again.{has_run_with_given_run_if_has_some_run, emitting_thread_index_is_below_thread_count, emitting_step_below_count}
 
 -- the places are those of the steps of the run that tell so
 pub record ArePlacesOf (f : FittedTrace) (run : List Step) (P : Label → Type 0) (ps : List Place) : Type 0 where
@@ -30,18 +30,18 @@ contains_place_if_slice_get_is_some ps i p e = (i, slice_get_within ps i p e, ge
 
 pub places_are_of_leaves_if_only_and_all : (f : FittedTrace) → HasRun f → (o : ℕ) (a : Access) (v : ℕ) (ps : List Place) → OnlyLeaves f o a v ps
     → AllLeaves f o a v ps → (run : List Step) → IsRunOf f.guest f.recorded run → ArePlacesOf f run (λ k. k ≡ Out o a v) ps
-unfolding has_run_from_any_run
+unfolding has_run_with_given_run_if_has_some_run
 places_are_of_leaves_if_only_and_all f h o a v ps only all run is = record {
-  only = λ p c. (Out o a v, refl, (only (has_run_from_any_run f h run is) p c).1);
-  all = λ t i k emits e. (v, all (has_run_from_any_run f h run is) t i (subst (Emits (machine_of f) (start_of f) run t i) e emits));
+  only = λ p c. (Out o a v, refl, (only (has_run_with_given_run_if_has_some_run f h run is) p c).1);
+  all = λ t i k emits e. (v, all (has_run_with_given_run_if_has_some_run f h run is) t i (subst (Emits (machine_of f) (start_of f) run t i) e emits));
 }
 
 pub places_are_of_entries_if_only_and_all : (f : FittedTrace) → HasRun f → (o : ℕ) (a : Access) (v : ℕ) (ps : List Place) → OnlyEntries f o a v ps
     → AllEntries f o a v ps → (run : List Step) → IsRunOf f.guest f.recorded run → ArePlacesOf f run (λ k. (l : ℕ) × (k ≡ In o a v l)) ps
-unfolding has_run_from_any_run
+unfolding has_run_with_given_run_if_has_some_run
 places_are_of_entries_if_only_and_all f h o a v ps only all run is = record {
-  only = λ p c. let e = (only (has_run_from_any_run f h run is) p c).1 in (In o a v e.0, (e.0, refl), e.1);
-  all = λ t i k emits e. (v, all (has_run_from_any_run f h run is) t i e.0 (subst (Emits (machine_of f) (start_of f) run t i) e.1 emits));
+  only = λ p c. let e = (only (has_run_with_given_run_if_has_some_run f h run is) p c).1 in (In o a v e.0, (e.0, refl), e.1);
+  all = λ t i k emits e. (v, all (has_run_with_given_run_if_has_some_run f h run is) t i e.0 (subst (Emits (machine_of f) (start_of f) run t i) e.1 emits));
 }
 
 -- ---- each of them can be counted
@@ -50,7 +50,7 @@ pub places_of_steps_are_placed : (f : FittedTrace) → HasRun f → (run : List 
     → (P : Label → Type 0) (ps : List Place) → ArePlacesOf f run P ps → ArePlaced (length f.guest.entries) ps
 places_of_steps_are_placed f h run is recorded P ps of i p l e =
     let t = of.only p (contains_place_if_slice_get_is_some ps i p e) in
-    let there : p.thread < length f.guest.entries = emitting_thread_exists f h run is p.thread p.position t.0 t.2 in
+    let there : p.thread < length f.guest.entries = emitting_thread_index_is_below_thread_count f h run is p.thread p.position t.0 t.2 in
     let less : p.position < count (machine_of f) (start_of f) run p.thread = emitting_step_below_count f run p.thread p.position t.0 t.2 in
     let fits = (recorded_thread_at_number_is_recorded f.recorded recorded p.thread (let same = is.0.threads in omega (arith, same, there))).steps_fit in
     let steps = is.1.steps p.thread there in

@@ -26,8 +26,8 @@ use Rattle.ir_cut.proofs.Searched.{rising_step, falling_step, slice_get_at_equal
 -- ---- sums
 
 -- one of the numbers is less, and the others are the same
-sum_below_is_less_if_one_is_less : (n : ℕ) (f g : ℕ → ℕ) (u : ℕ) → u < n → f u < g u → ((t : ℕ) → t ≢ u → f t ≡ g t) → sum_below n f < sum_below n g
-sum_below_is_less_if_one_is_less n f g u l less rest = sum_below_less_if_one_less n u f g l less (λ t. elim (cases_eq t u) [
+sum_below_is_less_if_one_is_less_and_others_equal : (n : ℕ) (f g : ℕ → ℕ) (u : ℕ) → u < n → f u < g u → ((t : ℕ) → t ≢ u → f t ≡ g t) → sum_below n f < sum_below n g
+sum_below_is_less_if_one_is_less_and_others_equal n f g u l less rest = sum_below_less_if_one_less n u f g l less (λ t. elim (cases_eq t u) [
   | inl same ↦ subst (λ z. f z ≤ g z) (sym same) (omega (arith, less))
   | inr ne ↦ let e = rest t ne in omega (arith, e)
 ])
@@ -71,15 +71,15 @@ fewer_events_left_after_event f qs next t i size there below read =
     let inside : t < length next = omega (arith, there, size) in
     let at : cut_of next t ≡ i = cut_position_is_indexed_number next t i inside read in
     let l : i < length (placed_at (placed_of f) t).entries = next_event_index_is_within_positions_if_has_below f qs next t i below at in
-    sum_below_is_less_if_one_is_less (length f.guest.entries) _ _ t there (let own = cut_position_after_set_is_new_number next t (i + 1) inside in omega (arith, own, at, l))
+    sum_below_is_less_if_one_is_less_and_others_equal (length f.guest.entries) _ _ t there (let own = cut_position_after_set_is_new_number next t (i + 1) inside in omega (arith, own, at, l))
     (λ u ne. ap (λ z. length (placed_at (placed_of f) u).entries - z) (other_cut_position_after_set_is_unchanged next t (i + 1) u ne))
 
 -- ---- a leave is taken
 
 -- the last of the leaves counted by next
-leave_count_is_positive_if_has_above : (f : FittedTrace) (qs next : List ℕ) (t i : ℕ) → AreLeaves f next → t < length f.guest.entries → HasAbove f qs next t
+leave_count_is_successor_if_has_above : (f : FittedTrace) (qs next : List ℕ) (t i : ℕ) → AreLeaves f next → t < length f.guest.entries → HasAbove f qs next t
     → i ≡ slice_index_or next t i → (cut_of next t ≡ i - 1 + 1) × (t < length next)
-leave_count_is_positive_if_has_above f qs next t i are there above read =
+leave_count_is_successor_if_has_above f qs next t i are there above read =
     let inside : t < length next = (let e = are.each in omega (arith, there, e)) in
     let at : cut_of next t ≡ i = cut_position_is_indexed_number next t i inside read in
     let some = above.2 in
@@ -90,7 +90,7 @@ pub falling_after_leave_taken : (f : FittedTrace) → IsFitted f → (qs qs' nex
     → ls ≡ (placed_at (placed_of f) t).leaves → EachRun f (λ run. LoweredFor f run (Needing (slice_index_or ls (i - 1) d)) qs qs')
     → (ps : List ℕ) (u k : ℕ) → EachRun f (Falling f ps u k qs next) → EachRun f (Falling f ps u k qs' (set next t (i - 1)))
 falling_after_leave_taken f fit qs qs' next t i ls d are there above read list lowered ps u k falling run is =
-    let last = leave_count_is_positive_if_has_above f qs next t i are there above read in
+    let last = leave_count_is_successor_if_has_above f qs next t i are there above read in
     let within : i - 1 < length ls = (let a = are.some t there in let b : length ls ≡ length (placed_at (placed_of f) t).leaves =
     ap length list in omega (arith, last.0, a, b)) in
     let x : Leave = slice_index_or ls (i - 1) d in
@@ -105,16 +105,16 @@ falling_after_leave_taken f fit qs qs' next t i ls d are there above read list l
 pub fewer_leaves_left_after_leave : (f : FittedTrace) (qs next : List ℕ) (t i : ℕ) → AreLeaves f next → t < length f.guest.entries → HasAbove f qs next t
     → i ≡ slice_index_or next t i → leaves_left (set next t (i - 1)) < leaves_left next
 fewer_leaves_left_after_leave f qs next t i are there above read =
-    let last = leave_count_is_positive_if_has_above f qs next t i are there above read in
+    let last = leave_count_is_successor_if_has_above f qs next t i are there above read in
     subst (λ n. sum_below n (cut_of (set next t (i - 1))) < leaves_left next) (sym (length-set next t (i - 1)))
-    (sum_below_is_less_if_one_is_less (length next) (cut_of (set next t (i - 1))) (cut_of next) t last.1
+    (sum_below_is_less_if_one_is_less_and_others_equal (length next) (cut_of (set next t (i - 1))) (cut_of next) t last.1
     (let own = cut_position_after_set_is_new_number next t (i - 1) last.1 in let at = last.0 in omega (arith, own, at))
     (λ u ne. other_cut_position_after_set_is_unchanged next t (i - 1) u ne))
 
 pub counts_are_of_leaves_after_leave_taken : (f : FittedTrace) (qs next : List ℕ) (t i : ℕ) → AreLeaves f next → t < length f.guest.entries → HasAbove f qs next t
     → i ≡ slice_index_or next t i → AreLeaves f (set next t (i - 1))
 counts_are_of_leaves_after_leave_taken f qs next t i are there above read =
-    let last = leave_count_is_positive_if_has_above f qs next t i are there above read in
+    let last = leave_count_is_successor_if_has_above f qs next t i are there above read in
     record {
       each = length-set next t (i - 1) ∙ are.each;
       some = λ u l. elim (cases_eq u t) [
@@ -143,16 +143,16 @@ pub event_count_is_position_count : (f : FittedTrace) → IsFitted f → (t : �
 event_count_is_position_count f fit t es there log = ap length log ∙ sym ((run_of_trace_is_listed f fit.run fit.run.run fit.run.whole).sizes t there)
 
 -- there are as many threads in the trace
-pub thread_within_recorded_threads : (f : FittedTrace) → HasRun f → (r : Recorded) (ts : List RecordedThread) (t : ℕ) → r ≡ f.recorded → ts ≡ r.threads
+pub thread_index_is_below_recorded_thread_count : (f : FittedTrace) → HasRun f → (r : Recorded) (ts : List RecordedThread) (t : ℕ) → r ≡ f.recorded → ts ≡ r.threads
     → t < length f.guest.entries → t < length ts
-thread_within_recorded_threads f h r ts t same is l = let a = h.whole.0.threads in let b : length ts ≡ length f.recorded.threads =
+thread_index_is_below_recorded_thread_count f h r ts t same is l = let a = h.whole.0.threads in let b : length ts ≡ length f.recorded.threads =
     ap length (is ∙ ap (λ z. z.threads) same) in omega (arith, l, a, b)
 
 pub looked_up_events_are_recorded_events : (f : FittedTrace) → HasRun f → (r : Recorded) (ts : List RecordedThread) (t : ℕ) (x : RecordedThread) (es : List Event)
     → r ≡ f.recorded → ts ≡ r.threads → t < length f.guest.entries → x ≡ slice_index_or ts t x → es ≡ x.events
     → es ≡ (recorded_thread f.recorded t).events
 looked_up_events_are_recorded_events f h r ts t x es same is l read events =
-    events ∙ ap (λ z. z.events) (read ∙ get_or_default ts t x absent (thread_within_recorded_threads f h r ts t same is l)
+    events ∙ ap (λ z. z.events) (read ∙ get_or_default ts t x absent (thread_index_is_below_recorded_thread_count f h r ts t same is l)
     ∙ ap (λ z. slice_index_or z t absent) (is ∙ ap (λ z. z.threads) same))
 
 -- ---- positions rise
@@ -218,5 +218,5 @@ pub looked_up_steps_are_recorded_steps : (f : FittedTrace) → HasRun f → (r :
     → r ≡ f.recorded → ts ≡ r.threads → t < length f.guest.entries → x ≡ slice_index_or ts t x → n ≡ x.steps
     → n ≡ (recorded_thread f.recorded t).steps
 looked_up_steps_are_recorded_steps f h r ts t x n same is l read steps =
-    steps ∙ ap (λ z. z.steps) (read ∙ get_or_default ts t x absent (thread_within_recorded_threads f h r ts t same is l)
+    steps ∙ ap (λ z. z.steps) (read ∙ get_or_default ts t x absent (thread_index_is_below_recorded_thread_count f h r ts t same is l)
     ∙ ap (λ z. slice_index_or z t absent) (is ∙ ap (λ z. z.threads) same))

@@ -15,7 +15,7 @@ use Rattle.ir_hits.specs.Hits.{Numbered, thread_at, HitBy, HitByNumber, IsLowest
 use Rattle.ir_hits.specs.Seeing.{Concerns, SomeConcerns, IsNoted, AllNoted, SeesHit, SeesHitAt, IsLowestOf, steps_of, Changes, LeavesWritten}
 use Rattle.ir_hits.specs.declared.before.Before.{Before}
 use Rattle.ir_hits.specs.declared.before.Before.TheVariants.{Nothing, Word, Inside}
-use Rattle.ir_hits.proofs.Leaves.{emitting_step_below_steps, thread_same_after_last_step, held_for_writing_before_leave, leaves_written_if_write_hold_lost}
+use Rattle.ir_hits.proofs.Leaves.{emitting_step_is_below_step_count, thread_same_after_last_step, held_for_writing_before_and_not_after_written_leave, leaves_written_if_write_hold_lost}
 
 -- ---- one point
 
@@ -40,7 +40,7 @@ hit_step_below_steps f run t j (Watch u address) h = elim (cases_lt j (steps_of 
       (thread_same_after_last_step f run t h.1.0 (subst (λ i. steps_of f run t ≤ i) same past))))
 ]
 hit_step_below_steps f run t j (WatchObject object) h =
-    let within = emitting_step_below_steps f run t h.0 (Out object Writing h.2.0) h.2.1 in omega (arith, h.1, within)
+    let within = emitting_step_is_below_step_count f run t h.0 (Out object Writing h.2.0) h.2.1 in omega (arith, h.1, within)
 
 -- what hits after step j is seen there
 pub hit_after_step_is_seen : (f : FittedTrace) (run : List Step) → IsRunOf f.guest f.recorded run → (t j last : ℕ)
@@ -52,10 +52,10 @@ hit_after_step_is_seen f run whole t j last steps all (Watch u address) (Word wo
     subst (Changes f run t address) (let e : h.1.0 ≡ j = omega (arith, h.1.1) in e) h.1.2 (sym k.1 ∙ same)
 hit_after_step_is_seen f run whole t j last steps all (Watch u address) Inside k h = k
 hit_after_step_is_seen f run whole t j last steps all (WatchObject object) Nothing k h =
-    k (held_for_writing_before_leave f run whole t j object (subst (LeavesWritten f run t object) (let e : h.0 ≡ j = omega (arith, h.1) in e) h.2)).0
+    k (held_for_writing_before_and_not_after_written_leave f run whole t j object (subst (LeavesWritten f run t object) (let e : h.0 ≡ j = omega (arith, h.1) in e) h.2)).0
 hit_after_step_is_seen f run whole t j last steps all (WatchObject object) (Word word) k h = k
 hit_after_step_is_seen f run whole t j last steps all (WatchObject object) Inside k h =
-    (held_for_writing_before_leave f run whole t j object (subst (LeavesWritten f run t object) (let e : h.0 ≡ j = omega (arith, h.1) in e) h.2)).1
+    (held_for_writing_before_and_not_after_written_leave f run whole t j object (subst (LeavesWritten f run t object) (let e : h.0 ≡ j = omega (arith, h.1) in e) h.2)).1
 
 -- and the other way round
 pub seen_hit_after_step_is_hit : (f : FittedTrace) (run : List Step) → IsRunOf f.guest f.recorded run → (t j last : ℕ) → j < steps_of f run t

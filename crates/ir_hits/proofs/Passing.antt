@@ -23,14 +23,14 @@ use Rattle.ir_hits.specs.Passing.{Watches, IsCovered, AreCovered, HasPassed}
 use Rattle.ir_hits.specs.Seeing.{IsNoted, AllNoted, steps_of, Changes, LeavesWritten}
 use Rattle.ir_hits.specs.declared.before.Before.{Before}
 use Rattle.ir_hits.specs.declared.before.Before.TheVariants.{Nothing, Word, Inside}
-use Rattle.ir_hits.proofs.Leaves.{held_for_writing_before_leave}
+use Rattle.ir_hits.proofs.Leaves.{held_for_writing_before_and_not_after_written_leave}
 
 -- ---- private steps of a run
 
-thread_after_private_step : (f : FittedTrace) (run : List Step) → IsRunOf f.guest f.recorded run → (t k : ℕ) (x : ThreadState) → k < steps_of f run t
+thread_after_private_step_is_step_of_code : (f : FittedTrace) (run : List Step) → IsRunOf f.guest f.recorded run → (t k : ℕ) (x : ThreadState) → k < steps_of f run t
     → thread_at f run t k ≡ x → ask_of f.guest.code x ≡ ask.Private → thread_at f run t (suc k) ≡ step_of f.guest.code x
 unfolding step_of
-thread_after_private_step f run whole t k x less at private =
+thread_after_private_step_is_step_of_code f run whole t k x less at private =
     let some = step_below_count_emits f run t k less in
     let z : StepOf (machine_of f) (thread_at f run t k) (thread_at f run t (suc k)) some.0 =
     emitting_step_is_step_of (machine_of f) (start_of f) run whole.1.runs t k some.0 some.1 in
@@ -38,14 +38,14 @@ thread_after_private_step f run whole t k x less at private =
     z.next ∙ ap (λ (y : ThreadState). after_reply f.guest.code y (reply_of (ask_of f.guest.code y) n)) at
     ∙ ap (λ q. after_reply f.guest.code x (reply_of q n)) private
 
-pub thread_after_private_steps_of_run : (f : FittedTrace) (run : List Step) → IsRunOf f.guest f.recorded run → (t j n k : ℕ) (x : ThreadState) → thread_at f run t j ≡ x
+pub thread_after_private_steps_is_run_of_code : (f : FittedTrace) (run : List Step) → IsRunOf f.guest f.recorded run → (t j n k : ℕ) (x : ThreadState) → thread_at f run t j ≡ x
     → j + n ≤ steps_of f run t → ((i : ℕ) → i < n → ask_of f.guest.code (run_of f.guest.code i x) ≡ ask.Private) → k ≤ n
     → thread_at f run t (j + k) ≡ run_of f.guest.code k x
 unfolding run_of
-thread_after_private_steps_of_run f run whole t j n zero x at within each le = ap (thread_at f run t) (add-zero j) ∙ at
-thread_after_private_steps_of_run f run whole t j n (suc k) x at within each le =
-    ap (thread_at f run t) (add-suc j k) ∙ thread_after_private_step f run whole t (j + k) (run_of f.guest.code k x) (omega (arith, within, le))
-    (thread_after_private_steps_of_run f run whole t j n k x at within each (omega (arith, le))) (each k (omega (arith, le)))
+thread_after_private_steps_is_run_of_code f run whole t j n zero x at within each le = ap (thread_at f run t) (add-zero j) ∙ at
+thread_after_private_steps_is_run_of_code f run whole t j n (suc k) x at within each le =
+    ap (thread_at f run t) (add-suc j k) ∙ thread_after_private_step_is_step_of_code f run whole t (j + k) (run_of f.guest.code k x) (omega (arith, within, le))
+    (thread_after_private_steps_is_run_of_code f run whole t j n k x at within each (omega (arith, le))) (each k (omega (arith, le)))
 
 -- ---- steps at instructions that aren't marked, where what the points may hit at is
 
@@ -61,7 +61,7 @@ pub record IsStretch (f : FittedTrace) (run : List Step) (code : Marked) (points
 pub thread_within_stretch_is_run_of_code : (f : FittedTrace) (run : List Step) (code : Marked) (points : List Numbered) (t j n k : ℕ) (x y : ThreadState)
     → IsStretch f run code points t j n x y → k ≤ n → thread_at f run t (j + k) ≡ run_of code.words k x
 thread_within_stretch_is_run_of_code f run code points t j n k x y s le =
-    subst (λ c. thread_at f run t (j + k) ≡ run_of c k x) (sym s.words) (thread_after_private_steps_of_run f run s.whole t j n k x s.at s.within
+    subst (λ c. thread_at f run t (j + k) ≡ run_of c k x) (sym s.words) (thread_after_private_steps_is_run_of_code f run s.whole t j n k x s.at s.within
     (subst (λ (c : List ℕ). (i : ℕ) → i < n → ask_of c (run_of c i x) ≡ ask.Private) s.words s.steps.steps.each) le)
 
 held_is_unchanged_within_stretch : (f : FittedTrace) (run : List Step) (code : Marked) (points : List Numbered) (t j n k : ℕ) (x y : ThreadState)
@@ -97,7 +97,7 @@ covered_point_not_hit_within_stretch f run code points t j n k x y (Watch u addr
     subst (Changes f run t address) e h.1.2 (ap (λ m. memory_word m address) (before ∙ sym after))
 covered_point_not_hit_within_stretch f run code points t j n k x y (WatchObject object) s less c h =
     let e : h.0 ≡ j + k = omega (arith, h.1) in
-    let inside = held_for_writing_before_leave f run s.whole t (j + k) object (subst (LeavesWritten f run t object) e h.2) in
+    let inside = held_for_writing_before_and_not_after_written_leave f run s.whole t (j + k) object (subst (LeavesWritten f run t object) e h.2) in
     let before = held_is_unchanged_within_stretch f run code points t j n k x y s (omega (arith, less)) in
     let after = ap (λ i. (thread_at f run t i).held) (sym (add-suc j k))
     ∙ held_is_unchanged_within_stretch f run code points t j n (suc k) x y s (omega (arith, less)) in

@@ -61,11 +61,11 @@ lowest_number_is_unchanged_if_next_point_does_not_hit t last y notes points n q 
     )
 
 -- it does, and its number is the lowest so far
-pub lowest_number_becomes_that_of_next_hit : (t last : ℕ) (y : ThreadState) (notes : List Before) (points : List Numbered) (n : ℕ) (q : Numbered) (b : Before)
+pub lowest_number_becomes_that_of_next_hit_if_none_lower : (t last : ℕ) (y : ThreadState) (notes : List Before) (points : List Numbered) (n : ℕ) (q : Numbered) (b : Before)
     → slice_get points n ≡ Some q → slice_get notes n ≡ Some b → SeesHit t last y b q.point
     → ((i : ℕ) (p : Numbered) → i < n → SeesHitAt t last y notes points i p → q.number ≤ p.number)
     → IsLowestOf t last y notes points (n + 1) (Some q.number)
-lowest_number_becomes_that_of_next_hit t last y notes points n q b is was hits low = (
+lowest_number_becomes_that_of_next_hit_if_none_lower t last y notes points n q b is was hits low = (
   (n, q, (is, b, was, hits), refl),
   λ i p less g. elim (cases_eq i n) [
     | inl same ↦ let e : q.number ≡ p.number = ap (λ (z : Numbered). z.number) (slice_get_at_equal_indexes_is_equal points n i q p is g.0 same) in omega (arith, e)
@@ -90,10 +90,10 @@ pub lowest_number_is_lower_of_found_and_next_hit : (t last : ℕ) (y : ThreadSta
     → slice_get points n ≡ Some q → slice_get notes n ≡ Some b → SeesHit t last y b q.point → (found : Option ℕ)
     → IsLowestOf t last y notes points n found → IsLowestOf t last y notes points (n + 1) (Some (lower_of found q.number))
 lowest_number_is_lower_of_found_and_next_hit t last y notes points n q b is was hits None none =
-    lowest_number_becomes_that_of_next_hit t last y notes points n q b is was hits (λ i p less g. absurd (none i p less g))
+    lowest_number_becomes_that_of_next_hit_if_none_lower t last y notes points n q b is was hits (λ i p less g. absurd (none i p less g))
 lowest_number_is_lower_of_found_and_next_hit t last y notes points n q b is was hits (Some m) some = elim (cases_lt q.number m) [
   | inl l ↦ subst (λ z. IsLowestOf t last y notes points (n + 1) (Some z)) (let e : q.number ≡ min m q.number = omega (arith, l) in e)
-      (lowest_number_becomes_that_of_next_hit t last y notes points n q b is was hits (λ i p less g. let a = some.1 i p less g in omega (arith, a, l)))
+      (lowest_number_becomes_that_of_next_hit_if_none_lower t last y notes points n q b is was hits (λ i p less g. let a = some.1 i p less g in omega (arith, a, l)))
   | inr past ↦ subst (λ z. IsLowestOf t last y notes points (n + 1) (Some z)) (let e : m ≡ min m q.number = omega (arith, past) in e)
       (lowest_number_stays_below_next_hit t last y notes points n m q is past some)
 ]

@@ -10,7 +10,7 @@ use Rattle.ir_keep.specs.Pages.{Origin, is_origin, has_origin, different, origin
 use Rattle.ir_keep.specs.Keeping.{Kept}
 use Rattle.ir_keep.specs.Store.{Page, Entry, laid, in_force, all_kept, owned, stored, AreEntries, AreNewer, AreLaid}
 use Rattle.ir_keep.proofs.Laid.{entry_at_place_is_entry}
-use Rattle.ir_keep.proofs.Whole.{length_of_in_force}
+use Rattle.ir_keep.proofs.Whole.{length_of_in_force_is_sixteen_per_thread}
 
 abbrev origin_at : ℕ → ℕ → Origin
 origin_at source place = record { source = source; place = place }
@@ -100,7 +100,7 @@ kept_origins_lack_origin_of_later_source m i source (e ∷ []) are lies lt =
 kept_origins_lack_origin_of_later_source m i source (e ∷ next ∷ older) are lies lt =
     let old = in_force (next ∷ older) in
     let low : get_or (sources_of old) i 0 ≤ get_or (sources_of (laid e.pages old)) i 0 =
-    source_no_earlier_than_older_source e.number i e.pages old (are.0.pages ∙ sym (length_of_in_force m next older are.1)) lies.0 in
+    source_no_earlier_than_older_source e.number i e.pages old (are.0.pages ∙ sym (length_of_in_force_is_sixteen_per_thread m next older are.1)) lies.0 in
     has_origin_in_append (origin_at source i) (origins 0 (sources_of (in_force (e ∷ next ∷ older)))) (all_origins (all_kept (next ∷ older)))
     ∙ (λ j. origins_from_zero_lack_origin_of_later_source i source (sources_of (in_force (e ∷ next ∷ older))) lt j || has_origin (origin_at source i) (all_origins (all_kept (next ∷ older))))
     ∙ kept_origins_lack_origin_of_later_source m i source (next ∷ older) are.1 lies.1 (omega (arith, low, lt))
@@ -156,7 +156,7 @@ different_origin_count_is_stored_page_count m (e ∷ []) are lies =
 different_origin_count_is_stored_page_count m (e ∷ next ∷ older) are lies =
     let old = in_force (next ∷ older) in
     let rest = all_origins (all_kept (next ∷ older)) in
-    different_origin_count_of_laid_pages_is_owned_and_rest e.number 0 e.pages old rest (are.0.pages ∙ sym (length_of_in_force m next older are.1)) lies.0
+    different_origin_count_of_laid_pages_is_owned_and_rest e.number 0 e.pages old rest (are.0.pages ∙ sym (length_of_in_force_is_sixteen_per_thread m next older are.1)) lies.0
     (λ i lt. ap (λ p. has_origin (origin_at (get_or (sources_of old) i 0) p) rest) (omega arith)
     ∙ has_origin_in_append (origin_at (get_or (sources_of old) i 0) i) (origins 0 (sources_of old)) (all_origins (all_kept older))
     ∙ (λ j. origins_from_zero_have_own_origin i (sources_of old) (omega (arith, lt, length-map old (λ (p : Page). p.source))) j || has_origin (origin_at (get_or (sources_of old) i 0) i) (all_origins (all_kept older))))

@@ -3,7 +3,7 @@ use Rattle.std.proofs.Common.{◌≡◌, ◌==◌, ◌+◌, ◌<◌, ◌≤◌, 
 use Rattle.std.proofs.lemmas.Bool.Decides.{nat_tests}
 use Rattle.ir_keep.specs.Keeping.{without}
 use Rattle.ir_keep.specs.Store.{Entry, laid, in_force, kept_of, all_kept, taken_away, place_of, AreEntries, AreBelow, AreFalling, AreNewer, AreLaid, HasStart, IsStore}
-use Rattle.ir_keep.proofs.Laid.{laid_of_handed_is_laid_twice, length_of_handed}
+use Rattle.ir_keep.proofs.Laid.{laid_of_handed_is_laid_twice, length_of_handed_is_length_of_own_pages}
 use Rattle.ir_keep.proofs.Whole.{handed_pages_are_newer}
 use Rattle.ir_keep.proofs.Again.{has_start_under_newer_entry}
 
@@ -21,13 +21,13 @@ list_without_place zero (x ∷ xs) = xs
 list_without_place (suc place) (x ∷ xs) = x ∷ list_without_place place xs
 
 -- what is kept is what was kept, but for the one at the place
-pub all_kept_after_taken_away : (n place : ℕ) (entries : List Entry) → AreEntries n entries → place < length entries → all_kept (taken_away place entries) ≡ list_without_place place (all_kept entries)
-all_kept_after_taken_away n place [] are lt = absurd (omega (arith, lt))
-all_kept_after_taken_away n zero (e ∷ older) are lt = refl
-all_kept_after_taken_away n (suc zero) (e ∷ []) are lt = absurd (omega (arith, lt))
-all_kept_after_taken_away n (suc zero) (e ∷ gone ∷ older) are lt = λ i. kept_of e (in_force_is_unchanged_by_taking_older_away n zero (e ∷ gone ∷ older) are lt i) ∷ all_kept older
-all_kept_after_taken_away n (suc (suc place)) (e ∷ older) are lt =
-    λ i. kept_of e (laid e.pages (in_force_is_unchanged_by_taking_older_away n place older are.1 (omega (arith, lt)) i)) ∷ all_kept_after_taken_away n (suc place) older are.1 (omega (arith, lt)) i
+pub all_kept_of_taken_away_is_list_without_place : (n place : ℕ) (entries : List Entry) → AreEntries n entries → place < length entries → all_kept (taken_away place entries) ≡ list_without_place place (all_kept entries)
+all_kept_of_taken_away_is_list_without_place n place [] are lt = absurd (omega (arith, lt))
+all_kept_of_taken_away_is_list_without_place n zero (e ∷ older) are lt = refl
+all_kept_of_taken_away_is_list_without_place n (suc zero) (e ∷ []) are lt = absurd (omega (arith, lt))
+all_kept_of_taken_away_is_list_without_place n (suc zero) (e ∷ gone ∷ older) are lt = λ i. kept_of e (in_force_is_unchanged_by_taking_older_away n zero (e ∷ gone ∷ older) are lt i) ∷ all_kept older
+all_kept_of_taken_away_is_list_without_place n (suc (suc place)) (e ∷ older) are lt =
+    λ i. kept_of e (laid e.pages (in_force_is_unchanged_by_taking_older_away n place older are.1 (omega (arith, lt)) i)) ∷ all_kept_of_taken_away_is_list_without_place n (suc place) older are.1 (omega (arith, lt)) i
 
 -- ---- by its number
 
@@ -66,7 +66,7 @@ taken_away_are_entries n place [] are = tt
 taken_away_are_entries n zero (e ∷ older) are = are.1
 taken_away_are_entries n (suc zero) (e ∷ []) are = are
 taken_away_are_entries n (suc zero) (e ∷ gone ∷ older) are =
-    (record { frames = are.0.frames; pages = length_of_handed e.pages gone.pages ∙ are.0.pages; cut = are.0.cut }, are.1.1)
+    (record { frames = are.0.frames; pages = length_of_handed_is_length_of_own_pages e.pages gone.pages ∙ are.0.pages; cut = are.0.cut }, are.1.1)
 taken_away_are_entries n (suc (suc place)) (e ∷ older) are = (are.0, taken_away_are_entries n (suc place) older are.1)
 
 taken_away_numbers_below : (n place : ℕ) (entries : List Entry) → AreBelow n entries → AreBelow n (taken_away place entries)
@@ -121,9 +121,9 @@ place_of_nonzero_number_is_not_last n (e ∷ []) start later lt = omega (arith, 
 place_of_nonzero_number_is_not_last n (e ∷ next ∷ older) start later lt =
     place_of_number_is_not_last_step n (place_of n (next ∷ older)) (e.number == n) (next ∷ older) (place_of_nonzero_number_is_not_last n (next ∷ older) start later) lt (omega arith)
 
-pub store_after_taken_away : (m last n : ℕ) (entries : List Entry) → IsStore m last entries → (n ≡ 0 → ⊥) → place_of n entries < length entries
+pub is_store_after_taken_away : (m last n : ℕ) (entries : List Entry) → IsStore m last entries → (n ≡ 0 → ⊥) → place_of n entries < length entries
     → IsStore m last (taken_away (place_of n entries) entries)
-store_after_taken_away m last n entries store later lt =
+is_store_after_taken_away m last n entries store later lt =
     let place = place_of n entries in
     record {
       few = omega (arith, store.few, taken_away_is_not_longer place entries);

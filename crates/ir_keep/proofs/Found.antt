@@ -18,34 +18,34 @@ place_of_at_most_length n (e ∷ entries) = one_le (e.number == n) (place_of_at_
     one_le true le = omega arith
     one_le false le = omega (arith, le)
 
-kept_as_found_entry_step : (n : ℕ) (e d : Entry) (entries : List Entry) (b : Bool)
+kept_as_is_found_entry_step : (n : ℕ) (e d : Entry) (entries : List Entry) (b : Bool)
     → (place_of n entries < length entries → kept_as n (all_kept entries) ≡ Some (kept_of (get_or entries (place_of n entries) d) (in_force (drop (place_of n entries) entries))))
     → (if b then 0 else suc (place_of n entries)) < suc (length entries)
     → (if b then Some (kept_of e (in_force (e ∷ entries))) else kept_as n (all_kept entries))
     ≡ Some (kept_of (get_or (e ∷ entries) (if b then 0 else suc (place_of n entries)) d) (in_force (drop (if b then 0 else suc (place_of n entries)) (e ∷ entries))))
-kept_as_found_entry_step n e d entries true more lt = refl
-kept_as_found_entry_step n e d entries false more lt = more (omega (arith, lt))
+kept_as_is_found_entry_step n e d entries true more lt = refl
+kept_as_is_found_entry_step n e d entries false more lt = more (omega (arith, lt))
 
 -- the kept cut of a number is that of its entry
-pub kept_as_found_entry : (n : ℕ) (entries : List Entry) (d : Entry) → place_of n entries < length entries
+pub kept_as_is_found_entry_if_place_within_entries : (n : ℕ) (entries : List Entry) (d : Entry) → place_of n entries < length entries
     → kept_as n (all_kept entries) ≡ Some (kept_of (get_or entries (place_of n entries) d) (in_force (drop (place_of n entries) entries)))
-kept_as_found_entry n [] d lt = absurd (omega (arith, lt))
-kept_as_found_entry n (e ∷ entries) d lt = kept_as_found_entry_step n e d entries (e.number == n) (kept_as_found_entry n entries d) lt
+kept_as_is_found_entry_if_place_within_entries n [] d lt = absurd (omega (arith, lt))
+kept_as_is_found_entry_if_place_within_entries n (e ∷ entries) d lt = kept_as_is_found_entry_step n e d entries (e.number == n) (kept_as_is_found_entry_if_place_within_entries n entries d) lt
 
-kept_as_none_step : (b : Bool) (k : Kept) (p q : ℕ) (o : Option Kept) → (q ≤ p → o ≡ None) → suc q ≤ (if b then 0 else suc p) → (if b then Some k else o) ≡ None
-kept_as_none_step true k p q o more le = absurd (omega (arith, le))
-kept_as_none_step false k p q o more le = more (omega (arith, le))
+kept_as_is_none_step : (b : Bool) (k : Kept) (p q : ℕ) (o : Option Kept) → (q ≤ p → o ≡ None) → suc q ≤ (if b then 0 else suc p) → (if b then Some k else o) ≡ None
+kept_as_is_none_step true k p q o more le = absurd (omega (arith, le))
+kept_as_is_none_step false k p q o more le = more (omega (arith, le))
 
-pub kept_as_none_past_entries : (n : ℕ) (entries : List Entry) → length entries ≤ place_of n entries → kept_as n (all_kept entries) ≡ None
-kept_as_none_past_entries n [] le = refl
-kept_as_none_past_entries n (e ∷ entries) le =
-    kept_as_none_step (e.number == n) (kept_of e (in_force (e ∷ entries))) (place_of n entries) (length entries) (kept_as n (all_kept entries)) (kept_as_none_past_entries n entries) le
+pub kept_as_is_none_if_place_past_entries : (n : ℕ) (entries : List Entry) → length entries ≤ place_of n entries → kept_as n (all_kept entries) ≡ None
+kept_as_is_none_if_place_past_entries n [] le = refl
+kept_as_is_none_if_place_past_entries n (e ∷ entries) le =
+    kept_as_is_none_step (e.number == n) (kept_of e (in_force (e ∷ entries))) (place_of n entries) (length entries) (kept_as n (all_kept entries)) (kept_as_is_none_if_place_past_entries n entries) le
 
 -- what is kept has an entry
 pub place_of_kept_number_within_entries : (n : ℕ) (entries : List Entry) → (kept_as n (all_kept entries) ≡ None → ⊥) → place_of n entries < length entries
 place_of_kept_number_within_entries n entries kept = elim (cases_lt (place_of n entries) (length entries)) [
   | inl lt ↦ lt
-  | inr le ↦ absurd (kept (kept_as_none_past_entries n entries le))
+  | inr le ↦ absurd (kept (kept_as_is_none_if_place_past_entries n entries le))
 ]
 
 number_at_place_below_bound : (n i : ℕ) (entries : List Entry) (d : Entry) → AreBelow n entries → i < length entries → (get_or entries i d).number < n
@@ -81,8 +81,8 @@ pub length_of_threads_of : (frames : List ThreadFrame) (pages : List Page) → l
 length_of_threads_of [] pages = refl
 length_of_threads_of (frame ∷ frames) pages = ap suc (length_of_threads_of frames (drop 16 pages))
 
-pub length_of_entry_cut : (m i : ℕ) (entries : List Entry) (d : Entry) → AreEntries m entries → i < length entries → length (get_or entries i d).cut ≡ m
-length_of_entry_cut m i entries d are lt =
+pub length_of_entry_cut_is_thread_count : (m i : ℕ) (entries : List Entry) (d : Entry) → AreEntries m entries → i < length entries → length (get_or entries i d).cut ≡ m
+length_of_entry_cut_is_thread_count m i entries d are lt =
     let e = entry_at_place_is_entry m entries i d are lt in
     ap length e.cut ∙ length-map (get_or entries i d).frames (λ (f : ThreadFrame). f.steps) ∙ e.frames
 
@@ -95,9 +95,9 @@ zero_cut_is_below (a ∷ low) (b ∷ high) zeros same =
     let none : nat_le a b ≡ true = grind (arith, nat_tests, zeros.0) in
     ap (λ (x : Bool). x && is_below low high) none ∙ zero_cut_is_below low high zeros.1 (omega (arith, same))
 
-total_of_zero_cut : (cut : List ℕ) → AreZero cut → total cut ≡ 0
-total_of_zero_cut [] zeros = refl
-total_of_zero_cut (a ∷ cut) zeros = omega (arith, zeros.0, total_of_zero_cut cut zeros.1)
+total_of_zero_cut_is_zero : (cut : List ℕ) → AreZero cut → total cut ≡ 0
+total_of_zero_cut_is_zero [] zeros = refl
+total_of_zero_cut_is_zero (a ∷ cut) zeros = omega (arith, zeros.0, total_of_zero_cut_is_zero cut zeros.1)
 
 oldest_cut_is_zero : (entries : List Entry) (d : Entry) (p : ℕ) → HasStart entries → suc p ≡ length entries → AreZero (get_or entries p d).cut
 oldest_cut_is_zero [] d p start at = absurd start
@@ -107,12 +107,12 @@ oldest_cut_is_zero (e ∷ next ∷ older) d zero start at = absurd (omega (arith
 oldest_cut_is_zero (e ∷ next ∷ older) d (suc p) start at = oldest_cut_is_zero (next ∷ older) d p start (omega (arith, at))
 
 -- the start is below each cut
-pub oldest_cut_is_below_each_cut : (m : ℕ) (entries : List Entry) (d : Entry) (p : ℕ) (cut : List ℕ) → AreEntries m entries → HasStart entries → suc p ≡ length entries → length cut ≡ m
+pub oldest_cut_is_below_each_cut_and_has_total_zero : (m : ℕ) (entries : List Entry) (d : Entry) (p : ℕ) (cut : List ℕ) → AreEntries m entries → HasStart entries → suc p ≡ length entries → length cut ≡ m
     → (is_below (get_or entries p d).cut cut ≡ true) × (total (get_or entries p d).cut ≡ 0)
-oldest_cut_is_below_each_cut m entries d p cut are start at same =
+oldest_cut_is_below_each_cut_and_has_total_zero m entries d p cut are start at same =
     let zeros : AreZero (get_or entries p d).cut = oldest_cut_is_zero entries d p start at in (
-      zero_cut_is_below (get_or entries p d).cut cut zeros (length_of_entry_cut m p entries d are (omega (arith, at)) ∙ sym same),
-      total_of_zero_cut (get_or entries p d).cut zeros,
+      zero_cut_is_below (get_or entries p d).cut cut zeros (length_of_entry_cut_is_thread_count m p entries d are (omega (arith, at)) ∙ sym same),
+      total_of_zero_cut_is_zero (get_or entries p d).cut zeros,
     )
 
 -- the nearest entry's number is the nearest kept cut's
@@ -130,7 +130,7 @@ nearest_place_has_nearest_number m last entries cut place d are falling best =
           let i = place_of n entries in
           let lt : i < length entries = place_of_kept_number_within_entries n entries (λ none. none-some other (sym none ∙ is)) in
           let found = kept_of (get_or entries i d) (in_force (drop i entries)) in
-          let both : Some other ≡ Some found = sym is ∙ kept_as_found_entry n entries d lt in
+          let both : Some other ≡ Some found = sym is ∙ kept_as_is_found_entry_if_place_within_entries n entries d lt in
           let same : other ≡ found = cc both in
           let theirs : cut_in other ≡ (get_or entries i d).cut = ap cut_in same ∙ kept_cut_is_cut_of_entry m i entries d (in_force (drop i entries)) are lt in
           let low : total (get_or entries i d).cut ≤ total (get_or entries place d).cut = best.nearest i d lt (ap (λ c. is_below c cut) (sym theirs) ∙ below) in

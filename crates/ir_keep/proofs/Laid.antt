@@ -19,15 +19,15 @@ laid_of_handed_is_laid_twice (x ∷ own) [] old same = absurd (omega (arith, sam
 laid_of_handed_is_laid_twice (x ∷ own) (y ∷ given) [] same = λ i. newer_of_first_of_is_newer_twice x y blank i ∷ laid_of_handed_is_laid_twice own given [] (omega (arith, same)) i
 laid_of_handed_is_laid_twice (x ∷ own) (y ∷ given) (q ∷ old) same = λ i. newer_of_first_of_is_newer_twice x y q i ∷ laid_of_handed_is_laid_twice own given old (omega (arith, same)) i
 
-pub length_of_laid : (pages : List (Option Page)) (old : List Page) → length (laid pages old) ≡ length pages
-length_of_laid [] old = refl
-length_of_laid (x ∷ pages) [] = ap suc (length_of_laid pages [])
-length_of_laid (x ∷ pages) (q ∷ old) = ap suc (length_of_laid pages old)
+pub length_of_laid_is_length_of_own_pages : (pages : List (Option Page)) (old : List Page) → length (laid pages old) ≡ length pages
+length_of_laid_is_length_of_own_pages [] old = refl
+length_of_laid_is_length_of_own_pages (x ∷ pages) [] = ap suc (length_of_laid_is_length_of_own_pages pages [])
+length_of_laid_is_length_of_own_pages (x ∷ pages) (q ∷ old) = ap suc (length_of_laid_is_length_of_own_pages pages old)
 
-pub length_of_handed : (own given : List (Option Page)) → length (handed own given) ≡ length own
-length_of_handed [] given = refl
-length_of_handed (x ∷ own) [] = refl
-length_of_handed (x ∷ own) (y ∷ given) = ap suc (length_of_handed own given)
+pub length_of_handed_is_length_of_own_pages : (own given : List (Option Page)) → length (handed own given) ≡ length own
+length_of_handed_is_length_of_own_pages [] given = refl
+length_of_handed_is_length_of_own_pages (x ∷ own) [] = refl
+length_of_handed_is_length_of_own_pages (x ∷ own) (y ∷ given) = ap suc (length_of_handed_is_length_of_own_pages own given)
 
 -- ---- an entry is made of what changed
 
@@ -40,19 +40,19 @@ bytes_are_equal_if_same_bytes_is_true (x ∷ a) (y ∷ b) e =
     let one : x ≡ y = grind (arith, nat_tests, both.0) in
     λ i. one i ∷ bytes_are_equal_if_same_bytes_is_true a b both.1 i
 
-bytes_of_newer_changed_page : (n : ℕ) (bytes : List ℕ) (old : Page) (b : Bool) → same_bytes bytes old.bytes ≡ b → (newer (if b then None else Some (record { source = n; bytes = bytes })) old).bytes ≡ bytes
-bytes_of_newer_changed_page n bytes old true e = sym (bytes_are_equal_if_same_bytes_is_true bytes old.bytes e)
-bytes_of_newer_changed_page n bytes old false e = refl
+bytes_of_newer_changed_page_are_new_bytes : (n : ℕ) (bytes : List ℕ) (old : Page) (b : Bool) → same_bytes bytes old.bytes ≡ b → (newer (if b then None else Some (record { source = n; bytes = bytes })) old).bytes ≡ bytes
+bytes_of_newer_changed_page_are_new_bytes n bytes old true e = sym (bytes_are_equal_if_same_bytes_is_true bytes old.bytes e)
+bytes_of_newer_changed_page_are_new_bytes n bytes old false e = refl
 
 source_of_newer_changed_page_by_condition : (n : ℕ) (bytes : List ℕ) (old : Page) (b : Bool) → (newer (if b then None else Some (record { source = n; bytes = bytes })) old).source ≡ (if b then old.source else n)
 source_of_newer_changed_page_by_condition n bytes old true = refl
 source_of_newer_changed_page_by_condition n bytes old false = refl
 
 -- the pages of the new entry are those of the state
-pub bytes_of_laid_changed_pages : (n : ℕ) (news : List (List ℕ)) (old : List Page) → map (λ (p : Page). p.bytes) (laid (changed n news old) old) ≡ news
-bytes_of_laid_changed_pages n [] old = refl
-bytes_of_laid_changed_pages n (bytes ∷ news) [] = λ i. bytes_of_newer_changed_page n bytes blank (same_bytes bytes []) refl i ∷ bytes_of_laid_changed_pages n news [] i
-bytes_of_laid_changed_pages n (bytes ∷ news) (q ∷ old) = λ i. bytes_of_newer_changed_page n bytes q (same_bytes bytes q.bytes) refl i ∷ bytes_of_laid_changed_pages n news old i
+pub bytes_of_laid_changed_pages_are_new_bytes : (n : ℕ) (news : List (List ℕ)) (old : List Page) → map (λ (p : Page). p.bytes) (laid (changed n news old) old) ≡ news
+bytes_of_laid_changed_pages_are_new_bytes n [] old = refl
+bytes_of_laid_changed_pages_are_new_bytes n (bytes ∷ news) [] = λ i. bytes_of_newer_changed_page_are_new_bytes n bytes blank (same_bytes bytes []) refl i ∷ bytes_of_laid_changed_pages_are_new_bytes n news [] i
+bytes_of_laid_changed_pages_are_new_bytes n (bytes ∷ news) (q ∷ old) = λ i. bytes_of_newer_changed_page_are_new_bytes n bytes q (same_bytes bytes q.bytes) refl i ∷ bytes_of_laid_changed_pages_are_new_bytes n news old i
 
 -- and their sources are those of the rule
 pub sources_of_laid_changed_are_next_sources : (n : ℕ) (news : List (List ℕ)) (old : List Page) → length news ≡ length old

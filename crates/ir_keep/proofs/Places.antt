@@ -31,9 +31,9 @@ page_of_all_pages_is_page_of_its_thread (t ∷ threads) place d lt = elim (cases
       ∙ λ i. page_of (get_or (t ∷ threads) (sym next i) d).core.memory (sym own i)
 ]
 
-pub length_of_all_pages : (threads : List thread.ThreadState) → length (all_pages threads) ≡ 16 * length threads
-length_of_all_pages [] = refl
-length_of_all_pages (t ∷ threads) = omega (arith, length-append (pages_of t.core.memory) (all_pages threads), length_of_all_pages threads)
+pub length_of_all_pages_is_sixteen_per_thread : (threads : List thread.ThreadState) → length (all_pages threads) ≡ 16 * length threads
+length_of_all_pages_is_sixteen_per_thread [] = refl
+length_of_all_pages_is_sixteen_per_thread (t ∷ threads) = omega (arith, length-append (pages_of t.core.memory) (all_pages threads), length_of_all_pages_is_sixteen_per_thread threads)
 
 -- one page more is compared
 pub compared_pages_step : (n : ℕ) (threads : List thread.ThreadState) (force : List Page) (place : ℕ) (d : thread.ThreadState) (pages new whole : List (Option Page)) (page : Option Page) (bytes old : List ℕ)
@@ -49,11 +49,11 @@ compared_pages_step n threads force place d pages new whole page bytes old lt gr
     let rest = changed n (drop (suc place) all) (drop (suc place) force) in
     (λ i. grown i ++ changed n (drop (one i) all) (drop (one i) force))
     ∙ append_assoc pages (page ∷ []) rest
-    ∙ ap (λ l. pages ++ l) ((λ i. mine i ∷ rest) ∙ sym (changed_of_drop_step n all force place (omega (arith, length_of_all_pages threads, lt))))
+    ∙ ap (λ l. pages ++ l) ((λ i. mine i ∷ rest) ∙ sym (changed_of_drop_step n all force place (omega (arith, length_of_all_pages_is_sixteen_per_thread threads, lt))))
     ∙ e
 
 pub compared_pages_are_whole_at_end : (n : ℕ) (threads : List thread.ThreadState) (force : List Page) (place : ℕ) (pages whole : List (Option Page)) → 16 * length threads ≤ place
     → pages ++ changed n (drop place (all_pages threads)) (drop place force) ≡ whole → pages ≡ whole
 compared_pages_are_whole_at_end n threads force place pages whole le e =
     let none : pages ++ [] ≡ pages = search rules in
-    sym none ∙ ap (λ l. pages ++ changed n l (drop place force)) (sym (drop_past_length_is_empty (all_pages threads) place (omega (arith, length_of_all_pages threads, le)))) ∙ e
+    sym none ∙ ap (λ l. pages ++ changed n l (drop place force)) (sym (drop_past_length_is_empty (all_pages threads) place (omega (arith, length_of_all_pages_is_sixteen_per_thread threads, le)))) ∙ e

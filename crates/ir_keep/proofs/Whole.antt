@@ -6,10 +6,10 @@ use Rattle.std.specs.List.{All}
 use Rattle.ir_mach.specs.Pages.{IsPage, ArePages}
 use Rattle.ir_keep.specs.Pages.{same_bytes}
 use Rattle.ir_keep.specs.Store.{Page, Entry, laid, in_force, changed, handed, AreEntries, AreFalling, IsWhole, AreWhole, AreNewer, AreLaid, AreFull}
-use Rattle.ir_keep.proofs.Laid.{length_of_laid}
+use Rattle.ir_keep.proofs.Laid.{length_of_laid_is_length_of_own_pages}
 
-pub length_of_in_force : (n : ℕ) (entry : Entry) (older : List Entry) → AreEntries n (entry ∷ older) → length (in_force (entry ∷ older)) ≡ 16 * n
-length_of_in_force n entry older are = length_of_laid entry.pages (in_force older) ∙ are.0.pages
+pub length_of_in_force_is_sixteen_per_thread : (n : ℕ) (entry : Entry) (older : List Entry) → AreEntries n (entry ∷ older) → length (in_force (entry ∷ older)) ≡ 16 * n
+length_of_in_force_is_sixteen_per_thread n entry older are = length_of_laid_is_length_of_own_pages entry.pages (in_force older) ∙ are.0.pages
 
 whole_page_at_later_number : (m n : ℕ) (page : Page) → m ≤ n → IsWhole m page → IsWhole n page
 whole_page_at_later_number m n page le w = record { within = omega (arith, w.within, le); size = w.size }
@@ -31,7 +31,7 @@ pub in_force_pages_are_whole : (n : ℕ) (entry : Entry) (older : List Entry) �
 in_force_pages_are_whole n entry [] are falling lies = laid_pages_over_none_are_whole entry.number entry.pages lies.0
 in_force_pages_are_whole n entry (next ∷ older) are falling lies =
     laid_pages_are_whole next.number entry.number entry.pages (in_force (next ∷ older)) (omega (arith, falling.0.0))
-    (are.0.pages ∙ sym (length_of_in_force n next older are.1)) (in_force_pages_are_whole n next older are.1 falling.1 lies.1) lies.0
+    (are.0.pages ∙ sym (length_of_in_force_is_sixteen_per_thread n next older are.1)) (in_force_pages_are_whole n next older are.1 falling.1 lies.1) lies.0
 
 pub whole_pages_are_full : (n : ℕ) (pages : List Page) → AreWhole n pages → AreFull pages
 whole_pages_are_full n [] w = tt
@@ -52,8 +52,8 @@ bytes_of_full_pages_are_pages [] full = λ k d lt. absurd (omega (arith, lt))
 bytes_of_full_pages_are_pages (page ∷ pages) full = All-cons IsPage page.bytes (map (λ (p : Page). p.bytes) pages) full.0 (bytes_of_full_pages_are_pages pages full.1)
 
 -- the first 16 are the pages of a thread
-pub first_full_pages_are_thread_pages : (pages : List Page) → AreFull pages → 16 ≤ length pages → ArePages (map (λ (p : Page). p.bytes) (take 16 pages))
-first_full_pages_are_thread_pages pages full enough = record {
+pub bytes_of_first_sixteen_full_pages_are_pages : (pages : List Page) → AreFull pages → 16 ≤ length pages → ArePages (map (λ (p : Page). p.bytes) (take 16 pages))
+bytes_of_first_sixteen_full_pages_are_pages pages full enough = record {
   count = length-map (take 16 pages) (λ (p : Page). p.bytes) ∙ length-take-le 16 pages enough;
   sizes = bytes_of_full_pages_are_pages (take 16 pages) (take_of_full_pages_is_full 16 pages full);
 }

@@ -19,8 +19,8 @@ use Rattle.ir_weave.specs.declared.plan.Plan.{Plan}
 use Rattle.ir_replay.specs.Rounds.{Goes, backwards, threads_of, seats_of, views_of, IsOfTable}
 use Rattle.ir_replay.specs.Workers.{IsReady, HasWorked, Pairs}
 use Rattle.ir_replay.specs.declared.worker.Worker.{Worker}
-use Rattle.ir_replay.proofs.Down.{AllByNumber, all_by_number_if_implied, all_by_number_of_both, all_if_all_by_number, property_at_number_if_all_by_number, all_by_number_through_pairs, length_of_backward_threads, each_worker_has_thread_of_its_number, each_worker_has_opening_seat_of_its_number, IsSeatAtOpening}
-use Rattle.ir_replay.proofs.Gathered.{state_of_ahead_threads_stands_at_own_positions, target_reached_if_no_thread_moves}
+use Rattle.ir_replay.proofs.Down.{AllByNumber, all_by_number_if_implied, all_by_number_of_both, all_if_implied_by_all_by_number, element_with_property_exists_at_number_if_all_by_number, all_by_number_have_related_element_with_property_if_pairs, length_of_backward_threads, each_worker_has_thread_of_its_number, each_worker_has_opening_seat_of_its_number, IsSeatAtOpening}
+use Rattle.ir_replay.proofs.Gathered.{state_of_ahead_threads_stands_at_own_positions, target_reached_if_each_thread_is_there_or_was_stopped}
 use Rattle.ir_weave.proofs.CallerLemmas.{state_thread_is_ahead_at_position}
 
 -- the guest at a cut below the target
@@ -75,7 +75,7 @@ workers_are_assigned id k target ws seats h are of_seats of_threads =
 
 pub assigned_workers_are_ready : (id : TableId) (k : Plan) (target : List ℕ) (ws : List Worker) → AllByNumber (IsAssigned id k target) ws
     → AllByRecursion (IsReady id k target) ws
-assigned_workers_are_ready id k target ws h = all_if_all_by_number (IsAssigned id k target) (IsReady id k target) ws (λ t w l m. m.ready) h
+assigned_workers_are_ready id k target ws h = all_if_implied_by_all_by_number (IsAssigned id k target) (IsReady id k target) ws (λ t w l m. m.ready) h
 
 -- ---- and after that
 
@@ -99,11 +99,11 @@ pub workers_are_after_round : (id : TableId) (k : Plan) (target : List ℕ) (vs 
     → Pairs (HasWorked id k target) vs ws → AllByNumber (IsAfterRound id k target) ws
 workers_are_after_round id k target vs ws h p = all_by_number_if_implied (λ t w. (v : Worker) × IsAssigned id k target t v × HasWorked id k target v w)
     (IsAfterRound id k target) ws (λ t w l x. worker_is_after_round id k target t x.0 w x.1 x.2)
-    (all_by_number_through_pairs (IsAssigned id k target) (HasWorked id k target) vs ws h p)
+    (all_by_number_have_related_element_with_property_if_pairs (IsAssigned id k target) (HasWorked id k target) vs ws h p)
 
 pub workers_after_round_are_of_table : (id : TableId) (k : Plan) (target : List ℕ) (ws : List Worker) → AllByNumber (IsAfterRound id k target) ws
     → AllByRecursion (IsOfTable id) ws
-workers_after_round_are_of_table id k target ws h = all_if_all_by_number (IsAfterRound id k target) (IsOfTable id) ws
+workers_after_round_are_of_table id k target ws h = all_if_implied_by_all_by_number (IsAfterRound id k target) (IsOfTable id) ws
     (λ t w l p. record { table = p.ready.table; slots = p.ready.slots }) h
 
 -- ---- where the threads are
@@ -152,7 +152,7 @@ thread_at_number_after_round id k target p ws h at t l =
     (all_by_number_of_both (λ n w. IsAfterRound id k target n w × AreAt p w.seat.me.0) (λ n w. w.thread ≡ slice_index_or xs n idle) ws
     (all_by_number_of_both (IsAfterRound id k target) (λ n w. AreAt p w.seat.me.0) ws h (worker_views_are_at_cut_if_joined_views_are p ws at))
     (each_worker_has_thread_of_its_number ws [] xs (append-nil xs))) in
-    (property_at_number_if_all_by_number (λ n w. IsThreadAfterRound k target p n (slice_index_or xs n idle)) ws all t l).1
+    (element_with_property_exists_at_number_if_all_by_number (λ n w. IsThreadAfterRound k target p n (slice_index_or xs n idle)) ws all t l).1
 
 steps_of_missing_thread_zero : (xs : List thread.ThreadState) (t : ℕ) → length xs ≤ t → (slice_index_or xs t idle).steps ≡ 0
 steps_of_missing_thread_zero xs t l = ap (λ (x : thread.ThreadState). x.steps) (get_or_past xs t idle l)
@@ -213,7 +213,7 @@ standing_after_round_progresses id k target ws cells h size p c b t less =
           let rests : (u : ℕ) → u < length target → (opened_at k u ≡ cut_of target u) ⊎ WasStopped k u (opened_at k u) =
           λ u l. subst (λ n. (n ≡ cut_of target u) ⊎ WasStopped k u n) (sym (same u l))
           (thread_at_number_after_round id k target (positions c.state) ws p c.view u (omega (arith, l, size, there, whole))).rests in
-          let at = target_reached_if_no_thread_moves k target h.run h.stands.at h.size h.consistent h.below rests t in
+          let at = target_reached_if_each_thread_is_there_or_was_stopped k target h.run h.stands.at h.size h.consistent h.below rests t in
           absurd (omega (arith, at, less))
     ]
 

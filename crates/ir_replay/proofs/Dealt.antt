@@ -37,12 +37,12 @@ dealt_seats_stay_whole_if_worker_moved old new all ws ws' w taken made h = ap (�
 
 -- ---- and again
 
-views_of_push : (ws : List Worker) (w : Worker) → views_of (ws ++ w ∷ []) ≡ w.seat.me.0 ++ views_of ws
-views_of_push [] w = sym (append-nil w.seat.me.0)
-views_of_push (v ∷ ws) w = ap (λ z. z ++ v.seat.me.0) (views_of_push ws w) ∙ append_assoc w.seat.me.0 (views_of ws) v.seat.me.0
+views_of_push_have_last_view_in_front : (ws : List Worker) (w : Worker) → views_of (ws ++ w ∷ []) ≡ w.seat.me.0 ++ views_of ws
+views_of_push_have_last_view_in_front [] w = sym (append-nil w.seat.me.0)
+views_of_push_have_last_view_in_front (v ∷ ws) w = ap (λ z. z ++ v.seat.me.0) (views_of_push_have_last_view_in_front ws w) ∙ append_assoc w.seat.me.0 (views_of ws) v.seat.me.0
 
 pub views_are_last_view_then_views_of_rest : (ws rest : List Worker) (w : Worker) → ws ≡ rest ++ w ∷ [] → w.seat.me.0 ++ views_of rest ≡ views_of ws
-views_are_last_view_then_views_of_rest ws rest w e = sym (views_of_push rest w) ∙ ap views_of (sym e)
+views_are_last_view_then_views_of_rest ws rest w e = sym (views_of_push_have_last_view_in_front rest w) ∙ ap views_of (sym e)
 
 -- a seat more is joined
 pub joined_views_stay_whole_if_next_seat_joined : (old rest : List Worker) (w : Worker) (all new : Seat (Unit {0}) View) (whole : View) → all.me.0 ++ views_of old ≡ whole

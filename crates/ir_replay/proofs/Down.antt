@@ -26,16 +26,16 @@ pub all_by_number_of_both : {A : Type 0} (P Q : ℕ → A → Type 0) (xs : List
 all_by_number_of_both P Q [] h k = tt
 all_by_number_of_both P Q (x ∷ xs) h k = ((h.0, k.0), all_by_number_of_both P Q xs h.1 k.1)
 
-pub all_if_all_by_number : {A : Type 0} (P : ℕ → A → Type 0) (Q : A → Type 0) (xs : List A) → ((t : ℕ) (x : A) → t < length xs → P t x → Q x)
+pub all_if_implied_by_all_by_number : {A : Type 0} (P : ℕ → A → Type 0) (Q : A → Type 0) (xs : List A) → ((t : ℕ) (x : A) → t < length xs → P t x → Q x)
     → AllByNumber P xs → AllByRecursion Q xs
-all_if_all_by_number P Q [] f h = tt
-all_if_all_by_number P Q (x ∷ xs) f h = (f (length xs) x (omega arith) h.0, all_if_all_by_number P Q xs (λ t y l. f t y (omega (arith, l))) h.1)
+all_if_implied_by_all_by_number P Q [] f h = tt
+all_if_implied_by_all_by_number P Q (x ∷ xs) f h = (f (length xs) x (omega arith) h.0, all_if_implied_by_all_by_number P Q xs (λ t y l. f t y (omega (arith, l))) h.1)
 
-pub property_at_number_if_all_by_number : {A : Type 0} (P : ℕ → A → Type 0) (xs : List A) → AllByNumber P xs → (t : ℕ) → t < length xs → (x : A) × P t x
-property_at_number_if_all_by_number P [] h t l = absurd (omega (arith, l))
-property_at_number_if_all_by_number P (x ∷ xs) h t l = elim (cases_eq t (length xs)) [
+pub element_with_property_exists_at_number_if_all_by_number : {A : Type 0} (P : ℕ → A → Type 0) (xs : List A) → AllByNumber P xs → (t : ℕ) → t < length xs → (x : A) × P t x
+element_with_property_exists_at_number_if_all_by_number P [] h t l = absurd (omega (arith, l))
+element_with_property_exists_at_number_if_all_by_number P (x ∷ xs) h t l = elim (cases_eq t (length xs)) [
   | inl e ↦ (x, subst (λ z. P z x) (sym e) h.0)
-  | inr ne ↦ property_at_number_if_all_by_number P xs h.1 t (omega (arith, l, ne))
+  | inr ne ↦ element_with_property_exists_at_number_if_all_by_number P xs h.1 t (omega (arith, l, ne))
 ]
 
 pub pairs_have_same_length : {A : Type 0} (R : A → A → Type 0) (xs ys : List A) → Pairs R xs ys → length ys ≡ length xs
@@ -44,12 +44,12 @@ pairs_have_same_length R [] (y ∷ ys) p = absurd p
 pairs_have_same_length R (x ∷ xs) [] p = absurd p
 pairs_have_same_length R (x ∷ xs) (y ∷ ys) p = ap suc (pairs_have_same_length R xs ys p.1)
 
-pub all_by_number_through_pairs : {A : Type 0} (P : ℕ → A → Type 0) (R : A → A → Type 0) (xs ys : List A) → AllByNumber P xs → Pairs R xs ys
+pub all_by_number_have_related_element_with_property_if_pairs : {A : Type 0} (P : ℕ → A → Type 0) (R : A → A → Type 0) (xs ys : List A) → AllByNumber P xs → Pairs R xs ys
     → AllByNumber (λ t y. (x : A) × P t x × R x y) ys
-all_by_number_through_pairs P R [] [] h p = tt
-all_by_number_through_pairs P R [] (y ∷ ys) h p = absurd p
-all_by_number_through_pairs P R (x ∷ xs) [] h p = absurd p
-all_by_number_through_pairs P R (x ∷ xs) (y ∷ ys) h p = ((x, subst (λ z. P z x) (sym (pairs_have_same_length R xs ys p.1)) h.0, p.0), all_by_number_through_pairs P R xs ys h.1 p.1)
+all_by_number_have_related_element_with_property_if_pairs P R [] [] h p = tt
+all_by_number_have_related_element_with_property_if_pairs P R [] (y ∷ ys) h p = absurd p
+all_by_number_have_related_element_with_property_if_pairs P R (x ∷ xs) [] h p = absurd p
+all_by_number_have_related_element_with_property_if_pairs P R (x ∷ xs) (y ∷ ys) h p = ((x, subst (λ z. P z x) (sym (pairs_have_same_length R xs ys p.1)) h.0, p.0), all_by_number_have_related_element_with_property_if_pairs P R xs ys h.1 p.1)
 
 pub pairs_if_elements_related : {A : Type 0} (R : A → A → Type 0) (xs ys : List A) → length ys ≡ length xs
     → ((i : ℕ) (d : A) → i < length xs → R (slice_index_or xs i d) (slice_index_or ys i d)) → Pairs R xs ys

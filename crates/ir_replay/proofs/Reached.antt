@@ -17,9 +17,9 @@ use Rattle.ir_weave.proofs.CallerLemmas.{guest_machine_is_lawful, state_invarian
 use Rattle.ir_replay.specs.Rounds.{Goes}
 
 -- a thread below its target is below its last step
-pub steps_ahead_if_below_target : (f : FittedTrace) (target : List ℕ) (s : Flat) (t n : ℕ) → IsTarget f target → t < length target
+pub steps_ahead_are_positive_if_below_target : (f : FittedTrace) (target : List ℕ) (s : Flat) (t n : ℕ) → IsTarget f target → t < length target
     → n ≡ cut_of target t - positions s t → 0 < n → 0 < steps_ahead f.recorded s t
-steps_ahead_if_below_target f target s t n aim l is some =
+steps_ahead_are_positive_if_below_target f target s t n aim l is some =
     let within = (aim.consistent aim.run.run aim.run.whole).0 t in
     let steps = aim.run.whole.1.steps t (subst (λ k. t < k) aim.size l) in
     omega (arith, is, some, within, steps)
@@ -31,8 +31,8 @@ rests_if_no_result_logs_next f target s t aim under l none = inr
     (λ run is ad. let next = admitted_thread_logs_next f s under.state run is t (subst (λ k. t < k) aim.size l) ad in none next.0 next.1)
 
 -- there is no thread past the last
-pub thread_below_target_exists : (target : List ℕ) (s : Flat) (t : ℕ) → positions s t < cut_of target t → t < length target
-thread_below_target_exists target s t less = elim (cases_lt t (length target)) [
+pub thread_index_is_below_target_length_if_below_target : (target : List ℕ) (s : Flat) (t : ℕ) → positions s t < cut_of target t → t < length target
+thread_index_is_below_target_length_if_below_target target s t less = elim (cases_lt t (length target)) [
   | inl l ↦ l
   | inr past ↦ let none : cut_of target t ≡ 0 = get_or_past target t 0 past in absurd (omega (arith, none, less))
 ]
@@ -51,7 +51,7 @@ target_reached_if_all_rest f target s aim under rest t = elim (cases_lt (positio
       progress_below_consistent_target (machine_of f) (guest_machine_is_lawful f) (start_of f) (state_invariant_at_guest_start f) run is.1.runs (positions s) (cut_of target) at.consistent goal.1 goal.0 t
       less in
       let before : positions s k.thread < cut_of target k.thread = k.below in
-      absurd (elim (rest k.thread (thread_below_target_exists target s k.thread before)) [
+      absurd (elim (rest k.thread (thread_index_is_below_target_length_if_below_target target s k.thread before)) [
         | inl done ↦ omega (arith, done, before)
         | inr none ↦ none run is (let b = goal.0 k.thread in omega (arith, before, b), k.consistent)
       ])

@@ -118,28 +118,28 @@ pub some_quits_if_first_quits : (quits : List ℕ → Bool) (l : List ℕ) (ls :
 unfolding some_quits
 some_quits_if_first_quits quits l ls h = ap (λ (b : Bool). cond b true (some_quits quits ls)) h
 
-through_without_quitting_line : (b x : Bool) (l : List ℕ) (t u : List (List ℕ)) → cond b true x ≡ false → (x ≡ false → t ≡ u) → l ∷ cond b [] t ≡ l ∷ u
-through_without_quitting_line true x l t u h k = absurd cc
-through_without_quitting_line false x l t u h k = ap (λ (r : List (List ℕ)). l ∷ r) (k h)
+through_step_if_line_does_not_quit : (b x : Bool) (l : List ℕ) (t u : List (List ℕ)) → cond b true x ≡ false → (x ≡ false → t ≡ u) → l ∷ cond b [] t ≡ l ∷ u
+through_step_if_line_does_not_quit true x l t u h k = absurd cc
+through_step_if_line_does_not_quit false x l t u h k = ap (λ (r : List (List ℕ)). l ∷ r) (k h)
 
 pub through_of_append_after_no_quit : (quits : List ℕ → Bool) (ls ms : List (List ℕ)) → some_quits quits ls ≡ false
     → through quits (ls ++ ms) ≡ ls ++ through quits ms
 unfolding some_quits through
 through_of_append_after_no_quit quits [] ms h = refl
-through_of_append_after_no_quit quits (l ∷ ls) ms h = through_without_quitting_line (quits l) (some_quits quits ls) l (through quits (ls ++ ms)) (ls ++ through quits ms) h
+through_of_append_after_no_quit quits (l ∷ ls) ms h = through_step_if_line_does_not_quit (quits l) (some_quits quits ls) l (through quits (ls ++ ms)) (ls ++ through quits ms) h
     (through_of_append_after_no_quit quits ls ms)
 
 pub through_of_no_lines : (quits : List ℕ → Bool) → through quits [] ≡ []
 unfolding through
 through_of_no_lines quits = refl
 
-conditional_through_of_one_line : (b : Bool) (l : List ℕ) → l ∷ cond b [] [] ≡ l ∷ []
-conditional_through_of_one_line true l = refl
-conditional_through_of_one_line false l = refl
+cons_of_conditional_of_two_empties_is_singleton : (b : Bool) (l : List ℕ) → l ∷ cond b [] [] ≡ l ∷ []
+cons_of_conditional_of_two_empties_is_singleton true l = refl
+cons_of_conditional_of_two_empties_is_singleton false l = refl
 
 pub through_of_one_line : (quits : List ℕ → Bool) (l : List ℕ) → through quits (l ∷ []) ≡ l ∷ []
 unfolding through
-through_of_one_line quits l = conditional_through_of_one_line (quits l) l
+through_of_one_line quits l = cons_of_conditional_of_two_empties_is_singleton (quits l) l
 
 pub through_if_first_quits : (quits : List ℕ → Bool) (l : List ℕ) (ls : List (List ℕ)) → quits l ≡ true → through quits (l ∷ ls) ≡ l ∷ []
 unfolding through

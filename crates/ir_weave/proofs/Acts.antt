@@ -41,12 +41,12 @@ use Rattle.ir_weave.specs.Woven.{View, trace_in, Met, progress, met_in, stood, A
 use Rattle.ir_weave.specs.declared.plan.Plan.{Plan}
 use Rattle.ir_weave.specs.declared.plan.Progress.{Progress}
 use Rattle.ir_weave.specs.Stepping.{LogsNext}
-use Rattle.ir_weave.proofs.Behind.{guest_state_at_consistent_cut, tables_are_end_of_part, admitted_thread_logs_next}
+use Rattle.ir_weave.proofs.Behind.{guest_has_state_at_consistent_cut, tables_of_state_at_cut_are_end_of_part_below, admitted_thread_logs_next}
 use Rattle.ir_weave.proofs.Lone.{try_result}
 use Rattle.ir_weave.proofs.Entries.{open_entry_is_admitted, shut_entry_is_not_admitted, cell_is_open_or_not, cell_is_open_if_fields_of_open_cell}
-use Rattle.ir_weave.proofs.Forth.{StepGoesOn, CaughtUp, IsFree, state_thread_is_guest_thread, step_goes_on_if_logs_next, step_goes_on_if_admitted, value_of_logging_try_is_try_result, free_step_is_admitted, state_catches_up_with_thread}
-use Rattle.ir_weave.proofs.Moves.{IsFurther, further_state_is_not_lower, woven_after_seat_moves}
-use Rattle.ir_weave.proofs.Words.{table_after_object_word_set, table_after_content_word_set, table_after_word_set_to_itself}
+use Rattle.ir_weave.proofs.Forth.{StepGoesOn, CaughtUp, IsFree, state_thread_index_is_below_guest_thread_count, step_goes_on_if_logs_next, step_goes_on_if_admitted, value_of_logging_try_is_try_result, free_step_is_admitted, state_catches_up_with_thread_by_alone_steps}
+use Rattle.ir_weave.proofs.Moves.{IsFurther, positions_of_further_state_are_not_lower, woven_after_seat_moves}
+use Rattle.ir_weave.proofs.Words.{is_table_after_object_word_set, is_table_after_content_word_set, is_table_after_word_set_to_itself}
 
 -- ---- the seat's thread, where it is ahead
 
@@ -54,13 +54,13 @@ state_catches_up_with_seat_thread : (k : Plan) (x : State (Unit {0}) View) (h : 
     → get_elem? x.views id ≡ some (q ∷ []) → IsAhead (trace_in k) q.thread q.position y → CaughtUp (trace_in k) h.state q.thread y
 state_catches_up_with_seat_thread k x h id q y at ahead =
     let own = (h.tracks id (q ∷ []) at).0 in
-    state_catches_up_with_thread (trace_in k) h.state q.thread y h.run h.flat h.at own.there ahead.at
+    state_catches_up_with_thread_by_alone_steps (trace_in k) h.state q.thread y h.run h.flat h.at own.there ahead.at
     (subst (λ i. AreAlone (trace_in k) q.thread i y.steps) (sym own.position) ahead.alone)
     (subst (λ i. i ≤ y.steps) (sym own.position) ahead.past)
 
-caught_up_state_has_thread : (k : Plan) (x : State (Unit {0}) View) (h : Woven k x) (id : ℕ) (q : Progress) (y : thread.ThreadState)
+seat_thread_is_below_thread_count_of_caught_up_state : (k : Plan) (x : State (Unit {0}) View) (h : Woven k x) (id : ℕ) (q : Progress) (y : thread.ThreadState)
     → get_elem? x.views id ≡ some (q ∷ []) → (cu : CaughtUp (trace_in k) h.state q.thread y) → q.thread < length cu.state.threads
-caught_up_state_has_thread k x h id q y at cu = let a = (h.tracks id (q ∷ []) at).0.there in let b = cu.size in omega (arith, a, b)
+seat_thread_is_below_thread_count_of_caught_up_state k x h id q y at cu = let a = (h.tracks id (q ∷ []) at).0.there in let b = cu.size in omega (arith, a, b)
 
 caught_up_state_is_further : (k : Plan) (x : State (Unit {0}) View) (h : Woven k x) (id : ℕ) (q : Progress) (y : thread.ThreadState)
     → get_elem? x.views id ≡ some (q ∷ []) → IsAhead (trace_in k) q.thread q.position y → (cu : CaughtUp (trace_in k) h.state q.thread y)
@@ -147,10 +147,10 @@ fields_of_word_equal_to_packed_fields n f fits is = ap fields_of is ∙ fields_o
 abbrev pub met_now : Progress → Flat → Met
 met_now q s = record { state = record { threads = s.threads; objects = s.objects }; looks = suc q.looks }
 
-pub look_is_allowed : (slots id o : ℕ) (a : Access) (e : Event) (y : thread.ThreadState) (q : Progress) (c : List (ℕ × Unit {0}))
+pub look_at_word_is_allowed_if_thread_is_entering : (slots id o : ℕ) (a : Access) (e : Event) (y : thread.ThreadState) (q : Progress) (c : List (ℕ × Unit {0}))
     → IsAhead (trace_in q.plan) q.thread q.position y → o < object_count (trace_in q.plan).guest → IsEntering (trace_in q.plan) y o a e
     → Allows (Woven q.plan) slots id (q ∷ [], c) (word_place o) (λ n. n) (looked (step slots (word_place o) 0 0 none) (q ∷ [], c))
-look_is_allowed slots id o a e y q c ahead inside entering x h homes at small =
+look_at_word_is_allowed_if_thread_is_entering slots id o a e y q c ahead inside entering x h homes at small =
     let k : Plan = q.plan in
     let f : FittedTrace = trace_in q.plan in
     let t : ℕ = q.thread in
@@ -159,7 +159,7 @@ look_is_allowed slots id o a e y q c ahead inside entering x h homes at small =
     let l : o < length h.state.objects = (let e' = h.at.objects in omega (arith, e', inside)) in
     let here : positions cu.state t ≡ y.steps = ap (λ (z : thread.ThreadState). z.steps) cu.own in
     let rises : (u : ℕ) → stood (met_in q) u ≤ stood (met_now q cu.state) u =
-    λ u. (let a = (h.tracks id (q ∷ []) at).0.met u in let b = further_state_is_not_lower f h.state cu.state t (caught_up_state_is_further k x h id q y at ahead cu) u in
+    λ u. (let a = (h.tracks id (q ∷ []) at).0.met u in let b = positions_of_further_state_are_not_lower f h.state cu.state t (caught_up_state_is_further k x h id q y at ahead cu) u in
     omega (arith, a, b)) in
     let same : fields_of n ≡ (cell_of cu.state o).fields =
     fields_of_word_equal_to_packed_fields n (cell_of h.state o).fields (fields_of_object_cell_are_in_range h.state o h.flat l) (h.table.heads o l)
@@ -178,14 +178,14 @@ look_is_allowed slots id o a e y q c ahead inside entering x h homes at small =
     ∙ own_event in
     let table : IsTable cu.state.objects (set x.words (word_place o) n) =
     subst (λ cs. IsTable cs (set x.words (word_place o) n)) (sym cu.objects)
-    (table_after_word_set_to_itself h.state.objects x.words (word_place o) h.table) in
+    (is_table_after_word_set_to_itself h.state.objects x.words (word_place o) h.table) in
     elim (cell_is_open_or_not (record { fields = fields_of n; words = [] }) e) [
       | inl yes' ↦ (
         progress k t y.steps true (met_now q cu.state) ∷ [],
         keeps,
         tt,
         woven_after_seat_moves k x h id q at cu.state (caught_up_state_is_further k x h id q y at ahead cu) y.steps here true
-            (λ on. open_entry_is_admitted f cu.state t o a e entering.asked h.run cu.flat cu.at (caught_up_state_has_thread k x h id q y at cu) ask has event
+            (λ on. open_entry_is_admitted f cu.state t o a e entering.asked h.run cu.flat cu.at (seat_thread_is_below_thread_count_of_caught_up_state k x h id q y at cu) ask has event
             entering.suits entering.enters
             (cell_is_open_if_fields_of_open_cell (record { fields = fields_of n; words = [] }) (cell_of cu.state o) e same yes'))
             (met_now q cu.state) (λ u. omega arith) (set x.words (word_place o) n) x.homes table,
@@ -210,10 +210,10 @@ look_is_allowed slots id o a e y q c ahead inside entering x h homes at small =
               cut = positions cu.state;
               is_cut = λ run of. (cu.at.each run of).cut;
               consistent = λ run of. (cu.at.each run of).consistent;
-              above = λ u. (let p = h.above u in let r = further_state_is_not_lower f h.state cu.state t (caught_up_state_is_further k x h id q y at ahead cu) u in
+              above = λ u. (let p = h.above u in let r = positions_of_further_state_are_not_lower f h.state cu.state t (caught_up_state_is_further k x h id q y at ahead cu) u in
                   omega (arith, p, r));
               here = here;
-              stopped = shut_entry_is_not_admitted f cu.state t o a e entering.asked h.run cu.flat cu.at (caught_up_state_has_thread k x h id q y at cu) ask has event
+              stopped = shut_entry_is_not_admitted f cu.state t o a e entering.asked h.run cu.flat cu.at (seat_thread_is_below_thread_count_of_caught_up_state k x h id q y at cu) ask has event
                   entering.suits entering.enters
                   (λ yes'. no' (cell_is_open_if_fields_of_open_cell (cell_of cu.state o) (record { fields = fields_of n; words = [] }) e (sym same) yes'));
             },
@@ -231,10 +231,10 @@ thread_after_get_is_answered_with_cell_word : (s : Flat) (t v o i : ℕ) → t <
 thread_after_get_is_answered_with_cell_word s t v o i l = get_or-set_same s.threads t
     (after_ask s.code (thread_of s t) (Get o i) (Value (slice_index (cell_of s o).words i))) idle l
 
-found_word_answers_get_step : (f : FittedTrace) (s : Flat) (t : ℕ) (y : thread.ThreadState) (q : Ask) (cu : CaughtUp f s t y) (v n : ℕ) → t < length cu.state.threads
+number_answers_step_if_cell_word_whenever_ask_is_get : (f : FittedTrace) (s : Flat) (t : ℕ) (y : thread.ThreadState) (q : Ask) (cu : CaughtUp f s t y) (v n : ℕ) → t < length cu.state.threads
     → StepGoesOn f cu.state t v q → ask_of f.guest.code y ≡ q
     → ((o i : ℕ) → q ≡ Get o i → (n < 2 ^ 32) × (n ≡ slice_index (cell_of cu.state o).words i)) → Answers f t y.steps n
-found_word_answers_get_step f s t y q cu v n l g is found run of o i asks =
+number_answers_step_if_cell_word_whenever_ask_is_get f s t y q cu v n l g is found run of o i asks =
     let own : thread_of cu.state t ≡ thread_at f run t y.steps = (cu.at.each run of).threads t
     ∙ ap (λ (z : thread.ThreadState). thread_at f run t z.steps) cu.own in
     let get : q ≡ Get o i = sym is ∙ ap (ask_of f.guest.code) (sym cu.own ∙ own) ∙ asks in
@@ -270,13 +270,13 @@ woven_after_object_step slots id word first second q c x h at y ahead asked touc
     } in (
       progress k t (suc y.steps) false (met_in q) ∷ [],
       woven_after_seat_moves k x h id q at (next cu.state t v asked) further (suc y.steps) (omega (arith, own, before)) false (λ on. absurd (cc on)) (met_in q)
-          (λ u. (let a = (h.tracks id (q ∷ []) at).0.met u in let b = further_state_is_not_lower f h.state (next cu.state t v asked) t further u in
+          (λ u. (let a = (h.tracks id (q ∷ []) at).0.met u in let b = positions_of_further_state_are_not_lower f h.state (next cu.state t v asked) t further u in
           omega (arith, a, b))) ws x.homes table,
       (
         y.steps,
         step_is_next_on_object_if_not_alone f t q.position y asked ahead is touches,
         refl,
-        found_word_answers_get_step f h.state t y asked cu v n (caught_up_state_has_thread k x h id q y at cu) g
+        number_answers_step_if_cell_word_whenever_ask_is_get f h.state t y asked cu v n (seat_thread_is_below_thread_count_of_caught_up_state k x h id q y at cu) g
             is found,
       ),
     )
@@ -322,7 +322,7 @@ admitted_entry_enters f s t o a e q h flat at l is event suits enters ad = elim 
       let goes = step_goes_on_if_admitted f s t (Enter o a) h flat at l (sym (is ∙ same)) ad in
       subst (EnteredBy f s t o a) (sym same) (record { result = goes.0; goes = goes.1; may = goes.1.may; objects = refl })
   | inr same ↦
-      let some = admitted_thread_logs_next f s at h.run h.whole t (state_thread_is_guest_thread f s t at l) (ad h.run h.whole) in
+      let some = admitted_thread_logs_next f s at h.run h.whole t (state_thread_index_is_below_guest_thread_count f s t at l) (ad h.run h.whole) in
       let one : some.0 ≡ 1 = value_of_logging_try_is_try_result f.recorded s t some.0 o e (is ∙ same.0) event some.1 ∙ entering_try_result_is_one e o a (subst (λ p. Suits p e) same.0 suits) enters in
       let goes : StepGoesOn f s t 1 (Try o) = step_goes_on_if_logs_next f s t 1 (Try o) flat at l (sym (is ∙ same.0)) (λ run of. (ad run of).0)
       (subst (LogsNext f.recorded s t) one some.1) in
@@ -330,12 +330,12 @@ admitted_entry_enters f s t o a e q h flat at l is event suits enters ad = elim 
       subst (λ (z : Access × Ask). EnteredBy f s t o z.0 z.1) (λ i. (sym same.1 i, sym same.0 i)) writes
 ]
 
-pub entry_is_allowed : (slots id o : ℕ) (a : Access) (e : Event) (y : thread.ThreadState) (q : Progress) (c : List (ℕ × Unit {0}))
+pub entry_is_allowed_if_granted_and_thread_is_entering : (slots id o : ℕ) (a : Access) (e : Event) (y : thread.ThreadState) (q : Progress) (c : List (ℕ × Unit {0}))
     → IsAhead (trace_in q.plan) q.thread q.position y → o < object_count (trace_in q.plan).guest
     → IsEntering (trace_in q.plan) y o a e
     → q.granted ≡ true → q.position ≡ y.steps → Allows (Woven q.plan) slots id (q ∷ [], c) (word_place o) (λ n. (n + word_added_by_entry a) % 2 ^ 64)
     (stepped_on (step slots (word_place o) (word_added_by_entry a) 0 none) (q ∷ [], c))
-entry_is_allowed slots id o a e y q c ahead inside entering granted here x h homes at small =
+entry_is_allowed_if_granted_and_thread_is_entering slots id o a e y q c ahead inside entering granted here x h homes at small =
     let f : FittedTrace = trace_in q.plan in
     let t : ℕ = q.thread in
     let asked : Ask = entering.asked in
@@ -348,10 +348,10 @@ entry_is_allowed slots id o a e y q c ahead inside entering granted here x h hom
     let still : positions cu.state t ≡ positions h.state t = ap (λ (z : thread.ThreadState). z.steps) cu.own ∙ sym here ∙ sym own.position in
     let ad : AdmittedAt f (positions cu.state) t =
     λ run of. admitted_persists_at_later_cut (machine_of f) (start_of f) run (positions h.state) (positions cu.state) t (own.granted granted run of)
-    (cu.at.each run of).consistent (further_state_is_not_lower f h.state cu.state t (caught_up_state_is_further q.plan x h id q y at ahead cu)) still in
+    (cu.at.each run of).consistent (positions_of_further_state_are_not_lower f h.state cu.state t (caught_up_state_is_further q.plan x h id q y at ahead cu)) still in
     let own_event : event_of f t y ≡ Some e =
     subst (λ z. slice_get (recorded_thread f.recorded z).events y.events ≡ Some e) ahead.number entering.event in
-    let made_by : EnteredBy f cu.state t o a asked = admitted_entry_enters f cu.state t o a e asked h.run cu.flat cu.at (caught_up_state_has_thread q.plan x h id q y at cu)
+    let made_by : EnteredBy f cu.state t o a asked = admitted_entry_enters f cu.state t o a e asked h.run cu.flat cu.at (seat_thread_is_below_thread_count_of_caught_up_state q.plan x h id q y at cu)
     (caught_up_thread_asks_the_same f h.state t y asked cu is)
     (ap (λ (z : thread.ThreadState). slice_get (recorded_thread f.recorded t).events z.events) cu.own ∙ own_event) entering.suits entering.enters
     ad in
@@ -365,7 +365,7 @@ entry_is_allowed slots id o a e y q c ahead inside entering granted here x h hom
       | inr same ↦ (let z : Try o ≡ Get p i = sym same.0 ∙ get in cc z)
     ])) ws
     (subst (λ cs. IsTable cs ws) (sym made_by.objects)
-    (table_after_object_word_set cu.state.objects x.words o ((n + word_added_by_entry a) % 2 ^ 64)
+    (is_table_after_object_word_set cu.state.objects x.words o ((n + word_added_by_entry a) % 2 ^ 64)
     (record (cell_of cu.state o) { fields = entered a (cell_of cu.state o).fields }) table m
     (word_plus_entry_addend_is_word_of_entered_fields n a cu.state o cu.flat m found made_by.may) refl)) in
     (made.0, keeps, tt, made.1, made.2)
@@ -380,9 +380,9 @@ step_goes_on_if_free : (k : Plan) (x : State (Unit {0}) View) (h : Woven k x) (i
     × StepGoesOn (trace_in k) cu.state q.thread v asked
 step_goes_on_if_free k x h id q y at cu asked free is has =
     let ask = caught_up_thread_asks_the_same (trace_in k) h.state q.thread y asked cu is in
-    step_goes_on_if_admitted (trace_in k) cu.state q.thread asked h.run cu.flat cu.at (caught_up_state_has_thread k x h id q y at cu) (sym ask)
+    step_goes_on_if_admitted (trace_in k) cu.state q.thread asked h.run cu.flat cu.at (seat_thread_is_below_thread_count_of_caught_up_state k x h id q y at cu) (sym ask)
     (free_step_is_admitted (trace_in k) cu.state q.thread cu.at (caught_up_thread_has_step_if_thread_has (trace_in k) h.state q.thread y cu has)
-    (state_thread_is_guest_thread (trace_in k) cu.state q.thread cu.at (caught_up_state_has_thread k x h id q y at cu))
+    (state_thread_index_is_below_guest_thread_count (trace_in k) cu.state q.thread cu.at (seat_thread_is_below_thread_count_of_caught_up_state k x h id q y at cu))
     (subst (λ p. IsFree p (event_of (trace_in k) q.thread (thread_of cu.state q.thread))) (sym ask) free))
 
 -- a thread that leaves is inside
@@ -407,14 +407,14 @@ read_leave_is_allowed slots id o y q c ahead inside is has x h homes at small =
     let found : n ≡ word_of (cell_of cu.state o).fields = h.table.heads o l ∙ ap (λ cs. word_of (object_in cs o).fields) (sym cu.objects) in
     let table : IsTable cu.state.objects x.words = subst (λ cs. IsTable cs x.words) (sym cu.objects) h.table in
     let allowed : 0 < (cell_of cu.state o).fields.inside =
-    flat_inside_thread_can_leave cu.state t o Reading cu.flat (caught_up_state_has_thread q.plan x h id q y at cu) m (leaving_thread_is_inside cu.state t o Reading ask) in
+    flat_inside_thread_can_leave cu.state t o Reading cu.flat (seat_thread_is_below_thread_count_of_caught_up_state q.plan x h id q y at cu) m (leaving_thread_is_inside cu.state t o Reading ask) in
     let fits = word_of_fields_is_below_two_to_64 (left_by Reading (cell_of cu.state o).fields) (left_fields_fit cu.state o Reading cu.flat m) in
     let less : word_of (left_by Reading (cell_of cu.state o).fields) ≡ word_of (cell_of cu.state o).fields + reader_leaves = omega
     (arith, allowed) in
     let sum : (n + reader_leaves) % 2 ^ 64 ≡ word_of (left_by Reading (cell_of cu.state o).fields) = omega (arith, found, less, fits) in
     let made = woven_after_object_step slots id (word_place o) reader_leaves 0 q c x h at y ahead (Leave o Reading) (λ b. b) is cu goes.0 goes.1 n
     (λ p i e. absurd (cc e)) (set x.words (word_place o) ((n + reader_leaves) % 2 ^ 64))
-    (table_after_object_word_set cu.state.objects x.words o ((n + reader_leaves) % 2 ^ 64)
+    (is_table_after_object_word_set cu.state.objects x.words o ((n + reader_leaves) % 2 ^ 64)
     (record (cell_of cu.state o) { fields = left_by Reading (cell_of cu.state o).fields }) table m sum refl) in
     (made.0, keeps, tt, made.1, made.2)
 
@@ -423,10 +423,10 @@ write_leave_emits_version : (f : FittedTrace) (s : Flat) (t o : ℕ) → IsState
     → AdmittedAt f (positions s) t
     → EachRun f (λ run. Emits (machine_of f) (start_of f) run t (positions s t) (Out o Writing (cell_of s o).fields.version))
 write_leave_emits_version f s t o at is ad run of =
-    let some = (guest_state_at_consistent_cut f run of (positions s) (at.each run of).cut (at.each run of).consistent).steps t (ad run of) in
+    let some = (guest_has_state_at_consistent_cut f run of (positions s) (at.each run of).cut (at.each run of).consistent).steps t (ad run of) in
     let emitted_is : label (machine_of f) (end (machine_of f) (start_of f) (part run (positions s))) (t, some.0) ≡ Out o Writing
     (cell_of s o).fields.version =
-    ap (λ z. label (machine_of f) z (t, some.0)) (sym (tables_are_end_of_part f (positions s) s run of (at.each run of)))
+    ap (λ z. label (machine_of f) z (t, some.0)) (sym (tables_of_state_at_cut_are_end_of_part_below f (positions s) s run of (at.each run of)))
     ∙ ap (λ a. emitted (act_of (shared_ask a) some.0) ((tables s).objects (target (act_of (shared_ask a) some.0))))
     (ap (λ code. ask_of code (thread_of s t)) (sym at.code) ∙ is) in
     subst (Emits (machine_of f) (start_of f) run t (positions s t)) emitted_is some.3
@@ -437,12 +437,12 @@ element_at_index_is_unique [] k a b h g = absurd h
 element_at_index_is_unique (x ∷ xs) zero a b h g = sym h ∙ g
 element_at_index_is_unique (x ∷ xs) (suc k) a b h g = element_at_index_is_unique xs k a b h g
 
-pub version_load_is_allowed : (slots id o : ℕ) (y : thread.ThreadState) (q : Progress) (c : List (ℕ × Unit {0}))
+pub version_load_is_allowed_before_write_leave : (slots id o : ℕ) (y : thread.ThreadState) (q : Progress) (c : List (ℕ × Unit {0}))
     → IsAhead (trace_in q.plan) q.thread q.position y → o < object_count (trace_in q.plan).guest
     → ask_of (trace_in q.plan).guest.code y ≡ Leave o Writing
     → HasStep (trace_in q.plan) q.thread y.steps
     → Allows (Woven q.plan) slots id (q ∷ [], c) (word_place o) (λ n. n) (read_version (step slots (word_place o) 0 0 none) (q ∷ [], c))
-version_load_is_allowed slots id o y q c ahead inside is has x h homes at small =
+version_load_is_allowed_before_write_leave slots id o y q c ahead inside is has x h homes at small =
     let f : FittedTrace = trace_in q.plan in
     let t : ℕ = q.thread in
     let cu : CaughtUp f h.state t y = state_catches_up_with_seat_thread q.plan x h id q y at ahead in
@@ -453,7 +453,7 @@ version_load_is_allowed slots id o y q c ahead inside is has x h homes at small 
     fields_of_word_equal_to_packed_fields n (cell_of h.state o).fields (fields_of_object_cell_are_in_range h.state o h.flat l) (h.table.heads o l)
     ∙ ap (λ cs. (object_in cs o).fields) (sym cu.objects) in
     let emits = write_leave_emits_version f cu.state t o cu.at ask
-    (free_step_is_admitted f cu.state t cu.at (caught_up_thread_has_step_if_thread_has f h.state t y cu has) (state_thread_is_guest_thread f cu.state t cu.at (caught_up_state_has_thread q.plan x h id q y at cu))
+    (free_step_is_admitted f cu.state t cu.at (caught_up_thread_has_step_if_thread_has f h.state t y cu has) (state_thread_index_is_below_guest_thread_count f cu.state t cu.at (seat_thread_is_below_thread_count_of_caught_up_state q.plan x h id q y at cu))
     (subst (λ p. IsFree p (event_of f t (thread_of cu.state t))) (sym ask) tt)) in
     let kept : Woven q.plan (record { words = set x.words (word_place o) n; homes = x.homes; views = set x.views id (q ∷ []) }) =
     subst (λ (z : List ℕ × List View). Woven q.plan (record { words = z.0; homes = x.homes; views = z.1 }))
@@ -493,7 +493,7 @@ write_leave_is_allowed slots id o v y q c ahead inside is has emits x h homes at
     let goes = step_goes_on_if_free q.plan x h id q y at cu (Leave o Writing) tt is has in
     let ask = caught_up_thread_asks_the_same f h.state t y (Leave o Writing) cu is in
     let own = write_leave_emits_version f cu.state t o cu.at ask
-    (free_step_is_admitted f cu.state t cu.at (caught_up_thread_has_step_if_thread_has f h.state t y cu has) (state_thread_is_guest_thread f cu.state t cu.at (caught_up_state_has_thread q.plan x h id q y at cu))
+    (free_step_is_admitted f cu.state t cu.at (caught_up_thread_has_step_if_thread_has f h.state t y cu has) (state_thread_index_is_below_guest_thread_count f cu.state t cu.at (seat_thread_is_below_thread_count_of_caught_up_state q.plan x h id q y at cu))
     (subst (λ p. IsFree p (event_of f t (thread_of cu.state t))) (sym ask) tt)) h.run.run h.run.whole in
     let mine : Emits (machine_of f) (start_of f) h.run.run t y.steps (Out o Writing (cell_of cu.state o).fields.version) =
     subst (λ z. Emits (machine_of f) (start_of f) h.run.run t z (Out o Writing (cell_of cu.state o).fields.version))
@@ -507,7 +507,7 @@ write_leave_is_allowed slots id o v y q c ahead inside is has emits x h homes at
     let word : w ≡ word_of (left_by Writing (cell_of cu.state o).fields) = omega (arith, version) in
     let made = woven_after_object_step slots id (word_place o) w 0 q c x h at y ahead (Leave o Writing) (λ b. b) is cu goes.0 goes.1 w
     (λ p i e. absurd (cc e)) (set x.words (word_place o) w)
-    (table_after_object_word_set cu.state.objects x.words o w (record (cell_of cu.state o) { fields = left_by Writing (cell_of cu.state o).fields }) table
+    (is_table_after_object_word_set cu.state.objects x.words o w (record (cell_of cu.state o) { fields = left_by Writing (cell_of cu.state o).fields }) table
     m word refl) in
     (made.0, keeps, tt, made.1, made.2)
 
@@ -528,7 +528,7 @@ get_is_allowed slots id o i y q c ahead inside few is has x h homes at small =
     ∙ ap (λ cs. slice_index (object_in cs o).words i) (sym cu.objects) in
     let table : IsTable cu.state.objects (set x.words (content_place o i) n) =
     subst (λ cs. IsTable cs (set x.words (content_place o i) n)) (sym cu.objects)
-    (table_after_word_set_to_itself h.state.objects x.words (content_place o i) h.table) in
+    (is_table_after_word_set_to_itself h.state.objects x.words (content_place o i) h.table) in
     let made = woven_after_object_step slots id (content_place o i) 0 0 q c x h at y ahead (Get o i) (λ b. b) is cu goes.0 goes.1 n
     (λ p j e. (
       subst (λ z. z < 2 ^ 32) (sym (h.table.places o i l few)) (h.table.small o i),
@@ -561,6 +561,6 @@ put_is_allowed slots id o i v y q c value ahead inside few is has x h homes at s
     let table : IsTable cu.state.objects x.words = subst (λ cs. IsTable cs x.words) (sym cu.objects) h.table in
     let made = woven_after_object_step slots id (content_place o i) v 0 q c x h at y ahead (Put o i v) (λ b. b) is cu goes.0 goes.1 v
     (λ p j e. absurd (cc e)) (set x.words (content_place o i) v)
-    (table_after_content_word_set cu.state.objects x.words o i v (record (cell_of cu.state o) { words = set (cell_of cu.state o).words i v }) table m few
+    (is_table_after_content_word_set cu.state.objects x.words o i v (record (cell_of cu.state o) { words = set (cell_of cu.state o).words i v }) table m few
     value (cu.flat.objects o m).words refl refl) in
     (made.0, keeps, tt, made.1, made.2)

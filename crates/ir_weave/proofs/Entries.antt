@@ -23,14 +23,14 @@ use Rattle.ir_weave.specs.Ahead.{HasStep}
 use Rattle.ir_weave.specs.Standing.{IsStateAt, positions}
 use Rattle.ir_weave.specs.Woven.{AdmittedAt}
 use Rattle.ir_weave.proofs.Behind.{admitted_thread_logs_next}
-use Rattle.ir_weave.proofs.Forth.{StepGoesOn, step_goes_on_if_logs_next, state_thread_is_guest_thread, further_at_own_thread_is_successor, further_at_other_thread_is_unchanged}
+use Rattle.ir_weave.proofs.Forth.{StepGoesOn, step_goes_on_if_logs_next, state_thread_index_is_below_guest_thread_count, further_at_own_thread_is_successor, further_at_other_thread_is_unchanged}
 use Rattle.ir_fit.proofs.CallerLemmas.{GotIn, try_not_refused_got_in}
 use Rattle.ir_weave.proofs.Results.{open_entry_logs_next_with_result_zero, no_result_logs_next_for_shut_entry, open_try_logs_next_with_result_one, no_result_logs_next_for_shut_try}
 
 -- steps are left in the trace
 steps_ahead_are_positive_if_has_step : (f : FittedTrace) (s : Flat) (t : ℕ) → HasRun f → IsStateAt f (positions s) s → t < length s.threads
     → HasStep f t (positions s t) → 0 < steps_ahead f.recorded s t
-steps_ahead_are_positive_if_has_step f s t h at l has = let steps = h.whole.1.steps t (state_thread_is_guest_thread f s t at l) in let more = has h.run h.whole in
+steps_ahead_are_positive_if_has_step f s t h at l has = let steps = h.whole.1.steps t (state_thread_index_is_below_guest_thread_count f s t at l) in let more = has h.run h.whole in
     omega (arith, steps, more)
 
 -- a thread whose next step leads on is admitted
@@ -67,7 +67,7 @@ pub shut_entry_is_not_admitted : (f : FittedTrace) (s : Flat) (t o : ℕ) (a : A
     → slice_get (recorded_thread f.recorded t).events (thread_of s t).events ≡ Some e → Suits q e → event_ask e ≡ Enter o a
     → (IsOpen (cell_of s o) e → ⊥) → EachRun f (λ run. Admitted (machine_of f) (start_of f) run (positions s) t → ⊥)
 shut_entry_is_not_admitted f s t o a e q h flat at l is has event suits enters shut run of ad =
-    let some = admitted_thread_logs_next f s at run of t (state_thread_is_guest_thread f s t at l) ad in
+    let some = admitted_thread_logs_next f s at run of t (state_thread_index_is_below_guest_thread_count f s t at l) ad in
     let left = steps_ahead_are_positive_if_has_step f s t h at l has in
     elim (entry_event_suits_enter_or_try q o a e suits enters) [
       | inl same ↦ no_result_logs_next_for_shut_entry f.recorded s t o a e flat l (is ∙ same) left event (subst (λ p. Suits p e) same suits) shut some.0 some.1

@@ -30,7 +30,7 @@ use Rattle.ir_weave.specs.Woven.{AdmittedAt}
 use Rattle.ir_weave.proofs.Behind.{log_after_cut, log_ahead_is_log_after_cut, admitted_thread_logs_next}
 use Rattle.ir_weave.proofs.Onward.{is_at_after_leading_steps, step_log_is_prefix_of_left, position_after_own_step, position_after_step_of_other}
 use Rattle.ir_fit.proofs.CallerLemmas.{drop_of_mapped_labels_is_label_then_drop}
-use Rattle.ir_weave.proofs.Lone.{logged_step_has_recorded_event, try_result, emitted_try_gives_result}
+use Rattle.ir_weave.proofs.Lone.{logged_step_has_recorded_event, try_result, result_of_emitted_try_is_try_result_of_event}
 use Rattle.ir_weave.proofs.Trails.{StepOf, emitting_step_is_step_of, label_without_entry_needs_nothing}
 
 -- after the step of thread t that asks so
@@ -56,8 +56,8 @@ next_keeps_code s t v (End e) = refl
 next_keeps_code s t v Done = refl
 
 -- a thread of the state is one of the guest's
-pub state_thread_is_guest_thread : (f : FittedTrace) (s : Flat) (t : ℕ) → IsStateAt f (positions s) s → t < length s.threads → t < length f.guest.entries
-state_thread_is_guest_thread f s t at l = let e = at.threads in omega (arith, l, e)
+pub state_thread_index_is_below_guest_thread_count : (f : FittedTrace) (s : Flat) (t : ℕ) → IsStateAt f (positions s) s → t < length s.threads → t < length f.guest.entries
+state_thread_index_is_below_guest_thread_count f s t at l = let e = at.threads in omega (arith, l, e)
 
 -- by a step that logs what the trace emits next
 pub step_goes_on_if_logs_next : (f : FittedTrace) (s : Flat) (t v : ℕ) (q : Ask) → IsFlat s → IsStateAt f (positions s) s → t < length s.threads
@@ -87,7 +87,7 @@ step_goes_on_if_logs_next f s t v q flat at l is has logs =
               ends = taken;
               logs = step_log_is_prefix_of_left (machine_in s) (tables s) t v (log_after_cut f run (positions s))
                   (subst (λ es. logged (label (machine_in s) (tables s) (t, v)) (unlogged (label (machine_in s) (tables s) (t, v)) es) ≡ es)
-                  (log_ahead_is_log_after_cut f (positions s) s run of (at.each run of) t (state_thread_is_guest_thread f s t at l)) logs.1);
+                  (log_ahead_is_log_after_cut f (positions s) s run of (at.each run of) t (state_thread_index_is_below_guest_thread_count f s t at l)) logs.1);
             });
       };
       own = own;
@@ -98,7 +98,7 @@ step_goes_on_if_logs_next f s t v q flat at l is has logs =
 pub step_goes_on_if_admitted : (f : FittedTrace) (s : Flat) (t : ℕ) (q : Ask) → HasRun f → IsFlat s → IsStateAt f (positions s) s → t < length s.threads
     → q ≡ ask_of s.code (thread_of s t) → AdmittedAt f (positions s) t → (v : ℕ) × StepGoesOn f s t v q
 step_goes_on_if_admitted f s t q h flat at l is ad =
-    let some = admitted_thread_logs_next f s at h.run h.whole t (state_thread_is_guest_thread f s t at l) (ad h.run h.whole) in
+    let some = admitted_thread_logs_next f s at h.run h.whole t (state_thread_index_is_below_guest_thread_count f s t at l) (ad h.run h.whole) in
     (some.0, step_goes_on_if_logs_next f s t some.0 q flat at l is (λ run of. (ad run of).0) some.1)
 
 -- ---- what is no entry is admitted
@@ -121,17 +121,17 @@ free_shared_ask_is_no_entry Print e free ne o a = λ h. cc h
 free_shared_ask_is_no_entry (End x) e free ne o a = λ h. cc h
 free_shared_ask_is_no_entry Done e free ne o a = λ h. cc h
 
-shared_ask_is_no_try : (q : Ask) → ((o : ℕ) → q ≢ Try o) → (o : ℕ) → shared_ask q ≢ machine.Try o
-shared_ask_is_no_try Private ne o = λ h. cc h
-shared_ask_is_no_try (Env kind) ne o = λ h. cc h
-shared_ask_is_no_try (Enter p b) ne o = λ h. cc h
-shared_ask_is_no_try (Try p) ne o = absurd (ne p refl)
-shared_ask_is_no_try (Leave p b) ne o = λ h. cc h
-shared_ask_is_no_try (Get p i) ne o = λ h. cc h
-shared_ask_is_no_try (Put p i w) ne o = λ h. cc h
-shared_ask_is_no_try Print ne o = λ h. cc h
-shared_ask_is_no_try (End x) ne o = λ h. cc h
-shared_ask_is_no_try Done ne o = λ h. cc h
+shared_ask_is_no_try_if_ask_is_no_try : (q : Ask) → ((o : ℕ) → q ≢ Try o) → (o : ℕ) → shared_ask q ≢ machine.Try o
+shared_ask_is_no_try_if_ask_is_no_try Private ne o = λ h. cc h
+shared_ask_is_no_try_if_ask_is_no_try (Env kind) ne o = λ h. cc h
+shared_ask_is_no_try_if_ask_is_no_try (Enter p b) ne o = λ h. cc h
+shared_ask_is_no_try_if_ask_is_no_try (Try p) ne o = absurd (ne p refl)
+shared_ask_is_no_try_if_ask_is_no_try (Leave p b) ne o = λ h. cc h
+shared_ask_is_no_try_if_ask_is_no_try (Get p i) ne o = λ h. cc h
+shared_ask_is_no_try_if_ask_is_no_try (Put p i w) ne o = λ h. cc h
+shared_ask_is_no_try_if_ask_is_no_try Print ne o = λ h. cc h
+shared_ask_is_no_try_if_ask_is_no_try (End x) ne o = λ h. cc h
+shared_ask_is_no_try_if_ask_is_no_try Done ne o = λ h. cc h
 
 -- what is asked is a try, or it isn't
 ask_is_try_or_not : (q : Ask) → ((o : ℕ) × (q ≡ Try o)) ⊎ ((o : ℕ) → q ≢ Try o)
@@ -230,7 +230,7 @@ free_step_is_admitted f s t at has below free run of = (
               let p : Ask = ask_of f.guest.code (th (machine_of f) (start_of f) run u k) in
               let none : (o : ℕ) → p ≢ Try o = λ o e. other o (sym asks ∙ e) in
               label_without_entry_needs_nothing b (shared_ask p) z.result z.object
-              (free_shared_ask_is_no_entry p (event_of f t x) (subst (λ y. IsFree y (event_of f t x)) (sym asks) free) none) (shared_ask_is_no_try p none)
+              (free_shared_ask_is_no_entry p (event_of f t x) (subst (λ y. IsFree y (event_of f t x)) (sym asks) free) none) (shared_ask_is_no_try_if_ask_is_no_try p none)
               (subst (IsNeededBy b) z.emits need)
         ]
 
@@ -275,18 +275,18 @@ value_of_logging_try_is_try_result r s t v o e is event logs =
     by : (v : ℕ) (b : Object) (es : List Label) → Admits (machine_in s) (act_of (machine.Try o) v) b
         → logged (emitted (act_of (machine.Try o) v) b) (unlogged (emitted (act_of (machine.Try o) v) b) es) ≡ label_of e
         ∷ drop (suc (thread_of s t).events) (map label_of (recorded_thread r t).events) → v ≡ try_result e
-    by zero b es can h = emitted_try_gives_result s o zero b e can (cc h)
-    by (suc zero) b es can h = emitted_try_gives_result s o (suc zero) b e can (cc h)
+    by zero b es can h = result_of_emitted_try_is_try_result_of_event s o zero b e can (cc h)
+    by (suc zero) b es can h = result_of_emitted_try_is_try_result_of_event s o (suc zero) b e can (cc h)
     by (suc (suc v)) b es can h = absurd can
 
 -- a step that touches no object
-step_goes_on_if_alone : (f : FittedTrace) (s : Flat) (t : ℕ) → HasRun f → IsFlat s → IsStateAt f (positions s) s → t < length s.threads
+alone_step_goes_on_and_keeps_objects : (f : FittedTrace) (s : Flat) (t : ℕ) → HasRun f → IsFlat s → IsStateAt f (positions s) s → t < length s.threads
     → HasStep f t (positions s t) → IsAlone (ask_of s.code (thread_of s t)) (event_of f t (thread_of s t))
     → (v : ℕ) × StepGoesOn f s t v (ask_of s.code (thread_of s t)) × ((next s t v (ask_of s.code (thread_of s t))).objects ≡ s.objects)
-step_goes_on_if_alone f s t h flat at l has alone =
+alone_step_goes_on_and_keeps_objects f s t h flat at l has alone =
     let x : thread.ThreadState = thread_of s t in
     let q : Ask = ask_of s.code x in
-    let below = state_thread_is_guest_thread f s t at l in
+    let below = state_thread_index_is_below_guest_thread_count f s t at l in
     let ad : AdmittedAt f (positions s) t = free_step_is_admitted f s t at has below (alone_ask_is_free q (event_of f t x) alone) in
     elim (ask_is_try_or_not q) [
       | inl is ↦
@@ -310,9 +310,9 @@ pub record CaughtUp (f : FittedTrace) (s : Flat) (t : ℕ) (x : thread.ThreadSta
   pub own : thread_of state t ≡ x
   pub others : (u : ℕ) → u ≢ t → positions state u ≡ positions s u
 
-state_catches_up_in_steps : (n : ℕ) (f : FittedTrace) (s : Flat) (t i : ℕ) (x : thread.ThreadState) → HasRun f → IsFlat s → IsStateAt f (positions s) s
+state_catches_up_by_number_of_alone_steps : (n : ℕ) (f : FittedTrace) (s : Flat) (t i : ℕ) (x : thread.ThreadState) → HasRun f → IsFlat s → IsStateAt f (positions s) s
     → t < length s.threads → IsThreadAt f t x → AreAlone f t i x.steps → i ≤ positions s t → positions s t + n ≡ x.steps → CaughtUp f s t x
-state_catches_up_in_steps zero f s t i x h flat at l there alone past sum =
+state_catches_up_by_number_of_alone_steps zero f s t i x h flat at l there alone past sum =
     record {
       state = s;
       flat = flat;
@@ -323,18 +323,18 @@ state_catches_up_in_steps zero f s t i x h flat at l there alone past sum =
           ∙ sym (there h.run h.whole).1;
       others = λ u ne. refl;
     }
-state_catches_up_in_steps (suc n) f s t i x h flat at l there alone past sum =
+state_catches_up_by_number_of_alone_steps (suc n) f s t i x h flat at l there alone past sum =
     let q : Ask = ask_of s.code (thread_of s t) in
     let own : IsAlone q (event_of f t (thread_of s t)) = subst (λ c. IsAlone (ask_of c (thread_of s t)) (event_of f t (thread_of s t)))
     (sym at.code) (subst (GoesAlone f t) (sym ((at.each h.run h.whole).threads t))
     (alone h.run h.whole (positions s t) past (omega (arith, sum)))) in
     let has : HasStep f t (positions s t) = λ run of. (let within = (there run of).0 in omega (arith, within, sum)) in
-    let goes = step_goes_on_if_alone f s t h flat at l has own in
+    let goes = alone_step_goes_on_and_keeps_objects f s t h flat at l has own in
     let new : Flat = next s t goes.0 q in
     let g : StepGoesOn f s t goes.0 q = goes.1 in
     let more = g.own in
     let size : length new.threads ≡ length s.threads = next_keeps_thread_count s t goes.0 q in
-    let rest : CaughtUp f new t x = state_catches_up_in_steps n f new t i x h g.flat g.at (omega (arith, l, size)) there alone (omega (arith, more, past))
+    let rest : CaughtUp f new t x = state_catches_up_by_number_of_alone_steps n f new t i x h g.flat g.at (omega (arith, l, size)) there alone (omega (arith, more, past))
     (omega (arith, more, sum)) in
     record {
       state = rest.state;
@@ -346,7 +346,7 @@ state_catches_up_in_steps (suc n) f s t i x h flat at l there alone past sum =
       others = λ u ne. rest.others u ne ∙ g.others u ne;
     }
 
-pub state_catches_up_with_thread : (f : FittedTrace) (s : Flat) (t : ℕ) (x : thread.ThreadState) → HasRun f → IsFlat s → IsStateAt f (positions s) s
+pub state_catches_up_with_thread_by_alone_steps : (f : FittedTrace) (s : Flat) (t : ℕ) (x : thread.ThreadState) → HasRun f → IsFlat s → IsStateAt f (positions s) s
     → t < length s.threads → IsThreadAt f t x → AreAlone f t (positions s t) x.steps → positions s t ≤ x.steps → CaughtUp f s t x
-state_catches_up_with_thread f s t x h flat at l there alone past =
-    state_catches_up_in_steps (x.steps - positions s t) f s t (positions s t) x h flat at l there alone (le_refl (positions s t)) (omega (arith, past))
+state_catches_up_with_thread_by_alone_steps f s t x h flat at l there alone past =
+    state_catches_up_by_number_of_alone_steps (x.steps - positions s t) f s t (positions s t) x h flat at l there alone (le_refl (positions s t)) (omega (arith, past))

@@ -24,7 +24,7 @@ use Rattle.ir_trace.specs.Recorded.{recorded_thread}
 use Rattle.ir_fit.specs.Fit.{FittedTrace, IsRunOf}
 use Rattle.ir_cut.specs.Positions.{machine_of, start_of, EachRun}
 use Rattle.ir_weave.specs.Ahead.{IsAlone, GoesAlone, HasStep, IsThreadAt, IsAhead, ask_at, event_of, thread_at}
-use Rattle.ir_weave.proofs.Trails.{StepOf, thread_at_position_zero, emitting_step_is_step_of}
+use Rattle.ir_weave.proofs.Trails.{StepOf, thread_at_position_zero_is_start_thread, emitting_step_is_step_of}
 
 -- ---- the next event
 
@@ -77,7 +77,7 @@ events_after_machine_take code x n = ap (λ (z : thread.ThreadState). z.events) 
 -- how many events it has logged
 thread_events_count_log_so_far : (f : FittedTrace) (run : List Step) → IsRunOf f.guest f.recorded run → (t k : ℕ) → k ≤ count (machine_of f) (start_of f) run t
     → (thread_at f run t k).events ≡ length (events (take k (trail (machine_of f) (start_of f) run t)))
-thread_events_count_log_so_far f run of t zero l = ap (λ (z : thread.ThreadState). z.events) (thread_at_position_zero (machine_of f) (start_of f) run t)
+thread_events_count_log_so_far f run of t zero l = ap (λ (z : thread.ThreadState). z.events) (thread_at_position_zero_is_start_thread (machine_of f) (start_of f) run t)
     ∙ (start_thread_is_fresh f.guest f.recorded.budget f.recorded.profile 0 (length f.guest.entries) t).events
 thread_events_count_log_so_far f run of t (suc k) l =
     let at = step_below_count_emits f run t k l in
@@ -208,17 +208,17 @@ try_result (Read object version) = 0
 try_result (Write object version readers) = 1
 try_result (Refused object) = 0
 
-pub emitted_try_gives_result : (s : Flat) (o r : ℕ) (b : Object) (e : Event) → Admits (machine_in s) (act_of (machine.Try o) r) b
+pub result_of_emitted_try_is_try_result_of_event : (s : Flat) (o r : ℕ) (b : Object) (e : Event) → Admits (machine_in s) (act_of (machine.Try o) r) b
     → emitted (act_of (machine.Try o) r) b ≡ label_of e → r ≡ try_result e
-emitted_try_gives_result s o zero b (Answered j v) can h = refl
-emitted_try_gives_result s o zero b (Read p v) can h = refl
-emitted_try_gives_result s o zero b (Write p v l) can h = absurd (cc h)
-emitted_try_gives_result s o zero b (Refused p) can h = refl
-emitted_try_gives_result s o (suc zero) b (Answered j v) can h = absurd (cc h)
-emitted_try_gives_result s o (suc zero) b (Read p v) can h = absurd (cc h)
-emitted_try_gives_result s o (suc zero) b (Write p v l) can h = refl
-emitted_try_gives_result s o (suc zero) b (Refused p) can h = absurd (cc h)
-emitted_try_gives_result s o (suc (suc r)) b e can h = absurd can
+result_of_emitted_try_is_try_result_of_event s o zero b (Answered j v) can h = refl
+result_of_emitted_try_is_try_result_of_event s o zero b (Read p v) can h = refl
+result_of_emitted_try_is_try_result_of_event s o zero b (Write p v l) can h = absurd (cc h)
+result_of_emitted_try_is_try_result_of_event s o zero b (Refused p) can h = refl
+result_of_emitted_try_is_try_result_of_event s o (suc zero) b (Answered j v) can h = absurd (cc h)
+result_of_emitted_try_is_try_result_of_event s o (suc zero) b (Read p v) can h = absurd (cc h)
+result_of_emitted_try_is_try_result_of_event s o (suc zero) b (Write p v l) can h = refl
+result_of_emitted_try_is_try_result_of_event s o (suc zero) b (Refused p) can h = absurd (cc h)
+result_of_emitted_try_is_try_result_of_event s o (suc (suc r)) b e can h = absurd can
 
 reply_of_try_is_result : (f : FittedTrace) (o r : ℕ) (b : Object) → Admits (machine_of f) (act_of (machine.Try o) r) b
     → reply (act_of (machine.Try o) r) b ≡ r
@@ -241,7 +241,7 @@ thread_after_try_gets_logged_result f run of t k o e l within is event =
     let emits : emitted (act_of (machine.Try o) z.result) z.object ≡ label_of e =
     ap (λ a. emitted (act_of (shared_ask a) z.result) z.object) (sym is) ∙ sym z.emits ∙ ap label_of same in
     let r : reply (act_of (machine.Try o) z.result) z.object ≡ try_result e = reply_of_try_is_result f o z.result z.object can
-    ∙ emitted_try_gives_result (start_flat f.guest f.recorded.budget f.recorded.profile) o z.result z.object e can emits in
+    ∙ result_of_emitted_try_is_try_result_of_event (start_flat f.guest f.recorded.budget f.recorded.profile) o z.result z.object e can emits in
     z.next ∙ machine_take_is_after_ask f.guest.code (thread_at f run t k) (reply (act_of (shared_ask (ask_at f run t k)) z.result) z.object)
     ∙ ap (λ a. after_ask f.guest.code (thread_at f run t k) a (reply_of a (reply (act_of (shared_ask a) z.result) z.object))) is
     ∙ ap (λ n. after_ask f.guest.code (thread_at f run t k) (Try o) (Value n)) r
@@ -252,29 +252,29 @@ abbrev pub IsNotDone : (q : Ask) → Type 0
 IsNotDone Done = ⊥
 IsNotDone _ = Unit {0}
 
-pub steps_after_ask_if_not_done : (code : List ℕ) (x : thread.ThreadState) (q : Ask) (r : Reply) → IsNotDone q → (after_ask code x q r).steps ≡ x.steps + 1
-steps_after_ask_if_not_done code x Private r h = refl
-steps_after_ask_if_not_done code x (Env kind) r h = refl
-steps_after_ask_if_not_done code x (Enter o a) r h = refl
-steps_after_ask_if_not_done code x (Try o) r h = refl
-steps_after_ask_if_not_done code x (Leave o a) r h = refl
-steps_after_ask_if_not_done code x (Get o i) r h = refl
-steps_after_ask_if_not_done code x (Put o i w) r h = refl
-steps_after_ask_if_not_done code x Print r h = refl
-steps_after_ask_if_not_done code x (End e) r h = refl
-steps_after_ask_if_not_done code x Done r h = absurd h
+pub steps_after_ask_are_one_more_if_not_done : (code : List ℕ) (x : thread.ThreadState) (q : Ask) (r : Reply) → IsNotDone q → (after_ask code x q r).steps ≡ x.steps + 1
+steps_after_ask_are_one_more_if_not_done code x Private r h = refl
+steps_after_ask_are_one_more_if_not_done code x (Env kind) r h = refl
+steps_after_ask_are_one_more_if_not_done code x (Enter o a) r h = refl
+steps_after_ask_are_one_more_if_not_done code x (Try o) r h = refl
+steps_after_ask_are_one_more_if_not_done code x (Leave o a) r h = refl
+steps_after_ask_are_one_more_if_not_done code x (Get o i) r h = refl
+steps_after_ask_are_one_more_if_not_done code x (Put o i w) r h = refl
+steps_after_ask_are_one_more_if_not_done code x Print r h = refl
+steps_after_ask_are_one_more_if_not_done code x (End e) r h = refl
+steps_after_ask_are_one_more_if_not_done code x Done r h = absurd h
 
-pub number_after_ask : (code : List ℕ) (x : thread.ThreadState) (q : Ask) (r : Reply) → (after_ask code x q r).number ≡ x.number
-number_after_ask code x Private r = refl
-number_after_ask code x (Env kind) r = refl
-number_after_ask code x (Enter o a) r = refl
-number_after_ask code x (Try o) r = refl
-number_after_ask code x (Leave o a) r = refl
-number_after_ask code x (Get o i) r = refl
-number_after_ask code x (Put o i w) r = refl
-number_after_ask code x Print r = refl
-number_after_ask code x (End e) r = refl
-number_after_ask code x Done r = refl
+pub number_after_ask_is_unchanged : (code : List ℕ) (x : thread.ThreadState) (q : Ask) (r : Reply) → (after_ask code x q r).number ≡ x.number
+number_after_ask_is_unchanged code x Private r = refl
+number_after_ask_is_unchanged code x (Env kind) r = refl
+number_after_ask_is_unchanged code x (Enter o a) r = refl
+number_after_ask_is_unchanged code x (Try o) r = refl
+number_after_ask_is_unchanged code x (Leave o a) r = refl
+number_after_ask_is_unchanged code x (Get o i) r = refl
+number_after_ask_is_unchanged code x (Put o i w) r = refl
+number_after_ask_is_unchanged code x Print r = refl
+number_after_ask_is_unchanged code x (End e) r = refl
+number_after_ask_is_unchanged code x Done r = refl
 
 -- x has taken the step that it asks
 pub record TakesStep (f : FittedTrace) (t : ℕ) (x : thread.ThreadState) (q : Ask) (r : Reply) : Type 0 where
@@ -283,10 +283,10 @@ pub record TakesStep (f : FittedTrace) (t : ℕ) (x : thread.ThreadState) (q : A
   pub has : HasStep f t x.steps
   pub next : EachRun f (λ run. thread_at f run t (suc x.steps) ≡ after_ask f.guest.code (thread_at f run t x.steps) q r)
 
-thread_after_step_is_thread_at : (f : FittedTrace) (t : ℕ) (x : thread.ThreadState) (q : Ask) (r : Reply) → IsThreadAt f t x → TakesStep f t x q r
+is_thread_at_after_taken_step : (f : FittedTrace) (t : ℕ) (x : thread.ThreadState) (q : Ask) (r : Reply) → IsThreadAt f t x → TakesStep f t x q r
     → IsThreadAt f t (after_ask f.guest.code x q r)
-thread_after_step_is_thread_at f t x q r at k run of =
-    let more = steps_after_ask_if_not_done f.guest.code x q r k.step in (
+is_thread_at_after_taken_step f t x q r at k run of =
+    let more = steps_after_ask_are_one_more_if_not_done f.guest.code x q r k.step in (
       (let a = k.has run of in omega (arith, more, a)),
       ap (λ z. after_ask f.guest.code z q r) (at run of).1 ∙ sym (k.next run of)
           ∙ ap (thread_at f run t) (let e : suc x.steps ≡ (after_ask f.guest.code x q r).steps = omega (arith, more) in e),
@@ -297,13 +297,13 @@ pub ahead_after_alone_step : (f : FittedTrace) (t i : ℕ) (x : thread.ThreadSta
     → IsAlone q (event_of f t x)
     → IsAhead f t i (after_ask f.guest.code x q r)
 ahead_after_alone_step f t i x q r ahead k alone =
-    let more = steps_after_ask_if_not_done f.guest.code x q r k.step in record {
+    let more = steps_after_ask_are_one_more_if_not_done f.guest.code x q r k.step in record {
       run = ahead.run;
       there = ahead.there;
-      number = number_after_ask f.guest.code x q r ∙ ahead.number;
+      number = number_after_ask_is_unchanged f.guest.code x q r ∙ ahead.number;
       held = length_of_held_after_ask f.guest.code x q r ∙ ahead.held;
       past = (let a = ahead.past in omega (arith, a, more));
-      at = thread_after_step_is_thread_at f t x q r ahead.at k;
+      at = is_thread_at_after_taken_step f t x q r ahead.at k;
       alone = λ run of j past less. elim (cases_lt j x.steps) [
         | inl before ↦ ahead.alone run of j past before
         | inr last ↦ subst (λ z. GoesAlone f t (thread_at f run t z)) (let e : x.steps ≡ j = omega (arith, last, less, more) in e)
@@ -315,13 +315,13 @@ ahead_after_alone_step f t i x q r ahead k alone =
 pub ahead_by_nothing_after_object_step : (f : FittedTrace) (t i : ℕ) (x : thread.ThreadState) (q : Ask) (r : Reply) → IsAhead f t i x → TakesStep f t x q r
     → IsAhead f t (suc x.steps) (after_ask f.guest.code x q r)
 ahead_by_nothing_after_object_step f t i x q r ahead k =
-    let more = steps_after_ask_if_not_done f.guest.code x q r k.step in record {
+    let more = steps_after_ask_are_one_more_if_not_done f.guest.code x q r k.step in record {
       run = ahead.run;
       there = ahead.there;
-      number = number_after_ask f.guest.code x q r ∙ ahead.number;
+      number = number_after_ask_is_unchanged f.guest.code x q r ∙ ahead.number;
       held = length_of_held_after_ask f.guest.code x q r ∙ ahead.held;
       past = omega (arith, more);
-      at = thread_after_step_is_thread_at f t x q r ahead.at k;
+      at = is_thread_at_after_taken_step f t x q r ahead.at k;
       alone = λ run of j past less. absurd (omega (arith, past, less, more));
     }
 

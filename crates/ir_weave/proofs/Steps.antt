@@ -27,7 +27,7 @@ use Rattle.ir_cut.specs.Positions.{machine_of, start_of}
 use Rattle.ir_weave.specs.Ahead.{IsRefused, IsAlone, event_of, HasStep, IsAhead, IsAsking, IsEntering, thread_at, ask_at}
 use Rattle.ir_weave.specs.Woven.{View, M, trace_in, Met, progress, met_of, Rises, HasMet, Answers, IsFor, IsOpened, IsSeated, HasStepped, HasWaited, HasRunOn, WasStopped}
 use Rattle.ir_weave.specs.declared.plan.Plan.{Plan}
-use Rattle.ir_weave.proofs.Lone.{TakesStep, HasNoValue, IsNotDone, ahead_after_alone_step, ahead_by_nothing_after_object_step, ahead_of_own_position, takes_step_with_go_if_ask_has_no_value, takes_step_of_call_with_logged_answer, takes_step_of_try_with_logged_result, try_result, ahead_thread_asks_in_run, logged_step_has_recorded_event, steps_after_ask_if_not_done, number_after_ask, thread_with_step_is_not_done}
+use Rattle.ir_weave.proofs.Lone.{TakesStep, HasNoValue, IsNotDone, ahead_after_alone_step, ahead_by_nothing_after_object_step, ahead_of_own_position, takes_step_with_go_if_ask_has_no_value, takes_step_of_call_with_logged_answer, takes_step_of_try_with_logged_result, try_result, ahead_thread_asks_in_run, logged_step_has_recorded_event, steps_after_ask_are_one_more_if_not_done, number_after_ask_is_unchanged, thread_with_step_is_not_done}
 use Rattle.ir_weave.proofs.Trails.{StepOf, emitting_step_is_step_of}
 use Rattle.ir_weave.proofs.Ended.{thread_not_done_has_step, guest_runs_have_same_counts}
 use Rattle.ir_fit.proofs.CallerLemmas.{get_or_is_item_if_at_index}
@@ -46,11 +46,11 @@ seated_thread_is_ahead k (q ∷ []) x seated = subst (λ (z : Plan × ℕ). IsAh
     (λ i. (seated.0 i, sym seated.1.number i)) seated.1
 
 -- the thread advances, and the view stays
-pub seated_after_advance : (k : Plan) (v : View) (x y : thread.ThreadState) → IsSeated k v x
+pub seated_if_ahead_wherever_seated_thread_is_ahead : (k : Plan) (v : View) (x y : thread.ThreadState) → IsSeated k v x
     → ((i : ℕ) → IsAhead (trace_in k) x.number i x → IsAhead (trace_in k) x.number i y) → IsSeated k v y
-seated_after_advance k [] x y seated on = absurd seated
-seated_after_advance k (q ∷ r ∷ qs) x y seated on = absurd seated
-seated_after_advance k (q ∷ []) x y seated on = (
+seated_if_ahead_wherever_seated_thread_is_ahead k [] x y seated on = absurd seated
+seated_if_ahead_wherever_seated_thread_is_ahead k (q ∷ r ∷ qs) x y seated on = absurd seated
+seated_if_ahead_wherever_seated_thread_is_ahead k (q ∷ []) x y seated on = (
   seated.0,
   subst (λ (z : Plan × ℕ). IsAhead (trace_in z.0) z.1 q.position y) (λ i. (sym seated.0 i, seated.1.number i))
       (on q.position (seated_thread_is_ahead k (q ∷ []) x seated)),
@@ -75,11 +75,11 @@ stepped_by_alone_step k f code me x y q r for same seated alone step takes is =
     let y_is : y ≡ after_ask (trace_in k).guest.code x q r = is
     ∙ after_reply_is_after_ask code (trace_in k) x q r (same ∙ ap (λ z. z.guest.code) (sym for)) takes.asks in
     subst (λ z. HasStepped k me me x z) (sym y_is) (record {
-      seated = seated_after_advance k me.0 x (after_ask (trace_in k).guest.code x q r) seated
+      seated = seated_if_ahead_wherever_seated_thread_is_ahead k me.0 x (after_ask (trace_in k).guest.code x q r) seated
           (λ i ahead. ahead_after_alone_step (trace_in k) x.number i x q r ahead takes alone);
       slots = refl;
-      steps = steps_after_ask_if_not_done (trace_in k).guest.code x q r step;
-      number = number_after_ask (trace_in k).guest.code x q r;
+      steps = steps_after_ask_are_one_more_if_not_done (trace_in k).guest.code x q r step;
+      number = number_after_ask_is_unchanged (trace_in k).guest.code x q r;
       rises = rises_is_reflexive (met_of me.0);
     })
 
@@ -94,8 +94,8 @@ stepped_by_object_step k f code me me' x y q r for same seated step takes is m r
     subst (λ (z : thread.ThreadState × M). HasStepped k me z.1 x z.0) (λ i. (sym y_is i, sym moved i)) (record {
       seated = (refl, ahead_by_nothing_after_object_step (trace_in k) x.number (position_of_view me.0) x q r (seated_thread_is_ahead k me.0 x seated) takes);
       slots = refl;
-      steps = steps_after_ask_if_not_done (trace_in k).guest.code x q r step;
-      number = number_after_ask (trace_in k).guest.code x q r;
+      steps = steps_after_ask_are_one_more_if_not_done (trace_in k).guest.code x q r step;
+      number = number_after_ask_is_unchanged (trace_in k).guest.code x q r;
       rises = record { cut = rises.cut; looks = rises.looks };
     })
 
@@ -245,7 +245,7 @@ ahead_after_private_steps f t i (suc n) x y ahead steps =
     let takes : TakesStep f t z Private Go = takes_step_with_go_if_ask_has_no_value f t i z Private before.0 asks
     (thread_not_done_has_step f t z before.0.at (λ done. cc (asks, done))) tt tt in
     let next : after_reply f.guest.code z Go ≡ after_ask f.guest.code z Private Go = after_reply_is_after_ask f.guest.code f z Private Go refl asks in
-    let more = steps_after_ask_if_not_done f.guest.code z Private Go tt in (
+    let more = steps_after_ask_are_one_more_if_not_done f.guest.code z Private Go tt in (
       subst (IsAhead f t i) (sym next) (ahead_after_alone_step f t i z Private Go before.0 takes tt),
       ap (λ (w : thread.ThreadState). w.steps) next ∙ more
           ∙ (let s = before.1 in omega (arith, s)),
@@ -259,7 +259,7 @@ has_run_on_by_private_steps k f code v x y n for same seated steps =
     let all : (i : ℕ) → IsAhead g x.number i x → IsAhead g x.number i y =
     λ i ahead. subst (IsAhead g x.number i) (sym own.steps) (ahead_after_private_steps g x.number i n x y ahead own).0 in
     record {
-      seated = seated_after_advance k v x y seated all;
+      seated = seated_if_ahead_wherever_seated_thread_is_ahead k v x y seated all;
       steps = ap (λ (z : thread.ThreadState). z.steps) own.steps
           ∙ (ahead_after_private_steps g x.number (position_of_view v) n x y (seated_thread_is_ahead k v x seated) own).1;
       number = (all (position_of_view v) (seated_thread_is_ahead k v x seated)).number;
@@ -280,10 +280,10 @@ stopped_thread_has_waited k me me' x seated is stopped met = subst (λ (z : M). 
 
 -- ---- what the calls of a step promise
 
-pub stepped_by_own_step : (k : Plan) (f : FittedTrace) (code : List ℕ) (me : M) (x y : thread.ThreadState) (q : Ask) → IsFor k f → code ≡ f.guest.code
+pub stepped_by_private_print_or_end_step : (k : Plan) (f : FittedTrace) (code : List ℕ) (me : M) (x y : thread.ThreadState) (q : Ask) → IsFor k f → code ≡ f.guest.code
     → IsSeated k me.0 x → IsAsking f x q → (q ≡ Private) ⊎ ((q ≡ Print) ⊎ ((e : end.End) × (q ≡ End e))) → y ≡ after_reply code x Go
     → HasStepped k me me x y
-stepped_by_own_step k f code me x y q for same seated asking own is = elim own [
+stepped_by_private_print_or_end_step k f code me x y q for same seated asking own is = elim own [
   | inl a ↦ step Private a tt tt tt
   | inr rest ↦ elim rest [ inl a ↦ step Print a tt tt tt | inr a ↦ step (End a.0) a.1 tt tt tt ]
 ]
@@ -347,14 +347,14 @@ stepped_by_entering_try k f code me me' x y o e for same seated asking event one
     (subst (λ n. TakesStep (trace_in k) x.number x (Try o) (Value n)) one (seated_thread_takes_try_with_logged_result k f me.0 x o e for seated asking event)) is m rises moved
 
 -- what suits a try and isn't refused got in
-pub try_not_refused_enters_to_write : (o : ℕ) (e : Event) → Suits (Try o) e → ((p : ℕ) → e ≢ Refused p) → (try_result e ≡ 1) × (event_ask e ≡ Enter o Writing)
-try_not_refused_enters_to_write o (Answered j v) (inl is) other = absurd (cc is)
-try_not_refused_enters_to_write o (Answered j v) (inr is) other = absurd (cc is)
-try_not_refused_enters_to_write o (Read p v) (inl is) other = absurd (cc is)
-try_not_refused_enters_to_write o (Read p v) (inr is) other = absurd (cc is)
-try_not_refused_enters_to_write o (Write p v l) (inl is) other = absurd (cc is)
-try_not_refused_enters_to_write o (Write p v l) (inr is) other = let same : ◌≡◌ {A = ℕ} p o = cc is in (refl, ap (λ z. Enter z Writing) same)
-try_not_refused_enters_to_write o (Refused p) suits other = absurd (other p refl)
+pub try_not_refused_has_result_one_and_enters_to_write : (o : ℕ) (e : Event) → Suits (Try o) e → ((p : ℕ) → e ≢ Refused p) → (try_result e ≡ 1) × (event_ask e ≡ Enter o Writing)
+try_not_refused_has_result_one_and_enters_to_write o (Answered j v) (inl is) other = absurd (cc is)
+try_not_refused_has_result_one_and_enters_to_write o (Answered j v) (inr is) other = absurd (cc is)
+try_not_refused_has_result_one_and_enters_to_write o (Read p v) (inl is) other = absurd (cc is)
+try_not_refused_has_result_one_and_enters_to_write o (Read p v) (inr is) other = absurd (cc is)
+try_not_refused_has_result_one_and_enters_to_write o (Write p v l) (inl is) other = absurd (cc is)
+try_not_refused_has_result_one_and_enters_to_write o (Write p v l) (inr is) other = let same : ◌≡◌ {A = ℕ} p o = cc is in (refl, ap (λ z. Enter z Writing) same)
+try_not_refused_has_result_one_and_enters_to_write o (Refused p) suits other = absurd (other p refl)
 
 -- a refused try touches no object
 pub stepped_by_refused_try : (k : Plan) (f : FittedTrace) (code : List ℕ) (me : M) (x y : thread.ThreadState) (o p : ℕ) → IsFor k f
@@ -367,9 +367,9 @@ stepped_by_refused_try k f code me x y o p for same seated asking event is =
     tt) tt (seated_thread_takes_try_with_logged_result k f me.0 x o (Refused p) for seated asking event) is
 
 -- a thread of the guest
-pub seated_thread_is_of_guest : (k : Plan) (f : FittedTrace) (v : View) (x : thread.ThreadState) → IsFor k f → IsSeated k v x
+pub seated_thread_number_is_below_thread_count : (k : Plan) (f : FittedTrace) (v : View) (x : thread.ThreadState) → IsFor k f → IsSeated k v x
     → x.number < length f.guest.entries
-seated_thread_is_of_guest k f v x for seated = subst (λ z. x.number < length z.guest.entries) for (seated_thread_is_ahead k v x seated).there
+seated_thread_number_is_below_thread_count k f v x for seated = subst (λ z. x.number < length z.guest.entries) for (seated_thread_is_ahead k v x seated).there
 
 -- another kind of event
 pub call_event_is_not_other_than_answer : (q : Ask) (e : Event) → Suits q e → (j : EnvKind) → q ≡ Env j → ((i : EnvKind) (v : ℕ) → e ≡ Answered i v → ⊥) → ⊥

@@ -6,11 +6,11 @@ use Rattle.ir_thread.specs.declared.ask.Ask.TheVariants.{Enter}
 use Rattle.ir_trace.specs.Recorded.{Recorded, recorded_thread}
 use Rattle.ir_flat.specs.Flat.{cell_of}
 use Rattle.ir_fit.proofs.CallerLemmas.{found_cell_open_if_test_true, found_cell_shut_if_test_false}
-use Rattle.ir_weave.proofs.CallerLemmas.{open_entry_logs_next_with_result_zero, no_result_logs_next_for_shut_entry, no_result_logs_next_for_unsuited_entry, entered_object_is_within_objects, looked_up_entered_object_is_its_cell}
+use Rattle.ir_weave.proofs.CallerLemmas.{open_entry_logs_next_with_result_zero, no_result_logs_next_for_shut_entry, no_result_logs_next_for_unsuited_entry, entered_object_index_is_below_length_of_objects, looked_up_entered_object_is_its_cell}
 use Rattle.ir_replay.proofs.admission.entry_result.Goals as goal
 
 pub bounds-objects-object : goal.bounds-objects-object
-bounds-objects-object c = entered_object_is_within_objects c.args.flat.now c.args.t c.args.object c.args.access c.objects.result.now
+bounds-objects-object c = entered_object_index_is_below_length_of_objects c.args.flat.now c.args.t c.args.object c.args.access c.objects.result.now
     c.events_of-before.ensures.flat c.requires.thread c.requires.asked c.objects.ensures.value
 
 pub returns-in-Err : goal.returns-in-Err
