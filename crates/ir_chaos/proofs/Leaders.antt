@@ -30,8 +30,8 @@ pub higher_is_first_unless_above : (ps : List ℕ) (t u next : ℕ) → priority
 higher_is_first_unless_above ps t u next l e = e ∙ sym (ap (λ b. if b then u else t) (le-ltb (priority ps t) (priority ps u) l))
 
 -- an element
-pub element_at_place_is_contained : (xs : List ℕ) (i x : ℕ) → i < length xs → x ≡ get_or xs i 0 → Contains xs x
-element_at_place_is_contained xs i x l e = (i, l, get_or_default xs i x 0 l ∙ sym e)
+pub get_or_below_length_is_contained : (xs : List ℕ) (i x : ℕ) → i < length xs → x ≡ get_or xs i 0 → Contains xs x
+get_or_below_length_is_contained xs i x l e = (i, l, get_or_default xs i x 0 l ∙ sym e)
 
 -- the priorities after the place of this number
 abbrev pub fallen_at : List ℕ → ℕ → ℕ → ℕ → List ℕ → List ℕ
@@ -51,13 +51,13 @@ fallen_of_rest_is_unchanged_after_next_place ready left i places ps next l e = a
     ∙ ap (λ n. fallen ready left n (drop n places) (fallen_at ready left i (get_or places i 0) ps)) (let e : i + 1 ≡ suc i = omega arith in e)
     ∙ sym (fallen_of_drop_step ready left i i places ps l)
 
-pub leader_falls_at_its_place : (ready : List ℕ) (left i place : ℕ) (ps next : List ℕ) → place ≡ left
+pub fallen_at_lowers_leader_if_place_is_reached : (ready : List ℕ) (left i place : ℕ) (ps next : List ℕ) → place ≡ left
     → next ≡ set ps (leader ps ready) (fallen_priority + i) → next ≡ fallen_at ready left i place ps
-leader_falls_at_its_place ready left i place ps next same e = e
+fallen_at_lowers_leader_if_place_is_reached ready left i place ps next same e = e
     ∙ sym (ap (λ b. if b then set ps (leader ps ready) (fallen_priority + i) else ps) (eq-eqb place left same))
 
-pub none_falls_at_other_place : (ready : List ℕ) (left i place : ℕ) (ps next : List ℕ) → place ≢ left → next ≡ ps → next ≡ fallen_at ready left i place ps
-none_falls_at_other_place ready left i place ps next other e = e
+pub fallen_at_is_unchanged_if_place_is_not_reached : (ready : List ℕ) (left i place : ℕ) (ps next : List ℕ) → place ≢ left → next ≡ ps → next ≡ fallen_at ready left i place ps
+fallen_at_is_unchanged_if_place_is_not_reached ready left i place ps next other e = e
     ∙ sym (ap (λ b. if b then set ps (leader ps ready) (fallen_priority + i) else ps) (ne_eqb place left other))
 
 -- after the last place

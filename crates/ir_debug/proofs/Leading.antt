@@ -46,18 +46,18 @@ abbrev pub ToPositionInEachRun : FittedTrace → List ℕ → ℕ → ℕ → Li
 ToPositionInEachRun f at t k to = EachRun f (λ run. ToPosition run f at t k to)
 
 -- to a position that isn't below the thread's
-pub least_cut_leads_to_position : (f : FittedTrace) (at to : List ℕ) (t k position last here : ℕ) → k ≡ min position last → last ≡ last_of f t
+pub least_cut_leads_to_position_not_behind : (f : FittedTrace) (at to : List ℕ) (t k position last here : ℕ) → k ≡ min position last → last ≡ last_of f t
     → here ≡ cut_of at t → here ≤ k → IsLeastCut f at t k to → ToPositionInEachRun f at t (min position (last_of f t)) to
-least_cut_leads_to_position f at to t k position last here most is stands up least run whole =
+least_cut_leads_to_position_not_behind f at to t k position last here most is stands up least run whole =
     let wanted : k ≡ min position (last_of f t) = most ∙ ap (min position) is in
     subst (λ b. StopsAt run f at t (if b then Forwards else Backwards) (min position (last_of f t)) to)
     (sym (le-leb (cut_of at t) (min position (last_of f t)) (omega (arith, wanted, stands, up))))
     (each_run_leads_to_least_cut f at to t k (min position (last_of f t)) least wanted run whole)
 
 -- to one that is
-pub greatest_cut_leads_to_position : (f : FittedTrace) (at to : List ℕ) (t k position last here : ℕ) → k ≡ min position last → last ≡ last_of f t
+pub greatest_cut_leads_to_position_behind : (f : FittedTrace) (at to : List ℕ) (t k position last here : ℕ) → k ≡ min position last → last ≡ last_of f t
     → here ≡ cut_of at t → k < here → IsGreatestCut f at t k to → ToPositionInEachRun f at t (min position (last_of f t)) to
-greatest_cut_leads_to_position f at to t k position last here most is stands down greatest run whole =
+greatest_cut_leads_to_position_behind f at to t k position last here most is stands down greatest run whole =
     let wanted : k ≡ min position (last_of f t) = most ∙ ap (min position) is in
     subst (λ b. StopsAt run f at t (if b then Forwards else Backwards) (min position (last_of f t)) to)
     (sym (lt-leb (cut_of at t) (min position (last_of f t)) (omega (arith, wanted, stands, down))))

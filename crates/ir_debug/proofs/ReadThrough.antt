@@ -18,9 +18,9 @@ use Rattle.ir_debug.proofs.LongLines.{replies_to_line_if_to_kept_bytes, quits_of
 use Rattle.ir_debug.proofs.Openings.{reads_up_to_of_implied}
 
 -- an answer that was written whole is a prefix of itself
-reply_is_prefix_of_itself : {S : Type 0} (R : Replying S) (s next : S) (line : List ℕ) (old new : Option (List ℕ)) → Replied R s line next old new
+replied_prefix_if_replied : {S : Type 0} (R : Replying S) (s next : S) (line : List ℕ) (old new : Option (List ℕ)) → Replied R s line next old new
     → RepliedPrefix R s line old new
-reply_is_prefix_of_itself R s next line old new p = record {
+replied_prefix_if_replied R s next line old new p = record {
   text = p.text;
   next = next;
   is = p.is;
@@ -28,11 +28,11 @@ reply_is_prefix_of_itself R s next line old new p = record {
 }
 
 -- the same of the answer to what an input ended in
-last_reply_is_prefix_of_itself : {S : Type 0} (R : Replying S) (s : S) (line : List ℕ) (old new : Option (List ℕ)) → (line ≡ [] → ⊥)
+replied_prefix_if_last_line_is_replied : {S : Type 0} (R : Replying S) (s : S) (line : List ℕ) (old new : Option (List ℕ)) → (line ≡ [] → ⊥)
     → Wrote R s (last_line line) old new → RepliedPrefix R s line old new
 unfolding LinesAnswered
-last_reply_is_prefix_of_itself R s [] old new some p = absurd (some refl)
-last_reply_is_prefix_of_itself R s (b ∷ line) old new some p = record {
+replied_prefix_if_last_line_is_replied R s [] old new some p = absurd (some refl)
+replied_prefix_if_last_line_is_replied R s (b ∷ line) old new some p = record {
   text = p.answered.0;
   next = p.answered.1;
   is = p.answered.3;
@@ -56,7 +56,7 @@ module _ (s0 : Desk) (input w0 left left' written : Option (List ℕ)) (s : Desk
       → ReadsUpTo limit input left' (ReadsThrough ended.Quit left')
   read_through_line_that_quits next written' took p = reads_up_to_of_implied limit input left' _ (ReadsThrough ended.Quit left') (λ consumed h. (h.0, h.1))
       (feed_failed Replies quits replies_to_line_if_to_kept_bytes quits_of_kept_bytes_is_quits_of_line s0 input w0 left left' written s line n at limit below written' took
-      (reply_is_prefix_of_itself Replies s next line written written' p))
+      (replied_prefix_if_replied Replies s next line written written' p))
 
   -- the input ended, and what it ended in was answered
   pub read_through_end : Consumes left left' [] → IsAtEnd left' → (result : Result Served Fault) (written' : Option (List ℕ))
@@ -67,7 +67,7 @@ module _ (s0 : Desk) (input w0 left left' written : Option (List ℕ)) (s : Desk
       let some : line ≡ [] → ⊥ = nonempty_if_last_line_quits line served in
       reads_up_to_of_implied limit input left' _ (ReadsThrough ended.Quit left') (λ consumed h. (h.0, h.1))
       (finish_failed Replies quits replies_to_line_if_to_kept_bytes quits_of_kept_bytes_is_quits_of_line s0 input w0 left left' written s line n at limit below took (Err Write) written' gone refl some
-      (last_reply_is_prefix_of_itself Replies s line written written' some p))
+      (replied_prefix_if_last_line_is_replied Replies s line written written' some p))
   read_through_end took gone (Ok InputEnd) written' p served = reads_up_to_of_implied limit input left' _ (ReadsThrough ended.InputEnd left')
       (λ consumed h. gone)
       (finish_ended Replies quits replies_to_line_if_to_kept_bytes quits_of_kept_bytes_is_quits_of_line s0 input w0 left left' written s line n at limit below took (Ok InputEnd) written' p served tt)

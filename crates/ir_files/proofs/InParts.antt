@@ -17,5 +17,5 @@ on_err_if_holds P (Ok x) p = tt
 on_err_if_holds P (Err e) p = p
 
 -- the same of the error that a `?` hands on
-pub if_err_for_handed_on_error : {A E : Type 0} (P : E → Type 0) (r : Result A E) (e other : E) → r ≡ Err other → other ≡ e → P e → IfErr r P
-if_err_for_handed_on_error P r e other is same p = subst (λ z. IfErr z P) (sym is) (subst P (sym same) p)
+pub if_err_holds_if_holds_of_handed_on_error : {A E : Type 0} (P : E → Type 0) (r : Result A E) (e other : E) → r ≡ Err other → other ≡ e → P e → IfErr r P
+if_err_holds_if_holds_of_handed_on_error P r e other is same p = subst (λ z. IfErr z P) (sym is) (subst P (sym same) p)

@@ -74,13 +74,13 @@ answers_to_no_items : (l : Link) → Answers l [] false [] l
 unfolding Answers
 answers_to_no_items l = (refl, refl, refl)
 
-rest_of_appended_items : (b : Bool) (more after : Bool → List ℕ → Link → Type 0) (next : Link) (ended : Bool) (text text' : List ℕ) (mid last : Link)
+rest_of_appended_items_if_not_ended : (b : Bool) (more after : Bool → List ℕ → Link → Type 0) (next : Link) (ended : Bool) (text text' : List ℕ) (mid last : Link)
     → ((more false text mid) → after ended (text ++ text') last) → Rest b more next false text mid → Rest b after next ended (text ++ text') last
-rest_of_appended_items true more after next ended text text' mid last go p = absurd (true-not-false p.0)
+rest_of_appended_items_if_not_ended true more after next ended text text' mid last go p = absurd (true-not-false p.0)
   where
     true-not-false : false ≡ true → ⊥
     true-not-false e = absurd cc
-rest_of_appended_items false more after next ended text text' mid last go p = go p
+rest_of_appended_items_if_not_ended false more after next ended text text' mid last go p = go p
 
 -- none of the first ends the connection
 answers_to_appended_items : (l : Link) (xs ys : List Item) (ended : Bool) (text text' : List ℕ) (mid last : Link) → Answers l xs false text mid
@@ -94,15 +94,15 @@ answers_to_appended_items l (x ∷ xs) ys ended text text' mid last (first, next
   next,
   rest ++ text',
   answers,
-  rest_of_appended_items (ends l x) (Answers next xs) (Answers next (xs ++ ys)) next ended rest text' mid last
+  rest_of_appended_items_if_not_ended (ends l x) (Answers next xs) (Answers next (xs ++ ys)) next ended rest text' mid last
       (λ p. answers_to_appended_items next xs ys ended rest text' mid last p b) more,
   ap (λ (t : List ℕ). t ++ text') is ∙ append_assoc first rest text',
 )
 
-rest_past_ending_item : (b : Bool) (more after : Bool → List ℕ → Link → Type 0) (next : Link) (text : List ℕ) (last : Link)
+rest_of_other_items_if_ended : (b : Bool) (more after : Bool → List ℕ → Link → Type 0) (next : Link) (text : List ℕ) (last : Link)
     → (more true text last → after true text last) → Rest b more next true text last → Rest b after next true text last
-rest_past_ending_item true more after next text last go p = p
-rest_past_ending_item false more after next text last go p = go p
+rest_of_other_items_if_ended true more after next text last go p = p
+rest_of_other_items_if_ended false more after next text last go p = go p
 
 -- behind one that ends the connection nothing counts
 answers_ignore_items_past_ending_item : (l : Link) (xs ys : List Item) (text : List ℕ) (last : Link) → Answers l xs true text last → Answers l (xs ++ ys) true text last
@@ -113,7 +113,7 @@ answers_ignore_items_past_ending_item l (x ∷ xs) ys text last (first, next, re
   next,
   rest,
   answers,
-  rest_past_ending_item (ends l x) (Answers next xs) (Answers next (xs ++ ys)) next rest last (λ p. answers_ignore_items_past_ending_item next xs ys rest last p) more,
+  rest_of_other_items_if_ended (ends l x) (Answers next xs) (Answers next (xs ++ ys)) next rest last (λ p. answers_ignore_items_past_ending_item next xs ys rest last p) more,
   is,
 )
 
@@ -156,10 +156,10 @@ items_from_single_byte_are_ends : (p : Place) (b : ℕ) → items_from p (b ∷ 
 unfolding items_from
 items_from_single_byte_are_ends p b = append-nil (stream.ends p b)
 
-place_after_pushed_byte : (p : Place) (bytes : List ℕ) (b : ℕ) → place_after p (bytes ++ b ∷ []) ≡ step (place_after p bytes) b
+place_after_pushed_byte_is_step_of_place : (p : Place) (bytes : List ℕ) (b : ℕ) → place_after p (bytes ++ b ∷ []) ≡ step (place_after p bytes) b
 unfolding place_after
-place_after_pushed_byte p [] b = refl
-place_after_pushed_byte p (x ∷ bytes) b = place_after_pushed_byte (step p x) bytes b
+place_after_pushed_byte_is_step_of_place p [] b = refl
+place_after_pushed_byte_is_step_of_place p (x ∷ bytes) b = place_after_pushed_byte_is_step_of_place (step p x) bytes b
 
 -- what a byte ends is found, whatever of the packet is kept
 items_after_pushed_byte_add_its_ended_items : (bytes : List ℕ) (b : ℕ) (place : Place) (ended : List Item) → place ≡ kept (place_after Between bytes) → ended ≡ stream.ends place b
@@ -168,10 +168,10 @@ items_after_pushed_byte_add_its_ended_items bytes b place ended is finds = items
     ∙ ap (λ (xs : List Item). items bytes ++ xs) (items_from_single_byte_are_ends (place_after Between bytes) b ∙ sym (ends_ignores_kept (place_after Between bytes) b)
     ∙ ap (λ (p : Place). stream.ends p b) (sym is) ∙ sym finds)
 
-kept_place_after_pushed_byte : (bytes : List ℕ) (b : ℕ) (place next : Place) → place ≡ kept (place_after Between bytes) → next ≡ kept (step place b)
+kept_step_of_kept_place_is_kept_place_after_pushed_byte : (bytes : List ℕ) (b : ℕ) (place next : Place) → place ≡ kept (place_after Between bytes) → next ≡ kept (step place b)
     → next ≡ kept (place_after Between (bytes ++ b ∷ []))
-kept_place_after_pushed_byte bytes b place next is steps = steps ∙ ap (λ (p : Place). kept (step p b)) is ∙ kept_step_ignores_kept (place_after Between bytes) b
-    ∙ ap kept (sym (place_after_pushed_byte Between bytes b))
+kept_step_of_kept_place_is_kept_place_after_pushed_byte bytes b place next is steps = steps ∙ ap (λ (p : Place). kept (step p b)) is ∙ kept_step_ignores_kept (place_after Between bytes) b
+    ∙ ap kept (sym (place_after_pushed_byte_is_step_of_place Between bytes b))
 
 take_of_append_is_first_part : (xs rest : List ℕ) (n : ℕ) → length xs ≡ n → take n (xs ++ rest) ≡ xs
 take_of_append_is_first_part [] rest n e = ap (λ (k : ℕ). take k rest) (sym e)
@@ -211,7 +211,7 @@ module _ (l0 : Link) (input w0 left left' written : Option (List ℕ)) (l : Link
     answers = subst (λ (xs : List Item). Answers l0 xs false at.text l)
         (sym (items_after_pushed_byte_add_its_ended_items at.bytes b place [] at.stands finds ∙ append-nil (items at.bytes))) at.answers;
     grown = at.grown;
-    stands = kept_place_after_pushed_byte at.bytes b place next at.stands steps;
+    stands = kept_step_of_kept_place_is_kept_place_after_pushed_byte at.bytes b place next at.stands steps;
   }
 
   module _ (b : ℕ) (f : Found) (payload : List ℕ) (took : Consumes left left' (b ∷ []))
@@ -242,7 +242,7 @@ module _ (l0 : Link) (input w0 left left' written : Option (List ℕ)) (l : Link
       text = at.text ++ s.text;
       answers = all_answers next written' false goes s;
       grown = Appends-trans w0 written written' at.text s.text at.grown s.grown;
-      stands = kept_place_after_pushed_byte at.bytes b place place' at.stands steps;
+      stands = kept_step_of_kept_place_is_kept_place_after_pushed_byte at.bytes b place place' at.stands steps;
     }
 
     module _ (limit : ℕ) (below : n < limit) where

@@ -27,10 +27,10 @@ responds_by_session_answer asked line s next old new answer P is same after a t 
         (subst (λ (text : List ℕ). RepliesBy asked run old.desk text new.desk) (sym (t.1 run at)) (a.answers run of)))
 
 -- a line without words has no answer
-pub responds_nothing_without_words : (asked : Result (Option Command) Refusal) (line : List ℕ) (s : Stub) (P : List ℕ → Type 0) → asked ≡ command_of line
+pub responds_nothing_to_line_without_command : (asked : Result (Option Command) Refusal) (line : List ℕ) (s : Stub) (P : List ℕ → Type 0) → asked ≡ command_of line
     → asked ≡ Ok None → P [] → Responds s line s P
 unfolding Replies
-responds_nothing_without_words asked line s P is none p = ([], s.desk, replies, refl, p)
+responds_nothing_to_line_without_command asked line s P is none p = ([], s.desk, replies, refl, p)
   where
     replies : Replies s.desk line [] s.desk
     replies = λ run of. subst (λ (x : Result (Option Command) Refusal). RepliesBy x run s.desk [] s.desk) (sym none ∙ is) (refl, refl)

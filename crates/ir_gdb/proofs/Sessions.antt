@@ -20,7 +20,7 @@ use Rattle.ir_debug.specs.declared.ended.Ended.TheVariants as ended
 use Rattle.ir_debug.specs.declared.ended.SessionErr.{SessionErr}
 use Rattle.ir_debug.specs.declared.ended.SessionErr.TheVariants as err
 use Rattle.ir_debug.proofs.CallerLemmas.{if_some_of_implied, if_served_by_implied_end}
-pub use Rattle.ir_debug.proofs.CallerLemmas.{reads_up_to_of_implied, ready_debugger_opens, read_fault_if_ended_by_read, write_fault_if_ended_by_write}
+pub use Rattle.ir_debug.proofs.CallerLemmas.{reads_up_to_of_implied, opens_ready_desk_if_opening_is_ready, read_fault_if_ended_by_read, write_fault_if_ended_by_write}
 use Rattle.ir_gdb.specs.Stub.{Stub, stub_of}
 use Rattle.ir_gdb.specs.Connection.{Link, link_of, LeadsTo}
 use Rattle.ir_gdb.specs.Session.{first_link, Serves, Refuses, Connects, Connected, Announced, IfNotRefused}
@@ -151,13 +151,13 @@ if_not_refused_if_holds (Ok ended.NotFit) P p = tt
 if_not_refused_if_holds (Err e) P p = p
 
 -- what a writer took of a text
-pub text_is_appended_unless_broken : {X E : Type 0} (r : Result X E) (w w' : Option (List ℕ)) (broken : Bool) (text : List ℕ) → OnOk r (Appends w w' text)
+pub prefix_is_appended_and_whole_text_unless_broken : {X E : Type 0} (r : Result X E) (w w' : Option (List ℕ)) (broken : Bool) (text : List ℕ) → OnOk r (Appends w w' text)
     → OnErr r (AppendsPrefix w w' text) → OnErr r (broken ≡ true) → AppendsPrefix w w' text × (broken ≡ false → Appends w w' text)
-text_is_appended_unless_broken (Ok x) w w' broken text ok prefix err = (
+prefix_is_appended_and_whole_text_unless_broken (Ok x) w w' broken text ok prefix err = (
   record { part = text; more = []; splits = sym (append-nil text); grown = ok },
   λ e. ok,
 )
-text_is_appended_unless_broken (Err x) w w' broken text ok prefix err = (prefix, λ e. absurd (both broken err e))
+prefix_is_appended_and_whole_text_unless_broken (Err x) w w' broken text ok prefix err = (prefix, λ e. absurd (both broken err e))
   where
     both : (b : Bool) → b ≡ true → b ≡ false → ⊥
     both b is isnt = cc

@@ -57,14 +57,14 @@ own_log_has_given_splits_off_step m s e run source h =
     (subst (HasGiven source) (ap events (trail_of_cons_own_thread m s e run)) h)
 
 -- a step's act has the answer that comes next
-pub step_takes_next_answer : {T : Type 0} (m : Machine T) (s : State T) (n : ℕ) (sources : ℕ → Source) (e : Step) (run : List Step)
+pub first_step_of_given_run_takes_next_answer : {T : Type 0} (m : Machine T) (s : State T) (n : ℕ) (sources : ℕ → Source) (e : Step) (run : List Step)
     → AreGiven m s n sources (e ∷ run) → e.0 < n → TakesNextAnswer (act m s e) (sources e.0)
-step_takes_next_answer m s n sources e run h l = (own_log_has_given_splits_off_step m s e run (sources e.0) (h e.0 l)).0
+first_step_of_given_run_takes_next_answer m s n sources e run h l = (own_log_has_given_splits_off_step m s e run (sources e.0) (h e.0 l)).0
 
 -- and what is left after it answers the others
-pub given_after_step : {T : Type 0} (m : Machine T) (s : State T) (n : ℕ) (sources : ℕ → Source) (e : Step) (run : List Step)
+pub rest_of_given_run_is_given_after_first_step : {T : Type 0} (m : Machine T) (s : State T) (n : ℕ) (sources : ℕ → Source) (e : Step) (run : List Step)
     → AreGiven m s n sources (e ∷ run) → AreGiven m (after m s e) n (upd sources e.0 (source_left_by (act m s e) (sources e.0))) run
-given_after_step m s n sources e run h t l =
+rest_of_given_run_is_given_after_first_step m s n sources e run h t l =
     property_of_upd_by_cases sources e.0 (source_left_by (act m s e) (sources e.0)) t (λ source. HasGiven source (log m (after m s e) run t))
     (λ same. subst (λ u. HasGiven (source_left_by (act m s e) (sources e.0)) (log m (after m s e) run u)) (sym same)
     (own_log_has_given_splits_off_step m s e run (sources e.0) (h e.0 (subst (λ u. u < n) same l))).1)

@@ -50,10 +50,10 @@ start_thread_at_index_is_start_state g budget profile from (suc n) (suc t) l = s
     ∙ ap (λ z. thread.start_state g z budget profile) (let e : suc from + t ≡ from + suc t = omega arith in e)
 
 -- an object that the guest doesn't have has no words
-words_end_before_missing_object : (form : ImageForm) (words o : ℕ) → words % (limits_of form).words ≡ 0 → words / (limits_of form).words ≤ o
+words_within_limit_times_count_if_quotient_within_count : (form : ImageForm) (words o : ℕ) → words % (limits_of form).words ≡ 0 → words / (limits_of form).words ≤ o
     → words ≤ (limits_of form).words * o
-words_end_before_missing_object Small words o whole past = omega (arith, whole, past)
-words_end_before_missing_object Large words o whole past = omega (arith, whole, past)
+words_within_limit_times_count_if_quotient_within_count Small words o whole past = omega (arith, whole, past)
+words_within_limit_times_count_if_quotient_within_count Large words o whole past = omega (arith, whole, past)
 
 drop_past_length_is_empty : (k : ℕ) (ws : List ℕ) → length ws ≤ k → drop k ws ≡ []
 drop_past_length_is_empty zero [] l = refl
@@ -68,7 +68,7 @@ take_of_empty (suc k) = refl
 first_words_of_missing_object_are_zero : (g : Guest) (o j : ℕ) → IsGuest g → object_count g ≤ o → get_or (first_words g o) j 0 ≡ 0
 first_words_of_missing_object_are_zero g o j guest past = get_or_zero_of_padded_is_unchanged (take (object_words g) (drop (object_words g * o) g.words)) j
     ∙ ap (λ ws. get_or (take (object_words g) ws) j 0)
-    (drop_past_length_is_empty (object_words g * o) g.words (words_end_before_missing_object g.form (length g.words) o guest.whole_objects past))
+    (drop_past_length_is_empty (object_words g * o) g.words (words_within_limit_times_count_if_quotient_within_count g.form (length g.words) o guest.whole_objects past))
     ∙ ap (λ ws. get_or ws j 0) (take_of_empty (object_words g))
 
 start_tables_have_start_objects : (g : Guest) (budget : ℕ) (profile : Profile) → IsGuest g → (tables (start_flat g budget profile)).objects ≡ start_objects g

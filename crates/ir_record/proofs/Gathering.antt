@@ -59,9 +59,9 @@ pub length_of_rest_is_one_less : {A : Type 0} (items rest : List A) (x : A) (len
 length_of_rest_is_one_less items rest x len less h e one = let n : length items ≡ suc (length rest) = ap (λ z. length z) e in omega (arith, h, n, one)
 
 -- a list, seen by a function, with one item more
-pub map_with_item_added : {A B : Type 0} (f : A → B) (xs new : List A) (x : A) (ys : List B) → new ≡ xs ++ x ∷ [] → map f xs ≡ ys
+pub map_of_append_one_is_append_one : {A B : Type 0} (f : A → B) (xs new : List A) (x : A) (ys : List B) → new ≡ xs ++ x ∷ [] → map f xs ≡ ys
     → map f new ≡ ys ++ f x ∷ []
-map_with_item_added f xs new x ys e h = ap (map f) e ∙ map_of_append_item f xs x ∙ ap (λ z. z ++ f x ∷ []) h
+map_of_append_one_is_append_one f xs new x ys e h = ap (map f) e ∙ map_of_append_item f xs x ∙ ap (λ z. z ++ f x ∷ []) h
 
 take_and_next_item_is_take_suc : {A : Type 0} (xs : List A) (i : ℕ) (x d : A) → i < length xs → get_or xs i d ≡ x → take i xs ++ x ∷ [] ≡ take (suc i) xs
 take_and_next_item_is_take_suc [] i x d l e = absurd (omega arith)
@@ -69,13 +69,13 @@ take_and_next_item_is_take_suc (y ∷ xs) zero x d l e = ap (λ z. z ∷ []) (sy
 take_and_next_item_is_take_suc (y ∷ xs) (suc i) x d l e = ap (λ z. y ∷ z) (take_and_next_item_is_take_suc xs i x d (omega arith) e)
 
 -- the prefix of a list, seen by a function, with one item more
-pub mapped_prefix_with_item_added : {A B C : Type 0} (f : A → B) (h : C → B) (xs new : List A) (x : A) (whole : List C) (c : C) → new ≡ xs ++ x ∷ []
+pub map_is_take_of_map_of_whole_step : {A B C : Type 0} (f : A → B) (h : C → B) (xs new : List A) (x : A) (whole : List C) (c : C) → new ≡ xs ++ x ∷ []
     → map f xs ≡ take (length xs) (map h whole) → length xs < length whole → c ≡ get_or whole (length xs) c → f x ≡ h c
     → map f new ≡ take (length new) (map h whole)
-mapped_prefix_with_item_added f h xs new x whole c e was l is same =
+map_is_take_of_map_of_whole_step f h xs new x whole c e was l is same =
     let n : length new ≡ suc (length xs) = ap (λ z. length z) e ∙ length-append xs (x ∷ [])
     ∙ (let k : length xs + 1 ≡ suc (length xs) = omega arith in k) in
-    map_with_item_added f xs new x (take (length xs) (map h whole)) e was
+    map_of_append_one_is_append_one f xs new x (take (length xs) (map h whole)) e was
     ∙ take_and_next_item_is_take_suc (map h whole) (length xs) (f x) (f x) (let m = length-map whole h in omega (arith, m, l))
     (get_or-map h whole (length xs) c (f x) l ∙ ap h (sym is) ∙ sym same)
     ∙ ap (λ k. take k (map h whole)) (sym n)

@@ -15,7 +15,7 @@ use Rattle.ir_record.specs.Ahead.{lead, IsAhead, all_ahead, NoneAhead, Went, Wen
 use Rattle.ir_record.specs.Progress.{Progress, Took, TookIf, all_left, labels_at}
 use Rattle.ir_record.specs.Worlds.{answers_at, answers_in}
 use Rattle.ir_record.proofs.Joining.{range_with_last_number, rounds_with_round_added, append_non_empty_by_first, append_non_empty_by_second, threads_have_no_step_if_run_in_turns_is_empty}
-use Rattle.ir_record.proofs.Leading.{private_step_can_be_taken, private_step_is_quiet, ahead_after_lead_is_spent, can_step_if_can_in_state_ahead, enters_if_free_if_it_does_in_state_ahead, private_step_enters_if_free, no_step_if_none_in_state_ahead, label_is_same_in_state_ahead, ahead_after_step_of_both, ahead_by_private_steps, state_is_ahead_of_itself_if_leads_are_zero, state_ahead_by_nothing_is_same}
+use Rattle.ir_record.proofs.Leading.{private_step_can_be_taken, private_step_is_quiet, ahead_with_lead_lowered_after_step_of_thread_ahead, can_step_if_can_in_state_ahead, enters_if_free_if_it_does_in_state_ahead, private_step_enters_if_free, no_step_if_none_in_state_ahead, label_is_same_in_state_ahead, ahead_after_step_of_both, ahead_with_lead_set_to_count_after_private_steps, state_is_ahead_of_itself_if_leads_are_zero, state_ahead_by_nothing_is_same}
 use Rattle.ir_record.proofs.Running.{hold_few_objects_if_flat}
 use Rattle.ir_record.proofs.Steps.{answers_in_append}
 use Rattle.ir_record.proofs.Tally.{all_left_falls_after_steps_of_thread}
@@ -63,7 +63,7 @@ turn_of_thread_ahead_lowers_lead s a c t k l is h =
       went = record {
         run = (t, 0) ∷ [];
         turns = inr (0, [], refl, private_step_can_be_taken (machine a.flat) s t private, private_step_enters_if_free (machine a.flat) s t private, refl);
-        ahead = ahead_after_lead_is_spent (machine a.flat) c s (tables a.flat) t k l is h;
+        ahead = ahead_with_lead_lowered_after_step_of_thread_ahead (machine a.flat) c s (tables a.flat) t k l is h;
         code = refl;
         threads = refl;
         objects = refl;
@@ -148,7 +148,7 @@ went_by_turn_and_private_steps s a b g c t k l below flat is h took w = by_turn 
             );
             ahead = subst (IsAhead m (set c t k) (after m s (t, r)))
                 (sym (w.ends ∙ ap (λ n. end n (tables b.flat) (replicate k (t, 0))) same_machine))
-                (ahead_by_private_steps m c (after m s (t, r)) (tables b.flat) t k l is h'
+                (ahead_with_lead_set_to_count_after_private_steps m c (after m s (t, r)) (tables b.flat) t k l is h'
                 (λ j less. subst (λ n. n.ask ((end n (tables b.flat) (replicate j (t, 0))).now t) ≡ Private) same_machine
                 (ap shared_ask (w.each j less))));
             code = w.code ∙ took.took.code;
@@ -242,9 +242,9 @@ went_through_append_of_orders order more s a b e c d f p q =
     }
 
 -- no turn of no thread
-pub no_turns_take_no_step : (s : State thread.ThreadState) (a : Progress) (c : List ℕ) → IsAhead (machine a.flat) c s (tables a.flat) → WentIf false [] s a c a c
+pub went_without_step_by_no_turns : (s : State thread.ThreadState) (a : Progress) (c : List ℕ) → IsAhead (machine a.flat) c s (tables a.flat) → WentIf false [] s a c a c
 unfolding went_by_no_turns_changes_nothing
-no_turns_take_no_step s a c h = record { went = went_by_no_turns_changes_nothing s a c h; some = λ e. absurd cc; none = λ e. (refl, refl, tt) }
+went_without_step_by_no_turns s a c h = record { went = went_by_no_turns_changes_nothing s a c h; some = λ e. absurd cc; none = λ e. (refl, refl, tt) }
 
 none_ahead_of_append : (order more ahead : List ℕ) → NoneAhead order ahead → NoneAhead more ahead → NoneAhead (order ++ more) ahead
 none_ahead_of_append [] more ahead h g = g
@@ -278,13 +278,13 @@ went_as_before_if_last_turn_took_no_step moved order more s a b e c d f p q = re
 }
 
 -- one turn more of a round
-pub round_with_turn_added : (was now ahead_after_step_of_both : Bool) (t : ℕ) (s : State thread.ThreadState) (a b e : Progress) (c d f : List ℕ)
-    (p : WentIf was (range_with_len 0 t) s a c b d) → WentIf ahead_after_step_of_both (t ∷ []) (reached p.went) b d e f → (ahead_after_step_of_both ≡ true → now ≡ true)
-    → (ahead_after_step_of_both ≡ false → now ≡ was) → WentIf now (range_with_len 0 (t + 1)) s a c e f
-round_with_turn_added was now true t s a b e c d f p q taken same =
+pub went_part_of_round_with_turn_added : (was now ahead : Bool) (t : ℕ) (s : State thread.ThreadState) (a b e : Progress) (c d f : List ℕ)
+    (p : WentIf was (range_with_len 0 t) s a c b d) → WentIf ahead (t ∷ []) (reached p.went) b d e f → (ahead ≡ true → now ≡ true)
+    → (ahead ≡ false → now ≡ was) → WentIf now (range_with_len 0 (t + 1)) s a c e f
+went_part_of_round_with_turn_added was now true t s a b e c d f p q taken same =
     subst (λ z. WentIf z (range_with_len 0 (t + 1)) s a c e f) (sym (taken refl))
     (subst (λ order. WentIf true order s a c e f) (range_from_zero_with_last t) (went_with_step_if_last_turn_took_step was (range_with_len 0 t) (t ∷ []) s a b e c d f p q))
-round_with_turn_added was now false t s a b e c d f p q taken same =
+went_part_of_round_with_turn_added was now false t s a b e c d f p q taken same =
     subst (λ z. WentIf z (range_with_len 0 (t + 1)) s a c e f) (sym (same refl))
     (subst (λ order. WentIf was order s a c e f) (range_from_zero_with_last t) (went_as_before_if_last_turn_took_no_step was (range_with_len 0 t) (t ∷ []) s a b e c d f p q))
 

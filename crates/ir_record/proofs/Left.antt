@@ -35,26 +35,26 @@ some_is_not_none : {A : Type 0} (x : Option A) (a : A) → x ≡ Some a → x �
 some_is_not_none x a e n = cc (e, n)
 
 -- each step leaves its thread fewer
-pub steps_left_fall_after_each_step : (code : List ℕ) (x : thread.ThreadState) (q : Ask) (r : Reply) → length x.held ≤ most_objects → Permits x q → q ≢ Done
+pub steps_left_fall_after_permitted_ask_unless_done : (code : List ℕ) (x : thread.ThreadState) (q : Ask) (r : Reply) → length x.held ≤ most_objects → Permits x q → q ≢ Done
     → steps_left (after_ask code x q r).ended (after_ask code x q r) + 1 ≤ steps_left x.ended x
-steps_left_fall_after_each_step code x Private r few p ne = steps_left_fall_after_continuing_step x.ended x (after_ask code x Private r) p.lives p.has_budget refl refl refl
-steps_left_fall_after_each_step code x (Env kind) r few p ne = steps_left_fall_after_continuing_step x.ended x (after_ask code x (Env kind) r) p.0.lives p.0.has_budget refl refl refl
-steps_left_fall_after_each_step code x (Enter object access) r few p ne =
+steps_left_fall_after_permitted_ask_unless_done code x Private r few p ne = steps_left_fall_after_continuing_step x.ended x (after_ask code x Private r) p.lives p.has_budget refl refl refl
+steps_left_fall_after_permitted_ask_unless_done code x (Env kind) r few p ne = steps_left_fall_after_continuing_step x.ended x (after_ask code x (Env kind) r) p.0.lives p.0.has_budget refl refl refl
+steps_left_fall_after_permitted_ask_unless_done code x (Enter object access) r few p ne =
     steps_left_fall_after_continuing_step x.ended x (after_ask code x (Enter object access) r) p.0.lives p.0.has_budget refl refl refl
-steps_left_fall_after_each_step code x (Try object) r few p ne = steps_left_fall_after_continuing_step x.ended x (after_ask code x (Try object) r) p.0.lives p.0.has_budget refl refl refl
-steps_left_fall_after_each_step code x (Leave object access) r few p ne =
+steps_left_fall_after_permitted_ask_unless_done code x (Try object) r few p ne = steps_left_fall_after_continuing_step x.ended x (after_ask code x (Try object) r) p.0.lives p.0.has_budget refl refl refl
+steps_left_fall_after_permitted_ask_unless_done code x (Leave object access) r few p ne =
     steps_left_fall_after_leave x.ended x (after_ask code x (Leave object access) r) object refl p.0
     refl refl refl (held_count_after_leave x.held object p.1 (some_is_not_none (held_at x.held object) access p.2))
-steps_left_fall_after_each_step code x (Get object index) r few p ne =
+steps_left_fall_after_permitted_ask_unless_done code x (Get object index) r few p ne =
     steps_left_fall_after_continuing_step x.ended x (after_ask code x (Get object index) r) p.0.lives p.0.has_budget refl refl refl
-steps_left_fall_after_each_step code x (Put object index value) r few p ne =
+steps_left_fall_after_permitted_ask_unless_done code x (Put object index value) r few p ne =
     steps_left_fall_after_continuing_step x.ended x (after_ask code x (Put object index value) r) p.0.lives p.0.has_budget refl refl refl
-steps_left_fall_after_each_step code x Print r few p ne = steps_left_fall_after_continuing_step x.ended x (after_ask code x Print r) p.0.lives p.0.has_budget refl refl refl
-steps_left_fall_after_each_step code x (End e) r few p ne =
+steps_left_fall_after_permitted_ask_unless_done code x Print r few p ne = steps_left_fall_after_continuing_step x.ended x (after_ask code x Print r) p.0.lives p.0.has_budget refl refl refl
+steps_left_fall_after_permitted_ask_unless_done code x (End e) r few p ne =
     let own : steps_left x.ended x ≡ most_closing + (x.budget - x.steps) = ap (λ z. steps_left z x) p in
     let most = held_count_at_most_length x.held in
     omega (arith, own, most, few)
-steps_left_fall_after_each_step code x Done r few p ne = absurd (ne refl)
+steps_left_fall_after_permitted_ask_unless_done code x Done r few p ne = absurd (ne refl)
 
 all_left_ignores_later_thread : (n : ℕ) (now : ℕ → thread.ThreadState) (t : ℕ) (y : thread.ThreadState) → n ≤ t → all_left n (upd now t y) ≡ all_left n now
 all_left_ignores_later_thread zero now t y l = refl

@@ -75,16 +75,16 @@ false_below_successor_if_next_is_false f ws t d within here before u below = eli
       subst (λ k. get_or (map f ws) k false ≡ false) same (get_or-map f ws t d false within ∙ here)
 ]
 
-pub map_with_last_added : {A B : Type 0} (f : A → B) (xs : List A) (x : A) (ys : List B) (y : B) → ys ≡ map f xs → y ≡ f x → ys ++ y
+pub append_one_to_map_is_map_of_append_one : {A B : Type 0} (f : A → B) (xs : List A) (x : A) (ys : List B) (y : B) → ys ≡ map f xs → y ≡ f x → ys ++ y
     ∷ [] ≡ map f (xs ++ x ∷ [])
-map_with_last_added f xs x ys y e h = (λ i. e i ++ h i ∷ []) ∙ go xs
+append_one_to_map_is_map_of_append_one f xs x ys y e h = (λ i. e i ++ h i ∷ []) ∙ go xs
   where
     go : (zs : _) → map f zs ++ f x ∷ [] ≡ map f (zs ++ x ∷ [])
     go [] = refl
     go (z ∷ zs) = ap (λ k. f z ∷ k) (go zs)
 
-pub length_with_item_added : {A : Type 0} (xs ys : List A) (x : A) → ys ≡ xs ++ x ∷ [] → length ys ≡ suc (length xs)
-length_with_item_added xs ys x e = ap (λ z. length z) e ∙ length-append xs (x ∷ []) ∙ (let q : length xs + 1 ≡ suc (length xs) = omega arith in q)
+pub length_of_append_one_is_suc_length : {A : Type 0} (xs ys : List A) (x : A) → ys ≡ xs ++ x ∷ [] → length ys ≡ suc (length xs)
+length_of_append_one_is_suc_length xs ys x e = ap (λ z. length z) e ∙ length-append xs (x ∷ []) ∙ (let q : length xs + 1 ≡ suc (length xs) = omega arith in q)
 
 pub empty_if_length_zero : {A : Type 0} (xs : List A) (n : ℕ) → n ≡ length xs → n ≡ 0 → xs ≡ []
 empty_if_length_zero [] n e z = refl
@@ -98,6 +98,6 @@ pairs_if_elements_at_each_index_related P (x ∷ xs) [] e h = absurd (omega (ari
 pairs_if_elements_at_each_index_related P (x ∷ xs) (y ∷ ys) e h = (h 0 x (omega arith), pairs_if_elements_at_each_index_related P xs ys (omega (arith, e)) (λ i d l. h (suc i) d (omega (arith, l))))
 
 -- what is left in a list of which a part was changed in place
-pub take_of_append_of_dropped_old_is_new : {A : Type 0} (new old : List A) (n : ℕ) → n ≡ length old → length new ≡ length old
+pub take_length_of_append_drop_is_first_list : {A : Type 0} (new old : List A) (n : ℕ) → n ≡ length old → length new ≡ length old
     → take n (new ++ drop (length new) old) ≡ new
-take_of_append_of_dropped_old_is_new new old n e f = ap (λ k. take k (new ++ drop (length new) old)) (e ∙ sym f) ∙ take_length_of_append new (drop (length new) old)
+take_length_of_append_drop_is_first_list new old n e f = ap (λ k. take k (new ++ drop (length new) old)) (e ∙ sym f) ∙ take_length_of_append new (drop (length new) old)

@@ -16,9 +16,9 @@ rounds_of_one_thread zero = refl
 rounds_of_one_thread (suc count) = ap (λ z. 0 ∷ z) (rounds_of_one_thread count)
 
 -- turns of a thread, then private steps and a turn more
-pub turns_with_private_steps_and_turn_added : (t n ran : ℕ) (a b c d : Progress) (moved : Bool) → Took (replicate n t) a b → Took (replicate ran t) b c
+pub took_turns_with_private_steps_and_turn_added : (t n ran : ℕ) (a b c d : Progress) (moved : Bool) → Took (replicate n t) a b → Took (replicate ran t) b c
     → TookIf moved (t ∷ []) c d → Took (replicate (n + ran + 1) t) a d
-turns_with_private_steps_and_turn_added t n ran a b c d moved p q r =
+took_turns_with_private_steps_and_turn_added t n ran a b c d moved p q r =
     turns_of_thread_add_up t (n + ran) 1 (n + ran + 1) a c d refl (turns_of_thread_add_up t n ran (n + ran) a b c refl p q) r.took
 
 -- as many turns, and one more

@@ -11,7 +11,7 @@ use Rattle.ir_record.specs.Ahead.{lead, IsAhead, CanSkip, all_ahead, Went}
 use Rattle.ir_record.specs.Progress.{Progress, all_left}
 use Rattle.ir_record.proofs.Going.{range_from_zero_with_last, went_by_no_turns_changes_nothing, went_through_append_of_orders, turn_of_thread_ahead_lowers_lead, went_without_step_in_passed_turn, ahead_of_reached_state, reached, WentRounds, OneMoreRound, round_more, fewer_left}
 use Rattle.ir_record.proofs.Joining.{rounds_add_up}
-use Rattle.ir_record.proofs.Steps.{turn_without_step_changes_nothing}
+use Rattle.ir_record.proofs.Steps.{turn_took_no_step_if_none_and_progress_same}
 
 -- the first n threads are each one step less ahead
 abbrev lowered : ℕ → List ℕ → List ℕ
@@ -48,7 +48,7 @@ skipped_turn_lowers_lead s a c t l some h = by_lead (lead c t) refl some
     by_lead (suc k) is some = (turn_of_thread_ahead_lowers_lead s a c t k l is h).went
     by_lead zero is (inl some) = absurd (omega (arith, some))
     by_lead zero is (inr none) = subst (Went (t ∷ []) s a c a) (sym (ap (set c t) (sym is) ∙ set-get_or c t 0))
-        (went_without_step_in_passed_turn s a a c t false refl is h (turn_without_step_changes_nothing t a a none refl)).went
+        (went_without_step_in_passed_turn s a a c t false refl is h (turn_took_no_step_if_none_and_progress_same t a a none refl)).went
 
 -- a round of them
 skipped_round_lowers_leads : (t : ℕ) (s : State thread.ThreadState) (a : Progress) (c : List ℕ) → t ≤ length c → CanSkip (machine a.flat) t 1 c (tables a.flat)
@@ -83,15 +83,15 @@ record RoundsSkipped (n k : ℕ) (s : State thread.ThreadState) (a : Progress) (
   pub each : (t : ℕ) → t < n → lead left t ≡ lead c t - k
   pub went : Went (rounds n k) s a c a left
 
-rounds_can_be_skipped : (n k : ℕ) (s : State thread.ThreadState) (a : Progress) (c : List ℕ) → length c ≡ n → CanSkip (machine a.flat) n k c (tables a.flat)
+rounds_skipped_if_can_skip : (n k : ℕ) (s : State thread.ThreadState) (a : Progress) (c : List ℕ) → length c ≡ n → CanSkip (machine a.flat) n k c (tables a.flat)
     → IsAhead (machine a.flat) c s (tables a.flat) → RoundsSkipped n k s a c
-rounds_can_be_skipped n zero s a c size enough h = record { left = c; size = refl; each = λ t l. omega arith; went = went_by_no_turns_changes_nothing s a c h }
-rounds_can_be_skipped n (suc k) s a c size enough h =
+rounds_skipped_if_can_skip n zero s a c size enough h = record { left = c; size = refl; each = λ t l. omega arith; went = went_by_no_turns_changes_nothing s a c h }
+rounds_skipped_if_can_skip n (suc k) s a c size enough h =
     let p : Went (range_with_len 0 n) s a c a (lowered n c) =
     skipped_round_lowers_leads n s a c (omega (arith, size)) (can_skip_one_round_if_more (machine a.flat) n k c (tables a.flat) enough) h in
     let lower : (t : ℕ) → t < n → lead (lowered n c) t ≡ lead c t - 1 = λ t l. lead_of_lowered_below_count_is_one_less n c t l (omega (arith, size)) in
     let q : RoundsSkipped n k (reached p) a (lowered n c) =
-    rounds_can_be_skipped n k (reached p) a (lowered n c) (length_of_lowered n c ∙ size)
+    rounds_skipped_if_can_skip n k (reached p) a (lowered n c) (length_of_lowered n c ∙ size)
     (can_skip_rest_of_rounds_after_first (machine a.flat) n k c (lowered n c) (tables a.flat) enough lower)
     (ahead_of_reached_state (range_with_len 0 n) s a a c (lowered n c) p) in
     record {
@@ -102,11 +102,11 @@ rounds_can_be_skipped n (suc k) s a c size enough h =
     }
 
 -- the same, where the code says how far each thread is ahead
-rounds_skipped_with_given_leads : (n k : ℕ) (s : State thread.ThreadState) (a : Progress) (c d : List ℕ) → length c ≡ n → length d ≡ n
+went_skipped_rounds_to_leads_lowered_by_count : (n k : ℕ) (s : State thread.ThreadState) (a : Progress) (c d : List ℕ) → length c ≡ n → length d ≡ n
     → CanSkip (machine a.flat) n k c (tables a.flat) → ((t : ℕ) → t < n → lead d t ≡ lead c t - k)
     → IsAhead (machine a.flat) c s (tables a.flat) → Went (rounds n k) s a c a d
-rounds_skipped_with_given_leads n k s a c d size size' enough each h =
-    let q : RoundsSkipped n k s a c = rounds_can_be_skipped n k s a c size enough h in
+went_skipped_rounds_to_leads_lowered_by_count n k s a c d size size' enough each h =
+    let q : RoundsSkipped n k s a c = rounds_skipped_if_can_skip n k s a c size enough h in
     subst (Went (rounds n k) s a c a) (ext_get_or 0 q.left d (q.size ∙ size ∙ sym size')
     (λ t l. let less : t < n = omega (arith, l, q.size, size) in q.each t less ∙ sym (each t less))) q.went
 
@@ -116,14 +116,14 @@ pub record RoundThenSkips (moved : Bool) (a b e : Progress) (d h : List ℕ) : T
   pub fewer : moved ≡ true → all_left (length e.flat.threads) (tables e.flat).now + all_ahead h
       < all_left (length b.flat.threads) (tables b.flat).now + all_ahead d
 
-pub round_then_skipped_rounds : {moved : Bool} {a b e : Progress} {d f h : List ℕ} (k : ℕ) → OneMoreRound moved a b e d f → length f ≡ length e.flat.threads
+pub round_then_skips_if_one_more_round_and_can_skip : {moved : Bool} {a b e : Progress} {d f h : List ℕ} (k : ℕ) → OneMoreRound moved a b e d f → length f ≡ length e.flat.threads
     → length h ≡ length f → CanSkip (machine e.flat) (length e.flat.threads) k f (tables e.flat)
     → ((t : ℕ) → t < length f → lead h t ≡ lead f t - k) → RoundThenSkips moved a b e d h
-round_then_skipped_rounds {moved} {a} {b} {e} {d} {f} {h} k r places size enough each =
+round_then_skips_if_one_more_round_and_can_skip {moved} {a} {b} {e} {d} {f} {h} k r places size enough each =
     let n : ℕ = length a.flat.threads in
     let p : WentRounds n a e f = round_more r in
     let count : length f ≡ n = places ∙ p.1.threads in
-    let w : Went (rounds n k) (reached p.1) e f e h = rounds_skipped_with_given_leads n k (reached p.1) e f h count (size ∙ count)
+    let w : Went (rounds n k) (reached p.1) e f e h = went_skipped_rounds_to_leads_lowered_by_count n k (reached p.1) e f h count (size ∙ count)
     (subst (λ m. CanSkip (machine e.flat) m k f (tables e.flat)) p.1.threads enough) (λ t l. each t (omega (arith, l, count)))
     (ahead_of_reached_state (rounds n p.0) (tables a.flat) a e (replicate n 0) f p.1) in
     record {

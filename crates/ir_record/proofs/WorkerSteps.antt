@@ -43,7 +43,7 @@ use Rattle.ir_crew.proofs.CallerLemmas.{entries_with_step_added, track, step_of_
 use Rattle.ir_record.specs.Worlds.{Answered, answers_in}
 use Rattle.ir_record.specs.declared.by_threads.worker.Worker.{Worker}
 use Rattle.ir_record.specs.Working.{Work, IsWorking, StillWorks, IsOwn, IsInside, IsSeated, Stays}
-use Rattle.ir_record.proofs.Profiles.{profile_after_ask}
+use Rattle.ir_record.proofs.Profiles.{profile_is_unchanged_by_ask}
 use Rattle.ir_record.proofs.Working.{worked_with_reply_added, held_after_own_act_is_unchanged, held_after_is_inside_if}
 
 map_of_append : {A B : Type 0} (f : A → B) (xs ys : List A) → map f (xs ++ ys) ≡ map f xs ++ map f ys
@@ -65,24 +65,24 @@ inside_after_step_is_held_after q v o h xs false is e = ap (inside_after o None)
 inside_after_step_is_held_after q v o h xs true is e = inside_after_step o None xs (q, v) ∙ ap (inside_if (eqb o (Rattle.ir_runs.specs.Machine.target q)) q) e
     ∙ sym (held_after_is_inside_if q h o is)
 
-appended_act_adds_at_most_its_entry : (q : Act) (v : ℕ) (xs : List Shared) (b : Bool) → entries (xs ++ join_if b (q, v) []) ≤ entries xs + one_if_entry q
-appended_act_adds_at_most_its_entry q v xs false = let e = ap entries (append-nil xs) in omega (arith, e)
-appended_act_adds_at_most_its_entry q v xs true = let e = entries_with_step_added xs (q, v) in omega (arith, e)
+entries_with_act_appended_grow_by_at_most_one_if_entry : (q : Act) (v : ℕ) (xs : List Shared) (b : Bool) → entries (xs ++ join_if b (q, v) []) ≤ entries xs + one_if_entry q
+entries_with_act_appended_grow_by_at_most_one_if_entry q v xs false = let e = ap entries (append-nil xs) in omega (arith, e)
+entries_with_act_appended_grow_by_at_most_one_if_entry q v xs true = let e = entries_with_step_added xs (q, v) in omega (arith, e)
 
 -- only entries that are logged are entries
-entry_count_within_events_added : (q : Ask) (v : ℕ) → one_if_entry (act_of (shared_ask q) v) ≤ events_added_by q
-entry_count_within_events_added ask.Private v = omega arith
-entry_count_within_events_added (ask.Env kind) v = omega arith
-entry_count_within_events_added (ask.Enter object access) v = omega arith
-entry_count_within_events_added (ask.Try object) zero = omega arith
-entry_count_within_events_added (ask.Try object) (suc zero) = omega arith
-entry_count_within_events_added (ask.Try object) (suc (suc v)) = omega arith
-entry_count_within_events_added (ask.Leave object access) v = omega arith
-entry_count_within_events_added (ask.Get object index) v = omega arith
-entry_count_within_events_added (ask.Put object index value) v = omega arith
-entry_count_within_events_added ask.Print v = omega arith
-entry_count_within_events_added (ask.End e) v = omega arith
-entry_count_within_events_added ask.Done v = omega arith
+one_if_entry_is_at_most_events_added_by_ask : (q : Ask) (v : ℕ) → one_if_entry (act_of (shared_ask q) v) ≤ events_added_by q
+one_if_entry_is_at_most_events_added_by_ask ask.Private v = omega arith
+one_if_entry_is_at_most_events_added_by_ask (ask.Env kind) v = omega arith
+one_if_entry_is_at_most_events_added_by_ask (ask.Enter object access) v = omega arith
+one_if_entry_is_at_most_events_added_by_ask (ask.Try object) zero = omega arith
+one_if_entry_is_at_most_events_added_by_ask (ask.Try object) (suc zero) = omega arith
+one_if_entry_is_at_most_events_added_by_ask (ask.Try object) (suc (suc v)) = omega arith
+one_if_entry_is_at_most_events_added_by_ask (ask.Leave object access) v = omega arith
+one_if_entry_is_at_most_events_added_by_ask (ask.Get object index) v = omega arith
+one_if_entry_is_at_most_events_added_by_ask (ask.Put object index value) v = omega arith
+one_if_entry_is_at_most_events_added_by_ask ask.Print v = omega arith
+one_if_entry_is_at_most_events_added_by_ask (ask.End e) v = omega arith
+one_if_entry_is_at_most_events_added_by_ask ask.Done v = omega arith
 
 -- ---- one step of the thread
 
@@ -144,9 +144,9 @@ working_after_step g budget profile t before w w' q v es evs i s view =
           ∙ ap (λ z. held_at z.held o) next;
       places = ap (λ z. length z.held) after ∙ length_of_held_after_ask g.code w.thread q (reply_of q v) ∙ i.places;
       few =
-          let here = appended_act_adds_at_most_its_entry a v (map shared_of i.track) (is_shared a) in
+          let here = entries_with_act_appended_grow_by_at_most_one_if_entry a v (map shared_of i.track) (is_shared a) in
           let same = ap entries steps in
-          let one = entry_count_within_events_added q v in
+          let one = one_if_entry_is_at_most_events_added_by_ask q v in
           let was = i.few in
           omega (arith, here, same, one, was, sum);
       room = ap (λ z. z.room) s.log ∙ i.room;
@@ -155,7 +155,7 @@ working_after_step g budget profile t before w w' q v es evs i s view =
           let was = i.count in
           let new : length evs ≡ events_added_by q = ap (λ (z : List Shared × List Label × ℕ). z.2) s.of in
           omega (arith, long, was, new, sum);
-      profile_is = ap (λ z. z.profile) after ∙ profile_after_ask g.code w.thread q (reply_of q v) ∙ i.profile_is;
+      profile_is = ap (λ z. z.profile) after ∙ profile_is_unchanged_by_ask g.code w.thread q (reply_of q v) ∙ i.profile_is;
       events_fit = subst (AllByRecursion (IsEvent profile (object_count g))) (sym events)
           (all_of_append (IsEvent profile (object_count g)) w.log.events evs i.events_fit
           (subst (λ p. AllByRecursion (IsEvent p (object_count g)) evs) i.profile_is s.fit));
@@ -177,10 +177,10 @@ abbrev pub me_after_object_step : Option ObjectStep → M → M
 me_after_object_step None me = me
 me_after_object_step (Some step) me = (did me.0 step.object step.deed, me.1)
 
-me_after_object_step_is_track : (t : ℕ) (step : Option ObjectStep) (steps : List ObjectStep) (me : M) → me ≡ (track t steps ∷ [], [])
+me_after_object_step_is_longer_track : (t : ℕ) (step : Option ObjectStep) (steps : List ObjectStep) (me : M) → me ≡ (track t steps ∷ [], [])
     → me_after_object_step step me ≡ (track t (steps ++ list_of_option step) ∷ [], [])
-me_after_object_step_is_track t None steps me is = is ∙ (λ i. (track t (sym (append-nil steps) i) ∷ [], []))
-me_after_object_step_is_track t (Some step) steps me is = ap (λ (z : M). (did z.0 step.object step.deed, z.1)) is
+me_after_object_step_is_longer_track t None steps me is = is ∙ (λ i. (track t (sym (append-nil steps) i) ∷ [], []))
+me_after_object_step_is_longer_track t (Some step) steps me is = ap (λ (z : M). (did z.0 step.object step.deed, z.1)) is
 
 -- what the event, if there is one, makes of the log
 abbrev pub log_after_event : Option Event → Logged → Logged
@@ -219,7 +219,7 @@ still_works_after_step {g} {w} {w'} same q v step e may of fit asked me took log
       log = log ∙ log_after_event_is_append e w.log;
       answers = answers ∙ answers_after_event_is_append e w.answers;
     })
-    (me ∙ me_after_object_step_is_track t step i.track w.me i.view)
+    (me ∙ me_after_object_step_is_longer_track t step i.track w.me i.view)
 
 -- a step that concerns no other thread
 record IsOwnStep (code : List ℕ) (q : Ask) : Type 0 where
@@ -345,8 +345,8 @@ module _ {W : Type 0} {answers : W → List Answered} {g : Guest} {id : TableId}
 
 -- ---- releasing
 
-pub seat_alone_after_deed : (me me' : M) (o : ℕ) (d : Deed) → me' ≡ (did me.0 o d, me.1) → IsAlone me.0 → IsAlone me'.0
-seat_alone_after_deed me me' o d e h = subst (λ (z : M). IsAlone z.0) (sym e) (go me.0 h)
+pub seat_stays_alone_after_deed : (me me' : M) (o : ℕ) (d : Deed) → me' ≡ (did me.0 o d, me.1) → IsAlone me.0 → IsAlone me'.0
+seat_stays_alone_after_deed me me' o d e h = subst (λ (z : M). IsAlone z.0) (sym e) (go me.0 h)
   where
     go : (v : _) → IsAlone v → IsAlone (did v o d)
     go [] h = h

@@ -119,23 +119,23 @@ held_after_own_act_is_unchanged (Load i j) h o e = absurd (cc e)
 held_after_own_act_is_unchanged (Store i j w) h o e = absurd (cc e)
 held_after_own_act_is_unchanged Never h o e = refl
 
-cond_is_inside_if : (b : Bool) (q : Act) (x : Option Access) (y : Option Access) → inside_then q y ≡ x → cond b x y ≡ inside_if b q y
-cond_is_inside_if true q x y e = sym e
-cond_is_inside_if false q x y e = refl
+cond_is_inside_if_if_inside_then_is_first_branch : (b : Bool) (q : Act) (x : Option Access) (y : Option Access) → inside_then q y ≡ x → cond b x y ≡ inside_if b q y
+cond_is_inside_if_if_inside_then_is_first_branch true q x y e = sym e
+cond_is_inside_if_if_inside_then_is_first_branch false q x y e = refl
 
-unchanged_is_inside_if : (b : Bool) (q : Act) (y : Option Access) → inside_then q y ≡ y → y ≡ inside_if b q y
-unchanged_is_inside_if true q y e = sym e
-unchanged_is_inside_if false q y e = refl
+inside_if_changes_nothing_if_inside_then_does_not : (b : Bool) (q : Act) (y : Option Access) → inside_then q y ≡ y → y ≡ inside_if b q y
+inside_if_changes_nothing_if_inside_then_does_not true q y e = sym e
+inside_if_changes_nothing_if_inside_then_does_not false q y e = refl
 
 pub held_after_is_inside_if : (q : Act) (h : ℕ → Option Access) (o : ℕ) → is_shared q ≡ true → held_after q h o ≡ inside_if (eqb o (target q)) q (h o)
 unfolding upd
 held_after_is_inside_if Silent h o e = absurd (cc e)
 held_after_is_inside_if (Result k v) h o e = absurd (cc e)
-held_after_is_inside_if (Entry i a v) h o e = cond_is_inside_if (eqb o i) (Entry i a v) (Some a) (h o) refl
+held_after_is_inside_if (Entry i a v) h o e = cond_is_inside_if_if_inside_then_is_first_branch (eqb o i) (Entry i a v) (Some a) (h o) refl
 held_after_is_inside_if (Refusal i) h o e = absurd (cc e)
-held_after_is_inside_if (Exit i a) h o e = cond_is_inside_if (eqb o i) (Exit i a) None (h o) refl
-held_after_is_inside_if (Load i j) h o e = unchanged_is_inside_if (eqb o i) (Load i j) (h o) refl
-held_after_is_inside_if (Store i j w) h o e = unchanged_is_inside_if (eqb o i) (Store i j w) (h o) refl
+held_after_is_inside_if (Exit i a) h o e = cond_is_inside_if_if_inside_then_is_first_branch (eqb o i) (Exit i a) None (h o) refl
+held_after_is_inside_if (Load i j) h o e = inside_if_changes_nothing_if_inside_then_does_not (eqb o i) (Load i j) (h o) refl
+held_after_is_inside_if (Store i j w) h o e = inside_if_changes_nothing_if_inside_then_does_not (eqb o i) (Store i j w) (h o) refl
 held_after_is_inside_if Never h o e = absurd (cc e)
 
 -- ---- what is logged of object steps is no answer of the environment

@@ -42,10 +42,10 @@ untimed_keeps_last_answer_unless_clock ((Input, first) ∷ answers) kind value o
     ap (λ (z : List Answered). (Input, first) ∷ z) (untimed_keeps_last_answer_unless_clock answers kind value other)
 
 -- the sources after a clock was read
-pub gave_after_clock_read : (s t : Source) (time : Time) (start : _) (answers new : List Answered) (kind : EnvKind) (value : ℕ) → time ≡ Since start
+pub gave_ignores_clock_answer_if_time_is_since_start : (s t : Source) (time : Time) (start : _) (answers new : List Answered) (kind : EnvKind) (value : ℕ) → time ≡ Since start
     → kind ≡ Clock → Gave s (from_sources (is_counted time) answers) t → new ≡ answers ++ (kind, value) ∷ []
     → Gave s (from_sources (is_counted time) new) t
-gave_after_clock_read s t time start answers new kind value timed clock gave e =
+gave_ignores_clock_answer_if_time_is_since_start s t time start answers new kind value timed clock gave e =
     let by_clock : is_counted time ≡ false = ap is_counted timed in
     let same : untimed new ≡ untimed answers = ap untimed (e ∙ ap (λ (k : EnvKind). answers ++ (k, value) ∷ []) clock)
     ∙ untimed_ignores_clock_answer answers value in
@@ -53,13 +53,13 @@ gave_after_clock_read s t time start answers new kind value timed clock gave e =
     (subst (λ (z : List Answered). Gave s z t) (sym same) (subst (λ (c : Bool). Gave s (from_sources c answers) t) by_clock gave))
 
 -- the sources after one answer of theirs more
-pub gave_after_own_answer : (s t u : Source) (counted : Bool) (answers new : List Answered) (kind : EnvKind) (value : ℕ)
+pub gave_from_sources_after_given_answer : (s t u : Source) (counted : Bool) (answers new : List Answered) (kind : EnvKind) (value : ℕ)
     → (counted ≡ false → kind ≢ Clock) → Gave s (from_sources counted answers) t → new ≡ answers ++ (kind, value) ∷ []
     → ◌≡◌ {A = ℕ × Source} (value, u) (given kind t)
     → Gave s (from_sources counted new) u
-gave_after_own_answer s t u true answers new kind value other gave e h =
+gave_from_sources_after_given_answer s t u true answers new kind value other gave e h =
     subst (λ (z : List Answered). Gave s z u) (sym e) (gave_after_answer s t u answers kind value gave h)
-gave_after_own_answer s t u false answers new kind value other gave e h =
+gave_from_sources_after_given_answer s t u false answers new kind value other gave e h =
     let more : untimed new ≡ untimed answers ++ (kind, value) ∷ [] = ap untimed e ∙ untimed_keeps_last_answer_unless_clock answers kind value (other refl) in
     subst (λ (z : List Answered). Gave s z u) (sym more) (gave_after_answer s t u (untimed answers) kind value gave h)
 

@@ -67,11 +67,11 @@ unfolding memory_lines
 memory_text_of_nothing address = refl
 
 -- a line more is put
-pub memory_text_step : (before after all line rest more : List ℕ) (at k : ℕ) → 0 < length rest → k ≡ min 16 (length rest) → line ≡ take k rest
+pub put_memory_text_is_whole_step : (before after all line rest more : List ℕ) (at k : ℕ) → 0 < length rest → k ≡ min 16 (length rest) → line ≡ take k rest
     → more ≡ drop k rest
     → after ≡ before ++ (hex_word at ++ codes ": " ++ encode_lower line ++ codes "\n") → before ++ memory_text at rest ≡ all
     → after ++ memory_text (at + 16) more ≡ all
-memory_text_step before after all line rest more at k some is prefix back put so_far =
+put_memory_text_is_whole_step before after all line rest more at k some is prefix back put so_far =
     let l : line ≡ take 16 rest = prefix ∙ ap (λ (n : ℕ). take n rest) is ∙ take_min 16 rest in
     let m : more ≡ drop 16 rest = back ∙ ap (λ (n : ℕ). drop n rest) is ∙ drop_min 16 rest in
     let first : List ℕ = hex_word at ++ codes ": " ++ encode_lower line ++ codes "\n" in

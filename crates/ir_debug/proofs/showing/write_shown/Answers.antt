@@ -3,7 +3,7 @@ use Rattle.ir_stream.specs.Writing.{WritesText}
 use Rattle.std.proofs.lemmas.List.{length-take}
 use Rattle.ir_image.specs.Guest.{object_words}
 use Rattle.ir_debug.specs.Debugging.{Debugging}
-use Rattle.ir_debug.proofs.CarriedOut.{last_answer_of_equal_show, thread_named_by_last_show_exists, events_so_far_at_most_all, shown_object_exists, text_of_indexed_object_is_shown}
+use Rattle.ir_debug.proofs.CarriedOut.{last_answer_of_equal_show, thread_named_by_last_show_exists, events_so_far_at_most_all, shown_object_exists, object_text_of_state_is_text_shown_here}
 use Rattle.ir_debug.proofs.Passed.{permitted_command_passes_tests, address_in_guest_is_at_most_two_to_31}
 use Rattle.ir_debug.proofs.showing.write_shown.Goals as goal
 
@@ -46,6 +46,6 @@ slice_bounds-write_log-end g c =
 pub returns-in-Object : goal.returns-in-Object
 returns-in-Object g c = subst
     (λ text. WritesText g.W.Sink.written g.W.Sink.broken c.args.writer.now c.write_object.new.writer text c.write_object.result)
-    (text_of_indexed_object_is_shown _ _ _ _ _ _ _ c.in-Object.is c.requires c.objects.ensures c.threads.ensures
+    (object_text_of_state_is_text_shown_here _ _ _ _ _ _ _ c.in-Object.is c.requires c.objects.ensures c.threads.ensures
     (c.object_words.ensures.value ∙ ap object_words (c.image-in-Object.ensures.value ∙ ap (λ f. f.guest) c.fitted-in-Object.ensures.value))
     c.index-objects-number.is) c.write_object.ensures

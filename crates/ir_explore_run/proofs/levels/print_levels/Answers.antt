@@ -2,7 +2,7 @@ use Rattle.std.proofs.Common.{◌++◌, ◌<◌, ◌-◌, suc, [], None, length,
 use Rattle.std.specs.Io.KnownBytes.{Appends}
 use Rattle.std.proofs.KnownBytes.{Appends-nil, Appends-trans}
 use Rattle.std.proofs.lemmas.Result.{err_from_is_err_and}
-use Rattle.ir_files.proofs.CallerLemmas.{if_err_for_handed_on_error}
+use Rattle.ir_files.proofs.CallerLemmas.{if_err_holds_if_holds_of_handed_on_error}
 use Rattle.ir_files.specs.Writers.{writer_of}
 use Rattle.ir_flat.specs.Flat.{start_cells}
 use Rattle.ir_graph.specs.Setup.{Setup}
@@ -103,7 +103,7 @@ returns-in_err-print_from-clause-failed g c =
     c.levels.invariant.is.explored in
     let later = subst (λ z. AreExplored z new.states.graph.flats.items new.list.levels new.list.outcomes.items)
     (c.go_over.ensures.setup ∙ c.levels.invariant.setup) c.go_over.ensures.is.explored in
-    if_err_for_handed_on_error (λ e. EndsEarly e setup w) c.from_residual.result c.in_err-print_from.field-0.0 p.0 p.1 p.2
+    if_err_holds_if_holds_of_handed_on_error (λ e. EndsEarly e setup w) c.from_residual.result c.in_err-print_from.field-0.0 p.0 p.1 p.2
     (elim c.in_err-print_from.ensures.failed [
       | inl (memory, stays) ↦ subst (λ z. EndsEarly z setup w) (sym memory) (
         before.0,

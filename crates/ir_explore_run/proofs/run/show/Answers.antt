@@ -3,7 +3,7 @@ use Rattle.std.specs.Io.KnownBytes.{Appends}
 use Rattle.std.proofs.KnownBytes.{Appends-trans}
 use Rattle.std.proofs.lemmas.Result.{err_from_is_err_and, IfOk-weaker, IfErr-weaker}
 use Rattle.ir_explore.specs.declared.stop.Stop.TheVariants.{Memory}
-use Rattle.ir_files.proofs.CallerLemmas.{if_err_for_handed_on_error}
+use Rattle.ir_files.proofs.CallerLemmas.{if_err_holds_if_holds_of_handed_on_error}
 use Rattle.ir_files.specs.Writers.{writer_of}
 use Rattle.ir_files.specs.declared.exit_status.ExitStatus.{ExitStatus}
 use Rattle.ir_graph.specs.Stops.{IsStop}
@@ -23,7 +23,7 @@ returns-in_err-start-clause-fails g c =
     let p = err_from_is_err_and c.from_residual.result c.from_residual.ensures.1 in
     let out = g.O.Sink.written c.args.out.now in
     let w = writer_of out out (g.O.Sink.broken c.args.out.now) in
-    if_err_for_handed_on_error (λ e. StopsPrinting e c.args.image.now c.args.plan.now w) c.from_residual.result NoMem p.0 p.1 p.2
+    if_err_holds_if_holds_of_handed_on_error (λ e. StopsPrinting e c.args.image.now c.args.plan.now w) c.from_residual.result NoMem p.0 p.1 p.2
     (out_of_memory_before_first_line_stops_printing c.args.image.now c.args.plan.now w refl)
 
 pub returns-in-Err-clause-ok : goal.returns-in-Err-clause-ok

@@ -4,7 +4,7 @@ use Rattle.ir_record.specs.Progress.{IsReady}
 use Rattle.ir_record.specs.Recorders.{progress_of}
 use Rattle.ir_record.specs.Recording.{turns_of_items}
 use Rattle.ir_record.specs.Worlds.{NoneFailed}
-use Rattle.ir_record.proofs.Ended.{recording_start_is_ready, RecordingOver, recording_is_over_if_rounds_leave_no_step, made_recording_is_start, threads_there, objects_there, profiles_there, ended_there, recorded_there, map_of_composition}
+use Rattle.ir_record.proofs.Ended.{recording_start_is_ready, RecordingOver, recording_is_over_if_rounds_leave_no_step, progress_is_start_if_flat_and_logs_are_new, threads_there, objects_there, profiles_there, ended_there, recorded_there, map_of_composition}
 use Rattle.ir_record.proofs.in_order.record_with_refusals.Given as given
 use Rattle.ir_record.proofs.Stopped.{recording_stopped_in_turns_if_stopped_from_start}
 use Rattle.ir_record.proofs.in_order.record_with_refusals.Goals as goal
@@ -13,7 +13,7 @@ pub record-requires-clause-ready : goal.record-requires-clause-ready
 record-requires-clause-ready g c =
     let size : length c.args.worlds.items ≡ length c.args.image.now.entries = search rules in
     subst (λ a. IsReady a (map g.W.World.broken c.args.worlds.items))
-    (sym (made_recording_is_start c.args.image.now c.args.budget c.args.profile (map g.W.World.answers c.args.worlds.items)
+    (sym (progress_is_start_if_flat_and_logs_are_new c.args.image.now c.args.budget c.args.profile (map g.W.World.answers c.args.worlds.items)
     c.in_ok-start.ensures.flat c.in_ok-start.ensures.logs))
     (recording_start_is_ready c.args.image.now c.args.budget c.args.profile (map g.W.World.answers c.args.worlds.items)
     (map g.W.World.broken c.args.worlds.items) (length-map c.args.worlds.items g.W.World.answers ∙ size) c.requires.works)

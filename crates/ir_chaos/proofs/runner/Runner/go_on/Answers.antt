@@ -1,5 +1,5 @@
 use Rattle.std.proofs.Common.{◌≡◌, ◌<◌, ◌∙◌, ℕ, length, sym, refl, subst, arith, false}
-use Rattle.ir_chaos.proofs.Runs.{ran_reflexive, ran_transitive, ran_by_thread_under_way, others_rest_transitive, took_some_of_sum, lower_threads_rest_if_others_rest, rests_is_rest_of_ask, steps_left_fall_after_step, took_some_of_one_is_took_some_of_zero}
+use Rattle.ir_chaos.proofs.Runs.{ran_reflexive, ran_transitive, ran_by_thread_under_way, others_rest_transitive, took_some_of_sum, lower_threads_rest_if_others_rest, rests_is_rest_of_ask, all_left_falls_if_took_some_of_one, took_some_of_one_is_took_some_of_zero}
 use Rattle.ir_chaos.specs.Choices.{before_rounds}
 use Rattle.ir_chaos.specs.Moments.{IsAtRest, TookSome, moment_of}
 use Rattle.ir_chaos.specs.Schedules.{rests}
@@ -39,7 +39,7 @@ went g c = took_some_of_sum 0 1 c.steps.self.flat c.run_to_ask.new.self.flat c.s
     c.in_ok-step.ensures.fewer
 
 pub steps-smaller : goal.steps-smaller
-steps-smaller g c = steps_left_fall_after_step c.steps.self.flat c.step.new.self.flat (c.in_ok-step.ensures.took.gained.threads ∙ still g c) (went g c)
+steps-smaller g c = all_left_falls_if_took_some_of_one c.steps.self.flat c.step.new.self.flat (c.in_ok-step.ensures.took.gained.threads ∙ still g c) (went g c)
 
 pub steps-preserved : goal.steps-preserved
 steps-preserved g c =

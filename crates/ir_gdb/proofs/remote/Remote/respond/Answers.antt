@@ -7,14 +7,14 @@ use Rattle.ir_gdb.specs.Stub.{Stub}
 use Rattle.ir_gdb.specs.Serving.{Serving, debugging_of}
 use Rattle.ir_gdb.specs.Connection.{Responds, with_desk}
 use Rattle.ir_stream.proofs.CallerLemmas.{writes_or_fails_if_all_written, writes_or_fails_is_monotone}
-use Rattle.ir_gdb.proofs.Lines.{responds_by_session_answer, responds_nothing_without_words}
+use Rattle.ir_gdb.proofs.Lines.{responds_by_session_answer, responds_nothing_to_line_without_command}
 use Rattle.ir_gdb.proofs.remote.Remote.respond.Goals as goal
 
 pub returns-in_default : goal.returns-in_default
 returns-in_default g c = writes_or_fails_if_all_written (let none = c.in_default.ensures.none in
     subst (λ (s : Stub). Responds c.args.self.now.stub c.args.line.now s (Appends (g.W.Sink.written c.args.writer.now) (g.W.Sink.written c.args.writer.now)))
     (sym (ap (λ (x : Serving). x.stub) none.1))
-    (responds_nothing_without_words c.parse_line-asked.result c.args.line.now c.args.self.now.stub
+    (responds_nothing_to_line_without_command c.parse_line-asked.result c.args.line.now c.args.self.now.stub
     (Appends (g.W.Sink.written c.args.writer.now) (g.W.Sink.written c.args.writer.now)) c.parse_line-asked.ensures none.0
     (Appends-nil (g.W.Sink.written c.args.writer.now)))) refl
 

@@ -6,14 +6,14 @@ use Rattle.ir_flat.specs.Flat.{tables, machine}
 use Rattle.ir_log.specs.Logged.{Logged}
 use Rattle.ir_log.specs.declared.event.Event.TheVariants as event
 use Rattle.ir_record.specs.Progress.{progress}
-use Rattle.ir_record.proofs.Logs.{log_has_room_for_event, looked_up_log_is_log_at}
+use Rattle.ir_record.proofs.Logs.{log_has_room_if_event_count_is_below_limit, looked_up_log_is_log_at}
 use Rattle.ir_record.proofs.Entering.{OneEventLogged, one_step_if_one_event_logged, has_logs_after_logged_event}
 use Rattle.ir_record.proofs.Steps.{took_refused_turn_by_step}
 use Rattle.ir_record.proofs.Trying.{event_count_is_below_limit_at_try, refused_try_can_be_taken, refused_try_logs_one_event}
 use Rattle.ir_record.proofs.in_order.logged_guest.LoggedGuest.refuse.Goals as goal
 
 pub push-requires : goal.push-requires
-push-requires c = log_has_room_for_event c.args.self.now.flat c.args.self.now.logs.items c.args.t c.index_mut.result.now c.requires.has_logs c.requires.thread
+push-requires c = log_has_room_if_event_count_is_below_limit c.args.self.now.flat c.args.self.now.logs.items c.args.t c.index_mut.result.now c.requires.has_logs c.requires.thread
     (looked_up_log_is_log_at c.args.self.now.flat c.args.self.now.logs.items c.args.t c.index_mut.result.now c.requires.has_logs c.requires.thread
     c.index_mut.ensures.value) (event_count_is_below_limit_at_try c.args.self.now.flat c.args.t c.args.object c.requires.asked)
 

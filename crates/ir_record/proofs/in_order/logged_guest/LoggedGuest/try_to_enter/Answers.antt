@@ -8,7 +8,7 @@ use Rattle.ir_flat.specs.Flat.{thread_of, tables, machine}
 use Rattle.ir_flat.proofs.CallerLemmas.{tried_object_below_object_count}
 use Rattle.ir_log.specs.Logged.{Logged}
 use Rattle.ir_log.specs.declared.event.Event.TheVariants as event
-use Rattle.ir_record.proofs.Logs.{log_has_room_for_event, looked_up_log_is_log_at}
+use Rattle.ir_record.proofs.Logs.{log_has_room_if_event_count_is_below_limit, looked_up_log_is_log_at}
 use Rattle.ir_record.proofs.Entering.{turn_taken_by_logged_event, has_logs_after_logged_event}
 use Rattle.ir_record.proofs.Trying.{TryLogged, event_count_is_below_limit_at_try, refused_try_can_be_taken, write_entry_label, entering_try_logs_one_event, refused_try_logs_one_event}
 use Rattle.ir_record.proofs.in_order.logged_guest.LoggedGuest.try_to_enter.Goals as goal
@@ -17,7 +17,7 @@ pub entry-event-requires : goal.entry-event-requires
 entry-event-requires c = tried_object_below_object_count c.args.self.now.flat c.args.t c.args.object c.requires.flat c.requires.thread c.requires.asked
 
 pub push-requires : goal.push-requires
-push-requires c = log_has_room_for_event c.args.self.now.flat c.args.self.now.logs.items c.args.t c.index_mut.result.now c.requires.has_logs c.requires.thread
+push-requires c = log_has_room_if_event_count_is_below_limit c.args.self.now.flat c.args.self.now.logs.items c.args.t c.index_mut.result.now c.requires.has_logs c.requires.thread
     (looked_up_log_is_log_at c.args.self.now.flat c.args.self.now.logs.items c.args.t c.index_mut.result.now c.requires.has_logs c.requires.thread
     c.index_mut.ensures.value) (event_count_is_below_limit_at_try c.args.self.now.flat c.args.t c.args.object c.requires.asked)
 
@@ -56,7 +56,7 @@ returns-in-Ok-clause-has_logs c = has_logs_after_logged_event c.args.self.now.fl
     c.args.t c.args.object c.entry-event.result (entered c) c.entry-event.ensures.emitted c.entry-event.ensures.fits)
 
 pub push-requires-in-Err : goal.push-requires-in-Err
-push-requires-in-Err c = log_has_room_for_event c.args.self.now.flat c.args.self.now.logs.items c.args.t c.index_mut-in-Err.result.now c.requires.has_logs
+push-requires-in-Err c = log_has_room_if_event_count_is_below_limit c.args.self.now.flat c.args.self.now.logs.items c.args.t c.index_mut-in-Err.result.now c.requires.has_logs
     c.requires.thread
     (looked_up_log_is_log_at c.args.self.now.flat c.args.self.now.logs.items c.args.t c.index_mut-in-Err.result.now c.requires.has_logs c.requires.thread
     c.index_mut-in-Err.ensures.value) (event_count_is_below_limit_at_try c.args.self.now.flat c.args.t c.args.object c.requires.asked)
