@@ -40,14 +40,14 @@ use Rattle.ir_graph.proofs.Reached.{answered_run_is_run}
 -- runs that count go on alike from alike states
 counting_run_from_alike_state : {T : Type 0} (m : Machine T) (answers : Answers T) (Alike : State T → State T → Type 0) → TellsNothing m answers Alike
     → (s v : State T) → Alike s v → (run : List Step) → Counts m answers s run → Counts m answers v run × Alike (end m s run) (end m v run)
-counting_run_from_alike_state m answers Alike tells_nothing_of_alike_seen_threads s v alike [] counts = (tt, alike)
-counting_run_from_alike_state m answers Alike tells_nothing_of_alike_seen_threads s v alike (e ∷ run) counts =
-    let more = counting_run_from_alike_state m answers Alike tells_nothing_of_alike_seen_threads (after m s e) (after m v e) (tells_nothing_of_alike_seen_threads.steps s v alike e counts.0.0) run counts.1 in (
+counting_run_from_alike_state m answers Alike tells s v alike [] counts = (tt, alike)
+counting_run_from_alike_state m answers Alike tells s v alike (e ∷ run) counts =
+    let more = counting_run_from_alike_state m answers Alike tells (after m s e) (after m v e) (tells.steps s v alike e counts.0.0) run counts.1 in (
       (
         (
-          tells_nothing_of_alike_seen_threads.can s v alike e counts.0.0,
-          subst (λ a. IsAnswered (asked m v e.0) a e.1) (tells_nothing_of_alike_seen_threads.answered s v alike e.0)
-              (subst (λ q. IsAnswered q (answers e.0 (s.now e.0)) e.1) (tells_nothing_of_alike_seen_threads.asks s v alike e.0) counts.0.1),
+          tells.can s v alike e counts.0.0,
+          subst (λ a. IsAnswered (asked m v e.0) a e.1) (tells.answered s v alike e.0)
+              (subst (λ q. IsAnswered q (answers e.0 (s.now e.0)) e.1) (tells.asks s v alike e.0) counts.0.1),
         ),
         more.0,
       ),
@@ -56,9 +56,9 @@ counting_run_from_alike_state m answers Alike tells_nothing_of_alike_seen_thread
 
 completes_from_alike_state : {T : Type 0} (m : Machine T) (answers : Answers T) (Alike : State T → State T → Type 0) → TellsNothing m answers Alike
     → (s v : State T) → Alike s v → Completes m answers s → Completes m answers v
-completes_from_alike_state m answers Alike tells_nothing_of_alike_seen_threads s v alike (more, counts, done) =
-    let k = counting_run_from_alike_state m answers Alike tells_nothing_of_alike_seen_threads s v alike more counts in
-    (more, k.0, is_done_from_alike_state m answers Alike tells_nothing_of_alike_seen_threads (end m s more) (end m v more) k.1 done)
+completes_from_alike_state m answers Alike tells s v alike (more, counts, done) =
+    let k = counting_run_from_alike_state m answers Alike tells s v alike more counts in
+    (more, k.0, is_done_from_alike_state m answers Alike tells (end m s more) (end m v more) k.1 done)
 
 suffix_counts_after_prefix : {T : Type 0} (m : Machine T) (answers : Answers T) (s : State T) (run more : List Step) → Counts m answers s (run ++ more)
     → Counts m answers (end m s run) more
