@@ -20,7 +20,7 @@ use Rattle.ir_asm.specs.Forms.{form_named}
 use Rattle.ir_asm.specs.Operands.{operands_of, at_address, address as address_of}
 use Rattle.ir_asm.specs.Items.{instruction}
 use Rattle.ir_asm.specs.Passes.{assembled, IsWordGuest}
-use Rattle.ir_asm.proofs.Pieces.{all_pass_in_append, clean, IsPiece, append_of_nonempty_is_nonempty, split_at_first_separator, split_without_separator, trim_of_clean_text}
+use Rattle.ir_asm.proofs.Pieces.{all_pass_in_append, clean, IsPiece, append_is_nonempty_if_second_part_is, split_at_first_separator, split_without_separator, trim_of_clean_text}
 use Rattle.ir_asm.proofs.Numbers.{register_of_printed_name, register_name_is_piece, number_of_signed_decimal, signed_decimal_is_piece, signed_decimal_has_no_parenthesis, register_name_has_no_parenthesis, no_opening_if_no_parenthesis, no_closing_if_no_parenthesis}
 use Rattle.ir_asm.proofs.FieldLaws.{immediate_of_own_value}
 use Rattle.ir_asm.proofs.Statements.{line_that_says_word_assembles}
@@ -34,7 +34,7 @@ printed_address_is_clean_if_parts_are z b h k = all_pass_in_append clean (signed
 
 printed_address_is_piece : (z : ℤ) (b : Register) → nat_abs z < 2 ^ 64 → IsPiece (address z b.number)
 printed_address_is_piece z b h = record {
-  some = append_of_nonempty_is_nonempty (signed_decimal z) (40 ∷ (register_name b.number ++ 41 ∷ [])) refl;
+  some = append_is_nonempty_if_second_part_is (signed_decimal z) (40 ∷ (register_name b.number ++ 41 ∷ [])) refl;
   all = printed_address_is_clean_if_parts_are z b.number (signed_decimal_is_piece z h).all (register_name_is_piece b).all;
 }
 

@@ -27,7 +27,7 @@ use Rattle.ir_asm.specs.Answered.{Answers, refused}
 use Rattle.ir_asm.specs.Source.{Seen, Fault, same_section, at_line}
 use Rattle.ir_asm.specs.Passes.{put, distance_to, value_of, text_address, with_code, with_object, second_pass}
 use Rattle.ir_asm.specs.Bounds.{HasFewWords}
-use Rattle.ir_asm.proofs.Steps.{parts_of_ok_bind, test_and_value_of_ok_unless, some_if_or_cause_is_ok}
+use Rattle.ir_asm.proofs.Steps.{parts_of_ok_bind, test_and_value_of_ok_unless, option_is_some_if_or_cause_of_it_is_ok}
 
 -- how many bytes of code an item is
 abbrev pub code_size : Item → ℕ
@@ -71,7 +71,7 @@ pub text_address_is_text_place : (s : Seen) (label : List ℕ) (a : ℕ) → Lab
 text_address_is_text_place s label a fits e =
     let b = parts_of_ok_bind (value_of s label) _ a e in
     let t = test_and_value_of_ok_unless (same_section b.0.section Text) WrongSection b.0.address a b.2 in
-    let p = named_value_has_property_of_all (λ (place : Place). IsTextPlace place.section place.address) s.labels label b.0 fits (some_if_or_cause_is_ok LabelMissing _ b.0 b.1) in
+    let p = named_value_has_property_of_all (λ (place : Place). IsTextPlace place.section place.address) s.labels label b.0 fits (option_is_some_if_or_cause_of_it_is_ok LabelMissing _ b.0 b.1) in
     subst (λ n. (n % 4 ≡ 0) × (code_start ≤ n)) t.1 (by_section b.0.section b.0.address t.0 p)
   where
     by_section : (section : Section) (n : ℕ) → same_section section Text ≡ true → IsTextPlace section n → (n % 4 ≡ 0) × (code_start ≤ n)
@@ -84,11 +84,11 @@ take_of_zeros zero n l = refl
 take_of_zeros (suc k) zero l = absurd (omega (arith, l))
 take_of_zeros (suc k) (suc n) l = ap (λ (xs : List ℕ). 0 ∷ xs) (take_of_zeros k n (omega (arith, l)))
 
-take_past_words_leaves_fewer_zeros : (words : List ℕ) (k n : ℕ) → k ≤ n → take (length words + k) (words ++ replicate {A = ℕ} n 0) ≡ words ++ replicate {A = ℕ} k 0
-take_past_words_leaves_fewer_zeros [] k n l = let e : 0 + k ≡ k = omega arith in rw e (take_of_zeros k n l)
-take_past_words_leaves_fewer_zeros (w ∷ ws) k n l =
+take_of_words_and_zeros_is_words_and_fewer_zeros : (words : List ℕ) (k n : ℕ) → k ≤ n → take (length words + k) (words ++ replicate {A = ℕ} n 0) ≡ words ++ replicate {A = ℕ} k 0
+take_of_words_and_zeros_is_words_and_fewer_zeros [] k n l = let e : 0 + k ≡ k = omega arith in rw e (take_of_zeros k n l)
+take_of_words_and_zeros_is_words_and_fewer_zeros (w ∷ ws) k n l =
     let e : length (w ∷ ws) + k ≡ suc (length ws + k) = omega arith in
-    rw e (ap (λ (xs : List ℕ). w ∷ xs) (take_past_words_leaves_fewer_zeros ws k n l))
+    rw e (ap (λ (xs : List ℕ). w ∷ xs) (take_of_words_and_zeros_is_words_and_fewer_zeros ws k n l))
 
 -- fewer words of an object
 pub take_of_padded_words_is_padded_to_fewer : (count most : ℕ) (words : List ℕ) → length words ≤ count → count ≤ most
@@ -96,7 +96,7 @@ pub take_of_padded_words_is_padded_to_fewer : (count most : ℕ) (words : List �
 take_of_padded_words_is_padded_to_fewer count most words l m =
     let e : length words + (count - length words) ≡ count = omega (arith, l) in
     ap (λ (k : ℕ). take k (padded_to most words)) (sym e)
-    ∙ take_past_words_leaves_fewer_zeros words (count - length words) (most - length words) (omega (arith, m))
+    ∙ take_of_words_and_zeros_is_words_and_fewer_zeros words (count - length words) (most - length words) (omega (arith, m))
 
 -- an object has its place
 end_of_object_within_words_of_all_objects : (form : ImageForm) (object objects : ℕ) → object < objects
@@ -229,10 +229,10 @@ drop_begins_with_get_or (y ∷ ys) (suc i) d l =
     rw n (drop_begins_with_get_or ys i d (omega (arith, l)))
 
 -- one step, and those that follow
-pub second_pass_step : (s : Seen) (xs : List Placed) (i : ℕ) (x : Placed) (g h : Guest) (whole : Result Guest Fault) → i < length xs
+pub second_pass_of_rest_step_after_put : (s : Seen) (xs : List Placed) (i : ℕ) (x : Placed) (g h : Guest) (whole : Result Guest Fault) → i < length xs
     → x ≡ get_or xs i x → put s x.address x.item g ≡ Ok h →
     second_pass s (drop i xs) g ≡ whole → second_pass s (drop (i + 1) xs) h ≡ whole
-second_pass_step s xs i x g h whole l there e whole_is =
+second_pass_of_rest_step_after_put s xs i x g h whole l there e whole_is =
     let cut : drop i xs ≡ x ∷ drop (i + 1) xs = drop_begins_with_get_or xs i x l ∙ ap (λ (y : Placed). y ∷ drop (i + 1) xs) (sym there) in
     sym (ap (λ (l : List Placed). second_pass s l g) cut ∙ rw e refl) ∙ whole_is
 

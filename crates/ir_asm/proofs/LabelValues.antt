@@ -52,25 +52,25 @@ record GrowthLeaves (section : Section) (n : ℕ) (s u : Seen) : Type 0 where
   labels : u.labels ≡ s.labels
   sizes : (w : Section) → size_in w u ≡ size_in w s + (if same_section w section then n else 0)
 
-size_in_after_code_growth : (s : Seen) (n : ℕ) (w : Section) → size_in w (record s { code = s.code + n }) ≡ size_in w s +
+size_in_after_code_growth_grows_in_text_only : (s : Seen) (n : ℕ) (w : Section) → size_in w (record s { code = s.code + n }) ≡ size_in w s +
     (if same_section w Text then n else 0)
-size_in_after_code_growth s n Text = refl
-size_in_after_code_growth s n Data = omega arith
+size_in_after_code_growth_grows_in_text_only s n Text = refl
+size_in_after_code_growth_grows_in_text_only s n Data = omega arith
 
-size_in_after_data_growth : (s : Seen) (n : ℕ) (w : Section) → size_in w (record s { filled = s.filled + n }) ≡ size_in w s +
+size_in_after_data_growth_grows_in_data_only : (s : Seen) (n : ℕ) (w : Section) → size_in w (record s { filled = s.filled + n }) ≡ size_in w s +
     (if same_section w Data then n else 0)
-size_in_after_data_growth s n Text = omega arith
-size_in_after_data_growth s n Data = refl
+size_in_after_data_growth_grows_in_data_only s n Text = omega arith
+size_in_after_data_growth_grows_in_data_only s n Data = refl
 
 grown_section_changes_only_its_size : (section : Section) (n : ℕ) (s u : Seen) → grown section n s ≡ Ok u → GrowthLeaves section n s u
 grown_section_changes_only_its_size Text n s u e = subst (GrowthLeaves Text n s) (test_and_value_of_ok_unless (nat_le (s.code + n) (4 * most_code_words)) BadSize _ u e).1
-    (record { stays = refl; labels = refl; sizes = size_in_after_code_growth s n })
+    (record { stays = refl; labels = refl; sizes = size_in_after_code_growth_grows_in_text_only s n })
 grown_section_changes_only_its_size Data n s u e = subst (GrowthLeaves Data n s) (test_and_value_of_ok_unless (nat_le (s.filled + n) memory_size) BadSize _ u e).1
-    (record { stays = refl; labels = refl; sizes = size_in_after_data_growth s n })
+    (record { stays = refl; labels = refl; sizes = size_in_after_data_growth_grows_in_data_only s n })
 
-size_in_of_equal_counts : (w : Section) (u t : Seen) → t.code ≡ u.code → t.filled ≡ u.filled → size_in w t ≡ size_in w u
-size_in_of_equal_counts Text u t c f = c
-size_in_of_equal_counts Data u t c f = f
+size_in_is_equal_if_counts_are : (w : Section) (u t : Seen) → t.code ≡ u.code → t.filled ≡ u.filled → size_in w t ≡ size_in w u
+size_in_is_equal_if_counts_are Text u t c f = c
+size_in_is_equal_if_counts_are Data u t c f = f
 
 -- ---- the form of the image
 
@@ -149,7 +149,7 @@ entered_item_adds_its_size_to_section section line a item s t e =
     record {
       goes_on = n.section ∙ ap (section_after item) g.stays;
       labels = n.labels ∙ g.labels;
-      sizes = λ w. size_in_of_equal_counts w b.0 t n.code n.filled ∙ g.sizes w;
+      sizes = λ w. size_in_is_equal_if_counts_are w b.0 t n.code n.filled ∙ g.sizes w;
     }
 
 plus_cond_of_two_zeros_is_itself : (b : Bool) (n : ℕ) → n ≡ n + cond b 0 0
@@ -167,7 +167,7 @@ passed_statement_adds_its_size_to_section line (b ∷ bs) s t e =
     record {
       goes_on = p.goes_on ∙ sym (l.section s.section);
       labels = p.labels;
-      sizes = λ w. p.sizes w ∙ ap (λ n. n + (if same_section w s.section then size_of i.0 else 0)) (size_in_of_equal_counts w s (begun s) refl refl)
+      sizes = λ w. p.sizes w ∙ ap (λ n. n + (if same_section w s.section then size_of i.0 else 0)) (size_in_is_equal_if_counts_are w s (begun s) refl refl)
           ∙ ap (λ n. size_in w s + (if same_section w s.section then n else 0)) (sym l.size);
     }
 
@@ -183,10 +183,10 @@ named_stays_after_append (r ∷ rows) more name p e = by_test (bytes_eq name r.0
     by_test true rest f = f
     by_test false rest f = rest f
 
-named_finds_appended_row : {A : Type 0} (rows : List (List ℕ × A)) (name x : List ℕ) (p : A) → named rows name ≡ None → bytes_eq name x ≡ true
+named_finds_appended_row_unless_named_before : {A : Type 0} (rows : List (List ℕ × A)) (name x : List ℕ) (p : A) → named rows name ≡ None → bytes_eq name x ≡ true
     → named (rows ++ (x, p) ∷ []) name ≡ Some p
-named_finds_appended_row [] name x p e same = ap (λ b. cond b (Some p) None) same
-named_finds_appended_row (r ∷ rows) name x p e same = by_test (bytes_eq name r.0) (λ f. named_finds_appended_row rows name x p f same) e
+named_finds_appended_row_unless_named_before [] name x p e same = ap (λ b. cond b (Some p) None) same
+named_finds_appended_row_unless_named_before (r ∷ rows) name x p e same = by_test (bytes_eq name r.0) (λ f. named_finds_appended_row_unless_named_before rows name x p f same) e
   where
     by_test : (b : Bool) → (named rows name ≡ None → named (rows ++ (x, p) ∷ []) name ≡ Some p) → cond b (Some r.1) (named rows name) ≡ None
         → cond b (Some r.1) (named (rows ++ (x, p) ∷ []) name) ≡ Some p
@@ -201,7 +201,7 @@ here_ignores_labels : (s : Seen) (rows : List (List ℕ × Place)) → here (rec
 here_ignores_labels s rows = λ i. record {
   section = s.section;
   address =
-      start_of s.section + size_in_of_equal_counts s.section s (record s { labels = rows }) refl refl i;
+      start_of s.section + size_in_is_equal_if_counts_are s.section s (record s { labels = rows }) refl refl i;
 }
 
 -- what labels leave
@@ -224,7 +224,7 @@ passed_labels_are_found_and_sizes_unchanged (x ∷ xs) s t e =
       filled = r.filled;
       kept = λ name p f. r.kept name p (named_stays_after_append s.labels ((x, here s) ∷ []) name p f);
       found = λ name f. by_test name (bytes_eq name x) refl f
-          (λ g. r.kept name (here s) (named_finds_appended_row s.labels name x (here s)
+          (λ g. r.kept name (here s) (named_finds_appended_row_unless_named_before s.labels name x (here s)
           (ap (named s.labels) ((bytes_eq-Decides name x).0 g) ∙ none_if_not_some (named s.labels x) u.0) g))
           (λ g. r.found name g ∙ ap (λ (q : Place). Some q) (here_ignores_labels s (s.labels ++ (x, here s) ∷ [])));
     }
@@ -255,7 +255,7 @@ passed_line_adds_its_size_and_labels n line s t e =
     record {
       section = j.goes_on ∙ ap (section_after (placed_by s.section line)) l.section;
       sizes = λ w. j.sizes w ∙ ap (λ k. k + (if same_section w s.section then size_of (placed_by s.section line) else 0))
-          (size_in_of_equal_counts w s p.0 l.code l.filled);
+          (size_in_is_equal_if_counts_are w s p.0 l.code l.filled);
       kept = λ name q f. ap (λ rows. named rows name) j.labels ∙ l.kept name q f;
       found = λ name f. ap (λ rows. named rows name) j.labels ∙ l.found name f;
     }
@@ -291,14 +291,14 @@ first_pass_of_append_splits n (x ∷ xs) ys s u e =
     let same : n + length (x ∷ xs) ≡ n + 1 + length xs = omega arith in
     (r.0, ap (λ q. q >>= λ v. first_pass (n + 1) xs v) f.1 ∙ r.1, rw same r.2)
 
-size_in_nothing_seen : (w : Section) → size_in w nothing_seen ≡ 0
-size_in_nothing_seen Text = refl
-size_in_nothing_seen Data = refl
+size_in_nothing_seen_is_zero : (w : Section) → size_in w nothing_seen ≡ 0
+size_in_nothing_seen_is_zero Text = refl
+size_in_nothing_seen_is_zero Data = refl
 
 here_is_place_after_lines : (lines : List (List ℕ)) (t : Seen) → LinesLeave lines nothing_seen t → here t ≡ place_after Text lines
 here_is_place_after_lines lines t p =
     let w : Section = section_at_end Text lines in
-    let size : size_in w t ≡ bytes_placed w Text lines = (let n = size_in_nothing_seen w in let s = p.sizes w in omega (arith, n, s)) in
+    let size : size_in w t ≡ bytes_placed w Text lines = (let n = size_in_nothing_seen_is_zero w in let s = p.sizes w in omega (arith, n, s)) in
     (λ i. record { section = p.section i; address = start_of (p.section i) + size_in (p.section i) t })
     ∙ (λ i. record { section = w; address = start_of w + size i })
 

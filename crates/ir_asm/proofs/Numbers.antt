@@ -121,11 +121,11 @@ digit_char_is_clean d h = grind (arith, common_steps)
 remainder_by_16_below_16 : (n : ℕ) → n % 16 < 16
 remainder_by_16_below_16 n = omega arith
 
-numeral_of_eight_digits : (a b c d e f g h : ℕ) → a < 16 → b < 16 → c < 16 → d < 16 → e < 16 → f < 16 → g < 16 → h < 16 →
+numeral_of_eight_hex_digits_is_their_value : (a b c d e f g h : ℕ) → a < 16 → b < 16 → c < 16 → d < 16 → e < 16 → f < 16 → g < 16 → h < 16 →
     numeral 16 8 (digit_char a ∷ digit_char b ∷ digit_char c ∷ digit_char d ∷ digit_char e ∷ digit_char f ∷ digit_char g ∷ digit_char h
     ∷ [])
     ≡ Some ((((((((0 * 16 + a) * 16 + b) * 16 + c) * 16 + d) * 16 + e) * 16 + f) * 16 + g) * 16 + h)
-numeral_of_eight_digits a b c d e f g h k0 k1 k2 k3 k4 k5 k6 k7 =
+numeral_of_eight_hex_digits_is_their_value a b c d e f g h k0 k1 k2 k3 k4 k5 k6 k7 =
     rw (
       digit_value_of_digit_char a k0,
       digit_value_of_digit_char b k1,
@@ -143,7 +143,7 @@ pub natural_of_hex_word : (n : ℕ) → n < 2 ^ 32 → natural (codes "0x" ++ he
 natural_of_hex_word n h =
     let e : ((((((((0 * 16 + n / 16 ^ 7 % 16) * 16 + n / 16 ^ 6 % 16) * 16 + n / 16 ^ 5 % 16) * 16 + n / 16 ^ 4 % 16) * 16 + n / 16 ^ 3 %
     16) * 16 + n / 16 ^ 2 % 16) * 16 + n / 16 ^ 1 % 16) * 16 + n / 16 ^ 0 % 16) ≡ n = omega arith in
-    numeral_of_eight_digits (n / 16 ^ 7 % 16) (n / 16 ^ 6 % 16) (n / 16 ^ 5 % 16) (n / 16 ^ 4 % 16) (n / 16 ^ 3 % 16) (n / 16 ^ 2 % 16) (n / 16 ^ 1 % 16)
+    numeral_of_eight_hex_digits_is_their_value (n / 16 ^ 7 % 16) (n / 16 ^ 6 % 16) (n / 16 ^ 5 % 16) (n / 16 ^ 4 % 16) (n / 16 ^ 3 % 16) (n / 16 ^ 2 % 16) (n / 16 ^ 1 % 16)
     (n / 16 ^ 0 % 16)
     (remainder_by_16_below_16 _) (remainder_by_16_below_16 _) (remainder_by_16_below_16 _) (remainder_by_16_below_16 _) (remainder_by_16_below_16 _) (remainder_by_16_below_16 _) (remainder_by_16_below_16 _) (remainder_by_16_below_16 _)
     ∙ ap (λ (m : ℕ). Some m) e
@@ -152,10 +152,10 @@ pub hex_is_clean : (k n : ℕ) → list_all clean (hex k n) ≡ true
 hex_is_clean zero n = refl
 hex_is_clean (suc k) n = rw (digit_char_is_clean (n / 16 ^ k % 16) (remainder_by_16_below_16 (n / 16 ^ k))) (hex_is_clean k n)
 
-numeral_of_five_digits : (a b c d e : ℕ) → a < 16 → b < 16 → c < 16 → d < 16 → e < 16 →
+numeral_of_five_hex_digits_is_their_value : (a b c d e : ℕ) → a < 16 → b < 16 → c < 16 → d < 16 → e < 16 →
     numeral 16 8 (digit_char a ∷ digit_char b ∷ digit_char c ∷ digit_char d ∷ digit_char e ∷ [])
     ≡ Some (((((0 * 16 + a) * 16 + b) * 16 + c) * 16 + d) * 16 + e)
-numeral_of_five_digits a b c d e k0 k1 k2 k3 k4 =
+numeral_of_five_hex_digits_is_their_value a b c d e k0 k1 k2 k3 k4 =
     rw (digit_value_of_digit_char a k0, digit_value_of_digit_char b k1, digit_value_of_digit_char c k2, digit_value_of_digit_char d k3, digit_value_of_digit_char e k4)
     (rw (lt-ltb a 16 k0, lt-ltb b 16 k1, lt-ltb c 16 k2, lt-ltb d 16 k3, lt-ltb e 16 k4) refl)
 
@@ -163,7 +163,7 @@ pub natural_of_five_hex_digits : (n : ℕ) → n < 2 ^ 20 → natural (codes "0x
 natural_of_five_hex_digits n h =
     let e : (((((0 * 16 + n / 16 ^ 4 % 16) * 16 + n / 16 ^ 3 % 16) * 16 + n / 16 ^ 2 % 16) * 16 + n / 16 ^ 1 % 16) * 16 + n / 16 ^ 0 %
     16) ≡ n = omega arith in
-    numeral_of_five_digits (n / 16 ^ 4 % 16) (n / 16 ^ 3 % 16) (n / 16 ^ 2 % 16) (n / 16 ^ 1 % 16) (n / 16 ^ 0 % 16)
+    numeral_of_five_hex_digits_is_their_value (n / 16 ^ 4 % 16) (n / 16 ^ 3 % 16) (n / 16 ^ 2 % 16) (n / 16 ^ 1 % 16) (n / 16 ^ 0 % 16)
     (remainder_by_16_below_16 _) (remainder_by_16_below_16 _) (remainder_by_16_below_16 _) (remainder_by_16_below_16 _) (remainder_by_16_below_16 _)
     ∙ ap (λ (m : ℕ). Some m) e
 

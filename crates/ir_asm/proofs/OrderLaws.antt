@@ -21,10 +21,10 @@ use Rattle.ir_asm.proofs.Steps.{ok_if_at_line_is_ok, parts_of_ok_bind, parts_of_
 abbrev pub AreInOrderBefore : ℕ → List Placed → Type 0
 AreInOrderBefore line xs = AreInOrder 1 xs × AllByRecursion (λ y. y.line < line) xs
 
-in_order_after_push : (low line : ℕ) (xs : List Placed) (x : Placed) → low ≤ line → x.line ≡ line → AllByRecursion (λ y. y.line < line) xs
+in_order_after_push_if_all_are_before_its_line : (low line : ℕ) (xs : List Placed) (x : Placed) → low ≤ line → x.line ≡ line → AllByRecursion (λ y. y.line < line) xs
     → AreInOrder low xs → AreInOrder low (xs ++ x ∷ [])
-in_order_after_push low line [] x l e b o = (omega (arith, l, e), tt)
-in_order_after_push low line (y ∷ ys) x l e b o = (o.0, in_order_after_push (y.line + 1) line ys x (omega (arith, b.0)) e b.1 o.1)
+in_order_after_push_if_all_are_before_its_line low line [] x l e b o = (omega (arith, l, e), tt)
+in_order_after_push_if_all_are_before_its_line low line (y ∷ ys) x l e b o = (o.0, in_order_after_push_if_all_are_before_its_line (y.line + 1) line ys x (omega (arith, b.0)) e b.1 o.1)
 
 all_before_next_line_if_before_line : (line : ℕ) (xs : List Placed) → AllByRecursion (λ y. y.line < line) xs → AllByRecursion (λ y. y.line < line + 1) xs
 all_before_next_line_if_before_line line [] b = tt
@@ -38,7 +38,7 @@ in_order_before_next_line line xs o = (o.0, all_before_next_line_if_before_line 
 in_order_after_placed_item : (line a : ℕ) (item : Item) (s : Seen) → 1 ≤ line → AreInOrderBefore line s.placed → AreInOrderBefore (line + 1) (placed_at line a item s).placed
 in_order_after_placed_item line a item s l o =
     let x : Placed = record { line = line; address = a; item = item } in
-    (in_order_after_push 1 line s.placed x l refl o.1 o.0, all_by_recursion_after_push (λ y. y.line < line + 1) s.placed x (all_before_next_line_if_before_line line s.placed o.1) (omega arith))
+    (in_order_after_push_if_all_are_before_its_line 1 line s.placed x l refl o.1 o.0, all_by_recursion_after_push (λ y. y.line < line + 1) s.placed x (all_before_next_line_if_before_line line s.placed o.1) (omega arith))
 
 in_order_after_entered_item : (line a : ℕ) (item : Item) (s t : Seen) → 1 ≤ line → AreInOrderBefore line s.placed → entered line a item s ≡ Ok t
     → AreInOrderBefore (line + 1) t.placed

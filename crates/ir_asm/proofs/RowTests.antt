@@ -157,5 +157,5 @@ seventeen_objects_exceed_small_image = refl
 sixty_five_objects_exceed_large_image : assembled (codes ".large\n.objects 65\nnop") ≡ Err (record { line = 2; cause = BadNumber })
 sixty_five_objects_exceed_large_image = refl
 
-sixty_four_objects_pass_large_limit : assembled (codes ".large\n.objects 64\n") ≡ Err (record { line = 4; cause = BadSize })
-sixty_four_objects_pass_large_limit = refl
+sixty_four_objects_pass_large_limit_and_lack_code : assembled (codes ".large\n.objects 64\n") ≡ Err (record { line = 4; cause = BadSize })
+sixty_four_objects_pass_large_limit_and_lack_code = refl

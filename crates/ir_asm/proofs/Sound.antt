@@ -49,13 +49,13 @@ MayStand image section (First object words) = length words ≤ (limits_of image)
 MayStand image section item = Unit {0}
 
 -- as many operands as texts
-pub length_of_read_all : (form : Form) (place : ℕ) (texts : List (List ℕ)) (xs : List Operand) → read_all form place texts ≡ Ok xs
+pub length_of_read_all_is_that_of_texts : (form : Form) (place : ℕ) (texts : List (List ℕ)) (xs : List Operand) → read_all form place texts ≡ Ok xs
     → length xs ≡ length texts
-length_of_read_all form place [] xs e = ap length (sym (ok_is_injective [] xs e))
-length_of_read_all form place (t ∷ texts) xs e =
+length_of_read_all_is_that_of_texts form place [] xs e = ap length (sym (ok_is_injective [] xs e))
+length_of_read_all_is_that_of_texts form place (t ∷ texts) xs e =
     let b = parts_of_ok_bind (read (kind_at form place) t) _ xs e in
     let d = parts_of_ok_bind (read_all form (place + 1) texts) _ xs b.2 in
-    ap length (sym (ok_is_injective _ xs d.2)) ∙ ap suc (length_of_read_all form (place + 1) texts d.0 d.1)
+    ap length (sym (ok_is_injective _ xs d.2)) ∙ ap suc (length_of_read_all_is_that_of_texts form (place + 1) texts d.0 d.1)
 
 values_not_longer_than_operands : (bits : ℕ) (xs : List Operand) → length (values bits xs) ≤ length xs
 values_not_longer_than_operands bits [] = omega arith
@@ -65,14 +65,14 @@ values_not_longer_than_operands bits (Offset z r ∷ xs) = omega (arith, values_
 values_not_longer_than_operands bits (Symbol label ∷ xs) = omega (arith, values_not_longer_than_operands bits xs)
 
 -- an object has no more first words than words
-object_words_within_limit : (image : ImageForm) (texts : List (List ℕ)) (z : ℤ) (xs : List Operand) → operands_of (Object image) texts ≡ Ok (Integer z ∷ xs)
+object_words_of_read_operands_within_limit : (image : ImageForm) (texts : List (List ℕ)) (z : ℤ) (xs : List Operand) → operands_of (Object image) texts ≡ Ok (Integer z ∷ xs)
     → length (values 32 xs) ≤ (limits_of image).words
-object_words_within_limit image texts z xs e =
+object_words_of_read_operands_within_limit image texts z xs e =
     let u = parts_of_ok_unless (takes (Object image) (length texts) && are_formed (Object image) 0 texts) WrongOperands
     (read_all (Object image) 0 texts) _ e in
     let most : length texts ≤ 1 + (limits_of image).words = leb-true (length texts) (1 + (limits_of image).words)
     (right_of_true_and (nat_le 2 (length texts)) _ (left_of_true_and (takes (Object image) (length texts)) _ u.0)) in
-    let count : suc (length xs) ≡ length texts = length_of_read_all (Object image) 0 texts (Integer z ∷ xs) u.1 in
+    let count : suc (length xs) ≡ length texts = length_of_read_all_is_that_of_texts (Object image) 0 texts (Integer z ∷ xs) u.1 in
     omega (arith, most, count, values_not_longer_than_operands 32 xs)
 
 -- a number within limits
@@ -93,10 +93,10 @@ first_number (Integer z ∷ xs) = z
 first_number (x ∷ xs) = pos 0
 
 -- a number of objects is within its limit
-object_count_within_limit : (image : ImageForm) (texts : List (List ℕ)) (z : ℤ) → operands_of (Objects image) texts ≡ Ok (Integer z ∷ [])
+object_count_of_read_operands_within_limit : (image : ImageForm) (texts : List (List ℕ)) (z : ℤ) → operands_of (Objects image) texts ≡ Ok (Integer z ∷ [])
     → low_bits 32 z ≤ (limits_of image).objects
-object_count_within_limit image [] z e = absurd (cc e)
-object_count_within_limit image (t ∷ texts) z e =
+object_count_of_read_operands_within_limit image [] z e = absurd (cc e)
+object_count_of_read_operands_within_limit image (t ∷ texts) z e =
     let most : ℕ = (limits_of image).objects in
     let u = parts_of_ok_unless (takes (Objects image) (length (t ∷ texts)) && are_formed (Objects image) 0 (t ∷ texts)) WrongOperands
     (read_all (Objects image) 0 (t ∷ texts)) _ e in
@@ -127,8 +127,8 @@ item_of_form_may_stand image Data Calls texts xs m e = absurd (cc m)
 item_of_form_may_stand image Data Breaks texts xs m e = absurd (cc m)
 item_of_form_may_stand image Data DoesNothing texts xs m e = absurd (cc m)
 item_of_form_may_stand image Data LoadsValue texts xs m e = absurd (cc m)
-item_of_form_may_stand image section (Objects other) texts (Integer z ∷ []) m e = object_count_within_limit image texts z e
-item_of_form_may_stand image section (Object other) texts (Integer z ∷ xs) m e = object_words_within_limit image texts z xs e
+item_of_form_may_stand image section (Objects other) texts (Integer z ∷ []) m e = object_count_of_read_operands_within_limit image texts z e
+item_of_form_may_stand image section (Object other) texts (Integer z ∷ xs) m e = object_words_of_read_operands_within_limit image texts z xs e
 item_of_form_may_stand image Text (Registers op) texts (Index rd ∷ Index rs1 ∷ Index rs2 ∷ []) m e = tt
 item_of_form_may_stand image Text (Immediates op) texts (Index rd ∷ Index rs1 ∷ Integer imm ∷ []) m e = tt
 item_of_form_may_stand image Text (Shifts op) texts (Index rd ∷ Index rs1 ∷ Integer n ∷ []) m e = tt

@@ -20,8 +20,8 @@ use Rattle.ir_elf.specs.Reading.{code_memory, code_words, data_bytes, table_foun
 use Rattle.ir_elf.specs.Addresses.{byte_of, byte_at, word_at, IsInParts}
 use Rattle.ir_elf.proofs.Limits.{parts_of_ok_unless, guest_by}
 use Rattle.ir_elf.proofs.Order.{IsNext, AreOrdered, segments_from_are_ordered}
-use Rattle.ir_elf.proofs.Addresses.{get_or_of_over_before, get_or_of_over_after, parts_are_equal_if_is_same_is_true, segment_fits_in_part, length_of_with_segment, with_segments_puts_byte_of_address}
-use Rattle.ir_elf.proofs.Words.{length_of_words_in}
+use Rattle.ir_elf.proofs.Addresses.{get_or_of_over_before_is_unchanged, get_or_of_over_after_is_unchanged, parts_are_equal_if_is_same_is_true, segment_fits_in_part, length_of_with_segment_is_size_of_part, with_segments_puts_byte_of_address}
+use Rattle.ir_elf.proofs.Words.{length_of_words_in_is_quarter_of_length}
 
 -- ---- the parts of a guest
 
@@ -53,14 +53,14 @@ is_guest_of_if_file_read file ss g e h =
 
 -- ---- memory
 
-length_of_with_segments : (part : Part) (ss : List Segment) (last : ℕ) (all : List ℕ) → AreOrdered last ss → length all ≡ size_of part
+length_of_with_segments_is_size_of_part : (part : Part) (ss : List Segment) (last : ℕ) (all : List ℕ) → AreOrdered last ss → length all ≡ size_of part
     → length (with_segments part ss all) ≡ size_of part
-length_of_with_segments part [] last all o whole = whole
-length_of_with_segments part (s ∷ ss) last all o whole =
-    length_of_with_segments part ss (end_of s) (with_segment part s all) o.1 (length_of_with_segment part s last all o.0 whole)
+length_of_with_segments_is_size_of_part part [] last all o whole = whole
+length_of_with_segments_is_size_of_part part (s ∷ ss) last all o whole =
+    length_of_with_segments_is_size_of_part part ss (end_of s) (with_segment part s all) o.1 (length_of_with_segment_is_size_of_part part s last all o.0 whole)
 
-pub length_of_memory_of : (part : Part) (ss : List Segment) → AreOrdered 0 ss → length (memory_of part ss) ≡ size_of part
-length_of_memory_of part ss o = length_of_with_segments part ss 0 (replicate (size_of part) 0) o (length-replicate (size_of part) 0)
+pub length_of_memory_of_is_size_of_part : (part : Part) (ss : List Segment) → AreOrdered 0 ss → length (memory_of part ss) ≡ size_of part
+length_of_memory_of_is_size_of_part part ss o = length_of_with_segments_is_size_of_part part ss 0 (replicate (size_of part) 0) o (length-replicate (size_of part) 0)
 
 pub memory_byte_is_byte_at : (part : Part) (ss : List Segment) (i : ℕ) → AreOrdered 0 ss → i < size_of part
     → get_or (memory_of part ss) i 0 ≡ byte_at ss (start_of part + i)
@@ -76,10 +76,10 @@ with_segment_past_held_is_unchanged part s last all i next whole past =
     (λ same. let fits = segment_fits_in_part part s last all next whole same in
     elim (cases_lt 0 (length s.bytes)) [
       | inl l ↦ (let held : held_in part s ≡ s.place + length s.bytes = rw (same, lt-ltb 0 (length s.bytes) l) refl in
-          get_or_of_over_after s.place s.bytes all i (omega (arith, held, past)) fits)
+          get_or_of_over_after_is_unchanged s.place s.bytes all i (omega (arith, held, past)) fits)
       | inr g ↦ elim (cases_lt i s.place) [
-        | inl l ↦ get_or_of_over_before s.place s.bytes all i l fits
-        | inr h ↦ get_or_of_over_after s.place s.bytes all i (omega (arith, g, h)) fits
+        | inl l ↦ get_or_of_over_before_is_unchanged s.place s.bytes all i l fits
+        | inr h ↦ get_or_of_over_after_is_unchanged s.place s.bytes all i (omega (arith, g, h)) fits
       ]
     ]) (λ other. refl)
 
@@ -87,7 +87,7 @@ with_segments_past_held_is_unchanged : (part : Part) (ss : List Segment) (last :
     → greatest (held_in part) ss ≤ i → get_or (with_segments part ss all) i 0 ≡ get_or all i 0
 with_segments_past_held_is_unchanged part [] last all i o whole past = refl
 with_segments_past_held_is_unchanged part (s ∷ ss) last all i o whole past =
-    with_segments_past_held_is_unchanged part ss (end_of s) (with_segment part s all) i o.1 (length_of_with_segment part s last all o.0 whole) (omega (arith, past))
+    with_segments_past_held_is_unchanged part ss (end_of s) (with_segment part s all) i o.1 (length_of_with_segment_is_size_of_part part s last all o.0 whole) (omega (arith, past))
     ∙ with_segment_past_held_is_unchanged part s last all i o.0 whole (omega (arith, past))
 
 memory_past_held_is_zero : (part : Part) (ss : List Segment) (i : ℕ) → AreOrdered 0 ss → i < size_of part → greatest (held_in part) ss ≤ i
@@ -140,9 +140,9 @@ code_word_is_word_at : (ss : List Segment) (k : ℕ) → AreOrdered 0 ss → k <
     → get_or (words_in (take (4 * code_words ss) (code_memory ss))) k 0 ≡ word_at ss (code_start + 4 * k)
 code_word_is_word_at ss k o lt =
     let own = take (4 * code_words ss) (code_memory ss) in
-    let count = length_of_words_in own in
+    let count = length_of_words_in_is_quarter_of_length own in
     let least = length-take (4 * code_words ss) (code_memory ss) in
-    let whole : length (code_memory ss) ≡ 65536 = length_of_memory_of Code ss o in
+    let whole : length (code_memory ss) ≡ 65536 = length_of_memory_of_is_size_of_part Code ss o in
     let at : (j : ℕ) → j < 4 → get_or own (4 * k + j) 0 ≡ byte_at ss (code_start + (4 * k + j)) = λ j l.
     get_or-take (4 * code_words ss) (code_memory ss) (4 * k + j) 0 (omega (arith, lt, count, least, l))
     ∙ memory_byte_is_byte_at Code ss (4 * k + j) o (omega (arith, lt, count, least, whole, l)) in
@@ -186,9 +186,9 @@ greatest_size_in_code_within_code_words : (ss : List Segment) → AreOrdered 0 s
     → greatest (size_in Code) ss ≤ 4 * length (words_in (take (4 * code_words ss) (code_memory ss)))
 greatest_size_in_code_within_code_words ss o most =
     let own = take (4 * code_words ss) (code_memory ss) in
-    let count = length_of_words_in own in
+    let count = length_of_words_in_is_quarter_of_length own in
     let least = length-take (4 * code_words ss) (code_memory ss) in
-    let whole : length (code_memory ss) ≡ 65536 = length_of_memory_of Code ss o in
+    let whole : length (code_memory ss) ≡ 65536 = length_of_memory_of_is_size_of_part Code ss o in
     let up = number_at_most_four_times_quotient_rounded_up (greatest (size_in Code) ss) in
     omega (arith, count, least, whole, up, most)
 

@@ -19,7 +19,7 @@ use Rattle.ir_elf.specs.Memory.{memory_of, table_of, words_in}
 use Rattle.ir_elf.specs.Table.{TableParts, form_field, form_of, threads_field, entry_field, entry_at, are_objects, table_at}
 use Rattle.ir_elf.specs.Reading.{code_memory, code_words, data_bytes, table_found, guest_of}
 use Rattle.ir_elf.proofs.Fields.{field_read_passes_test, fields_at_reads_n_items_with_property}
-use Rattle.ir_elf.proofs.Words.{length_of_words_in}
+use Rattle.ir_elf.proofs.Words.{length_of_words_in_is_quarter_of_length}
 
 -- ---- the table
 
@@ -44,10 +44,10 @@ word_count_is_multiple_if_byte_count_is : (form : ImageForm) (n : ℕ) → n % (
 word_count_is_multiple_if_byte_count_is Small n e = omega (arith, e)
 word_count_is_multiple_if_byte_count_is Large n e = omega (arith, e)
 
-object_count_within_limit : (form : ImageForm) (n : ℕ) → n ≤ 4 * ((limits_of form).words * (limits_of form).objects)
+number_by_object_size_is_at_most_objects : (form : ImageForm) (n : ℕ) → n ≤ 4 * ((limits_of form).words * (limits_of form).objects)
     → n / 4 / (limits_of form).words ≤ (limits_of form).objects
-object_count_within_limit Small n h = omega (arith, h)
-object_count_within_limit Large n h = omega (arith, h)
+number_by_object_size_is_at_most_objects Small n h = omega (arith, h)
+number_by_object_size_is_at_most_objects Large n h = omega (arith, h)
 
 -- the objects' words of bytes that are those of whole objects
 record AreObjects (form : ImageForm) (words : List ℕ) : Type 0 where
@@ -59,9 +59,9 @@ words_are_objects_if_are_objects_is_true form own h =
     let both = and_parts (eqb (length own % (4 * (limits_of form).words)) 0)
     (leb (length own) (4 * ((limits_of form).words * (limits_of form).objects))) h in
     record {
-      whole = subst (λ (n : ℕ). n % (limits_of form).words ≡ 0) (sym (length_of_words_in own)) (word_count_is_multiple_if_byte_count_is form (length own) (eqb-true _ _ both.0));
-      few = subst (λ (n : ℕ). n / (limits_of form).words ≤ (limits_of form).objects) (sym (length_of_words_in own))
-          (object_count_within_limit form (length own) (leb-true _ _ both.1));
+      whole = subst (λ (n : ℕ). n % (limits_of form).words ≡ 0) (sym (length_of_words_in_is_quarter_of_length own)) (word_count_is_multiple_if_byte_count_is form (length own) (eqb-true _ _ both.0));
+      few = subst (λ (n : ℕ). n / (limits_of form).words ≤ (limits_of form).objects) (sym (length_of_words_in_is_quarter_of_length own))
+          (number_by_object_size_is_at_most_objects form (length own) (leb-true _ _ both.1));
     }
 
 abbrev pub table_parts_by : ImageForm → List ℕ → List ℕ → TableParts
@@ -110,14 +110,14 @@ table_parts_found_are_within_limits code (Some table) t e = table_parts_read_are
 table_parts_found_are_within_limits code None t e = absurd cc
 
 -- how many words of code there are
-length_of_words_in_taken_memory : (n : ℕ) (memory : List ℕ) → length memory ≡ 4 * most_code_words → n ≤ most_code_words → length (words_in (take (4 * n) memory)) ≡ n
-length_of_words_in_taken_memory n memory whole few =
-    let count = length_of_words_in (take (4 * n) memory) in
+length_of_words_in_of_take_four_n_is_n : (n : ℕ) (memory : List ℕ) → length memory ≡ 4 * most_code_words → n ≤ most_code_words → length (words_in (take (4 * n) memory)) ≡ n
+length_of_words_in_of_take_four_n_is_n n memory whole few =
+    let count = length_of_words_in_is_quarter_of_length (take (4 * n) memory) in
     let taken = length-take-le (4 * n) memory (omega (arith, whole, few)) in
     omega (arith, count, taken)
 
-length_of_data_within_memory : (n : ℕ) (memory : List ℕ) → n ≤ memory_size → length (take n memory) ≤ memory_size
-length_of_data_within_memory n memory few = let least = length-take n memory in omega (arith, few, least)
+length_of_take_is_at_most_memory_size : (n : ℕ) (memory : List ℕ) → n ≤ memory_size → length (take n memory) ≤ memory_size
+length_of_take_is_at_most_memory_size n memory few = let least = length-take n memory in omega (arith, few, least)
 
 abbrev pub guest_by : List Segment → TableParts → Guest
 guest_by segments t = record {
@@ -136,12 +136,12 @@ guest_of_segments_has_limits segments g short_code short_data whole e =
     (table_found (code_words segments) (table_of segments) >>= λ t. Ok (guest_by segments t)) g e in
     each_of_two_is_ok_if_bind_is_ok (table_found (code_words segments) (table_of segments)) (λ t. Ok (guest_by segments t)) g p.1 (λ t e0 e1.
     let w = table_parts_found_are_within_limits (code_words segments) (table_of segments) t e0 in
-    let count = length_of_words_in_taken_memory (code_words segments) (code_memory segments) whole short_code in
+    let count = length_of_words_in_of_take_four_n_is_n (code_words segments) (code_memory segments) whole short_code in
     subst HasLimits (ok_is_injective Refusal (guest_by segments t) g e1) (record {
       some_thread = w.some_thread;
       few_threads = w.few_threads;
       short_code = subst (λ (k : ℕ). k ≤ most_code_words) (sym count) short_code;
-      short_data = length_of_data_within_memory (data_bytes segments) (memory_of Memory segments) short_data;
+      short_data = length_of_take_is_at_most_memory_size (data_bytes segments) (memory_of Memory segments) short_data;
       whole_objects = w.whole_objects;
       few_objects = w.few_objects;
       entries_fit = subst (λ (k : ℕ). AllByRecursion (IsPlace k) t.entries) (sym count) w.entries_fit;

@@ -31,11 +31,11 @@ record FitsPart (h : Header) (part : Part) : Type 0 where
   high : h.address + h.size ≤ start_of part + size_of part
   held : h.length ≤ h.size
 
-part_placed_is_found_part : (h : Header) (found : Option Part) (part : Part) → part_placed h found ≡ Ok part → found ≡ Some part
-part_placed_is_found_part h (Some p) part e =
+found_is_some_part_if_part_placed_is_ok : (h : Header) (found : Option Part) (part : Part) → part_placed h found ≡ Ok part → found ≡ Some part
+found_is_some_part_if_part_placed_is_ok h (Some p) part e =
     let q = parts_of_ok_unless (is_placed p h) Outside (Ok p) part e in
     ap (λ (x : Part). Some x) (ok_is_injective Refusal p part q.1)
-part_placed_is_found_part h None part e = absurd cc
+found_is_some_part_if_part_placed_is_ok h None part e = absurd cc
 
 abbrev LiesWithin : Header → Part → Type 0
 LiesWithin h part = is_within part h.address h.size ≡ true
@@ -50,15 +50,15 @@ part_around_contains_header h part e =
 header_fits_part_of : (h : Header) (part : Part) → part_of h ≡ Ok part → FitsPart h part
 header_fits_part_of h part e =
     let p = parts_of_ok_unless (leb h.length h.size) Outside (part_placed h (part_around h)) part e in
-    let t = part_around_contains_header h part (part_placed_is_found_part h (part_around h) part p.1) in
+    let t = part_around_contains_header h part (found_is_some_part_if_part_placed_is_ok h (part_around h) part p.1) in
     let both = and_parts (leb (start_of part) h.address) (leb (h.address + h.size) (start_of part + size_of part)) t in
     record { low = leb-true _ _ both.0; high = leb-true _ _ both.1; held = leb-true _ _ p.0 }
 
 -- ---- one segment
 
-length_of_bytes_from : (place n : ℕ) (file own : List ℕ) → bytes_from place n file ≡ Ok own → length own ≡ n
+length_of_bytes_from_is_n : (place n : ℕ) (file own : List ℕ) → bytes_from place n file ≡ Ok own → length own ≡ n
 unfolding bytes_from
-length_of_bytes_from place n file own e =
+length_of_bytes_from_is_n place n file own e =
     each_of_two_is_ok_if_bind_is_ok (bytes_at Short place file) (λ before. bytes_at Short n before.1 >>= λ x. Ok x.0) own e (λ before e0 e1.
     each_of_two_is_ok_if_bind_is_ok (bytes_at Short n before.1) (λ x. Ok x.0) own e1 (λ x e2 e3.
     let p = bytes_at_gives_parts Short n before.1 x e2 in
@@ -76,7 +76,7 @@ segment_at_is_next file last h s e =
     let a = parts_of_ok_unless (leb last h.address) Order (unless (is_protected part h.flags) Writable (Ok (segment_of_header own part h))) s e2 in
     let b = parts_of_ok_unless (is_protected part h.flags) Writable (Ok (segment_of_header own part h)) s a.1 in
     let p = header_fits_part_of h part e1 in
-    let count = length_of_bytes_from h.place h.length file own e0 in
+    let count = length_of_bytes_from_is_n h.place h.length file own e0 in
     let above = leb-true last h.address a.0 in
     let low = p.low in
     let high = p.high in

@@ -28,7 +28,7 @@ use Rattle.ir_elf.specs.Reading.{code_memory, code_words, data_bytes, table_foun
 use Rattle.ir_elf.proofs.Limits.{parts_of_ok_unless, number_is_place_if_is_place_is_true, table_parts_by, guest_of_segments_has_limits, guest_within_limits_is_guest}
 use Rattle.ir_elf.proofs.Order.{IsNext, AreOrdered, segment_of_header}
 use Rattle.ir_elf.proofs.Addresses.{parts_are_equal_if_is_same_is_true}
-use Rattle.ir_elf.proofs.Contents.{segments_at_are_ordered, is_guest_of_if_guest_read, is_guest_of_if_file_read, length_of_memory_of, greatest_size_in_code_within_part}
+use Rattle.ir_elf.proofs.Contents.{segments_at_are_ordered, is_guest_of_if_guest_read, is_guest_of_if_file_read, length_of_memory_of_is_size_of_part, greatest_size_in_code_within_part}
 
 -- ---- bytes
 
@@ -248,13 +248,13 @@ guest_table_words_are_words : (ss : List Segment) (t : TableParts) → AllByRecu
     → AllByRecursion IsWord t.words
 guest_table_words_are_words ss t have e = found_table_words_are_words (code_words ss) (table_of ss) t (λ own. table_of_is_bytes ss own have) e
 
-code_words_within_most : (n : ℕ) → n ≤ size_of Code → (n + 3) / 4 ≤ most_code_words
-code_words_within_most n h = omega (arith, h)
+quarter_rounded_up_is_at_most_most_code_words : (n : ℕ) → n ≤ size_of Code → (n + 3) / 4 ≤ most_code_words
+quarter_rounded_up_is_at_most_most_code_words n h = omega (arith, h)
 
 guest_of_segments_is_guest : (ss : List Segment) (g : Guest) → AreOrdered 0 ss → AllByRecursion HasBytes ss → guest_of ss ≡ Ok g → IsGuest g
 guest_of_segments_is_guest ss g o have e =
     let p = is_guest_of_if_guest_read ss g e in
-    let limits = guest_of_segments_has_limits ss g (code_words_within_most _ (greatest_size_in_code_within_part ss 0 o)) (greatest_held_in_memory_within_part ss 0 o) (length_of_memory_of Code ss o) e in
+    let limits = guest_of_segments_has_limits ss g (quarter_rounded_up_is_at_most_most_code_words _ (greatest_size_in_code_within_part ss 0 o)) (greatest_held_in_memory_within_part ss 0 o) (length_of_memory_of_is_size_of_part Code ss o) e in
     guest_within_limits_is_guest g limits
     (subst (λ (x : Guest). AllByRecursion IsWord x.code) p.guest
     (words_in_are_words (take (4 * code_words ss) (code_memory ss)) (take_of_bytes_is_bytes (4 * code_words ss) (code_memory ss) (memory_of_is_bytes Code ss have))))

@@ -23,14 +23,14 @@ read_words_are_words_in (w ∷ ws) (a ∷ b ∷ c ∷ d ∷ more) e h =
     let next = read_words_are_words_in ws more (omega arith) (tail_words_are_read_from_tail_bytes w ws a b c d more h) in
     rw (next, ← first) refl
 
-pub take_of_read_words_over_items_is_words_in : (room : ℕ) (own ws items : List ℕ) → length own ≡ 4 * length ws → room ≡ length ws → IsRead little_number 4 own ws
+pub take_of_read_words_before_other_items_is_words_in : (room : ℕ) (own ws items : List ℕ) → length own ≡ 4 * length ws → room ≡ length ws → IsRead little_number 4 own ws
     → take room (ws ++ drop (length ws) items) ≡ words_in own
-take_of_read_words_over_items_is_words_in room own ws items e full h =
+take_of_read_words_before_other_items_is_words_in room own ws items e full h =
     ap (λ (k : ℕ). take k (ws ++ drop (length ws) items)) full ∙ take-append_seam ws (drop (length ws) items) ∙ sym (read_words_are_words_in ws own e h)
 
-pub length_of_words_in : (own : List ℕ) → length (words_in own) ≡ length own / 4
-length_of_words_in [] = omega arith
-length_of_words_in (a ∷ []) = omega arith
-length_of_words_in (a ∷ b ∷ []) = omega arith
-length_of_words_in (a ∷ b ∷ c ∷ []) = omega arith
-length_of_words_in (a ∷ b ∷ c ∷ d ∷ more) = let next = length_of_words_in more in omega (arith, next)
+pub length_of_words_in_is_quarter_of_length : (own : List ℕ) → length (words_in own) ≡ length own / 4
+length_of_words_in_is_quarter_of_length [] = omega arith
+length_of_words_in_is_quarter_of_length (a ∷ []) = omega arith
+length_of_words_in_is_quarter_of_length (a ∷ b ∷ []) = omega arith
+length_of_words_in_is_quarter_of_length (a ∷ b ∷ c ∷ []) = omega arith
+length_of_words_in_is_quarter_of_length (a ∷ b ∷ c ∷ d ∷ more) = let next = length_of_words_in_is_quarter_of_length more in omega (arith, next)

@@ -42,8 +42,8 @@ open_after_opening_cases xs x v o = elim (cases_eq v x) [
 ]
 
 -- what was opened before, and stays so after this node
-pub stays_open_through_opening : (old xs : List Bool) (x : ℕ) → x < length xs → StaysOpen old xs → StaysOpen old (slice_set xs x true)
-stays_open_through_opening old xs x l stays v o = stays_open_after_opening xs x l v (stays v o)
+pub stays_open_after_setting_true_if_stayed_open : (old xs : List Bool) (x : ℕ) → x < length xs → StaysOpen old xs → StaysOpen old (slice_set xs x true)
+stays_open_after_setting_true_if_stayed_open old xs x l stays v o = stays_open_after_opening xs x l v (stays v o)
 
 pub open_if_element_true : (xs : List Bool) (x : ℕ) (d : Bool) → x < length xs → get_or xs x d ≡ true → IsOpen xs x
 open_if_element_true xs x d l e = slice_get-get_or xs x d l ∙ ap Some e
@@ -78,9 +78,9 @@ pub get_or_false_is_true_if_open : (xs : List Bool) (v : ℕ) → IsOpen xs v �
 get_or_false_is_true_if_open xs v o = get_or_from_slice_get xs v true false o
 
 -- what a thread goes on to stays so, where what was noted stays and nothing is shut
-pub goes_to_if_notes_kept : (leading more : Leading) (xs ys : List Bool) (v : ℕ) → Keeps leading more → StaysOpen xs ys
+pub goes_to_open_if_notes_kept_and_open_stays_open : (leading more : Leading) (xs ys : List Bool) (v : ℕ) → Keeps leading more → StaysOpen xs ys
     → GoesTo leading (IsOpen xs) v → GoesTo more (IsOpen ys) v
-goes_to_if_notes_kept leading more xs ys v kept stays g = elim g [
+goes_to_open_if_notes_kept_and_open_stays_open leading more xs ys v kept stays g = elim g [
   | inl none ↦ inl (kept v None none)
   | inr s ↦ inr (s.0, kept v (Some s.0) s.1, stays s.0 s.2)
 ]
@@ -89,7 +89,7 @@ goes_to_if_notes_kept leading more xs ys v kept stays g = elim g [
 pub followed_if_notes_kept : (leading more : BothWays) (xs : List Bool) → ((refused : Bool) → Keeps (leading refused) (more refused))
     → IsFollowed leading xs → IsFollowed more xs
 followed_if_notes_kept leading more xs kept f v o refused =
-    goes_to_if_notes_kept (leading refused) (more refused) xs xs v (kept refused) (λ w is. is) (f v o refused)
+    goes_to_open_if_notes_kept_and_open_stays_open (leading refused) (more refused) xs xs v (kept refused) (λ w is. is) (f v o refused)
 
 -- a row of nodes, once node y is opened too: it stood there shut, or is one more
 pub record Opening (xs ys : List Bool) (y : ℕ) : Type 0 where

@@ -80,15 +80,15 @@ table_stays_after_step refusals table n true next a v x is =
     subst (λ z. slice_get z v ≡ Some x) (sym a.0) (slice_get_kept_by_append refusals (record { before = n.last_refusal; entries = n.entries } ∷ []) v x is)
 
 -- the ways of a turn that goes on by one more
-ways_after_step : (refusals table : List Refusal) (n : Origin) (refused : Bool) (next : Origin) → IsAfter refusals table n refused next
+ways_after_step_end_with_its_way : (refusals table : List Refusal) (n : Origin) (refused : Bool) (next : Origin) → IsAfter refusals table n refused next
     → (ways : List Bool) → AreWaysOf refusals n ways → AreWaysOf table next (ways ++ refused ∷ [])
-ways_after_step refusals table n false next a ways (before, spelled, is) =
+ways_after_step_end_with_its_way refusals table n false next a ways (before, spelled, is) =
     subst (λ z. AreWaysOf table z (ways ++ false ∷ [])) (sym a.1) (
       before,
       ways_under_number_stay_if_table_grows refusals table (table_stays_after_step refusals table n false next a) n.last_refusal before spelled,
       ap (λ z. z ++ false ∷ []) is ∙ append_assoc before (replicate n.entries false) (false ∷ []) ∙ ap (λ z. before ++ z) (replicate_false_append_one n.entries),
     )
-ways_after_step refusals table n true next a ways (before, spelled, is) =
+ways_after_step_end_with_its_way refusals table n true next a ways (before, spelled, is) =
     let last : Refusal = record { before = n.last_refusal; entries = n.entries } in
     let at : slice_get table (length refusals) ≡ Some last =
     subst (λ z. slice_get z (length refusals) ≡ Some last) (sym a.0) (added_element_is_last refusals last) in
@@ -118,7 +118,7 @@ reached_by_after_step noted more refusals table nodes new kept stays longer v w 
     (goes_if_notes_kept (noted n.thread) (more n.thread) (length nodes) (length new) (kept n.thread) longer r.1 n.from v r.3) is less in (
       subst (λ z. BeginsAt new z next.from) (sym t.2) (subst (λ z. BeginsAt new n.level z) (sym t.0) (begins_at_if_nodes_kept nodes new stays n.level n.from r.0)),
       r.1 ++ refused ∷ [],
-      ways_after_step refusals table n refused next after r.1 r.2,
+      ways_after_step_end_with_its_way refusals table n refused next after r.1 r.2,
       subst (λ z. Goes (more z) (length new) next.from (r.1 ++ refused ∷ []) w) (sym t.1)
           (subst (λ z. Goes (more n.thread) (length new) z (r.1 ++ refused ∷ []) w) (sym t.0) goes),
     )
@@ -130,8 +130,8 @@ adds_reflexive k nodes = record {
   longer = omega arith;
 }
 
-pub adds_after_node_pushed : (k : ℕ) (old nodes : List Origin) (new : Origin) → new.level ≡ k → Adds k old nodes → Adds k old (nodes ++ new ∷ [])
-adds_after_node_pushed k old nodes new same a = record {
+pub adds_after_node_of_level_pushed : (k : ℕ) (old nodes : List Origin) (new : Origin) → new.level ≡ k → Adds k old nodes → Adds k old (nodes ++ new ∷ [])
+adds_after_node_of_level_pushed k old nodes new same a = record {
   stays = λ v n e. slice_get_kept_by_append nodes (new ∷ []) v n (a.stays v n e);
   level = λ v n l e. elim (slice_get_after_push_cases nodes new v n e) [
     | inl is ↦ a.level v n l is

@@ -31,9 +31,9 @@ replicate_append_one : (n : ℕ) → (replicate n [] ++ [] ∷ []) ≡ replicate
 replicate_append_one zero = refl
 replicate_append_one (suc n) = ap (λ z. [] ∷ z) (replicate_append_one n)
 
-pub rows_of_pushed_empty_row : (vs : List (Vec Bool)) (v : Vec Bool) (n : ℕ) → rows vs ≡ replicate n [] → v.items ≡ []
+pub rows_all_empty_after_empty_row_pushed : (vs : List (Vec Bool)) (v : Vec Bool) (n : ℕ) → rows vs ≡ replicate n [] → v.items ≡ []
     → rows (vs ++ v ∷ []) ≡ replicate (n + 1) []
-rows_of_pushed_empty_row vs v n e none =
+rows_all_empty_after_empty_row_pushed vs v n e none =
     let more : suc n ≡ n + 1 = omega arith in
     rows_of_pushed vs v ∙ ap (λ z. z ++ v.items ∷ []) e ∙ ap (λ z. replicate n [] ++ z ∷ []) none ∙ replicate_append_one n
     ∙ ap (λ z. replicate z []) more
@@ -42,6 +42,6 @@ pub length_of_rows : (vs : List (Vec Bool)) → length (rows vs) ≡ length vs
 length_of_rows [] = refl
 length_of_rows (v ∷ vs) = ap suc (length_of_rows vs)
 
-pub length_of_empty_rows : (n : ℕ) → length (replicate {A = List Bool} n []) ≡ n
-length_of_empty_rows zero = refl
-length_of_empty_rows (suc n) = ap suc (length_of_empty_rows n)
+pub length_of_replicated_empty_rows : (n : ℕ) → length (replicate {A = List Bool} n []) ≡ n
+length_of_replicated_empty_rows zero = refl
+length_of_replicated_empty_rows (suc n) = ap suc (length_of_replicated_empty_rows n)

@@ -9,8 +9,8 @@ use Rattle.ir_explore.specs.declared.origin.Refusal.{Refusal}
 use Rattle.ir_explore.specs.Following.{BothWays, Stay, IsOpen, GoesTo, IsFollowed}
 use Rattle.ir_explore.specs.TurnSoFar.{HasNode, IsTurnSoFar, IsAfter}
 use Rattle.ir_explore.specs.Origins.{BeginsAt, AreWaysUnder, Whole, IsReachedBy, AreReached, Adds}
-use Rattle.ir_explore.proofs.Opens.{goes_to_if_notes_kept, Opening, setting_shut_place_is_opening, adding_open_place_is_opening}
-use Rattle.ir_explore.proofs.Reached.{AllKept, index_of_element_is_below_length, reached_by_kept_if_notes_and_nodes_grow, reached_by_after_step, reached_if_notes_kept, reached_after_node_added, table_stays_after_step, step_keeps_from_thread_and_level, adds_reflexive, adds_after_node_pushed}
+use Rattle.ir_explore.proofs.Opens.{goes_to_open_if_notes_kept_and_open_stays_open, Opening, setting_shut_place_is_opening, adding_open_place_is_opening}
+use Rattle.ir_explore.proofs.Reached.{AllKept, index_of_element_is_below_length, reached_by_kept_if_notes_and_nodes_grow, reached_by_after_step, reached_if_notes_kept, reached_after_node_added, table_stays_after_step, step_keeps_from_thread_and_level, adds_reflexive, adds_after_node_of_level_pushed}
 
 -- what is so of either way
 pub property_of_all_bools_by_cases : (Q : Bool → Type 0) → Q false → Q true → (refused : Bool) → Q refused
@@ -117,7 +117,7 @@ turn_so_far_if_notes_kept noted more thread level opened nodes refusals hand kep
   followed = λ v is. elim (g.followed v is) [
     | inl h ↦ inl h
     | inr f ↦ inr (λ refused.
-        goes_to_if_notes_kept (noted thread refused) (more thread refused) opened opened v (kept thread refused) (λ w o. o) (f refused))
+        goes_to_open_if_notes_kept_and_open_stays_open (noted thread refused) (more thread refused) opened opened v (kept thread refused) (λ w o. o) (f refused))
   ];
   opens = g.opens;
   comes = λ i p is.
@@ -140,7 +140,7 @@ turn_so_far_after_opening noted more thread level opened row nodes new refusals 
         | inl old ↦ elim (g.followed v old) [
           | inl h ↦ inl (has_node_kept_by_append hand (next ∷ []) v h)
           | inr f ↦ inr (λ refused.
-              goes_to_if_notes_kept (noted thread refused) (more thread refused) opened row v (kept thread refused) o.stays (f refused))
+              goes_to_open_if_notes_kept_and_open_stays_open (noted thread refused) (more thread refused) opened row v (kept thread refused) o.stays (f refused))
         ]
         | inr here ↦ inl (subst (HasNode (hand ++ next ∷ [])) (sym here) (hand_has_node_of_pushed_pending hand next))
       ];
@@ -182,7 +182,7 @@ joined_nodes_are_no_fewer nodes new next j = elim j.cases [
 pub adds_nodes_of_level_if_joined : (nodes new : List Origin) (next : Pending) (level : ℕ) → Joined nodes new next → next.origin.level ≡ level → Adds level nodes new
 adds_nodes_of_level_if_joined nodes new next level j same = elim j.cases [
   | inl old ↦ subst (Adds level nodes) (sym old) (adds_reflexive level nodes)
-  | inr p ↦ subst (Adds level nodes) (sym p.1) (adds_after_node_pushed level nodes nodes next.origin same (adds_reflexive level nodes))
+  | inr p ↦ subst (Adds level nodes) (sym p.1) (adds_after_node_of_level_pushed level nodes nodes next.origin same (adds_reflexive level nodes))
 ]
 
 -- what opening a node does to the row and to the nodes

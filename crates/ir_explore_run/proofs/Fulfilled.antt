@@ -26,30 +26,30 @@ use Rattle.ir_explore_run.specs.Conditions.{first_of, seen_outcome, fulfils_each
 -- ---- the outcome of a state
 
 -- what f gives of each element
-map_is_first_of : {A B : Type 0} (f : A → B) (xs : List A) (d : A) → map f xs ≡ first_of (length xs) (λ k. f (get_or xs k d))
-map_is_first_of f [] d = refl
-map_is_first_of f (x ∷ xs) d = ap (λ z. f x ∷ z) (map_is_first_of f xs d)
+map_is_first_of_function_at_each_index : {A B : Type 0} (f : A → B) (xs : List A) (d : A) → map f xs ≡ first_of (length xs) (λ k. f (get_or xs k d))
+map_is_first_of_function_at_each_index f [] d = refl
+map_is_first_of_function_at_each_index f (x ∷ xs) d = ap (λ z. f x ∷ z) (map_is_first_of_function_at_each_index f xs d)
 
-list_is_first_of : (xs : List ℕ) → xs ≡ first_of (length xs) (λ k. get_or xs k 0)
-list_is_first_of [] = refl
-list_is_first_of (x ∷ xs) = ap (λ z. x ∷ z) (list_is_first_of xs)
+list_is_first_of_its_elements : (xs : List ℕ) → xs ≡ first_of (length xs) (λ k. get_or xs k 0)
+list_is_first_of_its_elements [] = refl
+list_is_first_of_its_elements (x ∷ xs) = ap (λ z. x ∷ z) (list_is_first_of_its_elements xs)
 
 -- the words of objects that have as many each
-object_words_are_first_of : (n : ℕ) (cells : List Cell) → ((o : ℕ) → o < length cells → length (get_or cells o empty).words ≡ n)
+object_words_are_first_of_their_elements : (n : ℕ) (cells : List Cell) → ((o : ℕ) → o < length cells → length (get_or cells o empty).words ≡ n)
     → map (λ (c : Cell). c.words) cells ≡ first_of (length cells) (λ o. first_of n (λ k. get_or (get_or cells o empty).words k 0))
-object_words_are_first_of n [] all = refl
-object_words_are_first_of n (c ∷ cells) all = λ i.
-    (list_is_first_of c.words ∙ ap (λ m. first_of m (λ k. get_or c.words k 0)) (all 0 (omega arith))) i
-    ∷ object_words_are_first_of n cells (λ o l. all (suc o) (omega (arith, l))) i
+object_words_are_first_of_their_elements n [] all = refl
+object_words_are_first_of_their_elements n (c ∷ cells) all = λ i.
+    (list_is_first_of_its_elements c.words ∙ ap (λ m. first_of m (λ k. get_or c.words k 0)) (all 0 (omega arith))) i
+    ∷ object_words_are_first_of_their_elements n cells (λ o l. all (suc o) (omega (arith, l))) i
 
 -- what threads and objects came to is their outcome as conditions see it
 pub outcome_equals_seen_outcome : (guest : Guest) (f : Flat) → length f.threads ≡ length guest.entries → length f.objects ≡ object_count guest
     → ((o : ℕ) → o < length f.objects → length (cell_of f o).words ≡ most_object_words)
     → conditions.outcome_of f ≡ seen_outcome guest (outcome_of (tables f))
 outcome_equals_seen_outcome guest f threads objects words = λ i. record {
-  ends = (map_is_first_of (λ x. x.ended) f.threads idle ∙ ap (λ n. first_of n (λ t. (thread_of f t).ended)) threads) i;
-  outputs = (map_is_first_of (λ x. x.output) f.threads idle ∙ ap (λ n. first_of n (λ t. (thread_of f t).output)) threads) i;
-  words = (object_words_are_first_of most_object_words f.objects words
+  ends = (map_is_first_of_function_at_each_index (λ x. x.ended) f.threads idle ∙ ap (λ n. first_of n (λ t. (thread_of f t).ended)) threads) i;
+  outputs = (map_is_first_of_function_at_each_index (λ x. x.output) f.threads idle ∙ ap (λ n. first_of n (λ t. (thread_of f t).output)) threads) i;
+  words = (object_words_are_first_of_their_elements most_object_words f.objects words
       ∙ ap (λ n. first_of n (λ o. first_of most_object_words (slice_index (cell_of f o).words))) objects) i;
 }
 
@@ -104,10 +104,10 @@ never_fulfils_if_none_before setup cs flats outcomes all none x is =
     ap (fulfils_each setup.guest cs) (sym h.4) ∙ none h.0 h.1 h.2 (index_of_element_is_below_length outcomes h.0 h.1 h.3.0) h.3
 
 -- before the first that does, no run of fewer switches does
-pub never_within_level_of_first : (setup : Setup) (cs : List Condition) (flats : List SourcedFlat) (outcomes : List Shown) (levels place : ℕ) (x : Shown)
+pub never_within_level_of_outcome_if_none_before_it : (setup : Setup) (cs : List Condition) (flats : List SourcedFlat) (outcomes : List Shown) (levels place : ℕ) (x : Shown)
     → AreExplored setup flats levels outcomes → slice_get outcomes place ≡ Some x → NoneBefore setup.guest cs flats outcomes place
     → NeverWithin setup cs x.level
-never_within_level_of_first setup cs flats outcomes levels place x e at none budget steps counted less =
+never_within_level_of_outcome_if_none_before_it setup cs flats outcomes levels place x e at none budget steps counted less =
     let most = e.most place x at in
     let h = e.covered (switches_by setup budget steps) (omega (arith, less, most)) budget steps counted (omega arith) in
     let few : h.1.level ≤ switches_by setup budget steps = e.fewest h.0 h.1 h.2 h.3 budget steps counted (sym h.4) in

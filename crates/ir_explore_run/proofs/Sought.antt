@@ -24,10 +24,10 @@ are_known_of_plan_if_known_at_n_switches guest plan n k a last = record {
 }
 
 -- after the last search
-pub sought_after_last_search : (guest : Guest) (plan : ExplorePlan) (cs : List Condition) (n : ℕ) (k : Known) (found : Option ℕ)
+pub is_sought_if_known_at_n_switches_and_first_found : (guest : Guest) (plan : ExplorePlan) (cs : List Condition) (n : ℕ) (k : Known) (found : Option ℕ)
     → AreKnown guest (record plan { switches = n }) k → IsFirst guest cs k.flats k.outcomes found
     → (found ≡ None → k.ended ≡ Covered → n ≡ plan.switches) → IsSought guest plan cs k found
-sought_after_last_search guest plan cs n k found a first last = record {
+is_sought_if_known_at_n_switches_and_first_found guest plan cs n k found a first last = record {
   explored = a.explored;
   reached = a.reached;
   first = first;

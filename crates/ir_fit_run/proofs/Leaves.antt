@@ -26,9 +26,9 @@ use Rattle.ir_events.specs.Events.{entry_of}
 use Rattle.ir_fit_run.specs.Positions.{IsInside, LeavesFrom, EntryLeaves, LeavesAfter, IsLeaveOf, EntersAt, IsLeaveAs, NoLeaveAs, IsFirstLeaveAs}
 
 -- a step of one run is one of each
-pub step_emits_in_each_run : (f : FittedTrace) (h : HasRun f) (t k : ℕ) (a : Label) → Emits (machine_of f) (start_of f) h.run t k a
+pub step_emits_in_each_run_if_in_one : (f : FittedTrace) (h : HasRun f) (t k : ℕ) (a : Label) → Emits (machine_of f) (start_of f) h.run t k a
     → EachRun f (λ run. Emits (machine_of f) (start_of f) run t k a)
-step_emits_in_each_run f h t k a emitted run of = (
+step_emits_in_each_run_if_in_one f h t k a emitted run of = (
   emitted.0,
   subst (λ (steps : List (thread.ThreadState × Label)). At steps k (emitted.0, a)) (trail_same_in_runs_of_trace f h.run run h.whole of t) emitted.1,
 )
@@ -85,7 +85,7 @@ pub first_listed_leave_leaves_first : (f : FittedTrace) → HasRun f → (t from
 first_listed_leave_leaves_first f h t from ls start o a v k l x first = (
   (
     (let past = x.point.1 first.number p first.from first.within in let here = first.there p in omega (arith, past, here)),
-    step_emits_in_each_run f h t k (Out o a v) emitted,
+    step_emits_in_each_run_if_in_one f h t k (Out o a v) emitted,
   ),
   λ n at.
       let other = leaving_step_is_listed f h t from ls start o a v n x at in
@@ -207,16 +207,16 @@ pub leave_is_within_thread : (f : FittedTrace) → HasRun f → (t i k : ℕ) �
     → k < (recorded_thread f.recorded t).steps
 leave_is_within_thread f h t i k l at = entry_leave_is_within_thread f h t (entry_of f t i + 1) k (event_at f.recorded t i) l at
 
-entry_leave_is_past_start : (f : FittedTrace) (t from k : ℕ) (e : Option Event) → EntryLeaves f t from e k → from ≤ k
-entry_leave_is_past_start f t from k None at = absurd at
-entry_leave_is_past_start f t from k (Some (Answer kind value)) at = absurd at
-entry_leave_is_past_start f t from k (Some (Read o v)) at = at.0
-entry_leave_is_past_start f t from k (Some (Write o v readers)) at = at.0
-entry_leave_is_past_start f t from k (Some (Try o)) at = absurd at
+entry_leave_is_at_or_after_start : (f : FittedTrace) (t from k : ℕ) (e : Option Event) → EntryLeaves f t from e k → from ≤ k
+entry_leave_is_at_or_after_start f t from k None at = absurd at
+entry_leave_is_at_or_after_start f t from k (Some (Answer kind value)) at = absurd at
+entry_leave_is_at_or_after_start f t from k (Some (Read o v)) at = at.0
+entry_leave_is_at_or_after_start f t from k (Some (Write o v readers)) at = at.0
+entry_leave_is_at_or_after_start f t from k (Some (Try o)) at = absurd at
 
 -- and is past the event
 pub leave_is_past_event : (f : FittedTrace) (t i k : ℕ) → LeavesAfter f t i k → entry_of f t i + 1 ≤ k
-leave_is_past_event f t i k at = entry_leave_is_past_start f t (entry_of f t i + 1) k (event_at f.recorded t i) at
+leave_is_past_event f t i k at = entry_leave_is_at_or_after_start f t (entry_of f t i + 1) k (event_at f.recorded t i) at
 
 -- its position fits, and one more
 pub leave_position_plus_one_fits_64_bits : (f : FittedTrace) → IsFitted f → (t i k : ℕ) → t < length f.guest.entries → LeavesAfter f t i k → k + 1 < 2 ^ 64
@@ -238,7 +238,7 @@ recorded_event_is_inside f h t i e there =
     }
 
 -- and has as many events there
-pub inside_event_is_recorded : (f : FittedTrace) → HasRun f → (t i : ℕ) → IsInside f t i → (r : Recorded) → r ≡ f.recorded → i < length (recorded_thread r t).events
-inside_event_is_recorded f h t i recorded_event_is_inside r same =
+pub inside_event_number_is_below_event_count : (f : FittedTrace) → HasRun f → (t i : ℕ) → IsInside f t i → (r : Recorded) → r ≡ f.recorded → i < length (recorded_thread r t).events
+inside_event_number_is_below_event_count f h t i recorded_event_is_inside r same =
     subst (λ (x : Recorded). i < length (recorded_thread x t).events) (sym same)
     (let long = event_positions_are_as_many_as_events f h t recorded_event_is_inside.thread in let within = recorded_event_is_inside.event in omega (arith, within, long))

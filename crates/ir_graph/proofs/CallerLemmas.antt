@@ -2,7 +2,7 @@
 -- threads beside their sources, and runs of them
 pub use Rattle.ir_graph.proofs.Full.{tables_at_end_if_full_state_at_end, answered_run_append, end_of_live_run_seen}
 -- runs of steps that concern no other thread
-pub use Rattle.ir_graph.proofs.Plain.{TakesStep, goes_plain_reflexive, goes_plain_transitive, goes_plain_by_fair_step, goes_plain_by_private_steps, takes_step_at_rest, resting_thread_is_live, like_reflexive, like_transitive, like_symmetric, flat_after_plain_steps_is_like_flat_before, flat_after_step_is_like_flat_before}
+pub use Rattle.ir_graph.proofs.Plain.{TakesStep, goes_plain_reflexive, goes_plain_transitive, goes_plain_by_fair_step, goes_plain_by_private_steps, takes_step_at_rest_if_tables_step, resting_thread_is_live, like_reflexive, like_transitive, like_symmetric, flat_after_plain_steps_is_like_flat_before, flat_after_step_is_like_flat_before}
 -- where threads lead
 pub use Rattle.ir_graph.proofs.Leads.{seen_state_is_at_rest_if_all_rest, no_seen_step_if_no_step, no_seen_step_if_done, way_leads_to_alike_node, begins_by_plain_steps}
 -- a thread that goes on alone

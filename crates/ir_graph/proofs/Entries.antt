@@ -10,27 +10,27 @@ use Rattle.ir_graph.specs.Notes.{noted_in}
 abbrev pub NotedLead : Type 0
 NotedLead = Option (Option ℕ)
 
-index_of_replicated_none_is_none : (n v : ℕ) → slice_index_or {A = NotedLead} (replicate n None) v None ≡ None
-index_of_replicated_none_is_none zero v = refl
-index_of_replicated_none_is_none (suc n) zero = refl
-index_of_replicated_none_is_none (suc n) (suc v) = index_of_replicated_none_is_none n v
+slice_index_or_of_replicated_none_is_none : (n v : ℕ) → slice_index_or {A = NotedLead} (replicate n None) v None ≡ None
+slice_index_or_of_replicated_none_is_none zero v = refl
+slice_index_or_of_replicated_none_is_none (suc n) zero = refl
+slice_index_or_of_replicated_none_is_none (suc n) (suc v) = slice_index_or_of_replicated_none_is_none n v
 
-pub index_ignores_appended_nones : (xs : List NotedLead) (n v : ℕ) → slice_index_or (xs ++ replicate n None) v None ≡ slice_index_or xs v None
-index_ignores_appended_nones [] n v = index_of_replicated_none_is_none n v
-index_ignores_appended_nones (x ∷ xs) n zero = refl
-index_ignores_appended_nones (x ∷ xs) n (suc v) = index_ignores_appended_nones xs n v
+pub slice_index_or_ignores_appended_nones : (xs : List NotedLead) (n v : ℕ) → slice_index_or (xs ++ replicate n None) v None ≡ slice_index_or xs v None
+slice_index_or_ignores_appended_nones [] n v = slice_index_or_of_replicated_none_is_none n v
+slice_index_or_ignores_appended_nones (x ∷ xs) n zero = refl
+slice_index_or_ignores_appended_nones (x ∷ xs) n (suc v) = slice_index_or_ignores_appended_nones xs n v
 
-pub index_of_set_at_own_place : (xs : List NotedLead) (i : ℕ) (x : NotedLead) → i < length xs → slice_index_or (slice_set xs i x) i None ≡ x
-index_of_set_at_own_place [] i x l = absurd (omega (arith, l))
-index_of_set_at_own_place (y ∷ xs) zero x l = refl
-index_of_set_at_own_place (y ∷ xs) (suc i) x l = index_of_set_at_own_place xs i x (omega (arith, l))
+pub slice_index_or_of_slice_set_at_same_index : (xs : List NotedLead) (i : ℕ) (x : NotedLead) → i < length xs → slice_index_or (slice_set xs i x) i None ≡ x
+slice_index_or_of_slice_set_at_same_index [] i x l = absurd (omega (arith, l))
+slice_index_or_of_slice_set_at_same_index (y ∷ xs) zero x l = refl
+slice_index_or_of_slice_set_at_same_index (y ∷ xs) (suc i) x l = slice_index_or_of_slice_set_at_same_index xs i x (omega (arith, l))
 
-pub index_of_set_at_other_place : (xs : List NotedLead) (i v : ℕ) (x : NotedLead) → (v ≡ i → ⊥) → slice_index_or (slice_set xs i x) v None ≡ slice_index_or xs v None
-index_of_set_at_other_place [] i v x other = refl
-index_of_set_at_other_place (y ∷ xs) zero zero x other = absurd (other refl)
-index_of_set_at_other_place (y ∷ xs) zero (suc v) x other = refl
-index_of_set_at_other_place (y ∷ xs) (suc i) zero x other = refl
-index_of_set_at_other_place (y ∷ xs) (suc i) (suc v) x other = index_of_set_at_other_place xs i v x (λ e. other (ap suc e))
+pub slice_index_or_of_slice_set_at_other_index : (xs : List NotedLead) (i v : ℕ) (x : NotedLead) → (v ≡ i → ⊥) → slice_index_or (slice_set xs i x) v None ≡ slice_index_or xs v None
+slice_index_or_of_slice_set_at_other_index [] i v x other = refl
+slice_index_or_of_slice_set_at_other_index (y ∷ xs) zero zero x other = absurd (other refl)
+slice_index_or_of_slice_set_at_other_index (y ∷ xs) zero (suc v) x other = refl
+slice_index_or_of_slice_set_at_other_index (y ∷ xs) (suc i) zero x other = refl
+slice_index_or_of_slice_set_at_other_index (y ∷ xs) (suc i) (suc v) x other = slice_index_or_of_slice_set_at_other_index xs i v x (λ e. other (ap suc e))
 
 pub noted_in_is_row_element : (rows : List (Vec NotedLead)) (t v : ℕ) (d : Vec NotedLead) → t < length rows
     → noted_in rows t v ≡ slice_index_or (slice_index_or rows t d).items v None
@@ -78,10 +78,10 @@ notes_kept_if_place_free old new i node next fresh only t v to is = elim (only t
 ]
 
 -- an element within does not hang on what stands for one that isn't
-pub index_within_ignores_default : (xs : List NotedLead) (i : ℕ) (d d' : NotedLead) → i < length xs → slice_index_or xs i d ≡ slice_index_or xs i d'
-index_within_ignores_default [] i d d' l = absurd (omega (arith, l))
-index_within_ignores_default (x ∷ xs) zero d d' l = refl
-index_within_ignores_default (x ∷ xs) (suc i) d d' l = index_within_ignores_default xs i d d' (omega (arith, l))
+pub slice_index_or_below_length_ignores_default : (xs : List NotedLead) (i : ℕ) (d d' : NotedLead) → i < length xs → slice_index_or xs i d ≡ slice_index_or xs i d'
+slice_index_or_below_length_ignores_default [] i d d' l = absurd (omega (arith, l))
+slice_index_or_below_length_ignores_default (x ∷ xs) zero d d' l = refl
+slice_index_or_below_length_ignores_default (x ∷ xs) (suc i) d d' l = slice_index_or_below_length_ignores_default xs i d d' (omega (arith, l))
 
 pub noted_in_set_row_is_its_element : (rows : List (Vec NotedLead)) (i : ℕ) (w : Vec NotedLead) (node : ℕ) (x : NotedLead) → i < length rows
     → slice_index_or w.items node None ≡ x → noted_in (slice_set rows i w) i node ≡ x

@@ -27,13 +27,13 @@ pub start_threads_have_form : (guest : Guest) (budget : ℕ) (profile : Profile)
 start_threads_have_form guest budget profile from zero = tt
 start_threads_have_form guest budget profile from (suc n) = (refl, start_threads_have_form guest budget profile (suc from) n)
 
-length_of_range : (a n : ℕ) → length (range_with_len a n) ≡ n
-length_of_range a zero = refl
-length_of_range a (suc n) = ap suc (length_of_range (a + 1) n)
+length_of_range_with_len : (a n : ℕ) → length (range_with_len a n) ≡ n
+length_of_range_with_len a zero = refl
+length_of_range_with_len a (suc n) = ap suc (length_of_range_with_len (a + 1) n)
 
 -- at the start each thread has a source
 pub start_has_source_for_each_thread : (x : Setup) → length (start_of x).sources ≡ length (start_of x).flat.threads
 start_has_source_for_each_thread x =
     length_of_map (λ t. source (seed_of x.random t) x.input) (range_with_len 0 (length x.guest.entries))
-    ∙ length_of_range 0 (length x.guest.entries)
+    ∙ length_of_range_with_len 0 (length x.guest.entries)
     ∙ sym (length_of_start_threads x.guest most_budget x.profile 0 (length x.guest.entries))

@@ -38,9 +38,9 @@ are_nodes_after_node_added states new nodes each like rest = record {
   ];
 }
 
-pub new_node_looks_alike : (states : List SourcedFlat) (new s : SourcedFlat) (w : ℕ) → w ≡ length states → slice_get (states ++ new ∷ []) w ≡ Some s
+pub state_looks_alike_to_node_pushed_for_it : (states : List SourcedFlat) (new s : SourcedFlat) (w : ℕ) → w ≡ length states → slice_get (states ++ new ∷ []) w ≡ Some s
     → LookAlike new s
-new_node_looks_alike states new s w here is = elim (slice_get_after_push_cases states new w s is) [
+state_looks_alike_to_node_pushed_for_it states new s w here is = elim (slice_get_after_push_cases states new w s is) [
   | inl old ↦ absurd (let l = index_of_element_is_below_length states w s old in omega (arith, l, here))
   | inr p ↦ subst (LookAlike new) p.1 (look_alike_reflexive new)
 ]

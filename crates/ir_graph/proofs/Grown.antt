@@ -112,13 +112,13 @@ is_graph_after_nodes_added x flats new noted threads g stay nodes reached more =
 }
 
 -- one more was noted, at most
-pub is_graph_after_note : (x : Setup) (flats : List SourcedFlat) (old new : ℕ → BothWays) (threads thread : ℕ) (way : Bool)
+pub is_graph_after_one_note_added : (x : Setup) (flats : List SourcedFlat) (old new : ℕ → BothWays) (threads thread : ℕ) (way : Bool)
     (node : ℕ) (to : Option ℕ) → IsGraph x flats old threads
     → ((t : ℕ) (refused : Bool) (v : ℕ) → (new t refused v ≡ old t refused v)
     ⊎ ((t ≡ thread) × (refused ≡ way) × (v ≡ node) × (new t refused v ≡ Some to)))
     → old thread way node ≡ None → node < length flats → ((w : ℕ) → to ≡ Some w → w < length flats) → LeadsFrom flats thread way node to
     → IsGraph x flats new threads
-is_graph_after_note x flats old new threads thread way node to g only fresh inside within leads = record {
+is_graph_after_one_note_added x flats old new threads thread way node to g only fresh inside within leads = record {
   nodes = g.nodes;
   some = g.some;
   number = g.number;
@@ -155,16 +155,16 @@ is_graph_after_note x flats old new threads thread way node to g only fresh insi
     was t refused v a b c = (λ i. old (a i) (b i) (c i)) ∙ fresh
 
 -- so is a graph that has grown, once more is noted of the rows of its ways
-pub is_graph_after_way_noted : (x : Setup) (old flats : List SourcedFlat) (rows refused_rows new tries : List (Vec (Option (Option ℕ))))
+pub is_graph_after_nodes_and_one_note_added : (x : Setup) (old flats : List SourcedFlat) (rows refused_rows new tries : List (Vec (Option (Option ℕ))))
     (thread : ℕ) (way : Bool) (node : ℕ) (to : Option ℕ) → IsGraph x old (noted_by rows refused_rows) (length rows) → Stay old flats
     → AreNodes flats → AllReached x flats → length old ≤ length flats
     → ((t : ℕ) (refused : Bool) (v : ℕ) → (noted_by new tries t refused v ≡ noted_by rows refused_rows t refused v)
     ⊎ ((t ≡ thread) × (refused ≡ way) × (v ≡ node) × (noted_by new tries t refused v ≡ Some to)))
     → length new ≡ length rows → noted_by rows refused_rows thread way node ≡ None → node < length old → ((w : ℕ) → to ≡ Some w → w < length flats)
     → LeadsFrom flats thread way node to → IsGraph x flats (noted_by new tries) (length new)
-is_graph_after_way_noted x old flats rows refused_rows new tries thread way node to g stay nodes reached grown only same fresh inside within leads =
+is_graph_after_nodes_and_one_note_added x old flats rows refused_rows new tries thread way node to g stay nodes reached grown only same fresh inside within leads =
     subst (IsGraph x flats (noted_by new tries)) (sym same)
-    (is_graph_after_note x flats (noted_by rows refused_rows) (noted_by new tries) (length rows) thread way node to
+    (is_graph_after_one_note_added x flats (noted_by rows refused_rows) (noted_by new tries) (length rows) thread way node to
     (is_graph_after_nodes_added x old flats (noted_by rows refused_rows) (length rows) g stay nodes reached grown) only fresh
     (omega (arith, inside, grown)) within leads)
 

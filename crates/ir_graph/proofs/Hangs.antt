@@ -18,7 +18,7 @@ use Rattle.ir_states.specs.Counting.{Answers, IsAnswered, Counts, entering}
 use Rattle.ir_states.specs.Nodes.{TellsNothing, Path}
 use Rattle.ir_states.specs.Outcomes.{switches, IsFinished, HasWay}
 use Rattle.ir_states.specs.Views.{beside}
-use Rattle.ir_states.proofs.CallerLemmas.{Completes, back, finds, found, is_done_from_alike_state, unspoilt_run_is_live, unspoilt_after_live_run, looks_alike, real_seen, seen_good, sourced_counts, sourced_entering, sourced_machine_is_lawful, sourced_live}
+use Rattle.ir_states.proofs.CallerLemmas.{Completes, back, finds, found, is_done_from_alike_state, run_is_live_if_its_end_is_unspoilt, state_stays_unspoilt_after_live_run, looks_alike, real_seen, seen_good, sourced_counts, sourced_entering, sourced_machine_is_lawful, sourced_live}
 use Rattle.ir_thread.specs.State.{most_budget, thread_machine}
 use Rattle.ir_thread.specs.State as thread
 use Rattle.ir_sources.specs.Sources.{Source, given}
@@ -38,11 +38,11 @@ use Rattle.ir_graph.proofs.Listed.{flat_of, state_of, at, code_at, seen_done, re
 use Rattle.ir_graph.proofs.Reached.{answered_run_is_run}
 
 -- runs that count go on alike from alike states
-counting_run_from_alike_state : {T : Type 0} (m : Machine T) (answers : Answers T) (Alike : State T → State T → Type 0) → TellsNothing m answers Alike
+counts_from_alike_state_to_alike_end : {T : Type 0} (m : Machine T) (answers : Answers T) (Alike : State T → State T → Type 0) → TellsNothing m answers Alike
     → (s v : State T) → Alike s v → (run : List Step) → Counts m answers s run → Counts m answers v run × Alike (end m s run) (end m v run)
-counting_run_from_alike_state m answers Alike tells s v alike [] counts = (tt, alike)
-counting_run_from_alike_state m answers Alike tells s v alike (e ∷ run) counts =
-    let more = counting_run_from_alike_state m answers Alike tells (after m s e) (after m v e) (tells.steps s v alike e counts.0.0) run counts.1 in (
+counts_from_alike_state_to_alike_end m answers Alike tells s v alike [] counts = (tt, alike)
+counts_from_alike_state_to_alike_end m answers Alike tells s v alike (e ∷ run) counts =
+    let more = counts_from_alike_state_to_alike_end m answers Alike tells (after m s e) (after m v e) (tells.steps s v alike e counts.0.0) run counts.1 in (
       (
         (
           tells.can s v alike e counts.0.0,
@@ -57,20 +57,20 @@ counting_run_from_alike_state m answers Alike tells s v alike (e ∷ run) counts
 completes_from_alike_state : {T : Type 0} (m : Machine T) (answers : Answers T) (Alike : State T → State T → Type 0) → TellsNothing m answers Alike
     → (s v : State T) → Alike s v → Completes m answers s → Completes m answers v
 completes_from_alike_state m answers Alike tells s v alike (more, counts, done) =
-    let k = counting_run_from_alike_state m answers Alike tells s v alike more counts in
+    let k = counts_from_alike_state_to_alike_end m answers Alike tells s v alike more counts in
     (more, k.0, is_done_from_alike_state m answers Alike tells (end m s more) (end m v more) k.1 done)
 
-suffix_counts_after_prefix : {T : Type 0} (m : Machine T) (answers : Answers T) (s : State T) (run more : List Step) → Counts m answers s (run ++ more)
+suffix_counts_from_end_of_prefix_if_append_counts : {T : Type 0} (m : Machine T) (answers : Answers T) (s : State T) (run more : List Step) → Counts m answers s (run ++ more)
     → Counts m answers (end m s run) more
-suffix_counts_after_prefix m answers s [] more counts = counts
-suffix_counts_after_prefix m answers s (e ∷ run) more counts = suffix_counts_after_prefix m answers (after m s e) run more counts.1
+suffix_counts_from_end_of_prefix_if_append_counts m answers s [] more counts = counts
+suffix_counts_from_end_of_prefix_if_append_counts m answers s (e ∷ run) more counts = suffix_counts_from_end_of_prefix_if_append_counts m answers (after m s e) run more counts.1
 
 -- an answered run counts
 pub answered_run_is_counting : (x : Setup) (steps : List Step) → IsAnsweredRun x.guest.code (beginning x) steps → IsCounting x most_budget steps
 answered_run_is_counting x steps a = record {
   runs = answered_run_is_run x.guest.code (beginning x) steps a;
   answered = ((sourced_counts (thread_machine x.guest.code) given (beginning x) steps).0 a.0).1;
-  unspoilt = unspoilt_after_live_run (thread_machine x.guest.code) (IsLive x.guest.code) (IsSpoilt x.guest.code) (thread_is_live_or_next_step_spoils_it x.guest.code)
+  unspoilt = state_stays_unspoilt_after_live_run (thread_machine x.guest.code) (IsLive x.guest.code) (IsSpoilt x.guest.code) (thread_is_live_or_next_step_spoils_it x.guest.code)
       (tables (start_of x).flat) steps (live_run_of_threads x.guest.code (beginning x) steps a.1) (start_state_is_unspoilt x.guest most_budget x.profile);
 }
 
@@ -84,7 +84,7 @@ counting_run_counts_as_seen x budget steps c =
     let s : State thread.ThreadState = tables (start_flat x.guest budget x.profile) in
     let full : State (thread.ThreadState × Source) = beside (tables (start_flat x.guest budget x.profile)) (first_source x) in
     let live = sourced_live m given (IsLive x.guest.code) full steps
-    (unspoilt_run_is_live m (IsLive x.guest.code) (IsSpoilt x.guest.code) (thread_is_live_or_next_step_spoils_it x.guest.code) s steps c.unspoilt) in
+    (run_is_live_if_its_end_is_unspoilt m (IsLive x.guest.code) (IsSpoilt x.guest.code) (thread_is_live_or_next_step_spoils_it x.guest.code) s steps c.unspoilt) in
     let one = sourced_counts m given full steps in
     let two = counts_of_live_run_seen x.guest.code full steps live (one.1 (c.runs, c.answered)) in
     let order = entering_of_live_run_seen x.guest.code full steps live ∙ sourced_entering m given full steps in (
@@ -111,7 +111,7 @@ hang_never_completes x budget steps h most more c =
     (start_view_ignores_budget x.guest most 1 x.profile) r.1 in
     h.1 (
       more,
-      suffix_counts_after_prefix m (answered_by x.guest.code) start steps more counts,
+      suffix_counts_from_end_of_prefix_if_append_counts m (answered_by x.guest.code) start steps more counts,
       subst (IsDone (seen_by x.guest.code)) (end_append m start steps more) done,
     )
 

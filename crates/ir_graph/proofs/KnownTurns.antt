@@ -47,9 +47,9 @@ pub listed_turn_is_turn : (code : List ℕ) (shared : Shared) (turns : List Turn
     → slice_get turns i ≡ Some turn → IsTurn code shared turn
 listed_turn_is_turn code shared turns i turn all at = slice_get_element_satisfies_all_by_recursion (IsTurn code shared) turns i turn all at
 
-pub are_turns_after_turn_added : (code : List ℕ) (shared : Shared) (turns new : List Turn) (turn : Turn) → AreTurns code shared turns
+pub are_turns_if_unchanged_or_turn_pushed : (code : List ℕ) (shared : Shared) (turns new : List Turn) (turn : Turn) → AreTurns code shared turns
     → IsTurn code shared turn → (new ≡ turns) ⊎ (new ≡ turns ++ turn ∷ []) → AreTurns code shared new
-are_turns_after_turn_added code shared turns new turn all is either = elim either [
+are_turns_if_unchanged_or_turn_pushed code shared turns new turn all is either = elim either [
   | inl e ↦ subst (AreTurns code shared) (sym e) all
   | inr e ↦ subst (AreTurns code shared) (sym e) (all_by_recursion_after_push (IsTurn code shared) turns turn all is)
 ]

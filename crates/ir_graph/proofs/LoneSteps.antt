@@ -39,31 +39,31 @@ with_thread_is_with_thread_and_same_object : (f : Flat) (t o : ℕ) (y : ThreadS
 with_thread_is_with_thread_and_same_object f t o y i = record { code = f.code; threads = set f.threads t y; objects = sym (set-get_or f.objects o empty) i }
 
 -- a step that is about one object changes the thread and that object alone
-pub next_changes_thread_and_object : (f : Flat) (t o : ℕ) (refused : Bool) (source : Source) (q : Ask) → IsAbout o q
+pub next_is_with_thread_and_object_if_ask_is_about_it : (f : Flat) (t o : ℕ) (refused : Bool) (source : Source) (q : Ask) → IsAbout o q
     → next f t (result_of refused q source) q
     ≡ with_thread_and_object f t (after_ask f.code (thread_of f t) q (answer_from refused (cell_of f o) source q)) o (cell_after refused (cell_of f o) q)
-next_changes_thread_and_object f t o refused source ask.Private h = with_thread_is_with_thread_and_same_object f t o (after_ask f.code (thread_of f t) ask.Private Go)
-next_changes_thread_and_object f t o refused source (ask.Env kind) h =
+next_is_with_thread_and_object_if_ask_is_about_it f t o refused source ask.Private h = with_thread_is_with_thread_and_same_object f t o (after_ask f.code (thread_of f t) ask.Private Go)
+next_is_with_thread_and_object_if_ask_is_about_it f t o refused source (ask.Env kind) h =
     with_thread_is_with_thread_and_same_object f t o (after_ask f.code (thread_of f t) (ask.Env kind) (Value (given kind source).0))
-next_changes_thread_and_object f t o refused source (ask.Enter p access) h =
+next_is_with_thread_and_object_if_ask_is_about_it f t o refused source (ask.Enter p access) h =
     ap (λ z. with_thread_and_object f t (after_ask f.code (thread_of f t) (ask.Enter p access) Go) z
     (record (cell_of f z) { fields = entered access (cell_of f z).fields })) h
-next_changes_thread_and_object f t o true source (ask.Try p) h = with_thread_is_with_thread_and_same_object f t o (after_ask f.code (thread_of f t) (ask.Try p) (Value 0))
-next_changes_thread_and_object f t o false source (ask.Try p) h =
+next_is_with_thread_and_object_if_ask_is_about_it f t o true source (ask.Try p) h = with_thread_is_with_thread_and_same_object f t o (after_ask f.code (thread_of f t) (ask.Try p) (Value 0))
+next_is_with_thread_and_object_if_ask_is_about_it f t o false source (ask.Try p) h =
     ap (λ z. with_thread_and_object f t (after_ask f.code (thread_of f t) (ask.Try p) (Value 1)) z
     (record (cell_of f z) { fields = entered Writing (cell_of f z).fields })) h
-next_changes_thread_and_object f t o refused source (ask.Leave p access) h =
+next_is_with_thread_and_object_if_ask_is_about_it f t o refused source (ask.Leave p access) h =
     ap (λ z. with_thread_and_object f t (after_ask f.code (thread_of f t) (ask.Leave p access) Go) z
     (record (cell_of f z) { fields = left_by access (cell_of f z).fields })) h
-next_changes_thread_and_object f t o refused source (ask.Get p index) h =
+next_is_with_thread_and_object_if_ask_is_about_it f t o refused source (ask.Get p index) h =
     ap (λ z. with_thread f t (after_ask f.code (thread_of f t) (ask.Get p index) (answer_from refused (cell_of f z) source (ask.Get p index)))) h
     ∙ with_thread_is_with_thread_and_same_object f t o (after_ask f.code (thread_of f t) (ask.Get p index) (answer_from refused (cell_of f o) source (ask.Get p index)))
-next_changes_thread_and_object f t o refused source (ask.Put p index value) h =
+next_is_with_thread_and_object_if_ask_is_about_it f t o refused source (ask.Put p index value) h =
     ap (λ z. with_thread_and_object f t (after_ask f.code (thread_of f t) (ask.Put p index value) Go) z
     (record (cell_of f z) { words = slice_set (cell_of f z).words index value })) h
-next_changes_thread_and_object f t o refused source ask.Print h = with_thread_is_with_thread_and_same_object f t o (after_ask f.code (thread_of f t) ask.Print Go)
-next_changes_thread_and_object f t o refused source (ask.End e) h = with_thread_is_with_thread_and_same_object f t o (after_ask f.code (thread_of f t) (ask.End e) Go)
-next_changes_thread_and_object f t o refused source ask.Done h = absurd h
+next_is_with_thread_and_object_if_ask_is_about_it f t o refused source ask.Print h = with_thread_is_with_thread_and_same_object f t o (after_ask f.code (thread_of f t) ask.Print Go)
+next_is_with_thread_and_object_if_ask_is_about_it f t o refused source (ask.End e) h = with_thread_is_with_thread_and_same_object f t o (after_ask f.code (thread_of f t) (ask.End e) Go)
+next_is_with_thread_and_object_if_ask_is_about_it f t o refused source ask.Done h = absurd h
 
 with_own_turn_changes_nothing : (s : SourcedFlat) (t o : ℕ) → with_turn s t (sourced_thread s t) o (cell_of s.flat o) ≡ s
 with_own_turn_changes_nothing s t o i = record {
@@ -143,7 +143,7 @@ module _ (s : SourcedFlat) (t o : ℕ) (refused : Bool) (state : IsSourced s) (l
       let f = s.flat in
       let q = ask_of f.code (thread_of f t) in
       let r = result_of refused q (source_of s t) in
-      let made : next f t r q ≡ after_lone_step.flat = next_changes_thread_and_object f t o refused (source_of s t) q about in
+      let made : next f t r q ≡ after_lone_step.flat = next_is_with_thread_and_object_if_ask_is_about_it f t o refused (source_of s t) q about in
       let each : t < length s.sources = (let a = state.each in omega (arith, a, less)) in
       record {
         state = record {
@@ -355,7 +355,7 @@ are_beside_after_ask code o refused x source c asks b is about may =
     record {
       flat = g;
       thread = t;
-      is = subst IsFlat (next_changes_thread_and_object f t o refused source q (subst (IsAbout o) (sym same) about))
+      is = subst IsFlat (next_is_with_thread_and_object_if_ask_is_about_it f t o refused source q (subst (IsAbout o) (sym same) about))
           (next_is_flat f t (result_of refused q source) q refl b.is b.has_thread
           (subst (λ z. MayStep f (result_of refused z source) z) (sym same) (may f b.there)));
       runs = b.runs;

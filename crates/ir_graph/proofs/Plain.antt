@@ -35,10 +35,10 @@ pub record TakesStep (s u : SourcedFlat) (t r : ℕ) : Type 0 where
   pub sources : length u.sources ≡ length s.sources
 
 -- the state after it, each thread beside its source
-pub full_after_step : (s u : SourcedFlat) (t r : ℕ) → tables u.flat ≡ after (machine s.flat) (tables s.flat) (t, r)
+pub full_of_is_after_step_if_tables_and_sources_are : (s u : SourcedFlat) (t r : ℕ) → tables u.flat ≡ after (machine s.flat) (tables s.flat) (t, r)
     → source_of u ≡ upd (source_of s) t (left_of given (shared_ask (ask_of s.flat.code (thread_of s.flat t))) (source_of s t))
     → full_of u ≡ after (full_by s.flat.code) (full_of s) (t, r)
-full_after_step s u t r is left =
+full_of_is_after_step_if_tables_and_sources_are s u t r is left =
     ap (λ z. beside z (source_of u)) is
     ∙ ap (beside (after (machine s.flat) (tables s.flat) (t, r))) left
     ∙ sym (sourced_step_is_step_beside_updated_sources (machine s.flat) given (tables s.flat) (source_of s) (t, r))
@@ -124,12 +124,12 @@ rest_ask_is_answered_by_any_result ask.Done answer r h = tt
 -- ---- steps of a guest's state
 
 -- a thread that rests takes a step, which leaves the sources
-pub takes_step_at_rest : (f g : Flat) (sources : List Source) (t r : ℕ) → Rests (ask_of f.code (thread_of f t)) → Can (machine f) (tables f) (t, r)
+pub takes_step_at_rest_if_tables_step : (f g : Flat) (sources : List Source) (t r : ℕ) → Rests (ask_of f.code (thread_of f t)) → Can (machine f) (tables f) (t, r)
     → tables g ≡ after (machine f) (tables f) (t, r) → g.code ≡ f.code → length g.threads ≡ length f.threads
     → length g.objects ≡ length f.objects → TakesStep (sourced_flat f sources) (sourced_flat g sources) t r
-takes_step_at_rest f g sources t r rests can is code threads objects = record {
+takes_step_at_rest_if_tables_step f g sources t r rests can is code threads objects = record {
   can = can;
-  is = full_after_step (sourced_flat f sources) (sourced_flat g sources) t r is
+  is = full_of_is_after_step_if_tables_and_sources_are (sourced_flat f sources) (sourced_flat g sources) t r is
       (sym (upd_with_old_value (source_of (sourced_flat f sources)) t
       (left_of given (shared_ask (ask_of f.code (thread_of f t))) (source_of (sourced_flat f sources) t))
       (sym (rest_ask_keeps_source (ask_of f.code (thread_of f t)) (source_of (sourced_flat f sources) t) rests))));
@@ -140,14 +140,14 @@ takes_step_at_rest f g sources t r rests can is code threads objects = record {
 }
 
 -- a thread takes a step, which leaves this of its source
-pub takes_step_beside_source : (f g : Flat) (sources : List Source) (a : Source) (t r : ℕ) → t < length sources → Can (machine f) (tables f) (t, r)
+pub takes_step_beside_source_if_tables_step : (f g : Flat) (sources : List Source) (a : Source) (t r : ℕ) → t < length sources → Can (machine f) (tables f) (t, r)
     → tables g ≡ after (machine f) (tables f) (t, r)
     → a ≡ left_of given (shared_ask (ask_of f.code (thread_of f t))) (source_of (sourced_flat f sources) t)
     → g.code ≡ f.code → length g.threads ≡ length f.threads → length g.objects ≡ length f.objects
     → TakesStep (sourced_flat f sources) (sourced_flat g (set sources t a)) t r
-takes_step_beside_source f g sources a t r less can is left code threads objects = record {
+takes_step_beside_source_if_tables_step f g sources a t r less can is left code threads objects = record {
   can = can;
-  is = full_after_step (sourced_flat f sources) (sourced_flat g (set sources t a)) t r is
+  is = full_of_is_after_step_if_tables_and_sources_are (sourced_flat f sources) (sourced_flat g (set sources t a)) t r is
       (lookup_after_source_set_is_upd sources t a less ∙ ap (upd (source_of (sourced_flat f sources)) t) left);
   code = code;
   threads = threads;

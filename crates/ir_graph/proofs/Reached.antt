@@ -4,7 +4,7 @@ use Rattle.ir_explore.proofs.CallerLemmas.{slice_get_after_push_cases}
 use Rattle.ir_runs.specs.Run.{State, Step, end, IsRun, IsDone}
 use Rattle.ir_runs.proofs.CallerLemmas.{end_append}
 use Rattle.ir_states.specs.Sources.{plain}
-use Rattle.ir_states.proofs.CallerLemmas.{sourced_counts, unspoilt_after_live_run}
+use Rattle.ir_states.proofs.CallerLemmas.{sourced_counts, state_stays_unspoilt_after_live_run}
 use Rattle.ir_thread.specs.State.{ThreadState, ask_of, most_budget, thread_machine}
 use Rattle.ir_sources.specs.Sources.{Source, given}
 use Rattle.ir_seen.specs.Seen.{IsLive, IsSpoilt}
@@ -27,7 +27,7 @@ pub done_answered_run_is_counted : (x : Setup) (steps : List Step) → IsAnswere
 done_answered_run_is_counted x steps a done = record {
   complete = (answered_run_is_run x.guest.code (beginning x) steps a, done);
   answered = ((sourced_counts (thread_machine x.guest.code) given (beginning x) steps).0 a.0).1;
-  unspoilt = unspoilt_after_live_run (thread_machine x.guest.code) (IsLive x.guest.code) (IsSpoilt x.guest.code) (thread_is_live_or_next_step_spoils_it x.guest.code)
+  unspoilt = state_stays_unspoilt_after_live_run (thread_machine x.guest.code) (IsLive x.guest.code) (IsSpoilt x.guest.code) (thread_is_live_or_next_step_spoils_it x.guest.code)
       (tables (start_of x).flat) steps (live_run_of_threads x.guest.code (beginning x) steps a.1) (start_state_is_unspoilt x.guest most_budget x.profile);
 }
 

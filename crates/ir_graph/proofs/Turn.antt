@@ -21,7 +21,7 @@ use Rattle.ir_graph.specs.Plain.{full_by, sources_by, full_of, sourced_flat, IsA
 use Rattle.ir_graph.specs.Turn.{EachTries, GoesAlone, ways_taken}
 use Rattle.ir_graph.proofs.Full.{answered_run_append, plain_run_is_answered}
 use Rattle.ir_graph.proofs.Leads.{is_refusal_of_act_equals_its_way}
-use Rattle.ir_graph.proofs.Plain.{takes_step_at_rest, step_at_rest_is_answered_run, rest_ask_is_not_own, TakesStep, fair_step_is_plain_run, private_steps_are_plain_run, flat_after_run_is_like_flat_before}
+use Rattle.ir_graph.proofs.Plain.{takes_step_at_rest_if_tables_step, step_at_rest_is_answered_run, rest_ask_is_not_own, TakesStep, fair_step_is_plain_run, private_steps_are_plain_run, flat_after_run_is_like_flat_before}
 
 replicate_of_sum : {A : Type 0} (x : A) (n k : ℕ) → replicate (n + k) x ≡ replicate n x ++ replicate k x
 replicate_of_sum x zero k = let e : zero + k ≡ k = omega arith in ap (λ z. replicate z x) e
@@ -177,7 +177,7 @@ pub goes_alone_by_entry : (f g : Flat) (sources : List Source) (t : ℕ) (refuse
 goes_alone_by_entry f g sources t refused rests may can is code threads objects =
     let s = sourced_flat f sources in
     let u = sourced_flat g sources in
-    let step = takes_step_at_rest f g sources t (result_by refused) rests can is code threads objects in record {
+    let step = takes_step_at_rest_if_tables_step f g sources t (result_by refused) rests can is code threads objects in record {
       run = (t, result_by refused) ∷ [];
       many = refl;
       alone = (refl, tt);

@@ -50,11 +50,11 @@ threads_of_appended_run : (run more : List Step) → map (λ (e : Step). e.0) (r
 threads_of_appended_run [] more = refl
 threads_of_appended_run (e ∷ run) more = ap (λ z. e.0 ∷ z) (threads_of_appended_run run more)
 
-threads_of_appended_turns : (turns : List Turn) (t : ℕ) (refused : Bool) (n : ℕ)
+threads_of_turns_append_replicate : (turns : List Turn) (t : ℕ) (refused : Bool) (n : ℕ)
     → map (λ (u : Turn). u.0) (turns ++ replicate n (t, refused)) ≡ map (λ (u : Turn). u.0) turns ++ replicate n t
-threads_of_appended_turns [] t refused zero = refl
-threads_of_appended_turns [] t refused (suc n) = ap (λ z. t ∷ z) (threads_of_appended_turns [] t refused n)
-threads_of_appended_turns (u ∷ turns) t refused n = ap (λ z. u.0 ∷ z) (threads_of_appended_turns turns t refused n)
+threads_of_turns_append_replicate [] t refused zero = refl
+threads_of_turns_append_replicate [] t refused (suc n) = ap (λ z. t ∷ z) (threads_of_turns_append_replicate [] t refused n)
+threads_of_turns_append_replicate (u ∷ turns) t refused n = ap (λ z. u.0 ∷ z) (threads_of_turns_append_replicate turns t refused n)
 
 -- the start is a run of no step
 pub start_is_again_by_no_turns : (setup : Setup) → IsAgain setup [] [] (start_of setup)
@@ -96,7 +96,7 @@ is_again_after_going_alone setup turns before s u t refused n e a goes =
       in_turns = in_turns_append (full_by code) first turns (replicate n (t, refused)) a.steps goes.run a.in_turns in_turns;
       taken = threads_of_appended_run a.steps goes.run
           ∙ (λ i. a.taken i ++ (threads_of_alone_run_are_replicated_thread t goes.run goes.alone ∙ ap (λ k. replicate k t) goes.many) i)
-          ∙ sym (threads_of_appended_turns turns t refused n);
+          ∙ sym (threads_of_turns_append_replicate turns t refused n);
       ends = ends;
       goes = ways_taken-append (full_by code) first a.steps goes.run ∙ (λ i. a.goes i ++ late i);
       each = goes.sources ∙ a.each ∙ sym goes.threads;

@@ -97,9 +97,9 @@ view_after_ask_ignores_earlier_view code s ask.Print r = ap (λ p. view (record 
 view_after_ask_ignores_earlier_view code s (ask.End e) r = refl
 view_after_ask_ignores_earlier_view code s ask.Done r = refl
 
-seen_take_is_view_of_take : (code : List ℕ) (s : ThreadState) → IsLive code s → (r : ℕ) → (seen_machine code).take (view s) r ≡ view ((thread_machine code).take s r)
+seen_take_is_view_of_take_if_live : (code : List ℕ) (s : ThreadState) → IsLive code s → (r : ℕ) → (seen_machine code).take (view s) r ≡ view ((thread_machine code).take s r)
 unfolding after_reply
-seen_take_is_view_of_take code s live r =
+seen_take_is_view_of_take_if_live code s live r =
     ap (λ q. view (after_ask code (view s) q (reply_of q r))) live ∙ view_after_ask_ignores_earlier_view code s (ask_of code s) (reply_of (ask_of code s) r)
 
 -- who asks nothing has ended
@@ -134,7 +134,7 @@ done_iff_view_done code s = by s.ended refl
 pub seen_machine_is_view : (code : List ℕ) → IsView (thread_machine code) (seen_machine code) view (IsLive code)
 seen_machine_is_view code = record {
   asks = λ s live. ap shared_ask live;
-  takes = seen_take_is_view_of_take code;
+  takes = seen_take_is_view_of_take_if_live code;
   fits = refl;
   done = done_iff_view_done code;
 }
@@ -250,17 +250,17 @@ fair_end_spoils_nothing code s e r f (inl h) = fair_end_is_no_spent_budget e f (
 fair_end_spoils_nothing code s e r f (inr h) = fair_end_is_no_full_log e f (ap recorded_end_number h)
 
 -- a step that ends fairly leaves a thread's end, or gives it one that spoils nothing
-fair_step_spoils_nothing : (code : List ℕ) (s : ThreadState) (q : Ask) (r : Reply) → EndsFair q → IsSpoilt code (after_ask code s q r) → IsSpoilt code s
-fair_step_spoils_nothing code s ask.Private r f h = h
-fair_step_spoils_nothing code s (ask.Env kind) r f h = h
-fair_step_spoils_nothing code s (ask.Enter object access) r f h = h
-fair_step_spoils_nothing code s (ask.Try object) r f h = h
-fair_step_spoils_nothing code s (ask.Leave object access) r f h = h
-fair_step_spoils_nothing code s (ask.Get object index) r f h = h
-fair_step_spoils_nothing code s (ask.Put object index value) r f h = h
-fair_step_spoils_nothing code s ask.Print r f h = h
-fair_step_spoils_nothing code s (ask.End e) r f h = absurd (fair_end_spoils_nothing code s e r f h)
-fair_step_spoils_nothing code s ask.Done r f h = h
+spoilt_before_if_spoilt_after_fair_ask : (code : List ℕ) (s : ThreadState) (q : Ask) (r : Reply) → EndsFair q → IsSpoilt code (after_ask code s q r) → IsSpoilt code s
+spoilt_before_if_spoilt_after_fair_ask code s ask.Private r f h = h
+spoilt_before_if_spoilt_after_fair_ask code s (ask.Env kind) r f h = h
+spoilt_before_if_spoilt_after_fair_ask code s (ask.Enter object access) r f h = h
+spoilt_before_if_spoilt_after_fair_ask code s (ask.Try object) r f h = h
+spoilt_before_if_spoilt_after_fair_ask code s (ask.Leave object access) r f h = h
+spoilt_before_if_spoilt_after_fair_ask code s (ask.Get object index) r f h = h
+spoilt_before_if_spoilt_after_fair_ask code s (ask.Put object index value) r f h = h
+spoilt_before_if_spoilt_after_fair_ask code s ask.Print r f h = h
+spoilt_before_if_spoilt_after_fair_ask code s (ask.End e) r f h = absurd (fair_end_spoils_nothing code s e r f h)
+spoilt_before_if_spoilt_after_fair_ask code s ask.Done r f h = h
 
 -- a thread is live, or its next step spoils it
 pub thread_is_live_or_next_step_spoils_it : (code : List ℕ) → Spoils (thread_machine code) (IsLive code) (IsSpoilt code)
@@ -275,5 +275,5 @@ thread_is_live_or_next_step_spoils_it code = record {
     | inl e ↦ inl ((thread_machine_is_closing code).stays s r (13, 0) e)
     | inr e ↦ inr ((thread_machine_is_closing code).stays s r (14, 0) e)
   ];
-  spares = λ s live r h. fair_step_spoils_nothing code s (ask_of code s) (reply_of (ask_of code s) r) (subst EndsFair live (ask_of_view_ends_fair code s)) h;
+  spares = λ s live r h. spoilt_before_if_spoilt_after_fair_ask code s (ask_of code s) (reply_of (ask_of code s) r) (subst EndsFair live (ask_of_view_ends_fair code s)) h;
 }

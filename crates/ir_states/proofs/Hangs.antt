@@ -9,7 +9,7 @@ use Rattle.ir_states.specs.Nodes.{TellsNothing, Noted, Path, Arrives}
 use Rattle.ir_states.specs.Outcomes.{IsHang, IsFinished, HasWay}
 use Rattle.ir_states.proofs.Rest.{run_that_goes_ahead_counts, counts_append, state_invariant_after_counting_run, steps_ahead_may_come_first, nothing_goes_ahead_if_done}
 use Rattle.ir_states.proofs.Closed.{RunByEntries, walk, counting_run_arrives_along_chain}
-use Rattle.ir_states.proofs.Finished.{end_alike_to_arrived_node, is_done_from_alike_state, finds, found, MovesFreely, AtOnePlace, chain_of_free_moves, finished_closed}
+use Rattle.ir_states.proofs.Finished.{done_end_is_alike_to_arrived_node, is_done_from_alike_state, finds, found, MovesFreely, AtOnePlace, chain_of_free_moves, finished_closed}
 
 -- some run that counts leads from here to the end of all threads
 abbrev pub Completes : {T : Type 0} → Machine T → Answers T → State T → Type 0
@@ -29,7 +29,7 @@ module _ {T K : Type 0} (m : Machine T) (law : IsLawful m) (answers : Answers T)
         a.node,
         a.path,
         is_done_from_alike_state m answers Alike tells (end m u more) (state_of a.node)
-            (end_alike_to_arrived_node m answers Alike state_of (AtOnePlace Node) Next u v more tt done a) done,
+            (done_end_is_alike_to_arrived_node m answers Alike state_of (AtOnePlace Node) Next u v more tt done a) done,
       )
 
   way_node : (u : State T) (v : K) → Alike u (state_of v) → Node v → HasWay m state_of Next v → Completes m answers u

@@ -5,7 +5,7 @@ use Rattle.std.proofs.lemmas.List.{take-append-le, drop-append-le, length-drop, 
 use Rattle.std.proofs.Math.Seq.{drop-append_seam, take-length}
 use Rattle.ir_store.specs.declared.spot.Spot.{Spot}
 use Rattle.ir_store.specs.Places.{Place, part, node_at, IsPlaced}
-use Rattle.ir_store.proofs.Lists.{all_by_recursion_after_put, all_by_recursion_weaker}
+use Rattle.ir_store.proofs.Lists.{all_by_recursion_if_unchanged_or_pushed, all_by_recursion_weaker}
 
 part_of_append_within_first_list : {X : Type 0} (xs more : List X) (first count : ℕ) → first + count ≤ length xs → part (xs ++ more) first count ≡ part xs first count
 part_of_append_within_first_list xs more first count within =
@@ -63,7 +63,7 @@ module _ (threads us threads' : List ℕ) (objects spots objects' : List Spot) (
   pub placed_after_push : (places new : List Place) → AllByRecursion (IsPlaced (length threads) (length objects)) places
       → (new ≡ places) ⊎ (new ≡ places ++ place ∷ []) → AllByRecursion (IsPlaced (length threads') (length objects')) new
   placed_after_push places new all either =
-      all_by_recursion_after_put (IsPlaced (length threads') (length objects')) places new place
+      all_by_recursion_if_unchanged_or_pushed (IsPlaced (length threads') (length objects')) places new place
       (placed_after_growth threads threads' objects objects' (us, more) (spots, also) places all) placed_at_end either
 
   pub nodes_after_push : (places new : List Place) → AllByRecursion (IsPlaced (length threads) (length objects)) places → new ≡ places ++ place ∷ []

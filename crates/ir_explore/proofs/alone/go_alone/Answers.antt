@@ -3,7 +3,7 @@ use Rattle.ir_explore.specs.declared.found.Pending.{Pending}
 use Rattle.ir_explore.specs.Following.{IsOpen, GoesTo}
 use Rattle.ir_explore.specs.TurnSoFar.{IsTurnSoFar}
 use Rattle.ir_explore.specs.Origins.{Adds}
-use Rattle.ir_explore.proofs.Opens.{opened_place_is_open, goes_to_if_notes_kept}
+use Rattle.ir_explore.proofs.Opens.{opened_place_is_open, goes_to_open_if_notes_kept_and_open_stays_open}
 use Rattle.ir_explore.proofs.Reached.{adds_reflexive, adds_transitive}
 use Rattle.ir_explore.proofs.TurnSoFar.{property_of_all_bools_by_cases, turn_so_far_at_start, turn_so_far_with_last_in_hand_put_first, turn_so_far_without_followed_first_in_hand}
 use Rattle.ir_explore.proofs.alone.go_alone.Goals as goal
@@ -142,7 +142,7 @@ pending-preserved g c =
     let thread = turn.threads 0 here refl in
     let level = turn.levels 0 here refl in
     let entered : GoesTo (last here.origin.thread false) (IsOpen b.opened.items) here.node =
-    goes_to_if_notes_kept (g.S.Successors.noted a.graph here.origin.thread false) (last here.origin.thread false) a.opened.items b.opened.items here.node
+    goes_to_open_if_notes_kept_and_open_stays_open (g.S.Successors.noted a.graph here.origin.thread false) (last here.origin.thread false) a.opened.items b.opened.items here.node
     (c.follow-in-Some.ensures.kept here.origin.thread false) c.follow-in-Some.ensures.stays c.in_ok-follow.ensures.follows in
     let both : (refused : Bool) → GoesTo (last here.origin.thread refused) (IsOpen b.opened.items) here.node =
     property_of_all_bools_by_cases (λ refused. GoesTo (last here.origin.thread refused) (IsOpen b.opened.items) here.node) entered c.in_ok-follow-2.ensures.follows in

@@ -15,7 +15,7 @@ use Rattle.ir_explore_run.specs.Printed.{EndsEarly}
 use Rattle.ir_explore_run.specs.Texts.{Objects, objects_of, IsReason, IsStopped, IsEnding, IsAnswerAbout, known_of}
 use Rattle.ir_explore_run.specs.declared.fault.ExploreFault.TheVariants.{NoMem, Write}
 use Rattle.ir_explore_run.specs.Plan.{ExplorePlan, setup_of}
-use Rattle.ir_explore_run.proofs.Printed.{out_of_memory_before_first_line_stops_printing, printed_outcomes_are_part, failed_after_taken_text, answer_of_lines_and_ending}
+use Rattle.ir_explore_run.proofs.Printed.{out_of_memory_before_first_line_stops_printing, printed_outcomes_are_part, failed_after_taken_text, printed_lines_and_ending_are_answer}
 use Rattle.ir_explore_run.proofs.run.show.Goals as goal
 
 pub returns-in_err-start-clause-fails : goal.returns-in_err-start-clause-fails
@@ -68,7 +68,7 @@ returns-clause-ok g c =
     (λ answered. (text : List ℕ) × IsAnswerAbout guest plan answered text × Appends old new text)
     (λ answered p. (
       before.0 ++ p.0,
-      answer_of_lines_and_ending guest plan own s e before.0 p.0 answered same c.end-explored.ensures.flats c.end-explored.ensures.outcomes is before.1 p.1,
+      printed_lines_and_ending_are_answer guest plan own s e before.0 p.0 answered same c.end-explored.ensures.flats c.end-explored.ensures.outcomes is before.1 p.1,
       Appends-trans old mid new before.0 p.0 before.2 p.2,
     ))
     c.print_ending.ensures.ok
@@ -111,7 +111,7 @@ returns-clause-fails g c =
         write,
         answered,
         before.0 ++ text,
-        answer_of_lines_and_ending guest plan own s e before.0 text answered same c.end-explored.ensures.flats c.end-explored.ensures.outcomes is before.1 ending,
+        printed_lines_and_ending_are_answer guest plan own s e before.0 text answered same c.end-explored.ensures.flats c.end-explored.ensures.outcomes is before.1 ending,
         failed_after_taken_text w mid before.0 text before.2 prefix broken,
       )
     ])

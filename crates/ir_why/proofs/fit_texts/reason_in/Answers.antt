@@ -5,14 +5,14 @@ use Rattle.ir_trace.specs.Recorded.{Recorded}
 use Rattle.ir_why.specs.Before.{IsPast}
 use Rattle.ir_why.specs.Lines.{past_line}
 use Rattle.ir_why.specs.FitLines.{need_line, least_line, wait_line}
-use Rattle.ir_fit_run.proofs.CallerLemmas.{run_trace_is_coherent, inside_event_is_recorded}
+use Rattle.ir_fit_run.proofs.CallerLemmas.{run_trace_is_coherent, inside_event_number_is_below_event_count}
 use Rattle.ir_why.proofs.fit_texts.reason_in.Goals as goal
 
 pub past_of-requires-clause-coherent : goal.past_of-requires-clause-coherent
 past_of-requires-clause-coherent c = subst AreCoherent (sym c.trace-2.ensures.value) (run_trace_is_coherent c.args.fitted.now c.known.ensures.run)
 
 pub past_of-requires-clause-event : goal.past_of-requires-clause-event
-past_of-requires-clause-event c = inside_event_is_recorded c.args.fitted.now c.known.ensures.run c.args.here.thread c.args.here.event c.requires.inside
+past_of-requires-clause-event c = inside_event_number_is_below_event_count c.args.fitted.now c.known.ensures.run c.args.here.thread c.args.here.event c.requires.inside
     c.trace-2.result.now c.trace-2.ensures.value
 
 pub returns : goal.returns
