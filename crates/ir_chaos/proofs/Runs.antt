@@ -362,8 +362,8 @@ can_answer_call_with_result f t value kind is fits = subst (λ (q : Ask). Admits
     ((tables f).objects (target (act_of (shared_ask q) value)))) is fits
 
 -- private steps leave no more
-pub took_some_of_zero_if_went_alone : (f g : Flat) (t k : ℕ) → IsFlat f → t < length f.threads → WentAlone f g t k → TookSome 0 f g
-took_some_of_zero_if_went_alone f g t k flat l w =
+pub steps_left_do_not_rise_if_went_alone : (f g : Flat) (t k : ℕ) → IsFlat f → t < length f.threads → WentAlone f g t k → TookSome 0 f g
+steps_left_do_not_rise_if_went_alone f g t k flat l w =
     let less = all_left_falls_after_steps_of_thread f.code (length f.threads) t k (tables f) (hold_few_objects_if_flat f flat) l w.runs in
     let same : all_left (length f.threads) (tables g).now ≡ all_left (length f.threads)
     (end (machine f) (tables f) (replicate k (t, 0))).now = ap (λ s. all_left (length f.threads) s.now) w.ends in

@@ -31,17 +31,17 @@ entry_ignores_result : (o : ℕ) (a : Access) → IgnoresResult (Enter o a)
 entry_ignores_result o Reading f r h = h
 entry_ignores_result o Writing f r h = h
 
-quiet_ask_ignores_result : (q : Ask) → IsQuiet q → IgnoresResult q
-quiet_ask_ignores_result Private k f r h = tt
-quiet_ask_ignores_result (Env kind) k f r h = absurd k
-quiet_ask_ignores_result (Enter o a) k f r h = absurd k
-quiet_ask_ignores_result (Try o) k f r h = absurd k
-quiet_ask_ignores_result (Leave o a) k f r h = tt
-quiet_ask_ignores_result (Get o i) k f r h = tt
-quiet_ask_ignores_result (Put o i w) k f r h = tt
-quiet_ask_ignores_result Print k f r h = tt
-quiet_ask_ignores_result (End e) k f r h = tt
-quiet_ask_ignores_result Done k f r h = absurd h
+quiet_step_is_admitted_whatever_its_result : (q : Ask) → IsQuiet q → IgnoresResult q
+quiet_step_is_admitted_whatever_its_result Private k f r h = tt
+quiet_step_is_admitted_whatever_its_result (Env kind) k f r h = absurd k
+quiet_step_is_admitted_whatever_its_result (Enter o a) k f r h = absurd k
+quiet_step_is_admitted_whatever_its_result (Try o) k f r h = absurd k
+quiet_step_is_admitted_whatever_its_result (Leave o a) k f r h = tt
+quiet_step_is_admitted_whatever_its_result (Get o i) k f r h = tt
+quiet_step_is_admitted_whatever_its_result (Put o i w) k f r h = tt
+quiet_step_is_admitted_whatever_its_result Print k f r h = tt
+quiet_step_is_admitted_whatever_its_result (End e) k f r h = tt
+quiet_step_is_admitted_whatever_its_result Done k f r h = absurd h
 
 no_step_if_zero_cannot_and_result_is_ignored : (f : Flat) (t : ℕ) → IgnoresResult (ask_of f.code (thread_of f t)) → (Can (machine f) (tables f) (t, 0) → ⊥)
     → HasNone (machine f) (tables f) t
@@ -53,7 +53,7 @@ no_step_if_entry_cannot f t o a is never = no_step_if_zero_cannot_and_result_is_
 
 pub no_step_if_quiet_step_cannot : (f : Flat) (t : ℕ) → IsQuiet (ask_of f.code (thread_of f t)) → (Can (machine f) (tables f) (t, 0) → ⊥)
     → HasNone (machine f) (tables f) t
-no_step_if_quiet_step_cannot f t quiet never = no_step_if_zero_cannot_and_result_is_ignored f t (quiet_ask_ignores_result (ask_of f.code (thread_of f t)) quiet) never
+no_step_if_quiet_step_cannot f t quiet never = no_step_if_zero_cannot_and_result_is_ignored f t (quiet_step_is_admitted_whatever_its_result (ask_of f.code (thread_of f t)) quiet) never
 
 -- there is room to log the entry
 pub event_count_is_below_limit_at_entry : (f : Flat) (t o : ℕ) (a : Access) → ask_of f.code (thread_of f t) ≡ Enter o a → (thread_of f t).events < most_events

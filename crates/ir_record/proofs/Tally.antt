@@ -31,7 +31,7 @@ pub all_left_falls_after_step : (code : List ℕ) (n : ℕ) (s : State thread.Th
     → all_left n (after (thread_machine code) s e).now + 1 ≤ all_left n s.now
 all_left_falls_after_step code n s e few l can = subst (λ now. all_left n now + 1 ≤ all_left n s.now) (sym (threads_after_step code s e))
     (all_left_falls_if_steps_left_of_one_fall n s.now e.0 (moved_thread code s e) l
-    (steps_left_fall_after_permitted_ask_unless_done code (s.now e.0) (ask_of code (s.now e.0)) _ (few e.0) (ask_of_permitted code (s.now e.0)) (thread_that_steps_is_not_done code s e can)))
+    (steps_left_fall_after_permitted_ask_unless_done code most_objects (s.now e.0) (ask_of code (s.now e.0)) _ (few e.0) (ask_of_permitted code (s.now e.0)) (thread_that_steps_is_not_done code s e can)))
 
 -- so do the steps of one thread
 pub all_left_falls_after_steps_of_thread : (code : List ℕ) (n t k : ℕ) (s : State thread.ThreadState) → HoldFewObjects s → t < n → IsRun (thread_machine code) s (replicate k (t, 0))

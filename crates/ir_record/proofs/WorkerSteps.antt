@@ -21,6 +21,7 @@ use Rattle.ir_runs.specs.declared.access.Access.TheVariants.{Writing}
 use Rattle.ir_thread.specs.declared.ask.Ask.{Ask}
 use Rattle.ir_thread.specs.declared.ask.Ask.TheVariants as ask
 use Rattle.ir_runs.specs.declared.env_kind.EnvKind.{EnvKind}
+use Rattle.ir_thread.specs.declared.ask.Reply.{Reply}
 use Rattle.ir_thread.specs.declared.ask.Reply.TheVariants.{Go}
 use Rattle.ir_thread.specs.declared.profile.Profile.TheVariants.{Two}
 use Rattle.ir_thread.proofs.CallerLemmas.{ask_of_permitted, thread_machine_is_lawful}
@@ -40,9 +41,11 @@ use Rattle.ir_crew.specs.declared.deed.Deed.{Deed}
 use Rattle.ir_crew.specs.declared.deed.Deed.TheVariants.{Leave}
 use Rattle.ir_crew.specs.declared.deed.ObjectStep.{ObjectStep}
 use Rattle.ir_crew.proofs.CallerLemmas.{entries_with_step_added, track, step_of_deed, target_of_deed}
+use Rattle.ir_record.specs.Progress.{steps_left_within}
 use Rattle.ir_record.specs.Worlds.{Answered, answers_in}
 use Rattle.ir_record.specs.declared.by_threads.worker.Worker.{Worker}
-use Rattle.ir_record.specs.Working.{Work, IsWorking, StillWorks, IsOwn, IsInside, IsSeated, Stays}
+use Rattle.ir_record.specs.Working.{Work, IsWorking, StillWorks, IsOwn, IsInside, IsSeated, Stays, own_steps_left}
+use Rattle.ir_record.proofs.Left.{steps_left_fall_after_permitted_ask_unless_done}
 use Rattle.ir_record.proofs.Profiles.{profile_is_unchanged_by_ask}
 use Rattle.ir_record.proofs.Working.{worked_with_reply_added, held_after_own_act_is_unchanged, held_after_is_inside_if}
 
@@ -257,6 +260,35 @@ still_works_after_private_steps {g} {w} {w'} {code} same (suc count) p me log an
     still_works_after_own_step {w = mid} same ask.Private tt (p.each count (omega arith)) me p.steps log answers budget profile t before
     (still_works_after_private_steps {w' = mid} same count (record { steps = refl; each = λ k l. p.each k (omega (arith, l)) }) refl refl refl
     budget profile t before i)
+
+-- ---- how many steps its thread has left
+
+-- a step leaves it fewer
+pub own_steps_left_fall_after_reply_unless_done : (code : List ℕ) (x : thread.ThreadState) (r : Reply) {y : thread.ThreadState} {q : Ask} → ask_of code x ≡ q
+    → q ≢ ask.Done → y ≡ after_reply code x r → own_steps_left y < own_steps_left x
+unfolding after_reply
+own_steps_left_fall_after_reply_unless_done code x r {y} asked some took =
+    let z : thread.ThreadState = after_ask code x (ask_of code x) r in
+    let fewer : steps_left_within (length x.held) z.ended z + 1 ≤ own_steps_left x =
+    steps_left_fall_after_permitted_ask_unless_done code (length x.held) x (ask_of code x) r (omega arith) (ask_of_permitted code x)
+    (λ done. some (sym asked ∙ done)) in
+    let same : own_steps_left y ≡ steps_left_within (length x.held) z.ended z = ap own_steps_left took
+    ∙ ap (λ n. steps_left_within n z.ended z) (length_of_held_after_ask code x (ask_of code x) r) in
+    omega (arith, fewer, same)
+
+-- private steps leave it no more
+pub own_steps_left_do_not_rise_after_private_steps : (code : List ℕ) (count : ℕ) (x y : thread.ThreadState) → PrivateSteps code count x y
+    → own_steps_left y ≤ own_steps_left x
+unfolding run_of step_of
+own_steps_left_do_not_rise_after_private_steps code zero x y p =
+    let same : own_steps_left y ≡ own_steps_left x = ap own_steps_left p.steps in omega (arith, same)
+own_steps_left_do_not_rise_after_private_steps code (suc count) x y p =
+    let middle : thread.ThreadState = run_of code count x in
+    let before : own_steps_left middle ≤ own_steps_left x =
+    own_steps_left_do_not_rise_after_private_steps code count x middle (record { steps = refl; each = λ k l. p.each k (omega (arith, l)) }) in
+    let last : own_steps_left y < own_steps_left middle =
+    own_steps_left_fall_after_reply_unless_done code middle Go (p.each count (omega arith)) (λ done. absurd cc) p.steps in
+    omega (arith, before, last)
 
 -- ---- what is known of a worker where its thread asks for a step
 

@@ -55,11 +55,11 @@ looks_after_thread_pushed start items looks x k size all is n j y stands at = el
     new_one (inl e) = record { kept = x; at = ap (slice_get (items ++ x ∷ [])) e ∙ added_element_is_last items x; bytes = refl; source = λ going. refl }
     new_one (inr like) = looks_like_if_kept start items (items ++ x ∷ []) k x (push_keeps_old_elements items x) like
 
-pub looks_if_rows_unchanged_or_pushed : {R : Type 0} (f : R → ThreadState × Source) (g : R → ℕ) (start : List ℕ) (rows new : List R) (row : R)
+pub are_looks_kept_if_rows_unchanged_or_pushed : {R : Type 0} (f : R → ThreadState × Source) (g : R → ℕ) (start : List ℕ) (rows new : List R) (row : R)
     → AreLooks start (map f rows) (map g rows)
     → (g row ≡ length (map f rows)) ⊎ LooksLike start (map f rows) (g row) (f row)
     → (new ≡ rows) ⊎ (new ≡ rows ++ row ∷ []) → AreLooks start (map f new) (map g new)
-looks_if_rows_unchanged_or_pushed f g start rows new row all is either = elim either [
+are_looks_kept_if_rows_unchanged_or_pushed f g start rows new row all is either = elim either [
   | inl e ↦ subst (λ l. AreLooks start (map f l) (map g l)) (sym e) all
   | inr e ↦ subst (λ l. AreLooks start (map f l) (map g l)) (sym e)
       (subst (λ l. AreLooks start l (map g (rows ++ row ∷ []))) (sym (map_push f rows row))

@@ -9,7 +9,7 @@ use Rattle.ir_store.specs.Rows.{Row, thread_in, beside_in, look_of, KnowsOver}
 use Rattle.ir_store.specs.Table.{LooksLike}
 use Rattle.ir_store.specs.Table as table
 use Rattle.ir_store.proofs.Lists.{all_by_recursion_if_unchanged_or_pushed}
-use Rattle.ir_store.proofs.Rowed.{all_by_recursion_of_map_if_rows_unchanged_or_pushed, looks_if_rows_unchanged_or_pushed}
+use Rattle.ir_store.proofs.Rowed.{all_by_recursion_of_map_if_rows_unchanged_or_pushed, are_looks_kept_if_rows_unchanged_or_pushed}
 use Rattle.ir_store.proofs.rows.Rows.push.Goals as goal
 
 pub invariant_of-self : goal.invariant_of-self
@@ -34,7 +34,7 @@ invariant_of-self c =
       all_by_recursion_of_map_if_rows_unchanged_or_pushed (beside_in start) (λ (x : ThreadState × Source). IsBounded x.0) rows new row c.self.invariant.2
           (subst IsBounded (sym thread) c.bounded.ensures) c.put.ensures.either,
       all_by_recursion_if_unchanged_or_pushed (KnowsOver start) rows new row c.self.invariant.3 (c.in_ok-row.ensures.over ∙ ap is_over (sym thread)) c.put.ensures.either,
-      looks_if_rows_unchanged_or_pushed (beside_in start) look_of start rows new row c.self.invariant.4 is c.put.ensures.either,
+      are_looks_kept_if_rows_unchanged_or_pushed (beside_in start) look_of start rows new row c.self.invariant.4 is c.put.ensures.either,
     )
 
 pub returns-clause-ok : goal.returns-clause-ok
