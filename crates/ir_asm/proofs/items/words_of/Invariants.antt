@@ -1,7 +1,0 @@
-use Rattle.std.proofs.Common.{◌≡◌, ◌++◌, drop}
-use Rattle.ir_asm.specs.Items.{values}
-use Rattle.ir_asm.proofs.items.words_of.Given as goal
-
--- the numbers so far, and those that are left
-abbrev pub invariant-loop-operand : goal.invariant-loop-operand
-invariant-loop-operand l = l.words.items ++ values 32 (drop l.operand-index l.operands) ≡ values 32 l.operands

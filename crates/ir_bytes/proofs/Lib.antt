@@ -1,6 +1,0 @@
-mod Steps
-mod Numbers
-mod Fields
-mod Loop
-mod Refused
-pub mod CallerLemmas

@@ -1,4 +1,0 @@
-mod Brought
-mod Keepers
-mod Lower
-mod Ways

@@ -1,4 +1,0 @@
-pub mod Breaking
-pub mod Counting
-pub mod Laws
-pub mod Before

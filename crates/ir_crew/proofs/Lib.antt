@@ -1,6 +1,0 @@
-mod Counting
-mod Known
-mod Steps
-mod Seats
-mod Ending
-pub mod CallerLemmas

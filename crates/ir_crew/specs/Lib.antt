@@ -1,3 +1,0 @@
-pub mod Rule
-pub mod Plays
-pub mod Ends

@@ -1,7 +1,0 @@
-use Rattle.std.proofs.Common.{◌<◌, subst}
-use Rattle.ir_cut.proofs.Stepping.{leave_positions_are_non_decreasing}
-use Rattle.ir_cut.proofs.falling.leaves_inside.Goals as goal
-
-pub count_before-requires : goal.count_before-requires
-count_before-requires c = leave_positions_are_non_decreasing c.args.fitted.now c.requires.fitted c.loop-t.t c.leaves.result.now
-    (subst (λ n. c.loop-t.t < n) c.requires.size c.loop-t-test.true) c.leaves.ensures

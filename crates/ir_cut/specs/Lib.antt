@@ -1,4 +1,0 @@
-pub mod Laws
-pub mod Positions
-pub mod Moving
-pub mod Searching

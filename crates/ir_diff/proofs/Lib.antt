@@ -1,5 +1,0 @@
-mod Told
-mod Parts
-mod Needed
-mod ThreadTexts
-mod Written

@@ -1,6 +1,0 @@
-mod Again
-mod Ends
-mod Listed
-mod Passes
-mod Joined
-pub mod CallerLemmas

@@ -1,9 +1,0 @@
-mod Opens
-mod Reached
-mod TurnSoFar
-mod Rows
-mod Gone
-mod Between
-mod Marked
-mod Meant
-pub mod CallerLemmas

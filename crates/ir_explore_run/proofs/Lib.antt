@@ -1,6 +1,0 @@
-mod Answered
-mod Fulfilled
-mod Hits
-mod Joined
-mod Sought
-mod Printed

@@ -1,5 +1,0 @@
-mod InParts
-mod Putting
-mod ReadFiles
-mod Shown
-pub mod CallerLemmas

@@ -1,5 +1,0 @@
-pub mod Outputs
-pub mod Places
-pub mod Shown
-pub mod Statuses
-pub mod Writers

@@ -1,6 +1,0 @@
-mod Coherent
-mod Leaves
-mod Left
-mod Paired
-mod Shown
-pub mod CallerLemmas

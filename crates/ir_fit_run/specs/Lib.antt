@@ -1,4 +1,0 @@
-pub mod Opened
-pub mod Answers
-pub mod Positions
-pub mod Paired

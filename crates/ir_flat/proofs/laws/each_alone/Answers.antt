@@ -1,5 +1,0 @@
-use Rattle.ir_flat.proofs.Replies.{each_is_alone}
-use Rattle.ir_flat.proofs.laws.each_alone.Goals as goal
-
-pub returns : goal.returns
-returns c = each_is_alone

@@ -1,2 +1,0 @@
--- What callers' proofs cite.
-pub use Rattle.ir_freeze.proofs.Back.{thawed_of_changes}

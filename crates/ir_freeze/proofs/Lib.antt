@@ -1,5 +1,0 @@
-mod Written
-mod Apart
-mod Back
-mod Alike
-pub mod CallerLemmas

@@ -1,3 +1,0 @@
-pub mod Frozen
-pub mod Thawed
-pub mod Twins

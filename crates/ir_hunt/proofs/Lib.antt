@@ -1,6 +1,0 @@
-mod Found
-mod Lowest
-mod Recorded
-mod Restarting
-mod Seeking
-mod Stopping

@@ -1,6 +1,0 @@
-pub mod Finding
-pub mod Lines
-pub mod Seeds
-pub mod Seeking
-pub mod Stale
-pub mod Stopping

@@ -1,8 +1,0 @@
-mod Forms
-mod Fields
-mod Block
-mod Loop
-mod Whole
-mod Refused
-mod Lowered
-pub mod CallerLemmas

@@ -1,3 +1,0 @@
-mod ShownLines
-mod Labels
-mod LabelNames

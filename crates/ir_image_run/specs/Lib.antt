@@ -1,3 +1,0 @@
-pub mod Assembling
-pub mod Converting
-pub mod Mapping

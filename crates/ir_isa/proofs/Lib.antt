@@ -1,6 +1,0 @@
-mod Same
-mod Split
-mod RowLaws
-mod Unique
-mod DecodedLaws
-mod WordLaws

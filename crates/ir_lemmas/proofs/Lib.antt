@@ -1,4 +1,0 @@
-mod Bools
-mod Lists
-mod Results
-pub mod CallerLemmas

@@ -1,2 +1,0 @@
-//! Lemmas on lists, truth values and results that several crates cite. It has no code.
-#![tactic(auto)]

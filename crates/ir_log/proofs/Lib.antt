@@ -1,2 +1,0 @@
-mod Suiting
-pub mod CallerLemmas

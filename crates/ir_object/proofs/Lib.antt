@@ -1,4 +1,0 @@
-mod Stands
-mod Order
-mod Words
-pub mod CallerLemmas

@@ -1,4 +1,0 @@
-pub mod Complete
-pub mod OneRun
-pub mod Recording
-pub mod Spelling

@@ -1,6 +1,0 @@
-pub mod Path
-pub mod Again
-pub mod Shown
-pub mod Explored
-pub mod Hang
-pub mod Exploring

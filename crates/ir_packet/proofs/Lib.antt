@@ -1,9 +1,0 @@
-mod Again
-mod Cut
-mod Decimal
-mod Escapes
-mod Kept
-mod Pieces
-mod Written
-pub mod CallerLemmas
-mod Rows

@@ -1,5 +1,0 @@
-use Rattle.std.proofs.Common.{length}
-use Rattle.ir_packet.proofs.number.+decimal_from.Given as goal
-
-abbrev pub decreases-decimal_from : goal.decreases-decimal_from
-decreases-decimal_from l = length l.digits.now

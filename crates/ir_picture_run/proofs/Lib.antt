@@ -1,5 +1,0 @@
-mod Pushed
-mod Kept
-mod Circles
-mod Lasts
-mod Shown

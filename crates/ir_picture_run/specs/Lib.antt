@@ -1,4 +1,0 @@
-pub mod Steps
-pub mod Resting
-pub mod Numbers
-pub mod Answers

@@ -1,2 +1,0 @@
-mod Listed
-mod TakenLines

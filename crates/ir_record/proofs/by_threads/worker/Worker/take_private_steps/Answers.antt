@@ -1,9 +1,0 @@
-use Rattle.std.proofs.Common.{refl}
-use Rattle.ir_record.proofs.WorkerSteps.{still_works_after_private_steps}
-use Rattle.ir_record.proofs.by_threads.worker.Worker.take_private_steps.Goals as goal
-
-pub returns-clause-stays : goal.returns-clause-stays
-returns-clause-stays g c = record {
-  seat = refl;
-  still = still_works_after_private_steps c.requires.worker.same_code c.run_to_ask-ran.result.0 c.run_to_ask-ran.ensures.steps refl refl refl;
-}

@@ -1,6 +1,0 @@
-mod Fresh
-mod Items
-mod Numerals
-mod Parts
-mod Printed
-mod Reported

@@ -1,4 +1,0 @@
-pub mod Passes
-pub mod Workers
-pub mod Rounds
-pub mod Alone

@@ -1,5 +1,0 @@
-mod View
-mod Same
-mod Start
-mod Guests
-pub mod CallerLemmas

@@ -1,3 +1,0 @@
-mod Fresh
-mod Giving
-pub mod CallerLemmas

@@ -1,7 +1,0 @@
-mod Lists
-mod Rowed
-mod Shared
-mod Looks
-mod Stored
-mod Placed
-pub mod CallerLemmas

@@ -1,4 +1,0 @@
-pub mod Rows
-pub mod Table
-pub mod Nodes
-pub mod Places

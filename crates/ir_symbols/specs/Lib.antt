@@ -1,4 +1,0 @@
-pub mod Symbols
-pub mod Tables
-pub mod Names
-pub mod Maps

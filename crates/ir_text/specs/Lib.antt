@@ -1,4 +1,0 @@
-pub mod Texts
-pub mod Buffered
-pub mod Held
-pub mod Parts

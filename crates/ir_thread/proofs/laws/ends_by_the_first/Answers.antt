@@ -1,5 +1,0 @@
-use Rattle.ir_thread.proofs.Conditions.{ask_of_is_first_end}
-use Rattle.ir_thread.proofs.laws.ends_by_the_first.Goals as goal
-
-pub returns : goal.returns
-returns c = ask_of_is_first_end

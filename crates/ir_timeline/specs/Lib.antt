@@ -1,2 +1,0 @@
-pub mod Hand
-pub mod Replaying

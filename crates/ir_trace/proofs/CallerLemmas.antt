@@ -1,3 +1,0 @@
--- What callers may cite of traces.
--- what is recorded is within the limits of any profile
-pub use Rattle.ir_trace.proofs.Limits.{recorded_threads_at_most_limit, recorded_objects_at_most_limit}

@@ -1,6 +1,0 @@
-pub mod Recorded
-pub mod Bounds
-pub mod Encoding
-pub mod Fields
-pub mod Results
-pub mod Absent

@@ -1,6 +1,0 @@
-mod Lists
-mod Still
-mod Taken
-mod Asked
-mod Held
-pub mod CallerLemmas

@@ -1,7 +1,0 @@
-mod Filtered
-mod NeedLists
-mod Gathered
-mod Linked
-mod Said
-mod Within
-mod FitSaid

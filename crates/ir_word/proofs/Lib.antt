@@ -1,7 +1,0 @@
-mod Puts
-mod Begun
-mod Holding
-mod Built
-mod Noted
-mod Walked
-mod Joined

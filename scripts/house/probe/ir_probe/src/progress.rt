@@ -1,0 +1,126 @@
+//! How far what takes long is.
+
+use crossbeam_utils::CachePadded;
+use ir_image::MOST_THREADS;
+use ir_object::Gate;
+use ir_runs::Access;
+use std::array;
+use std::sync::atomic::{AtomicBool, AtomicU32, AtomicU64, AtomicUsize, Ordering};
+use std::time::{Clock, Instant};
+
+// A thread looks at the clock once in this number of its steps.
+const STEPS_FOR_A_LOOK: u64 = 1 << 22;
+
+// Stands for the second of a show where there was none yet.
+const NEVER: u32 = u32::MAX;
+
+// How many states are found between two looks at the clock.
+const STATES_FOR_A_LOOK: usize = 1 << 12;
+
+// As long as the longest line.
+const BLANKS: &str = "                                                            ";
+
+/// Shows on standard error, once a second, how many steps all threads have taken since the program wrote something last: of a
+/// recording the private ones; of a search for all outcomes how many states and outcomes it has found, after how many switches.
+#[derive(Drop)]
+pub struct Progress<'a, R> {
+    rt: &'a R,
+    // None where nothing is shown.
+    start: Option<Instant>,
+    // Of each thread, which alone writes it.
+    steps: [CachePadded<AtomicU64>; MOST_THREADS as usize],
+    // The second in which it was shown last.
+    shown: AtomicU32,
+    // Whether its line stands on the terminal.
+    stands: AtomicBool,
+    // How many outcomes a search has found.
+    outcomes: AtomicUsize,
+}
+
+impl<'a, R: Clock> Progress<'a, R> {
+    /// Shows steps from now on, if it is to show any and the clock can be read.
+    pub fn new(rt: &'a R, is_shown: bool) -> Progress<'a, R> {
+        let start = if is_shown {
+            Instant::now(rt).ok()
+        } else {
+            None
+        };
+        Progress {
+            rt,
+            start,
+            steps: array::from_fn(|_| CachePadded::new(AtomicU64::new(0))),
+            shown: AtomicU32::new(NEVER),
+            stands: AtomicBool::new(false),
+            outcomes: AtomicUsize::new(0),
+        }
+    }
+}
+
+impl<R: Clock + Eprint> Progress<'_, R> {
+    // Whether nothing was shown in this second. The first second is that of the first look.
+    fn is_due(&self, start: Instant) -> bool {
+        let Some(millis) = start.elapsed(self.rt).ok() else {
+            return false;
+        };
+        let millis = (millis.as_millis() % (1 << 32)) as u32;
+        let second = millis / 1000;
+        let last = self.shown.load(Ordering::Relaxed);
+        let is_first = self
+            .shown
+            .compare_exchange(last, second, Ordering::Relaxed, Ordering::Relaxed)
+            .is_ok();
+        second != last && last != NEVER && is_first
+    }
+
+    // Shows the sum.
+    fn show_steps(&self) {
+        self.stands.store(true, Ordering::Relaxed);
+        let mut sum = 0u64;
+        for steps in &self.steps {
+            sum = sum.saturating_add(steps.load(Ordering::Relaxed));
+        }
+        let millions = sum / 1_000_000;
+        let _ = self.rt.eprint(format_args!("{millions} million steps\r"));
+    }
+
+    // Counts steps of a thread, and now and then shows the sum.
+    fn count(&self, start: Instant, thread: u8, steps: u64) {
+        let Some(own) = self.steps.get(thread as usize) else {
+            return;
+        };
+        let before = own.load(Ordering::Relaxed);
+        let after = before.saturating_add(steps);
+        own.store(after, Ordering::Relaxed);
+        if before / STEPS_FOR_A_LOOK != after / STEPS_FOR_A_LOOK && self.is_due(start) {
+            self.show_steps();
+        }
+    }
+
+    // Takes its line off the terminal, if one stands there, and counts anew.
+    fn begin_anew(&self) {
+        if self.start.is_none() {
+            return;
+        }
+        if self.stands.swap(false, Ordering::Relaxed) {
+            let _ = self.rt.eprint(format_args!("{BLANKS}\r"));
+        }
+        for steps in &self.steps {
+            steps.store(0, Ordering::Relaxed);
+        }
+        self.shown.store(NEVER, Ordering::Relaxed);
+    }
+}
+
+impl<R: Clock + Eprint> Gate for Progress<'_, R> {
+    fn entered(&self, _thread: u8, _object: u8, _access: Access) {}
+
+    fn leaving(&self, _thread: u8, _object: u8, _access: Access) {}
+
+    // A recording calls it before each step that isn't private. Where nothing is shown it is a test there, and no call.
+    #[inline(always)]
+    fn stepped(&self, thread: u8, steps: u64) {
+        if let Some(start) = self.start {
+            self.count(start, thread, steps);
+        }
+    }
+}
