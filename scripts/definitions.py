@@ -46,16 +46,17 @@ PARTS = [
 
 # The first page: its parts, each with what comes before the definitions and their places.
 FIRST = [
-    ("A session", """`session` of [sessions.rt](../../crates/ir_debug/src/sessions.rt) reads `input` and writes. If no device fails and memory doesn't run out, its
-contract says `Session`: there is a transcript for the lines up to the first that quits, and the writer took its text, whatever threads replayed.""",
+    ("A session", """`session` of [sessions.rt](../../crates/ir_debug/src/sessions.rt) reads `input` and writes. If no device fails and memory doesn't run out
+before the opening lines, its contract says `Session`: there is a transcript for the lines up to and with the first that quits, and the writer took its
+text, whatever threads replayed.""",
      [("ir_debug", "Session", "Session"), ("ir_debug", "Session", "Transcript"), ("ir_debug", "Session", "SessionText"),
       ("ir_stream", "Answers", "LinesAnswered")]),
-    ("What opens", """The bytes of image and trace are judged. A trace opens a ready machine exactly if some complete run of the guest has it. A step of a run can be taken
-after those before it; of what a complete run is the trace, `IsWhole` says.""",
+    ("What opens", """The bytes of image and trace are judged. A trace opens a ready machine exactly if some complete run of the guest has it. `IsWhole` says
+that a run is complete and has the trace. Not here: what a run is (`IsRun`, in Run).""",
      [("ir_debug", "Machine", "Opens"), ("ir_debug", "Machine", "OpensImage"), ("ir_debug", "Machine", "OpensTrace"), ("ir_debug", "Machine", "OpensFit"), ("ir_fit", "Fit", "IsRunOf"), ("ir_runs", "Run", "IsWhole"),
-      ("ir_fit", "Fit", "IsRefused"), ("ir_fit", "Fit", "IsRefusal")]),
+      ("ir_fit", "Fit", "IsRefused"), ("ir_fit", "Fit", "IsVerdictOnTrace")]),
     ("What a line is answered", """`Desk` is the small machine: the guest with its trace, a position of each thread, points and kept cuts. What it answers is said for each run with the
-trace. `CarriesOut` has a row for each command; what is shown is read off the run at the cut (`shown`).""",
+trace. Not here: `Desk`, what each command is answered (`CarriesOut`), and what is shown, which is read off the run at the cut (`shown`); all three are in Machine.""",
      [("ir_debug", "Machine", "Replies"), ("ir_debug", "Machine", "RepliesBy"), ("ir_debug", "Machine", "Answers"), ("ir_debug", "Machine", "AnswersBy"),
       ("ir_debug", "Machine", "Gives"), ("ir_debug", "Machine", "Refuses")]),
     ("Where a move leads", """A move takes the least consistent cut with the thread at the position, or backwards the greatest. `cont` and `rcont` stop at the first hit, or the last.""",

@@ -20,28 +20,28 @@ use Rattle.ir_asm.specs.Forms.{form_named}
 use Rattle.ir_asm.specs.Operands.{operands_of, at_address, address as address_of}
 use Rattle.ir_asm.specs.Items.{instruction}
 use Rattle.ir_asm.specs.Passes.{assembled, IsWordGuest}
-use Rattle.ir_asm.proofs.Pieces.{all_pass_in_append, clean, IsPiece, append_of_nonempty_is_nonempty, split_at_first_separator, split_without_separator, trim_of_clean_text}
+use Rattle.ir_asm.proofs.Pieces.{all_pass_in_append, clean, IsPiece, append_is_nonempty_if_second_part_is, split_at_first_separator, split_without_separator, trim_of_clean_text}
 use Rattle.ir_asm.proofs.Numbers.{register_of_printed_name, register_name_is_piece, number_of_signed_decimal, signed_decimal_is_piece, signed_decimal_has_no_parenthesis, register_name_has_no_parenthesis, no_opening_if_no_parenthesis, no_closing_if_no_parenthesis}
 use Rattle.ir_asm.proofs.FieldLaws.{immediate_of_own_value}
 use Rattle.ir_asm.proofs.Statements.{line_that_says_word_assembles}
 use Rattle.ir_asm.proofs.Formats.{piece_is_last_operand, immediate_range_test_is_true, immediate_magnitude_fits_33_bits}
 use Rattle.ir_asm.proofs.Pairs.{two_operands_say_word}
 
-address_is_clean : (z : ℤ) (b : ℕ) → list_all clean (signed_decimal z) ≡ true → list_all clean (register_name b) ≡ true
+printed_address_is_clean_if_parts_are : (z : ℤ) (b : ℕ) → list_all clean (signed_decimal z) ≡ true → list_all clean (register_name b) ≡ true
     → list_all clean (address z b) ≡ true
-address_is_clean z b h k = all_pass_in_append clean (signed_decimal z) (40 ∷ (register_name b ++ 41 ∷ [])) h
+printed_address_is_clean_if_parts_are z b h k = all_pass_in_append clean (signed_decimal z) (40 ∷ (register_name b ++ 41 ∷ [])) h
     (all_pass_in_append clean (register_name b) (41 ∷ []) k refl)
 
-address_is_piece : (z : ℤ) (b : Register) → nat_abs z < 2 ^ 64 → IsPiece (address z b.number)
-address_is_piece z b h = record {
-  some = append_of_nonempty_is_nonempty (signed_decimal z) (40 ∷ (register_name b.number ++ 41 ∷ [])) refl;
-  all = address_is_clean z b.number (signed_decimal_is_piece z h).all (register_name_is_piece b).all;
+printed_address_is_piece : (z : ℤ) (b : Register) → nat_abs z < 2 ^ 64 → IsPiece (address z b.number)
+printed_address_is_piece z b h = record {
+  some = append_is_nonempty_if_second_part_is (signed_decimal z) (40 ∷ (register_name b.number ++ 41 ∷ [])) refl;
+  all = printed_address_is_clean_if_parts_are z b.number (signed_decimal_is_piece z h).all (register_name_is_piece b).all;
 }
 
 -- an address is cut into what was put together
-address_of_printed_address : (z : ℤ) (b : Register) → nat_abs z < 2 ^ 64
+address_of_printed_address_is_offset_and_register_texts : (z : ℤ) (b : Register) → nat_abs z < 2 ^ 64
     → address_of (address z b.number) ≡ Some (signed_decimal z, register_name b.number)
-address_of_printed_address z b h =
+address_of_printed_address_is_offset_and_register_texts z b h =
     let s = signed_decimal_has_no_parenthesis z h in
     let r = register_name_has_no_parenthesis b in
     let base : List ℕ = register_name b.number in
@@ -53,8 +53,8 @@ address_of_printed_address z b h =
     (rw (split_without_separator 41 (signed_decimal z) (no_closing_if_no_parenthesis (signed_decimal z) s), split_at_first_separator 41 base [] (no_closing_if_no_parenthesis base r))
     (rw (trim_of_clean_text (signed_decimal z) (signed_decimal_is_piece z h).all, trim_of_clean_text base (register_name_is_piece b).all) refl))
 
-at_address_of_printed_address : (b : Register) (i : Immediate) → at_address (Some (signed_decimal i.value, register_name b.number)) ≡ Ok (Offset i.value b)
-at_address_of_printed_address b i =
+at_address_of_printed_parts_is_offset : (b : Register) (i : Immediate) → at_address (Some (signed_decimal i.value, register_name b.number)) ≡ Ok (Offset i.value b)
+at_address_of_printed_parts_is_offset b i =
     let small = immediate_magnitude_fits_33_bits i.value i.low i.high in
     rw (number_of_signed_decimal i.value (omega (arith, small))) (rw (immediate_range_test_is_true i.value i.low i.high) (rw (register_of_printed_name b) refl))
 
@@ -63,15 +63,15 @@ immediate_magnitude_fits_64_bits i = let small = immediate_magnitude_fits_33_bit
 
 operands_of_printed_load : (op : LoadOp) (a b : Register) (i : Immediate)
     → operands_of (Loads op) (register_name a.number ∷ address i.value b.number ∷ []) ≡ Ok (Index a ∷ Offset i.value b ∷ [])
-operands_of_printed_load op a b i = rw ((register_name_is_piece a).some, address_of_printed_address i.value b (immediate_magnitude_fits_64_bits i)) (rw (register_of_printed_name a, at_address_of_printed_address b i) refl)
+operands_of_printed_load op a b i = rw ((register_name_is_piece a).some, address_of_printed_address_is_offset_and_register_texts i.value b (immediate_magnitude_fits_64_bits i)) (rw (register_of_printed_name a, at_address_of_printed_parts_is_offset b i) refl)
 
 operands_of_printed_store : (op : StoreOp) (a b : Register) (i : Immediate)
     → operands_of (Stores op) (register_name a.number ∷ address i.value b.number ∷ []) ≡ Ok (Index a ∷ Offset i.value b ∷ [])
-operands_of_printed_store op a b i = rw ((register_name_is_piece a).some, address_of_printed_address i.value b (immediate_magnitude_fits_64_bits i)) (rw (register_of_printed_name a, at_address_of_printed_address b i) refl)
+operands_of_printed_store op a b i = rw ((register_name_is_piece a).some, address_of_printed_address_is_offset_and_register_texts i.value b (immediate_magnitude_fits_64_bits i)) (rw (register_of_printed_name a, at_address_of_printed_parts_is_offset b i) refl)
 
 operands_of_printed_jalr : (a b : Register) (i : Immediate)
     → operands_of JumpsTo (register_name a.number ∷ address i.value b.number ∷ []) ≡ Ok (Index a ∷ Offset i.value b ∷ [])
-operands_of_printed_jalr a b i = rw ((register_name_is_piece a).some, address_of_printed_address i.value b (immediate_magnitude_fits_64_bits i)) (rw (register_of_printed_name a, at_address_of_printed_address b i) refl)
+operands_of_printed_jalr a b i = rw ((register_name_is_piece a).some, address_of_printed_address_is_offset_and_register_texts i.value b (immediate_magnitude_fits_64_bits i)) (rw (register_of_printed_name a, at_address_of_printed_parts_is_offset b i) refl)
 
 form_of_load_name : (op : LoadOp) → form_named (load_name op) ≡ Some (Loads op)
 form_of_load_name Lb = refl
@@ -102,7 +102,7 @@ pub printed_load_assembles : (pc : ℕ) (op : LoadOp) (rd rs1 : Register) (i : I
 printed_load_assembles pc op rd rs1 i =
     line_that_says_word_assembles _ _ _ (two_operands_say_word (load_name op) (register_name rd.number) (address i.value rs1.number) (address i.value rs1.number)
     (word_of (Load op rd rs1 i)) (Loads op) (Index rd ∷ Offset i.value rs1 ∷ [])
-    (load_name_is_piece op) (register_name_is_piece rd) (piece_is_last_operand (address i.value rs1.number) (address_is_piece i.value rs1 (immediate_magnitude_fits_64_bits i)))
+    (load_name_is_piece op) (register_name_is_piece rd) (piece_is_last_operand (address i.value rs1.number) (printed_address_is_piece i.value rs1 (immediate_magnitude_fits_64_bits i)))
     (form_of_load_name op) refl (operands_of_printed_load op rd rs1 i) (ap (λ (x : Immediate). instruction (Load op rd rs1 x)) (immediate_of_own_value i)))
 
 pub printed_store_assembles : (pc : ℕ) (op : StoreOp) (rs1 rs2 : Register) (i : Immediate)
@@ -110,7 +110,7 @@ pub printed_store_assembles : (pc : ℕ) (op : StoreOp) (rs1 rs2 : Register) (i 
 printed_store_assembles pc op rs1 rs2 i =
     line_that_says_word_assembles _ _ _ (two_operands_say_word (store_name op) (register_name rs2.number) (address i.value rs1.number) (address i.value rs1.number)
     (word_of (Store op rs1 rs2 i)) (Stores op) (Index rs2 ∷ Offset i.value rs1 ∷ [])
-    (store_name_is_piece op) (register_name_is_piece rs2) (piece_is_last_operand (address i.value rs1.number) (address_is_piece i.value rs1 (immediate_magnitude_fits_64_bits i)))
+    (store_name_is_piece op) (register_name_is_piece rs2) (piece_is_last_operand (address i.value rs1.number) (printed_address_is_piece i.value rs1 (immediate_magnitude_fits_64_bits i)))
     (form_of_store_name op) refl (operands_of_printed_store op rs2 rs1 i) (ap (λ (x : Immediate). instruction (Store op rs1 rs2 x)) (immediate_of_own_value i)))
 
 pub printed_jalr_assembles : (pc : ℕ) (rd rs1 : Register) (i : Immediate)
@@ -118,5 +118,5 @@ pub printed_jalr_assembles : (pc : ℕ) (rd rs1 : Register) (i : Immediate)
 printed_jalr_assembles pc rd rs1 i =
     line_that_says_word_assembles _ _ _ (two_operands_say_word (codes "jalr") (register_name rd.number) (address i.value rs1.number) (address i.value rs1.number)
     (word_of (Jalr rd rs1 i)) JumpsTo (Index rd ∷ Offset i.value rs1 ∷ [])
-    (record { some = refl; all = refl }) (register_name_is_piece rd) (piece_is_last_operand (address i.value rs1.number) (address_is_piece i.value rs1 (immediate_magnitude_fits_64_bits i)))
+    (record { some = refl; all = refl }) (register_name_is_piece rd) (piece_is_last_operand (address i.value rs1.number) (printed_address_is_piece i.value rs1 (immediate_magnitude_fits_64_bits i)))
     refl refl (operands_of_printed_jalr rd rs1 i) (ap (λ (x : Immediate). instruction (Jalr rd rs1 x)) (immediate_of_own_value i)))

@@ -29,30 +29,30 @@ use Rattle.ir_asm.proofs.Pieces.{all_pass_in_append, clean, IsPiece, split_witho
 use Rattle.ir_asm.proofs.Numbers.{register_of_printed_name, register_name_is_piece, natural_of_decimal, decimal_is_piece, natural_of_hex_word, hex_is_clean, number_of_decimal}
 use Rattle.ir_asm.proofs.FieldLaws.{branch_offset_of_own_value, amount_of_own_bits}
 use Rattle.ir_asm.proofs.Statements.{Says, line_that_says_word_assembles}
-use Rattle.ir_asm.proofs.Formats.{IsLastOperand, piece_is_last_operand, three_operands_say_word, trim_end_keeps_prefix, before_keeps_prefix, before_lacks_byte_if_text_does, all_pass_weaker_test, clean_byte_is_source_byte, form_of_branch_name, branch_name_is_piece}
+use Rattle.ir_asm.proofs.Formats.{IsLastOperand, piece_is_last_operand, three_operands_say_word, trim_end_keeps_prefix_if_trimmed_rest_is_nonempty, before_byte_keeps_prefix_that_lacks_it, before_lacks_byte_if_text_does, all_pass_if_all_clean_and_clean_bytes_pass, clean_byte_is_source_byte, form_of_branch_name, branch_name_is_piece}
 
-trim_end_drops_one_blank : (a : List ℕ) → list_all clean a ≡ true → trim_end (a ++ 32 ∷ []) ≡ a
-trim_end_drops_one_blank [] h = refl
-trim_end_drops_one_blank (b ∷ a) h =
+trim_end_of_clean_text_and_blank_is_text : (a : List ℕ) → list_all clean a ≡ true → trim_end (a ++ 32 ∷ []) ≡ a
+trim_end_of_clean_text_and_blank_is_text [] h = refl
+trim_end_of_clean_text_and_blank_is_text (b ∷ a) h =
     let p = and_parts (clean b) (list_all clean a) h in
-    rw (clean_byte_is_not_blank b p.0) (ap (λ (l : List ℕ). b ∷ l) (trim_end_drops_one_blank a p.1))
+    rw (clean_byte_is_not_blank b p.0) (ap (λ (l : List ℕ). b ∷ l) (trim_end_of_clean_text_and_blank_is_text a p.1))
 
 distance_is_piece : (z : ℤ) → nat_abs z < 2 ^ 64 → IsPiece (distance z)
 distance_is_piece (pos n) h = record { some = refl; all = (decimal_is_piece n h).all }
 distance_is_piece (negsuc n) h = record { some = refl; all = (decimal_is_piece (suc n) h).all }
 
-pub far_target_is_last_operand : (pc : ℕ) (z : ℤ) → nat_abs z < 2 ^ 64 → IsLastOperand (far pc z) (distance z)
-far_target_is_last_operand pc z h =
+pub last_operand_of_far_target_is_distance : (pc : ℕ) (z : ℤ) → nat_abs z < 2 ^ 64 → IsLastOperand (far pc z) (distance z)
+last_operand_of_far_target_is_distance pc z h =
     let p = distance_is_piece z h in
     let t : ℕ = (pc + low_bits 32 z) % 2 ^ 32 in
     record {
-      trimmed = ap trim_end (before_keeps_prefix 35 (distance z) (codes " # " ++ hex 8 t) (clean_text_lacks_unclean_byte 35 (distance z) refl p.all))
-          ∙ trim_end_drops_one_blank (distance z) p.all;
+      trimmed = ap trim_end (before_byte_keeps_prefix_that_lacks_it 35 (distance z) (codes " # " ++ hex 8 t) (clean_text_lacks_unclean_byte 35 (distance z) refl p.all))
+          ∙ trim_end_of_clean_text_and_blank_is_text (distance z) p.all;
       piece_is = p;
       feed = all_pass_in_append (λ b. not (b == 10)) (distance z) (codes " # " ++ hex 8 t) (clean_text_lacks_unclean_byte 10 (distance z) refl p.all)
           (clean_text_lacks_unclean_byte 10 (hex 8 t) refl (hex_is_clean 8 t));
-      source = all_pass_in_append is_source_byte (distance z) (codes " # " ++ hex 8 t) (all_pass_weaker_test is_source_byte clean_byte_is_source_byte (distance z) p.all)
-          (all_pass_weaker_test is_source_byte clean_byte_is_source_byte (hex 8 t) (hex_is_clean 8 t));
+      source = all_pass_in_append is_source_byte (distance z) (codes " # " ++ hex 8 t) (all_pass_if_all_clean_and_clean_bytes_pass is_source_byte clean_byte_is_source_byte (distance z) p.all)
+          (all_pass_if_all_clean_and_clean_bytes_pass is_source_byte clean_byte_is_source_byte (hex 8 t) (hex_is_clean 8 t));
       colon = all_pass_in_append (λ b. not (b == 58)) (distance z) (codes " # " ++ hex 8 t) (clean_text_lacks_unclean_byte 58 (distance z) refl p.all)
           (clean_text_lacks_unclean_byte 58 (hex 8 t) refl (hex_is_clean 8 t));
     }
@@ -90,14 +90,14 @@ printed_branch_assembles pc op rs1 rs2 i =
     let small = branch_offset_magnitude_fits_33_bits i.value i.low i.high in
     line_that_says_word_assembles _ _ _ (three_operands_say_word (branch_name op) (register_name rs1.number) (register_name rs2.number) (far pc i.value)
     (distance i.value) (word_of (Branch op rs1 rs2 i)) (Branches op) (Index rs1 ∷ Index rs2 ∷ Integer i.value ∷ [])
-    (branch_name_is_piece op) (register_name_is_piece rs1) (register_name_is_piece rs2) (far_target_is_last_operand pc i.value (omega (arith, small)))
+    (branch_name_is_piece op) (register_name_is_piece rs1) (register_name_is_piece rs2) (last_operand_of_far_target_is_distance pc i.value (omega (arith, small)))
     (form_of_branch_name op) refl (operands_of_printed_branch op rs1 rs2 i.value (distance_in_of_printed_branch_offset i))
     (ap (λ (x : BranchOffset). instruction (Branch op rs1 rs2 x)) (branch_offset_of_own_value i)))
 
 -- ---- .word
 
-pub texts_of_one_piece : (a : List ℕ) → IsPiece a → texts_of (trim (32 ∷ a)) ≡ a ∷ []
-texts_of_one_piece a p = ap texts_of (trim_of_clean_text a p.all) ∙ one_part a p
+pub texts_of_trimmed_blank_and_piece_is_piece_alone : (a : List ℕ) → IsPiece a → texts_of (trim (32 ∷ a)) ≡ a ∷ []
+texts_of_trimmed_blank_and_piece_is_piece_alone a p = ap texts_of (trim_of_clean_text a p.all) ∙ one_part a p
   where
     one_part : (a : List ℕ) → IsPiece a → texts_of a ≡ a ∷ []
     one_part a p = rw (p.some, split_without_separator 44 a (clean_text_lacks_unclean_byte 44 a refl p.all)) (rw (trim_of_clean_text a p.all) refl)
@@ -121,14 +121,14 @@ word_line_says_word n h =
       form = Words;
       xs = Integer (pos n) ∷ [];
       feed = clean_text_lacks_unclean_byte 10 c refl k;
-      source = all_pass_weaker_test is_source_byte clean_byte_is_source_byte c k;
+      source = all_pass_if_all_clean_and_clean_bytes_pass is_source_byte clean_byte_is_source_byte c k;
       colon = before_lacks_byte_if_text_does 58 35 (one (codes ".word") (codes "0x" ++ c)) (clean_text_lacks_unclean_byte 58 c refl k);
       trimmed = ap trim (before_without_separator 35 (one (codes ".word") (codes "0x" ++ c)) (clean_text_lacks_unclean_byte 35 c refl k))
-          ∙ trim_end_keeps_prefix (codes ".word ") (codes "0x" ++ c) (codes "0x" ++ c) (trim_end_of_clean_text (codes "0x" ++ c) p.all) refl;
+          ∙ trim_end_keeps_prefix_if_trimmed_rest_is_nonempty (codes ".word ") (codes "0x" ++ c) (codes "0x" ++ c) (trim_end_of_clean_text (codes "0x" ++ c) p.all) refl;
       some = refl;
       named = refl;
       stands = refl;
-      read = ap (operands_of Words) (texts_of_one_piece (codes "0x" ++ c) p) ∙ operands_of_printed_word n h;
+      read = ap (operands_of Words) (texts_of_trimmed_blank_and_piece_is_piece_alone (codes "0x" ++ c) p) ∙ operands_of_printed_word n h;
       means = ap (λ (w : ℕ). Code (w ∷ [])) (word_modulo_is_itself n h);
     }
 

@@ -92,12 +92,12 @@ split_begins_with_until c xs = first_by (from (λ b. b == c) xs) (split_is_split
     first_by [] e = rw e refl
     first_by (b ∷ rest) e = rw e refl
 
-pub split_begins_with_part : (c : ℕ) (xs part : List ℕ) → part ≡ until (λ b. b == c) xs → split c xs ≡ part ∷ drop 1 (split c xs)
-split_begins_with_part c xs part e = split_begins_with_until c xs ∙ ap (λ (l : List ℕ). l ∷ drop 1 (split c xs)) (sym e)
+pub split_begins_with_part_if_part_is_until : (c : ℕ) (xs part : List ℕ) → part ≡ until (λ b. b == c) xs → split c xs ≡ part ∷ drop 1 (split c xs)
+split_begins_with_part_if_part_is_until c xs part e = split_begins_with_until c xs ∙ ap (λ (l : List ℕ). l ∷ drop 1 (split c xs)) (sym e)
 
 -- more parts than one
-pub split_is_not_single_part : (c : ℕ) (xs a rest : List ℕ) → split c xs ≡ a ∷ split c rest → (p : List ℕ) → split c xs ≡ p ∷ [] → ⊥
-split_is_not_single_part c xs a rest e p f = two_not_one a p (until (λ b. b == c) rest) (drop 1 (split c rest))
+pub split_is_not_single_part_if_rest_is_split_too : (c : ℕ) (xs a rest : List ℕ) → split c xs ≡ a ∷ split c rest → (p : List ℕ) → split c xs ≡ p ∷ [] → ⊥
+split_is_not_single_part_if_rest_is_split_too c xs a rest e p f = two_not_one a p (until (λ b. b == c) rest) (drop 1 (split c rest))
     (ap (λ (l : List (List ℕ)). a ∷ l) (sym (split_begins_with_until c rest)) ∙ sym e ∙ f)
   where
     two_not_one : (a p b : List ℕ) (l : List (List ℕ)) → a ∷ b ∷ l ≡ p ∷ [] → ⊥

@@ -32,24 +32,24 @@ use Rattle.ir_asm.specs.Operands.{operands_of, int_le}
 use Rattle.ir_asm.specs.Items.{instruction, item_of}
 use Rattle.ir_asm.specs.Source.{operand_texts, texts_of, is_source_byte, may_stand}
 use Rattle.ir_asm.specs.Passes.{assembled, IsWordGuest}
-use Rattle.ir_asm.proofs.Pieces.{lacks, all_pass_in_append, clean, IsPiece, skip_blanks_keeps_clean_start, append_of_nonempty_is_nonempty, until_blank_is_name, from_blank_is_operands, split_at_first_separator, split_without_separator, clean_text_lacks_unclean_byte, trim_of_clean_text, trim_end_of_clean_text, lacks_in_head_and_tail, before_without_separator}
+use Rattle.ir_asm.proofs.Pieces.{lacks, all_pass_in_append, clean, IsPiece, skip_blanks_keeps_clean_start, append_is_nonempty_if_second_part_is, until_blank_of_clean_blank_rest_is_clean_part, from_blank_of_clean_blank_rest_is_blank_rest, split_at_first_separator, split_without_separator, clean_text_lacks_unclean_byte, trim_of_clean_text, trim_end_of_clean_text, head_and_tail_lack_byte_if_list_does, before_without_separator}
 use Rattle.ir_asm.proofs.Numbers.{register_of_printed_name, register_name_is_piece, number_of_signed_decimal, signed_decimal_is_piece}
 use Rattle.ir_asm.proofs.FieldLaws.{immediate_of_own_value}
 use Rattle.ir_asm.proofs.Statements.{Says, line_that_says_word_assembles}
 
 -- ---- tails
 
-pub trim_end_keeps_prefix : (x y z : List ℕ) → trim_end y ≡ z → is_nil z ≡ false → trim_end (x ++ y) ≡ x ++ z
-trim_end_keeps_prefix [] y z e n = e
-trim_end_keeps_prefix (b ∷ x) y z e n = rw (trim_end_keeps_prefix x y z e n, append_of_nonempty_is_nonempty x z n, conjunction_with_false (is_blank b)) refl
+pub trim_end_keeps_prefix_if_trimmed_rest_is_nonempty : (x y z : List ℕ) → trim_end y ≡ z → is_nil z ≡ false → trim_end (x ++ y) ≡ x ++ z
+trim_end_keeps_prefix_if_trimmed_rest_is_nonempty [] y z e n = e
+trim_end_keeps_prefix_if_trimmed_rest_is_nonempty (b ∷ x) y z e n = rw (trim_end_keeps_prefix_if_trimmed_rest_is_nonempty x y z e n, append_is_nonempty_if_second_part_is x z n, conjunction_with_false (is_blank b)) refl
 
-pub before_keeps_prefix : (c : ℕ) (x y : List ℕ) → lacks c x ≡ true → before c (x ++ y) ≡ x ++ before c y
-before_keeps_prefix c [] y h = refl
-before_keeps_prefix c (b ∷ x) y h = rw ((lacks_in_head_and_tail c b x h).0) (ap (λ (l : List ℕ). b ∷ l) (before_keeps_prefix c x y (lacks_in_head_and_tail c b x h).1))
+pub before_byte_keeps_prefix_that_lacks_it : (c : ℕ) (x y : List ℕ) → lacks c x ≡ true → before c (x ++ y) ≡ x ++ before c y
+before_byte_keeps_prefix_that_lacks_it c [] y h = refl
+before_byte_keeps_prefix_that_lacks_it c (b ∷ x) y h = rw ((head_and_tail_lack_byte_if_list_does c b x h).0) (ap (λ (l : List ℕ). b ∷ l) (before_byte_keeps_prefix_that_lacks_it c x y (head_and_tail_lack_byte_if_list_does c b x h).1))
 
 pub before_lacks_byte_if_text_does : (c d : ℕ) (x : List ℕ) → lacks c x ≡ true → lacks c (before d x) ≡ true
 before_lacks_byte_if_text_does c d [] h = refl
-before_lacks_byte_if_text_does c d (b ∷ x) h = by_test c d b x (lacks_in_head_and_tail c b x h).0 (before_lacks_byte_if_text_does c d x (lacks_in_head_and_tail c b x h).1)
+before_lacks_byte_if_text_does c d (b ∷ x) h = by_test c d b x (head_and_tail_lack_byte_if_list_does c b x h).0 (before_lacks_byte_if_text_does c d x (head_and_tail_lack_byte_if_list_does c b x h).1)
   where
     by_test : (c d b : ℕ) (x : List ℕ) → (b == c) ≡ false → lacks c (before d x) ≡ true → lacks c (cond (b == d) [] (b ∷ before d x)) ≡ true
     by_test c d b x e h = go (b == d)
@@ -58,9 +58,9 @@ before_lacks_byte_if_text_does c d (b ∷ x) h = by_test c d b x (lacks_in_head_
         go true = refl
         go false = rw (e, h) refl
 
-pub all_pass_weaker_test : (p : ℕ → Bool) → ((b : ℕ) → clean b ≡ true → p b ≡ true) → (a : List ℕ) → list_all clean a ≡ true → list_all p a ≡ true
-all_pass_weaker_test p w [] h = refl
-all_pass_weaker_test p w (b ∷ a) h = rw (w b (and_parts (clean b) (list_all clean a) h).0) (all_pass_weaker_test p w a (and_parts (clean b) (list_all clean a) h).1)
+pub all_pass_if_all_clean_and_clean_bytes_pass : (p : ℕ → Bool) → ((b : ℕ) → clean b ≡ true → p b ≡ true) → (a : List ℕ) → list_all clean a ≡ true → list_all p a ≡ true
+all_pass_if_all_clean_and_clean_bytes_pass p w [] h = refl
+all_pass_if_all_clean_and_clean_bytes_pass p w (b ∷ a) h = rw (w b (and_parts (clean b) (list_all clean a) h).0) (all_pass_if_all_clean_and_clean_bytes_pass p w a (and_parts (clean b) (list_all clean a) h).1)
 
 -- the last operand as printed, perhaps with a comment, and as it is read
 pub record IsLastOperand (raw piece : List ℕ) : Type 0 where
@@ -78,7 +78,7 @@ piece_is_last_operand a p = record {
   trimmed = rw (before_without_separator 35 a (clean_text_lacks_unclean_byte 35 a refl p.all)) (trim_end_of_clean_text a p.all);
   piece_is = p;
   feed = clean_text_lacks_unclean_byte 10 a refl p.all;
-  source = all_pass_weaker_test is_source_byte clean_byte_is_source_byte a p.all;
+  source = all_pass_if_all_clean_and_clean_bytes_pass is_source_byte clean_byte_is_source_byte a p.all;
   colon = clean_text_lacks_unclean_byte 58 a refl p.all;
 }
 
@@ -92,36 +92,36 @@ all_pass_in_three_operands p s t name a b c h i j k =
     (rw (t, s) (all_pass_in_append p b (44 ∷ 32 ∷ c) j
     (rw (t, s) k)))))
 
-before_comment_of_three_operands : (name a b raw : List ℕ) → IsPiece name → IsPiece a → IsPiece b
+before_comment_of_three_operands_cuts_only_last : (name a b raw : List ℕ) → IsPiece name → IsPiece a → IsPiece b
     → before 35 (three name a b raw) ≡ three name a b (before 35 raw)
-before_comment_of_three_operands name a b raw p q r =
-    before_keeps_prefix 35 name (32 ∷ (a ++ 44 ∷ 32 ∷ (b ++ 44 ∷ 32 ∷ raw))) (clean_text_lacks_unclean_byte 35 name refl p.all)
-    ∙ ap (λ (l : List ℕ). name ++ 32 ∷ l) (before_keeps_prefix 35 a (44 ∷ 32 ∷ (b ++ 44 ∷ 32 ∷ raw)) (clean_text_lacks_unclean_byte 35 a refl q.all)
-    ∙ ap (λ (l : List ℕ). a ++ 44 ∷ 32 ∷ l) (before_keeps_prefix 35 b (44 ∷ 32 ∷ raw) (clean_text_lacks_unclean_byte 35 b refl r.all)))
+before_comment_of_three_operands_cuts_only_last name a b raw p q r =
+    before_byte_keeps_prefix_that_lacks_it 35 name (32 ∷ (a ++ 44 ∷ 32 ∷ (b ++ 44 ∷ 32 ∷ raw))) (clean_text_lacks_unclean_byte 35 name refl p.all)
+    ∙ ap (λ (l : List ℕ). name ++ 32 ∷ l) (before_byte_keeps_prefix_that_lacks_it 35 a (44 ∷ 32 ∷ (b ++ 44 ∷ 32 ∷ raw)) (clean_text_lacks_unclean_byte 35 a refl q.all)
+    ∙ ap (λ (l : List ℕ). a ++ 44 ∷ 32 ∷ l) (before_byte_keeps_prefix_that_lacks_it 35 b (44 ∷ 32 ∷ raw) (clean_text_lacks_unclean_byte 35 b refl r.all)))
 
-trim_of_three_operands : (name a b raw c : List ℕ) → IsPiece name → trim_end raw ≡ c → IsPiece c → trim (three name a b raw) ≡ three name a b c
-trim_of_three_operands name a b raw c p e q =
+trim_of_three_operands_trims_only_last : (name a b raw c : List ℕ) → IsPiece name → trim_end raw ≡ c → IsPiece c → trim (three name a b raw) ≡ three name a b c
+trim_of_three_operands_trims_only_last name a b raw c p e q =
     ap trim_end (skip_blanks_keeps_clean_start name (32 ∷ (a ++ 44 ∷ 32 ∷ (b ++ 44 ∷ 32 ∷ raw))) p.some p.all)
-    ∙ trim_end_keeps_prefix name (32 ∷ (a ++ 44 ∷ 32 ∷ (b ++ 44 ∷ 32 ∷ raw))) (32 ∷ (a ++ 44 ∷ 32 ∷ (b ++ 44 ∷ 32 ∷ c)))
-    (trim_end_keeps_prefix (32 ∷ []) (a ++ 44 ∷ 32 ∷ (b ++ 44 ∷ 32 ∷ raw)) (a ++ 44 ∷ 32 ∷ (b ++ 44 ∷ 32 ∷ c))
-    (trim_end_keeps_prefix a (44 ∷ 32 ∷ (b ++ 44 ∷ 32 ∷ raw)) (44 ∷ 32 ∷ (b ++ 44 ∷ 32 ∷ c))
-    (trim_end_keeps_prefix (44 ∷ 32 ∷ []) (b ++ 44 ∷ 32 ∷ raw) (b ++ 44 ∷ 32 ∷ c)
-    (trim_end_keeps_prefix b (44 ∷ 32 ∷ raw) (44 ∷ 32 ∷ c)
-    (trim_end_keeps_prefix (44 ∷ 32 ∷ []) raw c e q.some) refl)
-    (append_of_nonempty_is_nonempty b (44 ∷ 32 ∷ c) refl)) refl)
-    (append_of_nonempty_is_nonempty a (44 ∷ 32 ∷ (b ++ 44 ∷ 32 ∷ c)) refl)) refl
+    ∙ trim_end_keeps_prefix_if_trimmed_rest_is_nonempty name (32 ∷ (a ++ 44 ∷ 32 ∷ (b ++ 44 ∷ 32 ∷ raw))) (32 ∷ (a ++ 44 ∷ 32 ∷ (b ++ 44 ∷ 32 ∷ c)))
+    (trim_end_keeps_prefix_if_trimmed_rest_is_nonempty (32 ∷ []) (a ++ 44 ∷ 32 ∷ (b ++ 44 ∷ 32 ∷ raw)) (a ++ 44 ∷ 32 ∷ (b ++ 44 ∷ 32 ∷ c))
+    (trim_end_keeps_prefix_if_trimmed_rest_is_nonempty a (44 ∷ 32 ∷ (b ++ 44 ∷ 32 ∷ raw)) (44 ∷ 32 ∷ (b ++ 44 ∷ 32 ∷ c))
+    (trim_end_keeps_prefix_if_trimmed_rest_is_nonempty (44 ∷ 32 ∷ []) (b ++ 44 ∷ 32 ∷ raw) (b ++ 44 ∷ 32 ∷ c)
+    (trim_end_keeps_prefix_if_trimmed_rest_is_nonempty b (44 ∷ 32 ∷ raw) (44 ∷ 32 ∷ c)
+    (trim_end_keeps_prefix_if_trimmed_rest_is_nonempty (44 ∷ 32 ∷ []) raw c e q.some) refl)
+    (append_is_nonempty_if_second_part_is b (44 ∷ 32 ∷ c) refl)) refl)
+    (append_is_nonempty_if_second_part_is a (44 ∷ 32 ∷ (b ++ 44 ∷ 32 ∷ c)) refl)) refl
 
 operand_texts_of_three_operands : (name a b c : List ℕ) → IsPiece name → IsPiece a → IsPiece b → IsPiece c → operand_texts (three name a b c) ≡ a ∷ b ∷ c ∷ []
 operand_texts_of_three_operands name a b c n p q r =
-    ap (λ (l : List ℕ). texts_of (trim l)) (from_blank_is_operands name (a ++ 44 ∷ 32 ∷ (b ++ 44 ∷ 32 ∷ c)) n.all)
+    ap (λ (l : List ℕ). texts_of (trim l)) (from_blank_of_clean_blank_rest_is_blank_rest name (a ++ 44 ∷ 32 ∷ (b ++ 44 ∷ 32 ∷ c)) n.all)
     ∙ ap texts_of (ap trim_end (skip_blanks_keeps_clean_start a (44 ∷ 32 ∷ (b ++ 44 ∷ 32 ∷ c)) p.some p.all)
-    ∙ trim_end_keeps_prefix a (44 ∷ 32 ∷ (b ++ 44 ∷ 32 ∷ c)) (44 ∷ 32 ∷ (b ++ 44 ∷ 32 ∷ c))
-    (trim_end_keeps_prefix (44 ∷ 32 ∷ []) (b ++ 44 ∷ 32 ∷ c) (b ++ 44 ∷ 32 ∷ c)
-    (trim_end_keeps_prefix b (44 ∷ 32 ∷ c) (44 ∷ 32 ∷ c)
-    (trim_end_keeps_prefix (44 ∷ 32 ∷ []) c c (trim_end_of_clean_text c r.all) r.some) refl)
-    (append_of_nonempty_is_nonempty b (44 ∷ 32 ∷ c) refl)) refl)
+    ∙ trim_end_keeps_prefix_if_trimmed_rest_is_nonempty a (44 ∷ 32 ∷ (b ++ 44 ∷ 32 ∷ c)) (44 ∷ 32 ∷ (b ++ 44 ∷ 32 ∷ c))
+    (trim_end_keeps_prefix_if_trimmed_rest_is_nonempty (44 ∷ 32 ∷ []) (b ++ 44 ∷ 32 ∷ c) (b ++ 44 ∷ 32 ∷ c)
+    (trim_end_keeps_prefix_if_trimmed_rest_is_nonempty b (44 ∷ 32 ∷ c) (44 ∷ 32 ∷ c)
+    (trim_end_keeps_prefix_if_trimmed_rest_is_nonempty (44 ∷ 32 ∷ []) c c (trim_end_of_clean_text c r.all) r.some) refl)
+    (append_is_nonempty_if_second_part_is b (44 ∷ 32 ∷ c) refl)) refl)
     ∙ rw (
-      append_of_nonempty_is_nonempty a (44 ∷ 32 ∷ (b ++ 44 ∷ 32 ∷ c)) refl,
+      append_is_nonempty_if_second_part_is a (44 ∷ 32 ∷ (b ++ 44 ∷ 32 ∷ c)) refl,
       split_at_first_separator 44 a (32 ∷ (b ++ 44 ∷ 32 ∷ c)) (clean_text_lacks_unclean_byte 44 a refl p.all),
       split_at_first_separator 44
           (32 ∷ b) (32 ∷ c) (clean_text_lacks_unclean_byte 44 b refl q.all),
@@ -139,14 +139,14 @@ three_operands_say_word name a b raw c word form xs n p q r e s o m = record {
   xs = xs;
   feed = all_pass_in_three_operands (λ b. not (b == 10)) refl refl name a b raw (clean_text_lacks_unclean_byte 10 name refl n.all) (clean_text_lacks_unclean_byte 10 a refl p.all)
       (clean_text_lacks_unclean_byte 10 b refl q.all) r.feed;
-  source = all_pass_in_three_operands is_source_byte refl refl name a b raw (all_pass_weaker_test is_source_byte clean_byte_is_source_byte name n.all)
-      (all_pass_weaker_test is_source_byte clean_byte_is_source_byte a p.all) (all_pass_weaker_test is_source_byte clean_byte_is_source_byte b q.all) r.source;
+  source = all_pass_in_three_operands is_source_byte refl refl name a b raw (all_pass_if_all_clean_and_clean_bytes_pass is_source_byte clean_byte_is_source_byte name n.all)
+      (all_pass_if_all_clean_and_clean_bytes_pass is_source_byte clean_byte_is_source_byte a p.all) (all_pass_if_all_clean_and_clean_bytes_pass is_source_byte clean_byte_is_source_byte b q.all) r.source;
   colon = before_lacks_byte_if_text_does 58 35 (three name a b raw)
       (all_pass_in_three_operands (λ b. not (b == 58)) refl refl name a b raw (clean_text_lacks_unclean_byte 58 name refl n.all) (clean_text_lacks_unclean_byte 58 a refl p.all)
       (clean_text_lacks_unclean_byte 58 b refl q.all) r.colon);
-  trimmed = ap trim (before_comment_of_three_operands name a b raw n p q) ∙ trim_of_three_operands name a b (before 35 raw) c n r.trimmed r.piece_is;
-  some = append_of_nonempty_is_nonempty name (32 ∷ (a ++ 44 ∷ 32 ∷ (b ++ 44 ∷ 32 ∷ c))) refl;
-  named = ap form_named (until_blank_is_name name (a ++ 44 ∷ 32 ∷ (b ++ 44 ∷ 32 ∷ c)) n.all) ∙ e;
+  trimmed = ap trim (before_comment_of_three_operands_cuts_only_last name a b raw n p q) ∙ trim_of_three_operands_trims_only_last name a b (before 35 raw) c n r.trimmed r.piece_is;
+  some = append_is_nonempty_if_second_part_is name (32 ∷ (a ++ 44 ∷ 32 ∷ (b ++ 44 ∷ 32 ∷ c))) refl;
+  named = ap form_named (until_blank_of_clean_blank_rest_is_clean_part name (a ++ 44 ∷ 32 ∷ (b ++ 44 ∷ 32 ∷ c)) n.all) ∙ e;
   stands = s;
   read = ap (operands_of (in_image Small form)) (operand_texts_of_three_operands name a b c n p q r.piece_is) ∙ o;
   means = m;

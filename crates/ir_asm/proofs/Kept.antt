@@ -27,7 +27,7 @@ use Rattle.ir_asm.specs.Answered.{Answers, refused}
 use Rattle.ir_asm.specs.Source.{Seen, Fault, same_section, at_line}
 use Rattle.ir_asm.specs.Passes.{put, distance_to, value_of, text_address, with_code, with_object, second_pass}
 use Rattle.ir_asm.specs.Bounds.{HasFewWords}
-use Rattle.ir_asm.proofs.Steps.{parts_of_ok_bind, test_and_value_of_ok_unless, some_if_or_cause_is_ok}
+use Rattle.ir_asm.proofs.Steps.{parts_of_ok_bind, test_and_value_of_ok_unless, option_is_some_if_or_cause_of_it_is_ok}
 
 -- how many bytes of code an item is
 abbrev pub code_size : Item → ℕ
@@ -71,7 +71,7 @@ pub text_address_is_text_place : (s : Seen) (label : List ℕ) (a : ℕ) → Lab
 text_address_is_text_place s label a fits e =
     let b = parts_of_ok_bind (value_of s label) _ a e in
     let t = test_and_value_of_ok_unless (same_section b.0.section Text) WrongSection b.0.address a b.2 in
-    let p = named_value_has_property_of_all (λ (place : Place). IsTextPlace place.section place.address) s.labels label b.0 fits (some_if_or_cause_is_ok LabelMissing _ b.0 b.1) in
+    let p = named_value_has_property_of_all (λ (place : Place). IsTextPlace place.section place.address) s.labels label b.0 fits (option_is_some_if_or_cause_of_it_is_ok LabelMissing _ b.0 b.1) in
     subst (λ n. (n % 4 ≡ 0) × (code_start ≤ n)) t.1 (by_section b.0.section b.0.address t.0 p)
   where
     by_section : (section : Section) (n : ℕ) → same_section section Text ≡ true → IsTextPlace section n → (n % 4 ≡ 0) × (code_start ≤ n)
@@ -84,34 +84,34 @@ take_of_zeros zero n l = refl
 take_of_zeros (suc k) zero l = absurd (omega (arith, l))
 take_of_zeros (suc k) (suc n) l = ap (λ (xs : List ℕ). 0 ∷ xs) (take_of_zeros k n (omega (arith, l)))
 
-take_past_words_leaves_fewer_zeros : (words : List ℕ) (k n : ℕ) → k ≤ n → take (length words + k) (words ++ replicate {A = ℕ} n 0) ≡ words ++ replicate {A = ℕ} k 0
-take_past_words_leaves_fewer_zeros [] k n l = let e : 0 + k ≡ k = omega arith in rw e (take_of_zeros k n l)
-take_past_words_leaves_fewer_zeros (w ∷ ws) k n l =
+take_of_words_and_zeros_is_words_and_fewer_zeros : (words : List ℕ) (k n : ℕ) → k ≤ n → take (length words + k) (words ++ replicate {A = ℕ} n 0) ≡ words ++ replicate {A = ℕ} k 0
+take_of_words_and_zeros_is_words_and_fewer_zeros [] k n l = let e : 0 + k ≡ k = omega arith in rw e (take_of_zeros k n l)
+take_of_words_and_zeros_is_words_and_fewer_zeros (w ∷ ws) k n l =
     let e : length (w ∷ ws) + k ≡ suc (length ws + k) = omega arith in
-    rw e (ap (λ (xs : List ℕ). w ∷ xs) (take_past_words_leaves_fewer_zeros ws k n l))
+    rw e (ap (λ (xs : List ℕ). w ∷ xs) (take_of_words_and_zeros_is_words_and_fewer_zeros ws k n l))
 
 -- fewer words of an object
-pub take_of_padded_words : (count most : ℕ) (words : List ℕ) → length words ≤ count → count ≤ most
+pub take_of_padded_words_is_padded_to_fewer : (count most : ℕ) (words : List ℕ) → length words ≤ count → count ≤ most
     → take count (padded_to most words) ≡ padded_to count words
-take_of_padded_words count most words l m =
+take_of_padded_words_is_padded_to_fewer count most words l m =
     let e : length words + (count - length words) ≡ count = omega (arith, l) in
     ap (λ (k : ℕ). take k (padded_to most words)) (sym e)
-    ∙ take_past_words_leaves_fewer_zeros words (count - length words) (most - length words) (omega (arith, m))
+    ∙ take_of_words_and_zeros_is_words_and_fewer_zeros words (count - length words) (most - length words) (omega (arith, m))
 
 -- an object has its place
-object_has_room_by_limits : (form : ImageForm) (object objects : ℕ) → object < objects
+end_of_object_within_words_of_all_objects : (form : ImageForm) (object objects : ℕ) → object < objects
     → (limits_of form).words * object + (limits_of form).words ≤ (limits_of form).words * objects
-object_has_room_by_limits Small object objects l = omega (arith, l)
-object_has_room_by_limits Large object objects l = omega (arith, l)
+end_of_object_within_words_of_all_objects Small object objects l = omega (arith, l)
+end_of_object_within_words_of_all_objects Large object objects l = omega (arith, l)
 
 pub object_has_room : (g : Guest) (object objects : ℕ) → object < objects → length g.words ≡ object_words g * objects
     → object_words g * object + object_words g ≤ length g.words
-object_has_room g object objects l there = let r = object_has_room_by_limits g.form object objects l in omega (arith, r, there)
+object_has_room g object objects l there = let r = end_of_object_within_words_of_all_objects g.form object objects l in omega (arith, r, there)
 
 -- words take the place of as many
-length_after_words_replaced : (all words : List ℕ) (start count : ℕ) → length words ≤ count → start + count ≤ length all
+length_is_unchanged_after_words_replaced : (all words : List ℕ) (start count : ℕ) → length words ≤ count → start + count ≤ length all
     → length (take start all ++ (padded_to count words ++ drop (start + count) all)) ≡ length all
-length_after_words_replaced all words start count few there =
+length_is_unchanged_after_words_replaced all words start count few there =
     let drop_begins_with_get_or : List ℕ = take start all in
     let back : List ℕ = drop (start + count) all in
     omega (
@@ -126,9 +126,9 @@ length_after_words_replaced all words start count few there =
       there,
     )
 
-pub length_of_words_with_object : (g : Guest) (object : ℕ) (words : List ℕ) → length words ≤ object_words g
+pub with_object_keeps_number_of_words : (g : Guest) (object : ℕ) (words : List ℕ) → length words ≤ object_words g
     → object_words g * object + object_words g ≤ length g.words → length (with_object g object words).words ≡ length g.words
-length_of_words_with_object g object words few there = length_after_words_replaced g.words words (object_words g * object) (object_words g) few there
+with_object_keeps_number_of_words g object words few there = length_is_unchanged_after_words_replaced g.words words (object_words g * object) (object_words g) few there
 
 -- what an item adds to a guest
 pub record Adds (s : Seen) (item : Item) (g h : Guest) : Type 0 where
@@ -196,7 +196,7 @@ put_adds_item s a (First object words) g h few there e =
       code = omega arith;
       bytes = omega arith;
       entries = omega arith;
-      words = length_of_words_with_object g object words few (object_has_room g object s.objects below there);
+      words = with_object_keeps_number_of_words g object words few (object_has_room g object s.objects below there);
       fit = λ fits k m all. all;
     })
 put_adds_item s a Enlarged g h few there e = adds_if_guest_unchanged s Enlarged g h refl refl refl (ok_is_injective _ h e)
@@ -229,10 +229,10 @@ drop_begins_with_get_or (y ∷ ys) (suc i) d l =
     rw n (drop_begins_with_get_or ys i d (omega (arith, l)))
 
 -- one step, and those that follow
-pub second_pass_step : (s : Seen) (xs : List Placed) (i : ℕ) (x : Placed) (g h : Guest) (whole : Result Guest Fault) → i < length xs
+pub second_pass_of_rest_step_after_put : (s : Seen) (xs : List Placed) (i : ℕ) (x : Placed) (g h : Guest) (whole : Result Guest Fault) → i < length xs
     → x ≡ get_or xs i x → put s x.address x.item g ≡ Ok h →
     second_pass s (drop i xs) g ≡ whole → second_pass s (drop (i + 1) xs) h ≡ whole
-second_pass_step s xs i x g h whole l there e whole_is =
+second_pass_of_rest_step_after_put s xs i x g h whole l there e whole_is =
     let cut : drop i xs ≡ x ∷ drop (i + 1) xs = drop_begins_with_get_or xs i x l ∙ ap (λ (y : Placed). y ∷ drop (i + 1) xs) (sym there) in
     sym (ap (λ (l : List Placed). second_pass s l g) cut ∙ rw e refl) ∙ whole_is
 

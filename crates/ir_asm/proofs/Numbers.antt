@@ -20,19 +20,19 @@ use Rattle.ir_asm.proofs.Pieces.{clean, IsPiece}
 use Rattle.ir_asm.proofs.FieldLaws.{register_of_own_number}
 
 -- a test that each number of a list passes, which counts on from a number
-range_test_holds_for_number : (p : ℕ → Bool) (low count : ℕ) → list_all p (range_with_len low count) ≡ true → (n : ℕ) → low ≤ n → n < low + count → p n ≡ true
-range_test_holds_for_number p low zero h n l k = absurd (omega (arith, l, k))
-range_test_holds_for_number p low (suc count) h n l k =
+number_in_range_passes_if_all_in_range_pass : (p : ℕ → Bool) (low count : ℕ) → list_all p (range_with_len low count) ≡ true → (n : ℕ) → low ≤ n → n < low + count → p n ≡ true
+number_in_range_passes_if_all_in_range_pass p low zero h n l k = absurd (omega (arith, l, k))
+number_in_range_passes_if_all_in_range_pass p low (suc count) h n l k =
     let both = and_parts (p low) (list_all p (range_with_len (low + 1) count)) h in
-    by_test (n == low) refl both.0 (λ m. range_test_holds_for_number p (low + 1) count both.1 n m (omega (arith, k)))
+    by_test (n == low) refl both.0 (λ m. number_in_range_passes_if_all_in_range_pass p (low + 1) count both.1 n m (omega (arith, k)))
   where
     by_test : (b : Bool) → (n == low) ≡ b → p low ≡ true → (low + 1 ≤ n → p n ≡ true) → p n ≡ true
     by_test true e first rest = subst (λ m. p m ≡ true) (sym (eqb-true n low e)) first
     by_test false e first rest = let other = eqb-false n low e in rest (omega (arith, l, other))
 
 -- a test that each number of a register passes
-range_test_holds_for_register : (p : ℕ → Bool) → list_all p (range_with_len 0 32) ≡ true → (r : Register) → p r.number ≡ true
-range_test_holds_for_register p h r = range_test_holds_for_number p 0 32 h r.number (omega arith) (omega (arith, r.in_range))
+register_number_passes_if_all_below_32_pass : (p : ℕ → Bool) → list_all p (range_with_len 0 32) ≡ true → (r : Register) → p r.number ≡ true
+register_number_passes_if_all_below_32_pass p h r = number_in_range_passes_if_all_in_range_pass p 0 32 h r.number (omega arith) (omega (arith, r.in_range))
 
 -- this very number is there
 abbrev holds_number : ℕ → Option ℕ → Bool
@@ -46,13 +46,13 @@ some_if_holds_number n None e = absurd (cc e)
 pub register_of_printed_name : (r : Register) → register (register_name r.number) ≡ Some r
 register_of_printed_name r =
     let found = some_if_holds_number r.number (named register_rows (register_name r.number))
-    (range_test_holds_for_register (λ n. holds_number n (named register_rows (register_name n))) refl r) in
+    (register_number_passes_if_all_below_32_pass (λ n. holds_number n (named register_rows (register_name n))) refl r) in
     ap (option_map register_of) found ∙ ap (λ (x : Register). Some x) (register_of_own_number r)
 
 pub register_name_is_piece : (r : Register) → IsPiece (register_name r.number)
 register_name_is_piece r = record {
-  some = false_if_not_is_true (is_nil (register_name r.number)) (range_test_holds_for_register (λ n. not (is_nil (register_name n))) refl r);
-  all = range_test_holds_for_register (λ n. list_all clean (register_name n)) refl r;
+  some = false_if_not_is_true (is_nil (register_name r.number)) (register_number_passes_if_all_below_32_pass (λ n. not (is_nil (register_name n))) refl r);
+  all = register_number_passes_if_all_below_32_pass (λ n. list_all clean (register_name n)) refl r;
 }
 
 digit_is_not_x : (b : ℕ) → digit_value b < 10 → (b == 120) ≡ false
@@ -121,11 +121,11 @@ digit_char_is_clean d h = grind (arith, common_steps)
 remainder_by_16_below_16 : (n : ℕ) → n % 16 < 16
 remainder_by_16_below_16 n = omega arith
 
-numeral_of_eight_digits : (a b c d e f g h : ℕ) → a < 16 → b < 16 → c < 16 → d < 16 → e < 16 → f < 16 → g < 16 → h < 16 →
+numeral_of_eight_hex_digits_is_their_value : (a b c d e f g h : ℕ) → a < 16 → b < 16 → c < 16 → d < 16 → e < 16 → f < 16 → g < 16 → h < 16 →
     numeral 16 8 (digit_char a ∷ digit_char b ∷ digit_char c ∷ digit_char d ∷ digit_char e ∷ digit_char f ∷ digit_char g ∷ digit_char h
     ∷ [])
     ≡ Some ((((((((0 * 16 + a) * 16 + b) * 16 + c) * 16 + d) * 16 + e) * 16 + f) * 16 + g) * 16 + h)
-numeral_of_eight_digits a b c d e f g h k0 k1 k2 k3 k4 k5 k6 k7 =
+numeral_of_eight_hex_digits_is_their_value a b c d e f g h k0 k1 k2 k3 k4 k5 k6 k7 =
     rw (
       digit_value_of_digit_char a k0,
       digit_value_of_digit_char b k1,
@@ -143,7 +143,7 @@ pub natural_of_hex_word : (n : ℕ) → n < 2 ^ 32 → natural (codes "0x" ++ he
 natural_of_hex_word n h =
     let e : ((((((((0 * 16 + n / 16 ^ 7 % 16) * 16 + n / 16 ^ 6 % 16) * 16 + n / 16 ^ 5 % 16) * 16 + n / 16 ^ 4 % 16) * 16 + n / 16 ^ 3 %
     16) * 16 + n / 16 ^ 2 % 16) * 16 + n / 16 ^ 1 % 16) * 16 + n / 16 ^ 0 % 16) ≡ n = omega arith in
-    numeral_of_eight_digits (n / 16 ^ 7 % 16) (n / 16 ^ 6 % 16) (n / 16 ^ 5 % 16) (n / 16 ^ 4 % 16) (n / 16 ^ 3 % 16) (n / 16 ^ 2 % 16) (n / 16 ^ 1 % 16)
+    numeral_of_eight_hex_digits_is_their_value (n / 16 ^ 7 % 16) (n / 16 ^ 6 % 16) (n / 16 ^ 5 % 16) (n / 16 ^ 4 % 16) (n / 16 ^ 3 % 16) (n / 16 ^ 2 % 16) (n / 16 ^ 1 % 16)
     (n / 16 ^ 0 % 16)
     (remainder_by_16_below_16 _) (remainder_by_16_below_16 _) (remainder_by_16_below_16 _) (remainder_by_16_below_16 _) (remainder_by_16_below_16 _) (remainder_by_16_below_16 _) (remainder_by_16_below_16 _) (remainder_by_16_below_16 _)
     ∙ ap (λ (m : ℕ). Some m) e
@@ -152,10 +152,10 @@ pub hex_is_clean : (k n : ℕ) → list_all clean (hex k n) ≡ true
 hex_is_clean zero n = refl
 hex_is_clean (suc k) n = rw (digit_char_is_clean (n / 16 ^ k % 16) (remainder_by_16_below_16 (n / 16 ^ k))) (hex_is_clean k n)
 
-numeral_of_five_digits : (a b c d e : ℕ) → a < 16 → b < 16 → c < 16 → d < 16 → e < 16 →
+numeral_of_five_hex_digits_is_their_value : (a b c d e : ℕ) → a < 16 → b < 16 → c < 16 → d < 16 → e < 16 →
     numeral 16 8 (digit_char a ∷ digit_char b ∷ digit_char c ∷ digit_char d ∷ digit_char e ∷ [])
     ≡ Some (((((0 * 16 + a) * 16 + b) * 16 + c) * 16 + d) * 16 + e)
-numeral_of_five_digits a b c d e k0 k1 k2 k3 k4 =
+numeral_of_five_hex_digits_is_their_value a b c d e k0 k1 k2 k3 k4 =
     rw (digit_value_of_digit_char a k0, digit_value_of_digit_char b k1, digit_value_of_digit_char c k2, digit_value_of_digit_char d k3, digit_value_of_digit_char e k4)
     (rw (lt-ltb a 16 k0, lt-ltb b 16 k1, lt-ltb c 16 k2, lt-ltb d 16 k3, lt-ltb e 16 k4) refl)
 
@@ -163,7 +163,7 @@ pub natural_of_five_hex_digits : (n : ℕ) → n < 2 ^ 20 → natural (codes "0x
 natural_of_five_hex_digits n h =
     let e : (((((0 * 16 + n / 16 ^ 4 % 16) * 16 + n / 16 ^ 3 % 16) * 16 + n / 16 ^ 2 % 16) * 16 + n / 16 ^ 1 % 16) * 16 + n / 16 ^ 0 %
     16) ≡ n = omega arith in
-    numeral_of_five_digits (n / 16 ^ 4 % 16) (n / 16 ^ 3 % 16) (n / 16 ^ 2 % 16) (n / 16 ^ 1 % 16) (n / 16 ^ 0 % 16)
+    numeral_of_five_hex_digits_is_their_value (n / 16 ^ 4 % 16) (n / 16 ^ 3 % 16) (n / 16 ^ 2 % 16) (n / 16 ^ 1 % 16) (n / 16 ^ 0 % 16)
     (remainder_by_16_below_16 _) (remainder_by_16_below_16 _) (remainder_by_16_below_16 _) (remainder_by_16_below_16 _) (remainder_by_16_below_16 _)
     ∙ ap (λ (m : ℕ). Some m) e
 
@@ -185,7 +185,7 @@ signed_decimal_has_no_parenthesis (pos n) h = digits_have_no_parenthesis (decima
 signed_decimal_has_no_parenthesis (negsuc n) h = digits_have_no_parenthesis (decimal (suc n)) (decimal_is_IsNumeral (suc n) h).0.1
 
 pub register_name_has_no_parenthesis : (r : Register) → list_all is_not_parenthesis (register_name r.number) ≡ true
-register_name_has_no_parenthesis r = range_test_holds_for_register (λ n. list_all is_not_parenthesis (register_name n)) refl r
+register_name_has_no_parenthesis r = register_number_passes_if_all_below_32_pass (λ n. list_all is_not_parenthesis (register_name n)) refl r
 
 pub no_opening_if_no_parenthesis : (a : List ℕ) → list_all is_not_parenthesis a ≡ true → list_all (λ b. not (b == 40)) a ≡ true
 no_opening_if_no_parenthesis [] h = refl

@@ -21,10 +21,10 @@ use Rattle.ir_asm.proofs.Steps.{ok_if_at_line_is_ok, parts_of_ok_bind, parts_of_
 abbrev pub AreInOrderBefore : ℕ → List Placed → Type 0
 AreInOrderBefore line xs = AreInOrder 1 xs × AllByRecursion (λ y. y.line < line) xs
 
-in_order_after_push : (low line : ℕ) (xs : List Placed) (x : Placed) → low ≤ line → x.line ≡ line → AllByRecursion (λ y. y.line < line) xs
+in_order_after_push_if_all_are_before_its_line : (low line : ℕ) (xs : List Placed) (x : Placed) → low ≤ line → x.line ≡ line → AllByRecursion (λ y. y.line < line) xs
     → AreInOrder low xs → AreInOrder low (xs ++ x ∷ [])
-in_order_after_push low line [] x l e b o = (omega (arith, l, e), tt)
-in_order_after_push low line (y ∷ ys) x l e b o = (o.0, in_order_after_push (y.line + 1) line ys x (omega (arith, b.0)) e b.1 o.1)
+in_order_after_push_if_all_are_before_its_line low line [] x l e b o = (omega (arith, l, e), tt)
+in_order_after_push_if_all_are_before_its_line low line (y ∷ ys) x l e b o = (o.0, in_order_after_push_if_all_are_before_its_line (y.line + 1) line ys x (omega (arith, b.0)) e b.1 o.1)
 
 all_before_next_line_if_before_line : (line : ℕ) (xs : List Placed) → AllByRecursion (λ y. y.line < line) xs → AllByRecursion (λ y. y.line < line + 1) xs
 all_before_next_line_if_before_line line [] b = tt
@@ -38,7 +38,7 @@ in_order_before_next_line line xs o = (o.0, all_before_next_line_if_before_line 
 in_order_after_placed_item : (line a : ℕ) (item : Item) (s : Seen) → 1 ≤ line → AreInOrderBefore line s.placed → AreInOrderBefore (line + 1) (placed_at line a item s).placed
 in_order_after_placed_item line a item s l o =
     let x : Placed = record { line = line; address = a; item = item } in
-    (in_order_after_push 1 line s.placed x l refl o.1 o.0, all_by_recursion_after_push (λ y. y.line < line + 1) s.placed x (all_before_next_line_if_before_line line s.placed o.1) (omega arith))
+    (in_order_after_push_if_all_are_before_its_line 1 line s.placed x l refl o.1 o.0, all_by_recursion_after_push (λ y. y.line < line + 1) s.placed x (all_before_next_line_if_before_line line s.placed o.1) (omega arith))
 
 in_order_after_entered_item : (line a : ℕ) (item : Item) (s t : Seen) → 1 ≤ line → AreInOrderBefore line s.placed → entered line a item s ≡ Ok t
     → AreInOrderBefore (line + 1) t.placed
@@ -60,9 +60,9 @@ in_order_after_entered_item line a (Filled bytes) s t l o e = subst (λ u. AreIn
 in_order_after_entered_item line a (First object words) s t l o e =
     subst (λ u. AreInOrderBefore (line + 1) u.placed) (ok_is_injective _ t e) (in_order_after_placed_item line a (First object words) s l o)
 
-grown_places_nothing : (section : Section) (n : ℕ) (s t : Seen) → grown section n s ≡ Ok t → s.placed ≡ t.placed
-grown_places_nothing Text n s t e = ap (λ (u : Seen). u.placed) (test_and_value_of_ok_unless (nat_le (s.code + n) (4 * most_code_words)) BadSize _ t e).1
-grown_places_nothing Data n s t e = ap (λ (u : Seen). u.placed) (test_and_value_of_ok_unless (nat_le (s.filled + n) memory_size) BadSize _ t e).1
+grown_section_places_nothing : (section : Section) (n : ℕ) (s t : Seen) → grown section n s ≡ Ok t → s.placed ≡ t.placed
+grown_section_places_nothing Text n s t e = ap (λ (u : Seen). u.placed) (test_and_value_of_ok_unless (nat_le (s.code + n) (4 * most_code_words)) BadSize _ t e).1
+grown_section_places_nothing Data n s t e = ap (λ (u : Seen). u.placed) (test_and_value_of_ok_unless (nat_le (s.filled + n) memory_size) BadSize _ t e).1
 
 in_order_after_statement : (line : ℕ) (statement : List ℕ) (s t : Seen) → 1 ≤ line → AreInOrderBefore line s.placed → with_statement line statement s ≡ Ok t
     → AreInOrderBefore (line + 1) t.placed
@@ -71,7 +71,7 @@ in_order_after_statement line (b ∷ bs) s t l o e =
     let i = parts_of_ok_bind (item_in s.form s.section (b ∷ bs)) _ t e in
     let g = parts_of_ok_bind (grown s.section (size_of i.0) (begun s)) _ t i.2 in
     in_order_after_entered_item line (here (begun s)).address (laid s.section i.0) g.0 t l
-    (subst (AreInOrderBefore line) (grown_places_nothing s.section (size_of i.0) (begun s) g.0 g.1) o) g.2
+    (subst (AreInOrderBefore line) (grown_section_places_nothing s.section (size_of i.0) (begun s) g.0 g.1) o) g.2
 
 labels_place_nothing : (labels : List (List ℕ)) (s t : Seen) → with_labels labels s ≡ Ok t → s.placed ≡ t.placed
 labels_place_nothing [] s t e = ap (λ (u : Seen). u.placed) (ok_is_injective s t e)

@@ -33,41 +33,41 @@ clean_text_lacks_unclean_byte c (x ∷ a) k h =
     let p = and_parts (clean x) (list_all clean a) h in
     rw (clean_byte_differs_from_unclean x c p.0 k) (clean_text_lacks_unclean_byte c a k p.1)
 
-number_equals_itself : (c : ℕ) → (c == c) ≡ true
-number_equals_itself c = grind (arith, common_steps)
+equality_test_of_same_number_is_true : (c : ℕ) → (c == c) ≡ true
+equality_test_of_same_number_is_true c = grind (arith, common_steps)
 
 -- the first byte isn't c, and nor are the others
-pub lacks_in_head_and_tail : (c x : ℕ) (a : List ℕ) → lacks c (x ∷ a) ≡ true → ((x == c) ≡ false) × (lacks c a ≡ true)
-lacks_in_head_and_tail c x a h = let p = and_parts (not (x == c)) (lacks c a) h in (false_if_not_is_true (x == c) p.0, p.1)
+pub head_and_tail_lack_byte_if_list_does : (c x : ℕ) (a : List ℕ) → lacks c (x ∷ a) ≡ true → ((x == c) ≡ false) × (lacks c a ≡ true)
+head_and_tail_lack_byte_if_list_does c x a h = let p = and_parts (not (x == c)) (lacks c a) h in (false_if_not_is_true (x == c) p.0, p.1)
 
 pub split_without_separator : (c : ℕ) (a : List ℕ) → lacks c a ≡ true → split c a ≡ a ∷ []
 split_without_separator c [] h = refl
-split_without_separator c (x ∷ a) h = rw ((lacks_in_head_and_tail c x a h).0, split_without_separator c a (lacks_in_head_and_tail c x a h).1) refl
+split_without_separator c (x ∷ a) h = rw ((head_and_tail_lack_byte_if_list_does c x a h).0, split_without_separator c a (head_and_tail_lack_byte_if_list_does c x a h).1) refl
 
 pub split_at_first_separator : (c : ℕ) (a b : List ℕ) → lacks c a ≡ true → split c (a ++ c ∷ b) ≡ a ∷ split c b
-split_at_first_separator c [] b h = rw (number_equals_itself c) refl
-split_at_first_separator c (x ∷ a) b h = rw ((lacks_in_head_and_tail c x a h).0, split_at_first_separator c a b (lacks_in_head_and_tail c x a h).1) refl
+split_at_first_separator c [] b h = rw (equality_test_of_same_number_is_true c) refl
+split_at_first_separator c (x ∷ a) b h = rw ((head_and_tail_lack_byte_if_list_does c x a h).0, split_at_first_separator c a b (head_and_tail_lack_byte_if_list_does c x a h).1) refl
 
 pub before_without_separator : (c : ℕ) (a : List ℕ) → lacks c a ≡ true → before c a ≡ a
 before_without_separator c [] h = refl
-before_without_separator c (x ∷ a) h = rw ((lacks_in_head_and_tail c x a h).0) (ap (λ (l : List ℕ). x ∷ l) (before_without_separator c a (lacks_in_head_and_tail c x a h).1))
+before_without_separator c (x ∷ a) h = rw ((head_and_tail_lack_byte_if_list_does c x a h).0) (ap (λ (l : List ℕ). x ∷ l) (before_without_separator c a (head_and_tail_lack_byte_if_list_does c x a h).1))
 
 pub before_first_separator : (c : ℕ) (a b : List ℕ) → lacks c a ≡ true → before c (a ++ c ∷ b) ≡ a
-before_first_separator c [] b h = rw (number_equals_itself c) refl
-before_first_separator c (x ∷ a) b h = rw ((lacks_in_head_and_tail c x a h).0) (ap (λ (l : List ℕ). x ∷ l) (before_first_separator c a b (lacks_in_head_and_tail c x a h).1))
+before_first_separator c [] b h = rw (equality_test_of_same_number_is_true c) refl
+before_first_separator c (x ∷ a) b h = rw ((head_and_tail_lack_byte_if_list_does c x a h).0) (ap (λ (l : List ℕ). x ∷ l) (before_first_separator c a b (head_and_tail_lack_byte_if_list_does c x a h).1))
 
 -- the name ends at the first blank
-pub until_blank_is_name : (a b : List ℕ) → list_all clean a ≡ true → until is_blank (a ++ 32 ∷ b) ≡ a
-until_blank_is_name [] b h = refl
-until_blank_is_name (x ∷ a) b h =
+pub until_blank_of_clean_blank_rest_is_clean_part : (a b : List ℕ) → list_all clean a ≡ true → until is_blank (a ++ 32 ∷ b) ≡ a
+until_blank_of_clean_blank_rest_is_clean_part [] b h = refl
+until_blank_of_clean_blank_rest_is_clean_part (x ∷ a) b h =
     let p = and_parts (clean x) (list_all clean a) h in
-    rw (clean_byte_is_not_blank x p.0) (ap (λ (l : List ℕ). x ∷ l) (until_blank_is_name a b p.1))
+    rw (clean_byte_is_not_blank x p.0) (ap (λ (l : List ℕ). x ∷ l) (until_blank_of_clean_blank_rest_is_clean_part a b p.1))
 
-pub from_blank_is_operands : (a b : List ℕ) → list_all clean a ≡ true → from is_blank (a ++ 32 ∷ b) ≡ 32 ∷ b
-from_blank_is_operands [] b h = refl
-from_blank_is_operands (x ∷ a) b h =
+pub from_blank_of_clean_blank_rest_is_blank_rest : (a b : List ℕ) → list_all clean a ≡ true → from is_blank (a ++ 32 ∷ b) ≡ 32 ∷ b
+from_blank_of_clean_blank_rest_is_blank_rest [] b h = refl
+from_blank_of_clean_blank_rest_is_blank_rest (x ∷ a) b h =
     let p = and_parts (clean x) (list_all clean a) h in
-    rw (clean_byte_is_not_blank x p.0) (from_blank_is_operands a b p.1)
+    rw (clean_byte_is_not_blank x p.0) (from_blank_of_clean_blank_rest_is_blank_rest a b p.1)
 
 pub trim_end_of_clean_text : (a : List ℕ) → list_all clean a ≡ true → trim_end a ≡ a
 trim_end_of_clean_text [] h = refl
@@ -82,14 +82,14 @@ skip_blanks_of_clean_text (x ∷ a) h = rw (clean_byte_is_not_blank x (and_parts
 pub trim_of_clean_text : (a : List ℕ) → list_all clean a ≡ true → trim a ≡ a
 trim_of_clean_text a h = rw (skip_blanks_of_clean_text a h) (trim_end_of_clean_text a h)
 
-pub append_of_nonempty_is_nonempty : (x y : List ℕ) → is_nil y ≡ false → is_nil (x ++ y) ≡ false
-append_of_nonempty_is_nonempty [] y h = h
-append_of_nonempty_is_nonempty (b ∷ x) y h = refl
+pub append_is_nonempty_if_second_part_is : (x y : List ℕ) → is_nil y ≡ false → is_nil (x ++ y) ≡ false
+append_is_nonempty_if_second_part_is [] y h = h
+append_is_nonempty_if_second_part_is (b ∷ x) y h = refl
 
 -- what ends in a clean piece has no blanks at its end
 pub trim_end_keeps_clean_end : (x y : List ℕ) → is_nil y ≡ false → list_all clean y ≡ true → trim_end (x ++ y) ≡ x ++ y
 trim_end_keeps_clean_end [] y n h = trim_end_of_clean_text y h
-trim_end_keeps_clean_end (b ∷ x) y n h = rw (trim_end_keeps_clean_end x y n h, append_of_nonempty_is_nonempty x y n, conjunction_with_false (is_blank b)) refl
+trim_end_keeps_clean_end (b ∷ x) y n h = rw (trim_end_keeps_clean_end x y n h, append_is_nonempty_if_second_part_is x y n, conjunction_with_false (is_blank b)) refl
 
 -- what begins with a clean byte has no blanks at its start
 pub skip_blanks_keeps_clean_start : (x y : List ℕ) → is_nil x ≡ false → list_all clean x ≡ true → skip_blanks (x ++ y) ≡ x ++ y
@@ -109,7 +109,7 @@ texts_of_two_pieces a b p q =
     (rw (ap trim_end (sym (append_assoc a (44 ∷ 32 ∷ []) b)) ∙ trim_end_keeps_clean_end (a ++ 44 ∷ 32 ∷ []) b q.some q.all
     ∙ append_assoc a (44 ∷ 32 ∷ []) b)
     (rw (
-      append_of_nonempty_is_nonempty a (44 ∷ 32 ∷ b) refl,
+      append_is_nonempty_if_second_part_is a (44 ∷ 32 ∷ b) refl,
       split_at_first_separator 44 a (32 ∷ b) (clean_text_lacks_unclean_byte 44 a refl p.all),
       split_without_separator 44 (32 ∷ b)
           (clean_text_lacks_unclean_byte 44 b refl q.all),

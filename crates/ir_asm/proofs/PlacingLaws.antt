@@ -30,9 +30,9 @@ fault_in_test_ignores_mapping : {A B : Type 0} (r : Result A Cause) (p : A → B
 fault_in_test_ignores_mapping (Ok x) p c f = fault_in_test_ignores_value (p x) c (f x) x
 fault_in_test_ignores_mapping (Err d) p c f = refl
 
-fault_in_count_test : {A : Type 0} (b : Bool) (x : A) → fault_in (unless b BadCount (Ok x)) ≡ (if b then None else Some BadCount)
-fault_in_count_test true x = refl
-fault_in_count_test false x = refl
+fault_in_count_test_is_bad_count_unless_true : {A : Type 0} (b : Bool) (x : A) → fault_in (unless b BadCount (Ok x)) ≡ (if b then None else Some BadCount)
+fault_in_count_test_is_bad_count_unless_true true x = refl
+fault_in_count_test_is_bad_count_unless_true false x = refl
 
 fault_in_put_is_item_fault : (s : Seen) (a : ℕ) (item : Item) (g : Guest) → fault_in (put s a item g) ≡ item_fault s a item
 fault_in_put_is_item_fault s a (Code words) g = refl
@@ -44,7 +44,7 @@ fault_in_put_is_item_fault s a Enlarged g = refl
 fault_in_put_is_item_fault s a (Within section) g = refl
 fault_in_put_is_item_fault s a (Entry label) g = fault_in_test_ignores_mapping (text_address s label) (λ n. nat_lt n (code_start + s.code)) WrongSection _
 fault_in_put_is_item_fault s a (Count n) g = refl
-fault_in_put_is_item_fault s a (First object words) g = fault_in_count_test (nat_lt object s.objects) (with_object g object words)
+fault_in_put_is_item_fault s a (First object words) g = fault_in_count_test_is_bad_count_unless_true (nat_lt object s.objects) (with_object g object words)
 fault_in_put_is_item_fault s a Nothing g = refl
 
 -- ---- one after the other
@@ -72,8 +72,8 @@ err_is_injective {A} e f h = ap fault h
     fault (Ok x) = e
     fault (Err d) = d
 
-first_fault_after_put_statement : (s : Seen) (x : Placed) (xs : List Placed) (fault : Fault) → IsPut s x → IsFirstFault s xs fault → IsFirstFault s (x ∷ xs) fault
-first_fault_after_put_statement s x xs fault p f = record {
+first_fault_is_kept_by_put_statement_before_it : (s : Seen) (x : Placed) (xs : List Placed) (fault : Fault) → IsPut s x → IsFirstFault s xs fault → IsFirstFault s (x ∷ xs) fault
+first_fault_is_kept_by_put_statement_before_it s x xs fault p f = record {
   before = x ∷ f.before;
   statement = f.statement;
   after = f.after;
@@ -91,7 +91,7 @@ second_pass_fault_is_first_fault s (x ∷ xs) g fault e = by_put (put s x.addres
     by_put : (r : Result Guest Cause) → item_fault s x.address x.item ≡ fault_in r
         → (at_line x.line r >>= λ h. second_pass s xs h) ≡ Err fault
         → ((h : Guest) → second_pass s xs h ≡ Err fault → IsFirstFault s xs fault) → IsFirstFault s (x ∷ xs) fault
-    by_put (Ok h) p f again = first_fault_after_put_statement s x xs fault p (again h f)
+    by_put (Ok h) p f again = first_fault_is_kept_by_put_statement_before_it s x xs fault p (again h f)
     by_put (Err c) p f again =
         let same : record { line = x.line; cause = c } ≡ fault = err_is_injective {A = Guest} _ fault f in
         record {

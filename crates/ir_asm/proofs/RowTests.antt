@@ -14,23 +14,23 @@ address_without_offset_is_bad_number = refl
 address_without_register_is_unknown_register : assembled (codes "lw a0, 4()") ≡ Err (record { line = 1; cause = UnknownRegister })
 address_without_register_is_unknown_register = refl
 
-offset_is_read_before_register : assembled (codes "lw a0, 2048(zer)") ≡ Err (record { line = 1; cause = BadNumber })
-offset_is_read_before_register = refl
+bad_offset_comes_before_unknown_register : assembled (codes "lw a0, 2048(zer)") ≡ Err (record { line = 1; cause = BadNumber })
+bad_offset_comes_before_unknown_register = refl
 
 register_in_parentheses_is_unknown : assembled (codes "addi a0, (zero), 1") ≡ Err (record { line = 1; cause = UnknownRegister })
 register_in_parentheses_is_unknown = refl
 
-operand_shapes_are_tested_before_registers : assembled (codes "beq zer, a1, $x") ≡ Err (record { line = 1; cause = WrongOperands })
-operand_shapes_are_tested_before_registers = refl
+wrong_operand_shapes_come_before_unknown_register : assembled (codes "beq zer, a1, $x") ≡ Err (record { line = 1; cause = WrongOperands })
+wrong_operand_shapes_come_before_unknown_register = refl
 
-registers_are_read_before_distance : assembled (codes "beq zer, a1, 5") ≡ Err (record { line = 1; cause = UnknownRegister })
-registers_are_read_before_distance = refl
+unknown_register_comes_before_bad_distance : assembled (codes "beq zer, a1, 5") ≡ Err (record { line = 1; cause = UnknownRegister })
+unknown_register_comes_before_bad_distance = refl
 
-word_without_operand_is_wrong : assembled (codes ".word") ≡ Err (record { line = 1; cause = WrongOperands })
-word_without_operand_is_wrong = refl
+word_without_operand_is_wrong_operands : assembled (codes ".word") ≡ Err (record { line = 1; cause = WrongOperands })
+word_without_operand_is_wrong_operands = refl
 
-return_without_feed_is_bad_byte : assembled (codes "nop\r") ≡ Err (record { line = 1; cause = BadByte })
-return_without_feed_is_bad_byte = refl
+carriage_return_without_line_feed_is_bad_byte : assembled (codes "nop\r") ≡ Err (record { line = 1; cause = BadByte })
+carriage_return_without_line_feed_is_bad_byte = refl
 
 digit_label_is_bad_label : assembled (codes "9: nop") ≡ Err (record { line = 1; cause = BadLabel })
 digit_label_is_bad_label = refl
@@ -61,8 +61,8 @@ label_twice_is_fault = refl
 pub unknown_register_is_fault : assembled (codes "addi a0, zer, 2048\n") ≡ Err (record { line = 1; cause = UnknownRegister })
 unknown_register_is_fault = refl
 
-pub number_out_of_range_is_fault : assembled (codes "addi a0, zero, 2048\n") ≡ Err (record { line = 1; cause = BadNumber })
-number_out_of_range_is_fault = refl
+pub number_out_of_range_is_bad_number : assembled (codes "addi a0, zero, 2048\n") ≡ Err (record { line = 1; cause = BadNumber })
+number_out_of_range_is_bad_number = refl
 
 pub missing_label_is_fault : assembled (codes "beq a0, a1, far\n") ≡ Err (record { line = 1; cause = LabelMissing })
 missing_label_is_fault = refl
@@ -70,8 +70,8 @@ missing_label_is_fault = refl
 pub space_in_text_is_wrong_section : assembled (codes "nop\n.space 1\n") ≡ Err (record { line = 2; cause = WrongSection })
 space_in_text_is_wrong_section = refl
 
-pub end : assembled (codes "nop\nend: .thread end\n") ≡ Err (record { line = 2; cause = WrongSection })
-end = refl
+pub thread_entry_label_at_end_of_code_is_wrong_section : assembled (codes "nop\nend: .thread end\n") ≡ Err (record { line = 2; cause = WrongSection })
+thread_entry_label_at_end_of_code_is_wrong_section = refl
 
 pub li_carries_into_upper_bits : assembled (codes "li a0, 0x12345FFF") ≡ Ok
     (record { form = Small; entries = 0x00010000 ∷ []; code = 0x12346537 ∷ 0xFFF50513 ∷ []; bytes = []; words = [] })
@@ -100,20 +100,20 @@ address_of_data_label_assembles : assembled (codes ".data\n.byte 1\nx: .byte 2\n
     (record { form = Small; entries = 0x10000 ∷ []; code = 0x00100537 ∷ 0x00150513 ∷ []; bytes = 1 ∷ 2 ∷ []; words = [] })
 address_of_data_label_assembles = refl
 
-object_beyond_last_count_is_fault : assembled (codes ".objects 2\n.object 1, 1\n.objects 1\nnop\n") ≡ Err (record { line = 2; cause = BadCount })
-object_beyond_last_count_is_fault = refl
+object_beyond_last_count_is_bad_count : assembled (codes ".objects 2\n.object 1, 1\n.objects 1\nnop\n") ≡ Err (record { line = 2; cause = BadCount })
+object_beyond_last_count_is_bad_count = refl
 
-branch_to_data_label_is_fault : assembled (codes "beq a0, a1, far\n.data\nfar: .byte 1\n") ≡ Err (record { line = 1; cause = WrongSection })
-branch_to_data_label_is_fault = refl
+branch_to_data_label_is_wrong_section : assembled (codes "beq a0, a1, far\n.data\nfar: .byte 1\n") ≡ Err (record { line = 1; cause = WrongSection })
+branch_to_data_label_is_wrong_section = refl
 
 bad_label_comes_before_label_twice : assembled (codes "a: a: 9: nop\n") ≡ Err (record { line = 1; cause = BadLabel })
 bad_label_comes_before_label_twice = refl
 
-section_is_tested_before_operands : assembled (codes ".data\naddi zer") ≡ Err (record { line = 2; cause = WrongSection })
-section_is_tested_before_operands = refl
+wrong_section_comes_before_wrong_operands : assembled (codes ".data\naddi zer") ≡ Err (record { line = 2; cause = WrongSection })
+wrong_section_comes_before_wrong_operands = refl
 
-first_pass_fault_comes_before_second : assembled (codes "jal ra, far\nfoo\n") ≡ Err (record { line = 2; cause = UnknownStatement })
-first_pass_fault_comes_before_second = refl
+first_pass_fault_comes_before_second_pass_fault : assembled (codes "jal ra, far\nfoo\n") ≡ Err (record { line = 2; cause = UnknownStatement })
+first_pass_fault_comes_before_second_pass_fault = refl
 
 large_object_of_sixteen_words_assembles : assembled (codes "a: # large\nb: .large\n.objects 1\n.object 0, 1, 2, 3, 4, 5, 6, 7, 8, 9, 10, 11, 12, 13, 14, 15, 16\nnop") ≡ Ok
     (record {
@@ -125,9 +125,9 @@ large_object_of_sixteen_words_assembles : assembled (codes "a: # large\nb: .larg
     })
 large_object_of_sixteen_words_assembles = refl
 
-pub large : assembled (codes ".large\nnop") ≡ Ok
+pub large_directive_assembles_to_large_image : assembled (codes ".large\nnop") ≡ Ok
     (record { form = Large; entries = 0x00010000 ∷ []; code = 0x13 ∷ []; bytes = []; words = [] })
-large = refl
+large_directive_assembles_to_large_image = refl
 
 pub late_large_is_wrong_section : assembled (codes "nop\n.large\n") ≡ Err (record { line = 2; cause = WrongSection })
 late_large_is_wrong_section = refl
@@ -135,11 +135,11 @@ late_large_is_wrong_section = refl
 second_large_is_wrong_section : assembled (codes ".large\n.large\nnop") ≡ Err (record { line = 2; cause = WrongSection })
 second_large_is_wrong_section = refl
 
-large_with_operand_is_fault : assembled (codes ".large 1\nnop") ≡ Err (record { line = 1; cause = WrongOperands })
-large_with_operand_is_fault = refl
+large_with_operand_is_wrong_operands : assembled (codes ".large 1\nnop") ≡ Err (record { line = 1; cause = WrongOperands })
+large_with_operand_is_wrong_operands = refl
 
-late_large_is_tested_before_operands : assembled (codes "nop\n.large 1") ≡ Err (record { line = 2; cause = WrongSection })
-late_large_is_tested_before_operands = refl
+late_large_wrong_section_comes_before_wrong_operands : assembled (codes "nop\n.large 1") ≡ Err (record { line = 2; cause = WrongSection })
+late_large_wrong_section_comes_before_wrong_operands = refl
 
 eight_words_pass_small_limit : assembled (codes ".object 0, 1, 2, 3, 4, 5, 6, 7, x") ≡ Err (record { line = 1; cause = BadNumber })
 eight_words_pass_small_limit = refl
@@ -157,5 +157,5 @@ seventeen_objects_exceed_small_image = refl
 sixty_five_objects_exceed_large_image : assembled (codes ".large\n.objects 65\nnop") ≡ Err (record { line = 2; cause = BadNumber })
 sixty_five_objects_exceed_large_image = refl
 
-sixty_four_objects_pass_large_limit : assembled (codes ".large\n.objects 64\n") ≡ Err (record { line = 4; cause = BadSize })
-sixty_four_objects_pass_large_limit = refl
+sixty_four_objects_pass_large_limit_and_lack_code : assembled (codes ".large\n.objects 64\n") ≡ Err (record { line = 4; cause = BadSize })
+sixty_four_objects_pass_large_limit_and_lack_code = refl

@@ -11,7 +11,7 @@ use Rattle.ir_image.specs.declared.form.ImageForm.{ImageForm}
 use Rattle.ir_image.specs.declared.form.ImageForm.TheVariants.{Large}
 use Rattle.ir_image.specs.Guest.{limits_of, Guest, code_start, memory_size, most_code_words, object_words, object_count}
 use Rattle.ir_image.specs.Bounds.{IsWord, IsByte, IsGuest, IsPlace}
-use Rattle.ir_image.proofs.CallerLemmas.{words_of_form_at_most_limit, form_has_threads, threads_of_form_at_most_limit, objects_of_form_at_most_limit, object_count_of_whole_objects, words_of_whole_objects_divide}
+use Rattle.ir_image.proofs.CallerLemmas.{words_of_form_at_most_limit, thread_limit_of_form_is_positive, threads_of_form_at_most_limit, objects_of_form_at_most_limit, words_divided_by_limit_is_object_count, words_of_whole_objects_divide}
 use Rattle.ir_asm.specs.declared.cause.Cause.TheVariants.{UnknownStatement, WrongSection, WrongOperands, BadNumber, BadSize, BadCount, BadByte, BadLabel, LabelTwice}
 use Rattle.ir_asm.specs.declared.form.Section.{Section}
 use Rattle.ir_asm.specs.declared.form.Section.TheVariants.{Text, Data}
@@ -49,13 +49,13 @@ MayStand image section (First object words) = length words ≤ (limits_of image)
 MayStand image section item = Unit {0}
 
 -- as many operands as texts
-pub length_of_read_all : (form : Form) (place : ℕ) (texts : List (List ℕ)) (xs : List Operand) → read_all form place texts ≡ Ok xs
+pub length_of_read_all_is_that_of_texts : (form : Form) (place : ℕ) (texts : List (List ℕ)) (xs : List Operand) → read_all form place texts ≡ Ok xs
     → length xs ≡ length texts
-length_of_read_all form place [] xs e = ap length (sym (ok_is_injective [] xs e))
-length_of_read_all form place (t ∷ texts) xs e =
+length_of_read_all_is_that_of_texts form place [] xs e = ap length (sym (ok_is_injective [] xs e))
+length_of_read_all_is_that_of_texts form place (t ∷ texts) xs e =
     let b = parts_of_ok_bind (read (kind_at form place) t) _ xs e in
     let d = parts_of_ok_bind (read_all form (place + 1) texts) _ xs b.2 in
-    ap length (sym (ok_is_injective _ xs d.2)) ∙ ap suc (length_of_read_all form (place + 1) texts d.0 d.1)
+    ap length (sym (ok_is_injective _ xs d.2)) ∙ ap suc (length_of_read_all_is_that_of_texts form (place + 1) texts d.0 d.1)
 
 values_not_longer_than_operands : (bits : ℕ) (xs : List Operand) → length (values bits xs) ≤ length xs
 values_not_longer_than_operands bits [] = omega arith
@@ -65,14 +65,14 @@ values_not_longer_than_operands bits (Offset z r ∷ xs) = omega (arith, values_
 values_not_longer_than_operands bits (Symbol label ∷ xs) = omega (arith, values_not_longer_than_operands bits xs)
 
 -- an object has no more first words than words
-object_words_within_limit : (image : ImageForm) (texts : List (List ℕ)) (z : ℤ) (xs : List Operand) → operands_of (Object image) texts ≡ Ok (Integer z ∷ xs)
+object_words_of_read_operands_within_limit : (image : ImageForm) (texts : List (List ℕ)) (z : ℤ) (xs : List Operand) → operands_of (Object image) texts ≡ Ok (Integer z ∷ xs)
     → length (values 32 xs) ≤ (limits_of image).words
-object_words_within_limit image texts z xs e =
+object_words_of_read_operands_within_limit image texts z xs e =
     let u = parts_of_ok_unless (takes (Object image) (length texts) && are_formed (Object image) 0 texts) WrongOperands
     (read_all (Object image) 0 texts) _ e in
     let most : length texts ≤ 1 + (limits_of image).words = leb-true (length texts) (1 + (limits_of image).words)
     (right_of_true_and (nat_le 2 (length texts)) _ (left_of_true_and (takes (Object image) (length texts)) _ u.0)) in
-    let count : suc (length xs) ≡ length texts = length_of_read_all (Object image) 0 texts (Integer z ∷ xs) u.1 in
+    let count : suc (length xs) ≡ length texts = length_of_read_all_is_that_of_texts (Object image) 0 texts (Integer z ∷ xs) u.1 in
     omega (arith, most, count, values_not_longer_than_operands 32 xs)
 
 -- a number within limits
@@ -93,10 +93,10 @@ first_number (Integer z ∷ xs) = z
 first_number (x ∷ xs) = pos 0
 
 -- a number of objects is within its limit
-object_count_within_limit : (image : ImageForm) (texts : List (List ℕ)) (z : ℤ) → operands_of (Objects image) texts ≡ Ok (Integer z ∷ [])
+object_count_of_read_operands_within_limit : (image : ImageForm) (texts : List (List ℕ)) (z : ℤ) → operands_of (Objects image) texts ≡ Ok (Integer z ∷ [])
     → low_bits 32 z ≤ (limits_of image).objects
-object_count_within_limit image [] z e = absurd (cc e)
-object_count_within_limit image (t ∷ texts) z e =
+object_count_of_read_operands_within_limit image [] z e = absurd (cc e)
+object_count_of_read_operands_within_limit image (t ∷ texts) z e =
     let most : ℕ = (limits_of image).objects in
     let u = parts_of_ok_unless (takes (Objects image) (length (t ∷ texts)) && are_formed (Objects image) 0 (t ∷ texts)) WrongOperands
     (read_all (Objects image) 0 (t ∷ texts)) _ e in
@@ -127,8 +127,8 @@ item_of_form_may_stand image Data Calls texts xs m e = absurd (cc m)
 item_of_form_may_stand image Data Breaks texts xs m e = absurd (cc m)
 item_of_form_may_stand image Data DoesNothing texts xs m e = absurd (cc m)
 item_of_form_may_stand image Data LoadsValue texts xs m e = absurd (cc m)
-item_of_form_may_stand image section (Objects other) texts (Integer z ∷ []) m e = object_count_within_limit image texts z e
-item_of_form_may_stand image section (Object other) texts (Integer z ∷ xs) m e = object_words_within_limit image texts z xs e
+item_of_form_may_stand image section (Objects other) texts (Integer z ∷ []) m e = object_count_of_read_operands_within_limit image texts z e
+item_of_form_may_stand image section (Object other) texts (Integer z ∷ xs) m e = object_words_of_read_operands_within_limit image texts z xs e
 item_of_form_may_stand image Text (Registers op) texts (Index rd ∷ Index rs1 ∷ Index rs2 ∷ []) m e = tt
 item_of_form_may_stand image Text (Immediates op) texts (Index rd ∷ Index rs1 ∷ Integer imm ∷ []) m e = tt
 item_of_form_may_stand image Text (Shifts op) texts (Index rd ∷ Index rs1 ∷ Integer n ∷ []) m e = tt
@@ -241,9 +241,9 @@ sound_after_item s line a c d n item h few whole is_code is_data is_entry short_
     }
 
 -- nothing more
-sound_without_new_item : (s : Seen) (section : Section) (c d o : ℕ) → IsSound s → c ≡ s.code → d ≡ s.filled → o ≤ (limits_of (stated s.form)).objects
+sound_after_section_or_object_count_changed : (s : Seen) (section : Section) (c d o : ℕ) → IsSound s → c ≡ s.code → d ≡ s.filled → o ≤ (limits_of (stated s.form)).objects
     → IsSound (record s { section = section; code = c; filled = d; objects = o })
-sound_without_new_item s section c d o h is_code is_data few = record {
+sound_after_section_or_object_count_changed s section c d o h is_code is_data few = record {
   code = h.code ∙ sym is_code;
   bytes = h.bytes ∙ sym is_data;
   entries = h.entries;
@@ -314,19 +314,19 @@ sound_after_text_item s t line a (LoadAddress rd label) h m l e =
 sound_after_text_item s t line a (Filled bytes) h m l e = absurd m
 sound_after_text_item s t line a Enlarged h m l e = subst IsSound (ok_is_injective _ t e) (sound_after_large s (s.code + 0) s.filled h (omega arith) refl)
 sound_after_text_item s t line a (Within section) h m l e =
-    subst IsSound (ok_is_injective _ t e) (sound_without_new_item s section (s.code + 0) s.filled s.objects h (omega arith) refl h.few_objects)
+    subst IsSound (ok_is_injective _ t e) (sound_after_section_or_object_count_changed s section (s.code + 0) s.filled s.objects h (omega arith) refl h.few_objects)
 sound_after_text_item s t line a (Entry label) h m l e =
     let u = test_and_value_of_ok_unless (nat_lt s.threads (limits_of (stated s.form)).threads) BadCount _ t e in
     let below : s.threads < (limits_of (stated s.form)).threads = ltb-true s.threads (limits_of (stated s.form)).threads u.0 in
     subst IsSound u.1 (sound_after_item s line a (s.code + 0) s.filled (s.threads + 1) (Entry label) h tt refl refl (omega arith) refl l
     h.short_data (omega (arith, below)))
 sound_after_text_item s t line a (Count n) h m l e = subst IsSound (ok_is_injective _ t e)
-    (sound_without_new_item s s.section (s.code + 0) s.filled n h (omega arith) refl m)
+    (sound_after_section_or_object_count_changed s s.section (s.code + 0) s.filled n h (omega arith) refl m)
 sound_after_text_item s t line a (First object words) h m l e =
     subst IsSound (ok_is_injective _ t e) (sound_after_item s line a (s.code + 0) s.filled s.threads (First object words) h m refl refl (omega arith)
     (omega arith) l h.short_data h.few_threads)
 sound_after_text_item s t line a Nothing h m l e = subst IsSound (ok_is_injective _ t e)
-    (sound_without_new_item s s.section (s.code + 0) s.filled s.objects h (omega arith) refl h.few_objects)
+    (sound_after_section_or_object_count_changed s s.section (s.code + 0) s.filled s.objects h (omega arith) refl h.few_objects)
 
 length_of_little_bytes_of_words : (words : List ℕ) → length (flat_map (little_bytes 4) words) ≡ 4 * length words
 length_of_little_bytes_of_words [] = refl
@@ -346,19 +346,19 @@ sound_after_data_item s t line a (Filled bytes) h m l e = subst IsSound (ok_is_i
     h.few_threads)
 sound_after_data_item s t line a Enlarged h m l e = subst IsSound (ok_is_injective _ t e) (sound_after_large s s.code (s.filled + 0) h refl (omega arith))
 sound_after_data_item s t line a (Within section) h m l e =
-    subst IsSound (ok_is_injective _ t e) (sound_without_new_item s section s.code (s.filled + 0) s.objects h refl (omega arith) h.few_objects)
+    subst IsSound (ok_is_injective _ t e) (sound_after_section_or_object_count_changed s section s.code (s.filled + 0) s.objects h refl (omega arith) h.few_objects)
 sound_after_data_item s t line a (Entry label) h m l e =
     let u = test_and_value_of_ok_unless (nat_lt s.threads (limits_of (stated s.form)).threads) BadCount _ t e in
     let below : s.threads < (limits_of (stated s.form)).threads = ltb-true s.threads (limits_of (stated s.form)).threads u.0 in
     subst IsSound u.1 (sound_after_item s line a s.code (s.filled + 0) (s.threads + 1) (Entry label) h tt refl (omega arith)
     refl refl h.short_code l (omega (arith, below)))
 sound_after_data_item s t line a (Count n) h m l e = subst IsSound (ok_is_injective _ t e)
-    (sound_without_new_item s s.section s.code (s.filled + 0) n h refl (omega arith) m)
+    (sound_after_section_or_object_count_changed s s.section s.code (s.filled + 0) n h refl (omega arith) m)
 sound_after_data_item s t line a (First object words) h m l e =
     subst IsSound (ok_is_injective _ t e) (sound_after_item s line a s.code (s.filled + 0) s.threads (First object words) h m refl (omega arith)
     refl (omega arith) h.short_code l h.few_threads)
 sound_after_data_item s t line a Nothing h m l e = subst IsSound (ok_is_injective _ t e)
-    (sound_without_new_item s s.section s.code (s.filled + 0) s.objects h refl (omega arith) h.few_objects)
+    (sound_after_section_or_object_count_changed s s.section s.code (s.filled + 0) s.objects h refl (omega arith) h.few_objects)
 
 -- an item of a section
 sound_after_section_item : (section : Section) (s t : Seen) (line a : ℕ) (item : Item) → IsSound s → MayStand (stated s.form) section item
@@ -459,13 +459,13 @@ second_pass_puts_all s (x ∷ xs) g h fits few there e =
     }
 
 -- the objects that were announced
-word_count_of_announced_objects : (s : Seen) (g : Guest) → Puts s s.placed (started s) g → length g.words ≡ object_words g * s.objects
-word_count_of_announced_objects s g p = p.words ∙ length-replicate {A = ℕ} ((limits_of (stated s.form)).words * s.objects) 0
+word_count_after_puts_is_of_announced_objects : (s : Seen) (g : Guest) → Puts s s.placed (started s) g → length g.words ≡ object_words g * s.objects
+word_count_after_puts_is_of_announced_objects s g p = p.words ∙ length-replicate {A = ℕ} ((limits_of (stated s.form)).words * s.objects) 0
     ∙ ap (λ (f : ImageForm). (limits_of f).words * s.objects) (sym p.form)
 
 put_object_count_within_limit : (s : Seen) (g : Guest) → IsSound s → Puts s s.placed (started s) g → object_count g ≤ (limits_of g.form).objects
 put_object_count_within_limit s g h p =
-    let count = object_count_of_whole_objects g.form (length g.words) s.objects (word_count_of_announced_objects s g p) in
+    let count = words_divided_by_limit_is_object_count g.form (length g.words) s.objects (word_count_after_puts_is_of_announced_objects s g p) in
     let few = h.few_objects in
     subst (λ (f : ImageForm). object_count g ≤ (limits_of f).objects) (sym p.form) (omega (arith, count, few))
 
@@ -476,10 +476,10 @@ guest_with_entry_has_limits s g h some p = by_test (length g.entries == 0) refl
     by_test : (b : Bool) → (length g.entries == 0) ≡ b → HasLimits (cond b (record g { entries = code_start ∷ [] }) g)
     by_test true e = record {
       some_thread = omega arith;
-      few_threads = let one = form_has_threads g.form in omega (arith, one);
+      few_threads = let one = thread_limit_of_form_is_positive g.form in omega (arith, one);
       short_code = omega (arith, p.code, h.code, h.short_code);
       short_data = omega (arith, p.bytes, h.bytes, h.short_data);
-      whole_objects = words_of_whole_objects_divide g.form (length g.words) s.objects (word_count_of_announced_objects s g p);
+      whole_objects = words_of_whole_objects_divide g.form (length g.words) s.objects (word_count_after_puts_is_of_announced_objects s g p);
       few_objects = put_object_count_within_limit s g h p;
       entries_fit = (record { aligned = refl; low = omega arith; high = omega (arith, p.code, h.code, some) }, tt);
     }
@@ -489,7 +489,7 @@ guest_with_entry_has_limits s g h some p = by_test (length g.entries == 0) refl
           (omega (arith, p.entries, h.entries, h.few_threads));
       short_code = omega (arith, p.code, h.code, h.short_code);
       short_data = omega (arith, p.bytes, h.bytes, h.short_data);
-      whole_objects = words_of_whole_objects_divide g.form (length g.words) s.objects (word_count_of_announced_objects s g p);
+      whole_objects = words_of_whole_objects_divide g.form (length g.words) s.objects (word_count_after_puts_is_of_announced_objects s g p);
       few_objects = put_object_count_within_limit s g h p;
       entries_fit = p.fit (length g.code) (omega (arith, p.code, h.code)) tt;
     }

@@ -19,9 +19,9 @@ parts_of_ok_unless false c r y e = absurd (cc e)
 pub test_and_value_of_ok_unless : {A : Type 0} (b : Bool) (c : Cause) (x y : A) → unless b c (Ok x) ≡ Ok y → (b ≡ true) × (x ≡ y)
 test_and_value_of_ok_unless b c x y e = let u = parts_of_ok_unless b c (Ok x) y e in (u.0, ok_is_injective x y u.1)
 
-pub some_if_or_cause_is_ok : {A : Type 0} (c : Cause) (o : Option A) (y : A) → or_cause c o ≡ Ok y → o ≡ Some y
-some_if_or_cause_is_ok c (Some x) y e = ap Some (ok_is_injective x y e)
-some_if_or_cause_is_ok c None y e = absurd (cc e)
+pub option_is_some_if_or_cause_of_it_is_ok : {A : Type 0} (c : Cause) (o : Option A) (y : A) → or_cause c o ≡ Ok y → o ≡ Some y
+option_is_some_if_or_cause_of_it_is_ok c (Some x) y e = ap Some (ok_is_injective x y e)
+option_is_some_if_or_cause_of_it_is_ok c None y e = absurd (cc e)
 
 pub ok_if_at_line_is_ok : {A : Type 0} (line : ℕ) (r : Result A Cause) (y : A) → at_line line r ≡ Ok y → r ≡ Ok y
 ok_if_at_line_is_ok line (Ok x) y e = ap (λ z. Ok z) (ok_is_injective x y e)

@@ -82,7 +82,7 @@ fn before_closing(text: &[u8]) -> Option<&[u8]>
 }
 
 // The text, if it is the only part between such bytes.
-#[tactic(auto, using(crate::proofs::Cuts::split_is_not_single_part))]
+#[tactic(auto, using(crate::proofs::Cuts::split_is_not_single_part_if_rest_is_split_too))]
 fn only_part(text: &[u8], byte: u8) -> Option<&[u8]>
     ensures { MatchOption result ((p : List ℕ) → split byte text.now ≡ p ∷ [] → ⊥) (λ part. split byte text.now ≡ part.now ∷ []) }
 {

@@ -67,7 +67,7 @@ pub fn before(text: &[u8], byte: u8) -> &[u8]
 }
 
 // The first of the parts between such bytes, and what follows it, if it is not the last.
-#[tactic(auto, using(crate::proofs::Cuts::split_is_split_rest, crate::proofs::Cuts::split_begins_with_part))]
+#[tactic(auto, using(crate::proofs::Cuts::split_is_split_rest, crate::proofs::Cuts::split_begins_with_part_if_part_is_until))]
 pub fn first_part(text: &[u8], byte: u8) -> (&[u8], Option<&[u8]>)
     ensures parts { MatchOption result.1 (split byte text.now ≡ result.0.now ∷ []) (λ rest. split byte text.now ≡ result.0.now ∷ split byte rest.now) }
     ensures first { split byte text.now ≡ result.0.now ∷ drop 1 (split byte text.now) }

@@ -12,12 +12,12 @@ with_prefix_of_next_element : {X E : Type 0} (prefix : List X) (n : X) (read : R
 with_prefix_of_next_element {X} prefix n (Ok x) = ap (λ (ns : List X). Ok (ns, x.1)) (simp append_assoc)
 with_prefix_of_next_element prefix n (Err f) = refl
 
-pub fields_at_after_read_field : {X E : Type 0} (one : Reader X E) (prefix : List X) (count i : ℕ) (bytes : List ℕ) (n : X) (after : List ℕ)
+pub prefixed_fields_at_step : {X E : Type 0} (one : Reader X E) (prefix : List X) (count i : ℕ) (bytes : List ℕ) (n : X) (after : List ℕ)
     (total : Result (List X × List ℕ) E) → i < count → one bytes ≡ Ok (n, after)
     → with_prefix prefix (fields_at one (count - i) bytes) ≡ total
     → with_prefix (prefix ++ n ∷ []) (fields_at one (count - (i + 1)) after) ≡ total
 unfolding fields_at
-fields_at_after_read_field one prefix count i bytes n after total lt h so_far =
+prefixed_fields_at_step one prefix count i bytes n after total lt h so_far =
     let k : count - i ≡ suc (count - (i + 1)) = omega arith in
     let step : with_prefix prefix (fields_at one (count - i) bytes) ≡ with_prefix (prefix ++ n ∷ []) (fields_at one (count - (i + 1)) after)
     = rw (k, h) (with_prefix_of_next_element prefix n (fields_at one (count - (i + 1)) after)) in
@@ -33,10 +33,10 @@ fields_at_fails_if_field_fails e one prefix count i bytes total lt h so_far =
     let step : with_prefix prefix (fields_at one (count - i) bytes) ≡ Err e = rw (k, h) refl in
     sym so_far ∙ step
 
-pub fields_at_after_all_fields : {X E : Type 0} (one : Reader X E) (prefix : List X) (count i : ℕ) (bytes : List ℕ) (total : Result (List X × List ℕ) E)
+pub total_is_prefix_after_all_fields : {X E : Type 0} (one : Reader X E) (prefix : List X) (count i : ℕ) (bytes : List ℕ) (total : Result (List X × List ℕ) E)
     → count ≤ i → with_prefix prefix (fields_at one (count - i) bytes) ≡ total → total ≡ Ok (prefix, bytes)
 unfolding fields_at
-fields_at_after_all_fields {X} one prefix count i bytes total le so_far =
+total_is_prefix_after_all_fields {X} one prefix count i bytes total le so_far =
     let k : count - i ≡ 0 = omega arith in
     let step : with_prefix prefix (fields_at one (count - i) bytes) ≡ Ok (prefix, bytes) = rw k
     (ap (λ (ns : List X). Ok (ns, bytes)) (append-nil prefix)) in

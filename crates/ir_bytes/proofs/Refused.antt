@@ -25,36 +25,36 @@ Refuses short trailing read format = (bytes : List ℕ) → fault_of (read bytes
 
 -- ---- one field
 
-fault_after_judged : {X E : Type 0} (o : Option E) (x : X) (later : X → Option E) → or_later o (later x) ≡ after_reading (judged o x) later
-fault_after_judged (Some e) x later = refl
-fault_after_judged None x later = refl
+or_later_is_after_reading_of_judged : {X E : Type 0} (o : Option E) (x : X) (later : X → Option E) → or_later o (later x) ≡ after_reading (judged o x) later
+or_later_is_after_reading_of_judged (Some e) x later = refl
+or_later_is_after_reading_of_judged None x later = refl
 
-fault_after_conditional_field : {E : Type 0} (b : Bool) (short : E) (fault : ℕ → Option E) (x : ℕ × List ℕ) (later : ℕ × List ℕ → Option E)
+conditional_field_fault_is_after_reading : {E : Type 0} (b : Bool) (short : E) (fault : ℕ → Option E) (x : ℕ × List ℕ) (later : ℕ × List ℕ → Option E)
     → cond b (Some short) (or_later (fault x.0) (later x)) ≡ after_reading (cond b (Err short) (Ok x) >>= λ n. judged (fault n.0) n) later
-fault_after_conditional_field true short fault x later = refl
-fault_after_conditional_field false short fault x later = fault_after_judged (fault x.0) x later
+conditional_field_fault_is_after_reading true short fault x later = refl
+conditional_field_fault_is_after_reading false short fault x later = or_later_is_after_reading_of_judged (fault x.0) x later
 
 pub field_at_follows_field : {E : Type 0} (short trailing : E) (f : Field E) → Follows short trailing (field_at short f) (next f)
 unfolding field_at number_at
 field_at_follows_field short trailing f after bytes =
-    fault_after_conditional_field (ltb (length bytes) f.size) short f.fault (little_number f.size bytes, drop f.size bytes)
+    conditional_field_fault_is_after_reading (ltb (length bytes) f.size) short f.fault (little_number f.size bytes, drop f.size bytes)
     (λ x. first_refused short trailing (after x.0) x.1)
 
-fault_after_conditional_number : {A E : Type 0} (b : Bool) (short : E) (x : A) (later : A → Option E)
+conditional_number_fault_is_after_reading : {A E : Type 0} (b : Bool) (short : E) (x : A) (later : A → Option E)
     → cond b (Some short) (later x) ≡ after_reading (cond b (Err short) (Ok x)) later
-fault_after_conditional_number true short x later = refl
-fault_after_conditional_number false short x later = refl
+conditional_number_fault_is_after_reading true short x later = refl
+conditional_number_fault_is_after_reading false short x later = refl
 
 pub number_at_follows_plain_field : {E : Type 0} (short trailing : E) (size : ℕ) → Follows short trailing (number_at short size) (next (plain size))
 unfolding number_at
 number_at_follows_plain_field short trailing size after bytes =
-    fault_after_conditional_number (ltb (length bytes) size) short (little_number size bytes, drop size bytes)
+    conditional_number_fault_is_after_reading (ltb (length bytes) size) short (little_number size bytes, drop size bytes)
     (λ x. first_refused short trailing (after x.0) x.1)
 
 pub bytes_at_begins_with_plain_field : {E : Type 0} (short trailing : E) (n : ℕ) → Begins short trailing (bytes_at short n) (before (plain n))
 unfolding bytes_at
 bytes_at_begins_with_plain_field short trailing n rest bytes =
-    fault_after_conditional_number (ltb (length bytes) n) short (take n bytes, drop n bytes) (λ x. first_refused short trailing rest x.1)
+    conditional_number_fault_is_after_reading (ltb (length bytes) n) short (take n bytes, drop n bytes) (λ x. first_refused short trailing rest x.1)
 
 pub field_at_begins_with_field : {E : Type 0} (short trailing : E) (f : Field E) → Begins short trailing (field_at short f) (before f)
 field_at_begins_with_field short trailing f rest = field_at_follows_field short trailing f (λ _. rest)

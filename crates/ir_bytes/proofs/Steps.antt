@@ -5,37 +5,37 @@ use Rattle.std.proofs.lemmas.Bool.{leb-true, le-leb, eqb-true, eq-eqb, and_parts
 use Rattle.ir_bytes.specs.Reading.{◌>>=◌, judged}
 
 -- each value of a chain is a variable of its own in what follows
-pub two_steps_succeed : {A Y P E : Type 0} (r : Result A E) (f : A → Result Y E) (y : Y) → (r >>= f) ≡ Ok y → ((a : A) → r ≡ Ok a → f a ≡ Ok y → P)
+pub each_of_two_is_ok_if_bind_is_ok : {A Y P E : Type 0} (r : Result A E) (f : A → Result Y E) (y : Y) → (r >>= f) ≡ Ok y → ((a : A) → r ≡ Ok a → f a ≡ Ok y → P)
     → P
-two_steps_succeed (Ok a) f y e go = go a refl e
-two_steps_succeed (Err x) f y e go = absurd cc
+each_of_two_is_ok_if_bind_is_ok (Ok a) f y e go = go a refl e
+each_of_two_is_ok_if_bind_is_ok (Err x) f y e go = absurd cc
 
-pub three_steps_succeed : {A B Y P E : Type 0} (r : Result A E) (f : A → Result B E) (g : A → B → Result Y E) (y : Y)
+pub each_of_three_is_ok_if_binds_are_ok : {A B Y P E : Type 0} (r : Result A E) (f : A → Result B E) (g : A → B → Result Y E) (y : Y)
     → (r >>= λ a. f a >>= λ b. g a b) ≡ Ok y
     → ((a : A) (b : B) → r ≡ Ok a → f a ≡ Ok b → g a b ≡ Ok y → P) → P
-three_steps_succeed (Ok a) f g y e go = two_steps_succeed (f a) (g a) y e (λ b. go a b refl)
-three_steps_succeed (Err x) f g y e go = absurd cc
+each_of_three_is_ok_if_binds_are_ok (Ok a) f g y e go = each_of_two_is_ok_if_bind_is_ok (f a) (g a) y e (λ b. go a b refl)
+each_of_three_is_ok_if_binds_are_ok (Err x) f g y e go = absurd cc
 
-pub four_steps_succeed : {A B C Y P E : Type 0} (r : Result A E) (f : A → Result B E) (g : A → B → Result C E) (h : A → B → C → Result Y E) (y : Y)
+pub each_of_four_is_ok_if_binds_are_ok : {A B C Y P E : Type 0} (r : Result A E) (f : A → Result B E) (g : A → B → Result C E) (h : A → B → C → Result Y E) (y : Y)
     → (r >>= λ a. f a >>= λ b. g a b >>= λ c. h a b c) ≡ Ok y
     → ((a : A) (b : B) (c : C) → r ≡ Ok a → f a ≡ Ok b → g a b ≡ Ok c → h a b c ≡ Ok y → P) → P
-four_steps_succeed (Ok a) f g h y e go = three_steps_succeed (f a) (g a) (h a) y e (λ b c. go a b c refl)
-four_steps_succeed (Err x) f g h y e go = absurd cc
+each_of_four_is_ok_if_binds_are_ok (Ok a) f g h y e go = each_of_three_is_ok_if_binds_are_ok (f a) (g a) (h a) y e (λ b c. go a b c refl)
+each_of_four_is_ok_if_binds_are_ok (Err x) f g h y e go = absurd cc
 
-pub five_steps_succeed : {A B C D Y P E : Type 0} (r : Result A E) (f : A → Result B E) (g : A → B → Result C E) (h : A → B → C → Result D E)
+pub each_of_five_is_ok_if_binds_are_ok : {A B C D Y P E : Type 0} (r : Result A E) (f : A → Result B E) (g : A → B → Result C E) (h : A → B → C → Result D E)
     (k : A → B → C → D → Result Y E) (y : Y)
     → (r >>= λ a. f a >>= λ b. g a b >>= λ c. h a b c >>= λ d. k a b c d) ≡ Ok y
     → ((a : A) (b : B) (c : C) (d : D) → r ≡ Ok a → f a ≡ Ok b → g a b ≡ Ok c → h a b c ≡ Ok d → k a b c d ≡ Ok y → P) → P
-five_steps_succeed (Ok a) f g h k y e go = four_steps_succeed (f a) (g a) (h a) (k a) y e (λ b c d. go a b c d refl)
-five_steps_succeed (Err x) f g h k y e go = absurd cc
+each_of_five_is_ok_if_binds_are_ok (Ok a) f g h k y e go = each_of_four_is_ok_if_binds_are_ok (f a) (g a) (h a) (k a) y e (λ b c d. go a b c d refl)
+each_of_five_is_ok_if_binds_are_ok (Err x) f g h k y e go = absurd cc
 
-pub six_steps_succeed : {A B C D F Y P E : Type 0} (r : Result A E) (f : A → Result B E) (g : A → B → Result C E) (h : A → B → C → Result D E)
+pub each_of_six_is_ok_if_binds_are_ok : {A B C D F Y P E : Type 0} (r : Result A E) (f : A → Result B E) (g : A → B → Result C E) (h : A → B → C → Result D E)
     (k : A → B → C → D → Result F E) (m : A → B → C → D → F → Result Y E) (y : Y)
     → (r >>= λ a. f a >>= λ b. g a b >>= λ c. h a b c >>= λ d. k a b c d >>= λ x. m a b c d x) ≡ Ok y
     → ((a : A) (b : B) (c : C) (d : D) (x : F) → r ≡ Ok a → f a ≡ Ok b → g a b ≡ Ok c → h a b c ≡ Ok d → k a b c d ≡ Ok x → m a b c d x ≡
     Ok y → P) → P
-six_steps_succeed (Ok a) f g h k m y e go = five_steps_succeed (f a) (g a) (h a) (k a) (m a) y e (λ b c d x. go a b c d x refl)
-six_steps_succeed (Err x) f g h k m y e go = absurd cc
+each_of_six_is_ok_if_binds_are_ok (Ok a) f g h k m y e go = each_of_five_is_ok_if_binds_are_ok (f a) (g a) (h a) (k a) (m a) y e (λ b c d x. go a b c d x refl)
+each_of_six_is_ok_if_binds_are_ok (Err x) f g h k m y e go = absurd cc
 
 -- a test that found no fault
 pub guard_passed_if_ok : {A E : Type 0} (b : Bool) (d : E) (x : Result A E) (y : A) → cond b (Err d) x ≡ Ok y → (b ≡ false) × (x ≡ Ok y)

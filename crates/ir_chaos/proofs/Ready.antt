@@ -3,7 +3,7 @@ use Rattle.std.proofs.Common.{◌≡◌, ◌≢◌, ℕ, zero, suc, ◌+◌, ◌
 use Rattle.std.proofs.lemmas.Bool.{cases_eq, cases_lt}
 use Rattle.std.proofs.lemmas.List.Elements.{All-append, All-contains}
 use Rattle.std.specs.List.{All, Contains}
-use Rattle.ir_flat.proofs.CallerLemmas.{nothing_is_stuck, guest_start_is_idle, length_of_start_threads}
+use Rattle.ir_flat.proofs.CallerLemmas.{guest_run_can_step_unless_done, guest_start_is_idle, length_of_start_threads}
 use Rattle.ir_flat.specs.Flat.{Flat, start_flat, tables, machine}
 use Rattle.ir_image.specs.Guest.{Guest}
 use Rattle.ir_runs.proofs.CallerLemmas.{idle_after_run}
@@ -91,7 +91,7 @@ done_if_no_guest_thread_steps guest budget profile run ok none t =
     let s : State thread.ThreadState = end (thread_machine guest.code) (tables (start_flat guest budget profile)) run in
     elim (machine_ask_is_done_or_not (asked (thread_machine guest.code) s t)) [
       | inl e ↦ e
-      | inr ne ↦ absurd (stuck (nothing_is_stuck guest budget profile run ok t ne))
+      | inr ne ↦ absurd (stuck (guest_run_can_step_unless_done guest budget profile run ok t ne))
     ]
   where
     stuck : ((u : ℕ) × Can (thread_machine guest.code) (end (thread_machine guest.code) (tables (start_flat guest budget profile)) run) (u, 0)) → ⊥

@@ -19,7 +19,7 @@ use Rattle.ir_thread.specs.State.{ask_of, shared_ask, is_result, thread_machine}
 use Rattle.ir_thread.specs.State as thread
 use Rattle.ir_thread.specs.declared.ask.Ask.{Ask}
 use Rattle.ir_thread.specs.declared.ask.Ask.TheVariants as asks
-use Rattle.ir_record.proofs.CallerLemmas.{hold_few_objects_if_flat, step_leaves_all_fewer, steps_of_thread_leave_all_fewer}
+use Rattle.ir_record.proofs.CallerLemmas.{hold_few_objects_if_flat, all_left_falls_after_step, all_left_falls_after_steps_of_thread}
 use Rattle.ir_chaos.specs.Moments.{Moment, moment_of, IsReady, Moved, Gained, Took, Ran, IsAtRest, OthersRest, TookSome, IsNoTry, IsNoCall}
 use Rattle.ir_chaos.specs.Schedules.{is_rest, rests, IsChosen, Leads, threads_of}
 use Rattle.ir_chaos.specs.declared.chooser.Chooser.{Chooser}
@@ -27,17 +27,17 @@ use Rattle.ir_chaos.specs.declared.runner.Runner.{Runner}
 
 -- ---- one after the other
 
-leads_append : {T : Type 0} (tries : Bool) (m : Machine T) (n : ℕ) (s : State T) (c d e : Chooser) (run more : List Step)
+leads_by_append_of_runs : {T : Type 0} (tries : Bool) (m : Machine T) (n : ℕ) (s : State T) (c d e : Chooser) (run more : List Step)
     → Leads tries m n s c run d → Leads tries m n (end m s run) d more e → Leads tries m n s c (run ++ more) e
-leads_append tries m n s c d e [] more h k = subst (λ z. Leads tries m n s z more e) h k
-leads_append tries m n s c d e (x ∷ run) more h k = (h.0, h.1, leads_append tries m n (after m s x) h.0 d e run more h.2 k)
+leads_by_append_of_runs tries m n s c d e [] more h k = subst (λ z. Leads tries m n s z more e) h k
+leads_by_append_of_runs tries m n s c d e (x ∷ run) more h k = (h.0, h.1, leads_by_append_of_runs tries m n (after m s x) h.0 d e run more h.2 k)
 
-answers_in_logged : (k : Label) (ys : List Label) → answers_in (logged k ys) ≡ answers_in (logged k []) ++ answers_in ys
-answers_in_logged Quiet ys = refl
-answers_in_logged (Answer i v) ys = refl
-answers_in_logged (In o a v l) ys = refl
-answers_in_logged (Refused o) ys = refl
-answers_in_logged (Out o a v) ys = refl
+answers_in_logged_is_append : (k : Label) (ys : List Label) → answers_in (logged k ys) ≡ answers_in (logged k []) ++ answers_in ys
+answers_in_logged_is_append Quiet ys = refl
+answers_in_logged_is_append (Answer i v) ys = refl
+answers_in_logged_is_append (In o a v l) ys = refl
+answers_in_logged_is_append (Refused o) ys = refl
+answers_in_logged_is_append (Out o a v) ys = refl
 
 answers_in_append : (xs ys : List Label) → answers_in (xs ++ ys) ≡ answers_in xs ++ answers_in ys
 answers_in_append [] ys = refl
@@ -48,13 +48,13 @@ answers_in_append (Refused o ∷ xs) ys = answers_in_append xs ys
 answers_in_append (Out o a v ∷ xs) ys = answers_in_append xs ys
 
 -- the same run on the machine and state at which it begins
-log_after_gained_run : (a b : Moment) (first more : List Step) (t : ℕ) → Gained first a b
+log_on_later_machine_is_log_on_first_after_gained_run : (a b : Moment) (first more : List Step) (t : ℕ) → Gained first a b
     → log (machine b.flat) (tables b.flat) more t ≡ log (machine a.flat) (end (machine a.flat) (tables a.flat) first) more t
-log_after_gained_run a b first more t g = ap (λ c. log (thread_machine c) (tables b.flat) more t) g.code
+log_on_later_machine_is_log_on_first_after_gained_run a b first more t g = ap (λ c. log (thread_machine c) (tables b.flat) more t) g.code
     ∙ ap (λ s. log (machine a.flat) s more t) g.ends
 
-gained_reflexive : (a : Moment) → Gained [] a a
-gained_reflexive a = record {
+gained_by_no_steps : (a : Moment) → Gained [] a a
+gained_by_no_steps a = record {
   ends = refl;
   code = refl;
   threads = refl;
@@ -63,12 +63,12 @@ gained_reflexive a = record {
   answers = λ t l. sym (append-nil (answers_at a.answers t));
 }
 
-gained_append : (run more : List Step) (a b c : Moment) → Gained run a b → Gained more b c → Gained (run ++ more) a c
-gained_append run more a b c p q =
+gained_by_append_of_runs : (run more : List Step) (a b c : Moment) → Gained run a b → Gained more b c → Gained (run ++ more) a c
+gained_by_append_of_runs run more a b c p q =
     let logs_of : (t : ℕ) → log (machine a.flat) (tables a.flat) (run ++ more) t ≡ log (machine a.flat) (tables a.flat) run t ++ log
     (machine b.flat) (tables b.flat) more t =
     λ t. log_append (machine a.flat) (tables a.flat) run more t
-    ∙ ap (λ z. log (machine a.flat) (tables a.flat) run t ++ z) (sym (log_after_gained_run a b run more t p)) in
+    ∙ ap (λ z. log (machine a.flat) (tables a.flat) run t ++ z) (sym (log_on_later_machine_is_log_on_first_after_gained_run a b run more t p)) in
     record {
       ends = q.ends ∙ ap (λ k. end (thread_machine k) (tables b.flat) more) p.code ∙ ap (λ s. end (machine a.flat) s more) p.ends
           ∙ sym (end_append (machine a.flat) (tables a.flat) run more);
@@ -88,13 +88,13 @@ gained_append run more a b c p q =
     }
 
 pub ran_reflexive : (tries : Bool) (a : Moment) (c : Chooser) → Ran tries a c a c
-ran_reflexive tries a c = record { run = []; leads = refl; gained = gained_reflexive a }
+ran_reflexive tries a c = record { run = []; leads = refl; gained = gained_by_no_steps a }
 
 -- what leads on from where a run leads
-leads_after_gained_run : (tries : Bool) (a b : Moment) (c d : Chooser) (run more : List Step) → Gained run a b
+leads_on_first_machine_if_leads_after_gained_run : (tries : Bool) (a b : Moment) (c d : Chooser) (run more : List Step) → Gained run a b
     → Leads tries (machine b.flat) (length b.flat.threads) (tables b.flat) c more d
     → Leads tries (machine a.flat) (length a.flat.threads) (end (machine a.flat) (tables a.flat) run) c more d
-leads_after_gained_run tries a b c d run more g h =
+leads_on_first_machine_if_leads_after_gained_run tries a b c d run more g h =
     subst (λ s. Leads tries (machine a.flat) (length a.flat.threads) s c more d) g.ends
     (subst (λ k. Leads tries (thread_machine k) (length a.flat.threads) (tables b.flat) c more d) g.code
     (subst (λ n. Leads tries (machine b.flat) n (tables b.flat) c more d) g.threads h))
@@ -102,9 +102,9 @@ leads_after_gained_run tries a b c d run more g h =
 pub ran_transitive : (tries : Bool) (a b e : Moment) (c d x : Chooser) → Ran tries a c b d → Ran tries b d e x → Ran tries a c e x
 ran_transitive tries a b e c d x p q = record {
   run = p.run ++ q.run;
-  leads = leads_append tries (machine a.flat) (length a.flat.threads) (tables a.flat) c d x p.run q.run p.leads
-      (leads_after_gained_run tries a b d x p.run q.run p.gained q.leads);
-  gained = gained_append p.run q.run a b e p.gained q.gained;
+  leads = leads_by_append_of_runs tries (machine a.flat) (length a.flat.threads) (tables a.flat) c d x p.run q.run p.leads
+      (leads_on_first_machine_if_leads_after_gained_run tries a b d x p.run q.run p.gained q.leads);
+  gained = gained_by_append_of_runs p.run q.run a b e p.gained q.gained;
 }
 
 -- ---- one step
@@ -128,11 +128,11 @@ ran_by_chosen_thread tries a b t c d l chosen s = record {
   gained = s.gained;
 }
 
-log_of_own_step : (f : Flat) (t r : ℕ) → log (machine f) (tables f) ((t, r) ∷ []) t ≡ logged (label (machine f) (tables f) (t, r)) []
-log_of_own_step f t r = ap (λ b. events (join_if b (thread_of f t, label (machine f) (tables f) (t, r)) [])) (eq-eqb t t refl)
+log_of_own_step_is_its_logged_label : (f : Flat) (t r : ℕ) → log (machine f) (tables f) ((t, r) ∷ []) t ≡ logged (label (machine f) (tables f) (t, r)) []
+log_of_own_step_is_its_logged_label f t r = ap (λ b. events (join_if b (thread_of f t, label (machine f) (tables f) (t, r)) [])) (eq-eqb t t refl)
 
-log_of_step_of_other : (f : Flat) (t r u : ℕ) → u ≢ t → log (machine f) (tables f) ((t, r) ∷ []) u ≡ []
-log_of_step_of_other f t r u ne = ap (λ b. events (join_if b (thread_of f u, label (machine f) (tables f) (t, r)) [])) (ne_eqb u t ne)
+log_is_empty_for_step_of_other : (f : Flat) (t r u : ℕ) → u ≢ t → log (machine f) (tables f) ((t, r) ∷ []) u ≡ []
+log_is_empty_for_step_of_other f t r u ne = ap (λ b. events (join_if b (thread_of f u, label (machine f) (tables f) (t, r)) [])) (ne_eqb u t ne)
 
 -- nothing is answered at a step that is no call of the environment
 no_answer_unless_call : (q : Ask) (r : ℕ) (b : Object) → IsNoCall q → answers_in (logged (emitted (act_of (shared_ask q) r) b) []) ≡ []
@@ -161,10 +161,10 @@ pub record Acted {W : Type 0} (answers : W → List Answered) (broken : W → Bo
   pub ready : IsReady broken new
 
 -- no world is asked
-pub acted_without_call : {W : Type 0} (answers : W → List Answered) (broken : W → Bool) (t r : ℕ) (q : Ask) (old new : Runner W)
+pub acted_if_ask_is_no_call : {W : Type 0} (answers : W → List Answered) (broken : W → Bool) (t r : ℕ) (q : Ask) (old new : Runner W)
     → IsReady broken old → Moved t r old.flat new.flat → q ≡ ask_of old.flat.code (thread_of old.flat t) → IsNoCall q
     → new.turns ≡ old.turns → new.worlds ≡ old.worlds → Acted answers broken t old new
-acted_without_call answers broken t r q old new ready s is quiet turns same = record {
+acted_if_ask_is_no_call answers broken t r q old new ready s is quiet turns same = record {
   result = r;
   moved = s;
   turns = turns;
@@ -179,9 +179,9 @@ acted_without_call answers broken t r q old new ready s is quiet turns same = re
   };
 }
 
-label_of_answered_call : (f : Flat) (t r : ℕ) (kind : EnvKind) → asks.Env kind ≡ ask_of f.code (thread_of f t)
+label_of_call_step_is_answer : (f : Flat) (t r : ℕ) (kind : EnvKind) → asks.Env kind ≡ ask_of f.code (thread_of f t)
     → label (machine f) (tables f) (t, r) ≡ Answer kind r
-label_of_answered_call f t r kind is =
+label_of_call_step_is_answer f t r kind is =
     ap (λ (z : Ask). emitted (act_of (shared_ask z) r) ((tables f).objects (target (act_of (shared_ask z) r)))) (sym is)
 
 -- its world answers
@@ -198,7 +198,7 @@ acted_by_answered_call answers broken t r kind old new ready l s is turns gained
   own = ap (λ z. answers_at z t) gained
       ∙ get_or-set_same (map answers old.worlds.items) t (answers_at (map answers old.worlds.items) t ++ (kind, r) ∷ []) []
       (let n = length-map old.worlds.items answers in let m = ready.worlds in omega (arith, n, m, l))
-      ∙ ap (λ z. answers_at (map answers old.worlds.items) t ++ answers_in (logged z [])) (sym (label_of_answered_call old.flat t r kind is));
+      ∙ ap (λ z. answers_at (map answers old.worlds.items) t ++ answers_in (logged z [])) (sym (label_of_call_step_is_answer old.flat t r kind is));
   others = λ u ne. ap (λ z. answers_at z u) gained
       ∙ get_or-set_other (map answers old.worlds.items) t u (answers_at (map answers old.worlds.items) t ++ (kind, r) ∷ []) [] ne;
   ready = record { worlds = each ∙ ready.worlds ∙ sym s.threads; works = works };
@@ -221,36 +221,36 @@ took_if_acted_and_noted answers broken t old new turns a order = record {
     answers = λ u l. elim (cases_eq u t) [
       | inl e ↦ subst (λ z. answers_at (map answers new.worlds.items) z ≡ answers_at (map answers old.worlds.items) z ++ answers_in
           (log (machine old.flat) (tables old.flat) ((t, a.result) ∷ []) z)) (sym e)
-          (a.own ∙ ap (λ z. answers_at (map answers old.worlds.items) t ++ answers_in z) (sym (log_of_own_step old.flat t a.result)))
+          (a.own ∙ ap (λ z. answers_at (map answers old.worlds.items) t ++ answers_in z) (sym (log_of_own_step_is_its_logged_label old.flat t a.result)))
       | inr ne ↦ a.others u ne ∙ sym (append-nil (answers_at (map answers old.worlds.items) u))
-          ∙ ap (λ z. answers_at (map answers old.worlds.items) u ++ answers_in z) (sym (log_of_step_of_other old.flat t a.result u ne))
+          ∙ ap (λ z. answers_at (map answers old.worlds.items) u ++ answers_in z) (sym (log_is_empty_for_step_of_other old.flat t a.result u ne))
     ];
   };
 }
 
 -- a step that was taken leaves fewer
-pub step_taken_leaves_fewer : (a b : Moment) (t : ℕ) → IsFlat a.flat → t < length a.flat.threads → Took t a b → TookSome 1 a.flat b.flat
-step_taken_leaves_fewer a b t flat l s = subst (λ z. all_left (length a.flat.threads) z.now + 1 ≤ all_left (length a.flat.threads) (tables a.flat).now)
-    (sym s.gained.ends) (step_leaves_all_fewer a.flat.code (length a.flat.threads) (tables a.flat) (t, s.result) (hold_few_objects_if_flat a.flat flat) l s.can)
+pub took_some_of_one_if_took_step : (a b : Moment) (t : ℕ) → IsFlat a.flat → t < length a.flat.threads → Took t a b → TookSome 1 a.flat b.flat
+took_some_of_one_if_took_step a b t flat l s = subst (λ z. all_left (length a.flat.threads) z.now + 1 ≤ all_left (length a.flat.threads) (tables a.flat).now)
+    (sym s.gained.ends) (all_left_falls_after_step a.flat.code (length a.flat.threads) (tables a.flat) (t, s.result) (hold_few_objects_if_flat a.flat flat) l s.can)
 
-pub took_some_append : (i j : ℕ) (f g h : Flat) → length g.threads ≡ length f.threads → TookSome i f g → TookSome j g h → TookSome (i + j) f h
-took_some_append i j f g h same p q =
+pub took_some_of_sum : (i j : ℕ) (f g h : Flat) → length g.threads ≡ length f.threads → TookSome i f g → TookSome j g h → TookSome (i + j) f h
+took_some_of_sum i j f g h same p q =
     let more = subst (λ n. all_left n (tables h).now + j ≤ all_left n (tables g).now) same q in
     omega (arith, p, more)
 
 -- ---- private steps of one thread
 
-thread_after_step_of_other : {T : Type 0} (m : Machine T) (s : State T) (t r u : ℕ) → u ≢ t → (after m s (t, r)).now u ≡ s.now u
+thread_is_unchanged_by_step_of_other : {T : Type 0} (m : Machine T) (s : State T) (t r u : ℕ) → u ≢ t → (after m s (t, r)).now u ≡ s.now u
 unfolding after
-thread_after_step_of_other m s t r u ne = upd_at_other_place s.now t u _ ne
+thread_is_unchanged_by_step_of_other m s t r u ne = upd_at_other_place s.now t u _ ne
 
-other_thread_after_repeated_steps : {T : Type 0} (m : Machine T) (t k u : ℕ) → u ≢ t → (s : State T) → (end m s (replicate k (t, 0))).now u ≡ s.now u
-other_thread_after_repeated_steps m t zero u ne s = refl
-other_thread_after_repeated_steps m t (suc k) u ne s = other_thread_after_repeated_steps m t k u ne (after m s (t, 0)) ∙ thread_after_step_of_other m s t 0 u ne
+other_thread_is_unchanged_by_repeated_steps : {T : Type 0} (m : Machine T) (t k u : ℕ) → u ≢ t → (s : State T) → (end m s (replicate k (t, 0))).now u ≡ s.now u
+other_thread_is_unchanged_by_repeated_steps m t zero u ne s = refl
+other_thread_is_unchanged_by_repeated_steps m t (suc k) u ne s = other_thread_is_unchanged_by_repeated_steps m t k u ne (after m s (t, 0)) ∙ thread_is_unchanged_by_step_of_other m s t 0 u ne
 
 lower_threads_rest_after_step : {T : Type 0} (tries : Bool) (m : Machine T) (s : State T) (t r : ℕ) → ((u : ℕ) → u < t → rests tries m s u ≡ true)
     → (u : ℕ) → u < t → rests tries m (after m s (t, r)) u ≡ true
-lower_threads_rest_after_step tries m s t r lower u l = ap (λ x. is_rest tries (m.ask x)) (thread_after_step_of_other m s t r u (λ e. omega (arith, e, l))) ∙ lower u l
+lower_threads_rest_after_step tries m s t r lower u l = ap (λ x. is_rest tries (m.ask x)) (thread_is_unchanged_by_step_of_other m s t r u (λ e. omega (arith, e, l))) ∙ lower u l
 
 leads_by_private_steps : {T : Type 0} (tries : Bool) (m : Machine T) (n t k : ℕ) (s : State T) (c : Chooser) → t < n → IsRun m s (replicate k (t, 0))
     → ((j : ℕ) → j < k → m.ask ((end m s (replicate j (t, 0))).now t) ≡ Private) → ((u : ℕ) → u < t → rests tries m s u ≡ true)
@@ -297,11 +297,11 @@ rests_equal_if_thread_equal tries f g u code now = ap (λ c. is_rest tries ((thr
 
 pub others_rest_after_step_taken : (tries : Bool) (a b : Moment) (t : ℕ) → Took t a b → OthersRest tries t a.flat b.flat
 others_rest_after_step_taken tries a b t s u ne = rests_equal_if_thread_equal tries a.flat b.flat u s.gained.code
-    (ap (λ z. z.now u) s.gained.ends ∙ thread_after_step_of_other (machine a.flat) (tables a.flat) t s.result u ne)
+    (ap (λ z. z.now u) s.gained.ends ∙ thread_is_unchanged_by_step_of_other (machine a.flat) (tables a.flat) t s.result u ne)
 
 pub others_rest_after_private_steps : (tries : Bool) (f g : Flat) (t k : ℕ) → WentAlone f g t k → OthersRest tries t f g
 others_rest_after_private_steps tries f g t k w u ne = rests_equal_if_thread_equal tries f g u w.code
-    (ap (λ z. z.now u) w.ends ∙ other_thread_after_repeated_steps (machine f) t k u ne (tables f))
+    (ap (λ z. z.now u) w.ends ∙ other_thread_is_unchanged_by_repeated_steps (machine f) t k u ne (tables f))
 
 pub others_rest_transitive : (tries : Bool) (t : ℕ) (f g h : Flat) → OthersRest tries t f g → OthersRest tries t g h → OthersRest tries t f h
 others_rest_transitive tries t f g h p q u ne = q u ne ∙ p u ne
@@ -362,9 +362,9 @@ can_answer_call_with_result f t value kind is fits = subst (λ (q : Ask). Admits
     ((tables f).objects (target (act_of (shared_ask q) value)))) is fits
 
 -- private steps leave no more
-pub private_steps_leave_no_more : (f g : Flat) (t k : ℕ) → IsFlat f → t < length f.threads → WentAlone f g t k → TookSome 0 f g
-private_steps_leave_no_more f g t k flat l w =
-    let less = steps_of_thread_leave_all_fewer f.code (length f.threads) t k (tables f) (hold_few_objects_if_flat f flat) l w.runs in
+pub steps_left_do_not_rise_if_went_alone : (f g : Flat) (t k : ℕ) → IsFlat f → t < length f.threads → WentAlone f g t k → TookSome 0 f g
+steps_left_do_not_rise_if_went_alone f g t k flat l w =
+    let less = all_left_falls_after_steps_of_thread f.code (length f.threads) t k (tables f) (hold_few_objects_if_flat f flat) l w.runs in
     let same : all_left (length f.threads) (tables g).now ≡ all_left (length f.threads)
     (end (machine f) (tables f) (replicate k (t, 0))).now = ap (λ s. all_left (length f.threads) s.now) w.ends in
     omega (arith, less, same)
@@ -383,10 +383,10 @@ is_no_call_unless_environment (asks.End e) h = tt
 is_no_call_unless_environment asks.Done h = tt
 
 -- a measure that falls
-pub steps_left_fall_after_step : (f g : Flat) → length g.threads ≡ length f.threads → TookSome 1 f g
+pub all_left_falls_if_took_some_of_one : (f g : Flat) → length g.threads ≡ length f.threads → TookSome 1 f g
     → all_left (length g.threads) (tables g).now < all_left (length f.threads) (tables f).now
-steps_left_fall_after_step f g same h = subst (λ n. all_left n (tables g).now < all_left (length f.threads) (tables f).now) (sym same) (omega (arith, h))
+all_left_falls_if_took_some_of_one f g same h = subst (λ n. all_left n (tables g).now < all_left (length f.threads) (tables f).now) (sym same) (omega (arith, h))
 
 -- a step and more
-pub took_some_weaker : (f g : Flat) → TookSome 1 f g → TookSome 0 f g
-took_some_weaker f g h = omega (arith, h)
+pub took_some_of_one_is_took_some_of_zero : (f g : Flat) → TookSome 1 f g → TookSome 0 f g
+took_some_of_one_is_took_some_of_zero f g h = omega (arith, h)

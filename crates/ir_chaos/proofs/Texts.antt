@@ -24,9 +24,9 @@ occurs_if_text_starts_at_place text bytes start b l e is h =
     sym (occurs_in_drop_step text bytes start l ∙ ap (λ z. z || occurs_in text (drop (suc start) bytes)) (sym (e ∙ starts_with_ignores_take_to_end text bytes start) ∙ is)) ∙ h
 
 -- it doesn't stand here
-pub occurs_after_place_unless_starts : (text bytes : List ℕ) (start : ℕ) (b : Bool) → start < length bytes → b ≡ starts_with eqb (take (length bytes - start) (drop start bytes)) text
+pub occurs_in_rest_is_unchanged_unless_text_starts_at_place : (text bytes : List ℕ) (start : ℕ) (b : Bool) → start < length bytes → b ≡ starts_with eqb (take (length bytes - start) (drop start bytes)) text
     → b ≡ false → occurs_in text (drop start bytes) ≡ occurs_in text bytes → occurs_in text (drop (start + 1) bytes) ≡ occurs_in text bytes
-occurs_after_place_unless_starts text bytes start b l e is h =
+occurs_in_rest_is_unchanged_unless_text_starts_at_place text bytes start b l e is h =
     ap (λ k. occurs_in text (drop k bytes)) (let same : start + 1 ≡ suc start = omega arith in same)
     ∙ sym (occurs_in_drop_step text bytes start l ∙ ap (λ z. z || occurs_in text (drop (suc start) bytes)) (sym (e ∙ starts_with_ignores_take_to_end text bytes start) ∙ is)) ∙ h
 
@@ -52,9 +52,9 @@ get_or_with_zero_default_is_element [] i x l e = absurd (omega (arith, l))
 get_or_with_zero_default_is_element (y ∷ xs) zero x l e = e
 get_or_with_zero_default_is_element (y ∷ xs) (suc i) x l e = get_or_with_zero_default_is_element xs i x (omega (arith, l)) e
 
-pub word_length_at_space : (text : List ℕ) (index b : ℕ) → index < length text → b ≡ get_or text index b → b ≡ 32
+pub word_length_is_index_at_space : (text : List ℕ) (index b : ℕ) → index < length text → b ≡ get_or text index b → b ≡ 32
     → index + word_length (drop index text) ≡ word_length text → index ≡ word_length text
-word_length_at_space text index b l e is h =
+word_length_is_index_at_space text index b l e is h =
     let here : get_or text index 0 ≡ 32 = sym (get_or_with_zero_default_is_element text index b l e) ∙ is in
     let none : word_length (drop index text) ≡ 0 = word_length_of_drop_step text index l
     ∙ ap (λ z. if z then 0 else suc (word_length (drop (suc index) text))) (eq-eqb (get_or text index 0) 32 here) in
@@ -70,9 +70,9 @@ word_length_step text index b l e ne h =
     ap (λ k. word_length (drop k text)) (let k : index + 1 ≡ suc index = omega arith in k) in
     omega (arith, more, same, h)
 
-pub word_length_at_text_end : (text : List ℕ) (index : ℕ) → length text ≤ index → index ≤ length text
+pub word_length_is_length_at_text_end : (text : List ℕ) (index : ℕ) → length text ≤ index → index ≤ length text
     → index + word_length (drop index text) ≡ word_length text → length text ≡ word_length text
-word_length_at_text_end text index l m h =
+word_length_is_length_at_text_end text index l m h =
     let none : word_length (drop index text) ≡ 0 = ap word_length (drop_all index text l) in
     omega (arith, l, m, none, h)
 
@@ -84,9 +84,9 @@ marks_of_drop_step [] index l = absurd (omega (arith, l))
 marks_of_drop_step (b ∷ text) zero l = refl
 marks_of_drop_step (b ∷ text) (suc index) l = marks_of_drop_step text index (omega (arith, l))
 
-pub marks_at_other_byte : (text : List ℕ) (index b : ℕ) → index < length text → b ≡ get_or text index b → b ≢ 33
+pub marks_is_index_at_other_byte : (text : List ℕ) (index b : ℕ) → index < length text → b ≡ get_or text index b → b ≢ 33
     → index + marks (drop index text) ≡ marks text → index ≡ marks text
-marks_at_other_byte text index b l e ne h =
+marks_is_index_at_other_byte text index b l e ne h =
     let none : marks (drop index text) ≡ 0 = marks_of_drop_step text index l
     ∙ ap (λ z. if z then suc (marks (drop (suc index) text)) else 0)
     (ne_eqb (get_or text index 0) 33 (λ is. ne (get_or_with_zero_default_is_element text index b l e ∙ is))) in
@@ -102,9 +102,9 @@ marks_step text index b l e is h =
     ap (λ k. marks (drop k text)) (let k : index + 1 ≡ suc index = omega arith in k) in
     omega (arith, more, same, h)
 
-pub marks_at_text_end : (text : List ℕ) (index : ℕ) → length text ≤ index → index ≤ length text
+pub marks_is_length_at_text_end : (text : List ℕ) (index : ℕ) → length text ≤ index → index ≤ length text
     → index + marks (drop index text) ≡ marks text → length text ≡ marks text
-marks_at_text_end text index l m h =
+marks_is_length_at_text_end text index l m h =
     let none : marks (drop index text) ≡ 0 = ap marks (drop_all index text l) in
     omega (arith, l, m, none, h)
 

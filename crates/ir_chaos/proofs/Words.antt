@@ -19,14 +19,14 @@ first_priorities_step n k word g h xs ys l e new = ap (λ z. z ++ first_prioriti
     ∙ ap (λ z. xs ++ (first_priority + z.0) ∷ first_priorities (n - (k + 1)) z.1) e
     ∙ ap (λ m. xs ++ first_priorities m g) (sym (difference_exceeds_next_by_one n k l))
 
-pub after_words_step : (n k word : ℕ) (g h : Lcg) → k < n → (word, h) ≡ pcg32 g → after_words (n - (k + 1)) h ≡ after_words (n - k) g
-after_words_step n k word g h l e = ap (λ z. after_words (n - (k + 1)) z.1) e ∙ ap (λ m. after_words m g) (sym (difference_exceeds_next_by_one n k l))
+pub after_words_is_unchanged_by_next_word : (n k word : ℕ) (g h : Lcg) → k < n → (word, h) ≡ pcg32 g → after_words (n - (k + 1)) h ≡ after_words (n - k) g
+after_words_is_unchanged_by_next_word n k word g h l e = ap (λ z. after_words (n - (k + 1)) z.1) e ∙ ap (λ m. after_words m g) (sym (difference_exceeds_next_by_one n k l))
 
-pub first_priorities_at_end : (n k : ℕ) (g : Lcg) (xs ys : List ℕ) → n ≤ k → xs ++ first_priorities (n - k) g ≡ ys → xs ≡ ys
-first_priorities_at_end n k g xs ys l e = sym (append-nil xs) ∙ ap (λ m. xs ++ first_priorities m g) (sym (difference_is_zero_if_at_least n k l)) ∙ e
+pub drawn_priorities_are_whole_at_end : (n k : ℕ) (g : Lcg) (xs ys : List ℕ) → n ≤ k → xs ++ first_priorities (n - k) g ≡ ys → xs ≡ ys
+drawn_priorities_are_whole_at_end n k g xs ys l e = sym (append-nil xs) ∙ ap (λ m. xs ++ first_priorities m g) (sym (difference_is_zero_if_at_least n k l)) ∙ e
 
-pub after_words_at_end : (n k : ℕ) (g h : Lcg) → n ≤ k → after_words (n - k) g ≡ h → g ≡ h
-after_words_at_end n k g h l e = ap (λ m. after_words m g) (sym (difference_is_zero_if_at_least n k l)) ∙ e
+pub generator_is_after_all_words_at_end : (n k : ℕ) (g h : Lcg) → n ≤ k → after_words (n - k) g ≡ h → g ≡ h
+generator_is_after_all_words_at_end n k g h l e = ap (λ m. after_words m g) (sym (difference_is_zero_if_at_least n k l)) ∙ e
 
 -- a place more
 pub first_places_step : (choices n k place : ℕ) (g h : Lcg) (xs ys : List ℕ) → k < n → (place, h) ≡ drawn choices g → ys ≡ xs ++ (place + 1) ∷ []
@@ -36,8 +36,8 @@ first_places_step choices n k place g h xs ys l e new = ap (λ z. z ++ first_pla
     ∙ ap (λ z. xs ++ (z.0 + 1) ∷ first_places choices (n - (k + 1)) z.1) e
     ∙ ap (λ m. xs ++ first_places choices m g) (sym (difference_exceeds_next_by_one n k l))
 
-pub first_places_at_end : (choices n k : ℕ) (g : Lcg) (xs ys : List ℕ) → n ≤ k → xs ++ first_places choices (n - k) g ≡ ys → xs ≡ ys
-first_places_at_end choices n k g xs ys l e = sym (append-nil xs) ∙ ap (λ m. xs ++ first_places choices m g) (sym (difference_is_zero_if_at_least n k l)) ∙ e
+pub drawn_places_are_whole_at_end : (choices n k : ℕ) (g : Lcg) (xs ys : List ℕ) → n ≤ k → xs ++ first_places choices (n - k) g ≡ ys → xs ≡ ys
+drawn_places_are_whole_at_end choices n k g xs ys l e = sym (append-nil xs) ∙ ap (λ m. xs ++ first_places choices m g) (sym (difference_is_zero_if_at_least n k l)) ∙ e
 
 -- a priority for each thread
 pub length_of_first_priorities : (n : ℕ) (g : Lcg) → length (first_priorities n g) ≡ n

@@ -5,7 +5,7 @@ ghost use Rattle.ir_chaos.specs.Spelling.{marks, word_length, word_of, rest_of};
 ghost use Rattle.std.specs.Prelude.{◌≡◌, ◌≤◌, length, option_map};
 
 // Whether the text occurs in the bytes.
-#[tactic(auto, using(crate::proofs::Texts::occurs_if_text_starts_at_place, crate::proofs::Texts::occurs_after_place_unless_starts, crate::proofs::Texts::occurs_at_end_equals_text_is_empty))]
+#[tactic(auto, using(crate::proofs::Texts::occurs_if_text_starts_at_place, crate::proofs::Texts::occurs_in_rest_is_unchanged_unless_text_starts_at_place, crate::proofs::Texts::occurs_at_end_equals_text_is_empty))]
 pub fn occurs(text: &[u8], bytes: &[u8]) -> bool
     ensures { result ≡ occurs_in text.now bytes.now }
 {
@@ -18,7 +18,7 @@ pub fn occurs(text: &[u8], bytes: &[u8]) -> bool
 }
 
 // How many bytes come before the first blank.
-#[tactic(auto, using(crate::proofs::Texts::word_length_at_space, crate::proofs::Texts::word_length_step, crate::proofs::Texts::word_length_at_text_end))]
+#[tactic(auto, using(crate::proofs::Texts::word_length_is_index_at_space, crate::proofs::Texts::word_length_step, crate::proofs::Texts::word_length_is_length_at_text_end))]
 fn word_length(text: &[u8]) -> usize
     ensures value { result ≡ word_length text.now }
     ensures within { result ≤ length text.now }
@@ -45,7 +45,7 @@ pub fn cut(text: &[u8]) -> (&[u8], Option<&[u8]>)
 }
 
 // How many `!` are at the text's start.
-#[tactic(auto, using(crate::proofs::Texts::marks_at_other_byte, crate::proofs::Texts::marks_step, crate::proofs::Texts::marks_at_text_end))]
+#[tactic(auto, using(crate::proofs::Texts::marks_is_index_at_other_byte, crate::proofs::Texts::marks_step, crate::proofs::Texts::marks_is_length_at_text_end))]
 pub fn marks(text: &[u8]) -> usize
     ensures value { result ≡ marks text.now }
     ensures within { result ≤ length text.now }

@@ -14,18 +14,18 @@ use Rattle.ir_keep.specs.Keeping.{Kept, Keeping, IsNearest, IsNew, without, kept
 use Rattle.ir_checkpoint.specs.Checkpoints.{Stands, AllStand}
 
 -- the start alone is the guest at its own positions
-pub new_keeping_stands : (f : FittedTrace) (k : Keeping) → IsNew f k → AllStand f k.kept
-new_keeping_stands f k new =
+pub kept_states_of_new_keeping_stand : (f : FittedTrace) (k : Keeping) → IsNew f k → AllStand f k.kept
+kept_states_of_new_keeping_stand f k new =
     let at : StandsAt f (λ t. 0) new.0 = new.1 in
     let own : Stands f new.0 = subst (λ (p : Cut). StandsAt f p new.0) (λ i t. sym (at.at.steps t) i) at in
     subst (λ (z : Keeping). AllStand f z.kept) (sym new.2) (own, tt)
 
 -- each has as many threads as the guest
-pub kept_states_have_guest_threads : (f : FittedTrace) (kept : List Kept) (n : ℕ) → AllStand f kept → n ≡ length f.guest.entries
+pub kept_states_have_guest_thread_count : (f : FittedTrace) (kept : List Kept) (n : ℕ) → AllStand f kept → n ≡ length f.guest.entries
     → All (λ (k : Kept). length k.state.threads ≡ n) kept
-kept_states_have_guest_threads f [] n all same = All-nil (λ (k : Kept). length k.state.threads ≡ n)
-kept_states_have_guest_threads f (k ∷ kept) n all same =
-    All-cons (λ (x : Kept). length x.state.threads ≡ n) k kept (all.0.at.threads ∙ sym same) (kept_states_have_guest_threads f kept n all.1 same)
+kept_states_have_guest_thread_count f [] n all same = All-nil (λ (k : Kept). length k.state.threads ≡ n)
+kept_states_have_guest_thread_count f (k ∷ kept) n all same =
+    All-cons (λ (x : Kept). length x.state.threads ≡ n) k kept (all.0.at.threads ∙ sym same) (kept_states_have_guest_thread_count f kept n all.1 same)
 
 kept_states_stand_with_conditional_head : (f : FittedTrace) (k : Kept) (rest : List Kept) (b : Bool) → Stands f k.state → AllStand f rest
     → AllStand f (if b then rest else k ∷ rest)
@@ -37,17 +37,17 @@ pub kept_states_stand_without_number : (f : FittedTrace) (kept : List Kept) (n :
 kept_states_stand_without_number f [] n all = tt
 kept_states_stand_without_number f (k ∷ kept) n all = kept_states_stand_with_conditional_head f k (without n kept) (k.number == n) all.0 (kept_states_stand_without_number f kept n all.1)
 
-first_or_other_kept_stands : (f : FittedTrace) (k one : Kept) (rest : Option Kept) (b : Bool) → Stands f k.state → (rest ≡ Some one → Stands f one.state)
+conditional_kept_state_stands : (f : FittedTrace) (k one : Kept) (rest : Option Kept) (b : Bool) → Stands f k.state → (rest ≡ Some one → Stands f one.state)
     → (if b then Some k else rest) ≡ Some one → Stands f one.state
-first_or_other_kept_stands f k one rest true first others is = let same : k ≡ one = cc is in subst (λ (x : Kept). Stands f x.state) same first
-first_or_other_kept_stands f k one rest false first others is = others is
+conditional_kept_state_stands f k one rest true first others is = let same : k ≡ one = cc is in subst (λ (x : Kept). Stands f x.state) same first
+conditional_kept_state_stands f k one rest false first others is = others is
 
 -- the one of a number
 pub kept_state_of_number_stands : (f : FittedTrace) (kept : List Kept) (n : ℕ) (one : Kept) → AllStand f kept → kept_as n kept ≡ Some one
     → Stands f one.state
 kept_state_of_number_stands f [] n one all is = absurd cc
 kept_state_of_number_stands f (k ∷ kept) n one all is =
-    first_or_other_kept_stands f k one (kept_as n kept) (k.number == n) all.0 (kept_state_of_number_stands f kept n one all.1) is
+    conditional_kept_state_stands f k one (kept_as n kept) (k.number == n) all.0 (kept_state_of_number_stands f kept n one all.1) is
 
 steps_at_most_cut_if_below : (threads : List thread.ThreadState) (cut : List ℕ) → is_below (map (λ t. t.steps) threads) cut ≡ true → (t : ℕ)
     → (slice_index_or threads t idle).steps ≤ cut_of cut t
@@ -60,13 +60,13 @@ steps_at_most_cut_if_below (x ∷ threads) (k ∷ cut) below (suc t) =
     steps_at_most_cut_if_below threads cut (right_of_true_and (nat_le x.steps k) (is_below (map (λ t. t.steps) threads) cut) below) t
 
 -- what was restored is what was found
-pub restored_state_is_kept_state : (o : Option Kept) (one : Kept) (s : Standing) → o ≡ Some one → (option_map (λ k. k.state) o ≡ Some s) → one.state ≡ s
-restored_state_is_kept_state o one s is found = let e : Some one.state ≡ Some s = sym (ap (option_map (λ (k : Kept). k.state)) is) ∙ found in cc
+pub kept_state_is_state_mapped_from_its_option : (o : Option Kept) (one : Kept) (s : Standing) → o ≡ Some one → (option_map (λ k. k.state) o ≡ Some s) → one.state ≡ s
+kept_state_is_state_mapped_from_its_option o one s is found = let e : Some one.state ≡ Some s = sym (ap (option_map (λ (k : Kept). k.state)) is) ∙ found in cc
 
 pub nearest_kept_state_stands : (f : FittedTrace) (keeping : Keeping) (target : List ℕ) (n : ℕ) (s : Standing) → AllStand f keeping.kept
     → IsNearest target keeping n → option_map (λ k. k.state) (kept_as n keeping.kept) ≡ Some s → Stands f s
 nearest_kept_state_stands f keeping target n s all nearest found =
-    subst (Stands f) (restored_state_is_kept_state (kept_as n keeping.kept) nearest.one s nearest.kept found)
+    subst (Stands f) (kept_state_is_state_mapped_from_its_option (kept_as n keeping.kept) nearest.one s nearest.kept found)
     (kept_state_of_number_stands f keeping.kept n nearest.one all nearest.kept)
 
 pub nearest_kept_state_below_target : (f : FittedTrace) (keeping : Keeping) (target : List ℕ) (n : ℕ) (s : Standing)
@@ -74,5 +74,5 @@ pub nearest_kept_state_below_target : (f : FittedTrace) (keeping : Keeping) (tar
     → (t : ℕ) → positions (flat_in f s) t ≤ cut_of target t
 nearest_kept_state_below_target f keeping target n s nearest found =
     subst (λ (x : Standing). (t : ℕ) → positions (flat_in f x) t ≤ cut_of target t)
-    (restored_state_is_kept_state (kept_as n keeping.kept) nearest.one s nearest.kept found)
+    (kept_state_is_state_mapped_from_its_option (kept_as n keeping.kept) nearest.one s nearest.kept found)
     (steps_at_most_cut_if_below nearest.one.state.threads target nearest.below)

@@ -15,10 +15,10 @@ use Rattle.ir_checkpoint.specs.Checkpoints.{Stands}
 use Rattle.ir_checkpoint.specs.Parts.{IsOnWay}
 
 -- the least cut with a thread further lies below each such that is above
-pub way_after_least_cut : (f : FittedTrace) (low : Cut) (target cut new : List ℕ) (t k : ℕ) → HasRun f → IsConsistentCut f target
+pub least_cut_toward_target_is_on_way : (f : FittedTrace) (low : Cut) (target cut new : List ℕ) (t k : ℕ) → HasRun f → IsConsistentCut f target
     → IsOnWay f low (cut_of target) cut → k ≤ cut_of target t → IsLeastCut f cut t k new → IsConsistentCut f new
     → IsOnWay f low (cut_of target) new
-way_after_least_cut f low target cut new t k h target_is way le least consistent =
+least_cut_toward_target_is_on_way f low target cut new t k h target_is way le least consistent =
     let one = least.1 h.run h.whole in
     let aim = target_is h.run h.whole in
     record {
@@ -29,11 +29,11 @@ way_after_least_cut f low target cut new t k h target_is way le least consistent
     }
 
 -- the threads' own positions, as a list
-pub position_in_list_of_steps : (threads : List thread.ThreadState) (t : ℕ) → cut_of (map (λ x. x.steps) threads) t ≡ (slice_index_or threads t idle).steps
-position_in_list_of_steps threads t = get_or-map (λ (x : thread.ThreadState). x.steps) threads t idle
+pub cut_of_list_of_steps_is_thread_steps : (threads : List thread.ThreadState) (t : ℕ) → cut_of (map (λ x. x.steps) threads) t ≡ (slice_index_or threads t idle).steps
+cut_of_list_of_steps_is_thread_steps threads t = get_or-map (λ (x : thread.ThreadState). x.steps) threads t idle
 
 pub list_of_steps_is_own_cut : (f : FittedTrace) (s : Standing) (cut : List ℕ) → cut ≡ map (λ t. t.steps) s.threads → cut_of cut ≡ positions (flat_in f s)
-list_of_steps_is_own_cut f s cut is = fun_ext (λ t. ap (λ (c : List ℕ). cut_of c t) is ∙ position_in_list_of_steps s.threads t)
+list_of_steps_is_own_cut f s cut is = fun_ext (λ t. ap (λ (c : List ℕ). cut_of c t) is ∙ cut_of_list_of_steps_is_thread_steps s.threads t)
 
 own_cut_is_consistent : (f : FittedTrace) (s : Standing) (cut : List ℕ) → Stands f s → cut_of cut ≡ positions (flat_in f s) → IsConsistentCut f cut
 own_cut_is_consistent f s cut h same run whole =
@@ -42,9 +42,9 @@ own_cut_is_consistent f s cut h same run whole =
     (at.cut, at.consistent)
 
 -- they are the beginning of the way
-pub way_begins_at_own_cut : (f : FittedTrace) (s : Standing) (target cut : List ℕ) → Stands f s → cut ≡ map (λ t. t.steps) s.threads
+pub own_cut_is_on_way_if_below_target : (f : FittedTrace) (s : Standing) (target cut : List ℕ) → Stands f s → cut ≡ map (λ t. t.steps) s.threads
     → ((t : ℕ) → positions (flat_in f s) t ≤ cut_of target t) → IsOnWay f (cut_of cut) (cut_of target) cut
-way_begins_at_own_cut f s target cut h is below =
+own_cut_is_on_way_if_below_target f s target cut h is below =
     let same = list_of_steps_is_own_cut f s cut is in
     record {
       size = ap length is ∙ length-map s.threads (λ (x : thread.ThreadState). x.steps) ∙ h.at.threads;
@@ -53,9 +53,9 @@ way_begins_at_own_cut f s target cut h is below =
       below = subst (λ (q : Cut). (t : ℕ) → q t ≤ cut_of target t) (sym same) below;
     }
 
-pub way_from_own_positions : (f : FittedTrace) (s : Standing) (target from cut : List ℕ) → from ≡ map (λ t. t.steps) s.threads
+pub is_on_way_from_own_positions_if_from_list_of_steps : (f : FittedTrace) (s : Standing) (target from cut : List ℕ) → from ≡ map (λ t. t.steps) s.threads
     → IsOnWay f (cut_of from) (cut_of target) cut → IsOnWay f (positions (flat_in f s)) (cut_of target) cut
-way_from_own_positions f s target from cut is way = subst (λ (q : Cut). IsOnWay f q (cut_of target) cut) (list_of_steps_is_own_cut f s from is) way
+is_on_way_from_own_positions_if_from_list_of_steps f s target from cut is way = subst (λ (q : Cut). IsOnWay f q (cut_of target) cut) (list_of_steps_is_own_cut f s from is) way
 
 -- what is at such a cut isn't past the target
 pub standing_on_way_below_target : (f : FittedTrace) (low : Cut) (target cut : List ℕ) (s : Standing) → IsOnWay f low (cut_of target) cut

@@ -375,7 +375,8 @@ impl Checkpoints {
         ensures ok { IfOk result (λ s. StandsAt fitted.now (cut_of target.now) s) }
         ensures err { IfErr result (λ e. Stands fitted.now e.0) }
     {
-        let mut pace = Pace::new();
+        let steps = steps_before(target).saturating_sub(steps_of(state.threads()));
+        let mut pace = Pace::of_move(steps);
         let near = self.approach(hands, fitted, state, target, &mut pace);
         match advance(hands, fitted, near, target, &mut pace) {
             Ok(there) => Ok(there),

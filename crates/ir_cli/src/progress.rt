@@ -87,6 +87,19 @@ impl<R: Clock + Eprint> Progress<'_, R> {
         let _ = self.rt.eprint(format_args!("{millions} million steps\r"));
     }
 
+    // Counts steps of a thread, and now and then shows the sum.
+    fn count(&self, start: Instant, thread: u8, steps: u64) {
+        let Some(own) = self.steps.get(thread as usize) else {
+            return;
+        };
+        let before = own.load(Ordering::Relaxed);
+        let after = before.saturating_add(steps);
+        own.store(after, Ordering::Relaxed);
+        if before / STEPS_FOR_A_LOOK != after / STEPS_FOR_A_LOOK && self.is_due(start) {
+            self.show_steps();
+        }
+    }
+
     // Takes its line off the terminal, if one stands there, and counts anew.
     fn begin_anew(&self) {
         if self.start.is_none() {
@@ -107,18 +120,11 @@ impl<R: Clock + Eprint> Gate for Progress<'_, R> {
 
     fn leaving(&self, _thread: u8, _object: u8, _access: Access) {}
 
+    // A recording calls it before each step that isn't private. Where nothing is shown it is a test there, and no call.
+    #[inline(always)]
     fn stepped(&self, thread: u8, steps: u64) {
-        let Some(start) = self.start else {
-            return;
-        };
-        let Some(own) = self.steps.get(thread as usize) else {
-            return;
-        };
-        let before = own.load(Ordering::Relaxed);
-        let after = before.saturating_add(steps);
-        own.store(after, Ordering::Relaxed);
-        if before / STEPS_FOR_A_LOOK != after / STEPS_FOR_A_LOOK && self.is_due(start) {
-            self.show_steps();
+        if let Some(start) = self.start {
+            self.count(start, thread, steps);
         }
     }
 }

@@ -4,7 +4,7 @@ use Rattle.std.specs.Prelude.{slice_get}
 use Rattle.std.specs.List.{AllByRecursion}
 use Rattle.std.proofs.lemmas.Option.{same_Some}
 use Rattle.std.proofs.lemmas.List.{length-map}
-use Rattle.ir_lemmas.proofs.CallerLemmas.{element_of_all_by_recursion}
+use Rattle.ir_lemmas.proofs.CallerLemmas.{get_or_element_satisfies_all_by_recursion}
 use Rattle.ir_thread.specs.State.{most_events}
 use Rattle.ir_thread.specs.declared.profile.Profile.{Profile}
 use Rattle.ir_runs.specs.Machine.{Label, In, Trace}
@@ -26,7 +26,7 @@ use Rattle.ir_coherence.specs.declared.cause.Cause.TheVariants.{Unmade, Twice, R
 use Rattle.ir_coherence.specs.declared.entry_counts.EntryCounts.{EntryCounts}
 use Rattle.ir_coherence.proofs.Writes.{HasLogsOfThreads, thread_of_label_below_count}
 use Rattle.ir_coherence.proofs.Causes.{has_cause_if_named_by_counts, no_cause_if_counts_name_none, coherent_if_no_cause_by_counts}
-use Rattle.ir_coherence.proofs.Logs.{reads_at_most_length, writes_at_most_length, sum_below_at_most_product, sum_below_of_successor}
+use Rattle.ir_coherence.proofs.Logs.{reads_at_most_length, writes_at_most_length, sum_below_at_most_count_times_most_events, sum_below_of_successor}
 
 -- the entries of the first n threads are counted
 pub record CountsFirst (r : Recorded) (n : ℕ) (c : EntryCounts) : Type 0 where
@@ -40,18 +40,18 @@ get_or_past_end_is_default (x ∷ xs) zero d l = absurd (omega arith)
 get_or_past_end_is_default (x ∷ xs) (suc i) d l = get_or_past_end_is_default xs i d (omega arith)
 
 pub recorded_thread_at_number_is_recorded : (r : Recorded) → IsRecorded r → (i : ℕ) → i < length r.threads → IsRecordedThread r.profile r.objects (recorded_thread r i)
-recorded_thread_at_number_is_recorded r fits i l = element_of_all_by_recursion (IsRecordedThread r.profile r.objects) r.threads i absent fits.threads_fit l
+recorded_thread_at_number_is_recorded r fits i l = get_or_element_satisfies_all_by_recursion (IsRecordedThread r.profile r.objects) r.threads i absent fits.threads_fit l
 
-events_may_stand : (profile : Profile) (objects : ℕ) (es : List Event) → AllByRecursion (IsEvent profile objects) es
+all_may_stand_if_all_are_events : (profile : Profile) (objects : ℕ) (es : List Event) → AllByRecursion (IsEvent profile objects) es
     → AllByRecursion (MayStand objects) es
-events_may_stand profile objects [] all = tt
-events_may_stand profile objects (e ∷ es) all = ((profile, all.0), events_may_stand profile objects es all.1)
+all_may_stand_if_all_are_events profile objects [] all = tt
+all_may_stand_if_all_are_events profile objects (e ∷ es) all = ((profile, all.0), all_may_stand_if_all_are_events profile objects es all.1)
 
 -- the events of a thread may be in a trace of as many objects as are counted
 pub thread_events_may_stand_in_counts : (r : Recorded) → IsRecorded r → (i : ℕ) (c : EntryCounts) → i < length r.threads → CountsFirst r i c
     → AllByRecursion (MayStand (vec_len c.objects)) (recorded_thread r i).events
 thread_events_may_stand_in_counts r fits i c l first = subst (λ n. AllByRecursion (MayStand n) (recorded_thread r i).events) (sym first.objects)
-    (events_may_stand r.profile r.objects (recorded_thread r i).events (recorded_thread_at_number_is_recorded r fits i l).events_fit)
+    (all_may_stand_if_all_are_events r.profile r.objects (recorded_thread r i).events (recorded_thread_at_number_is_recorded r fits i l).events_fit)
 
 trace_has_logs_of_threads : (r : Recorded) → HasLogsOfThreads (length r.threads) (trace_of r)
 trace_has_logs_of_threads r t l = ap (λ (x : RecordedThread). map label_of x.events) (get_or_past_end_is_default r.threads t absent l)
@@ -62,7 +62,7 @@ counts_have_room_for_thread r fits i c l first = record {
   reads = λ o v. omega (
     arith,
     first.reads o v,
-    sum_below_at_most_product i (λ u. reads o v ((trace_of r).logs u))
+    sum_below_at_most_count_times_most_events i (λ u. reads o v ((trace_of r).logs u))
         (λ u less. omega (arith, reads_at_most_length o v ((trace_of r).logs u), of_thread u (omega arith))),
     (recorded_thread_at_number_is_recorded r fits i l).few_events,
     recorded_threads_at_most_limit r fits,
@@ -70,7 +70,7 @@ counts_have_room_for_thread r fits i c l first = record {
   writes = λ o v. omega (
     arith,
     first.writes o v,
-    sum_below_at_most_product i (λ u. writes o v ((trace_of r).logs u))
+    sum_below_at_most_count_times_most_events i (λ u. writes o v ((trace_of r).logs u))
         (λ u less. omega (arith, writes_at_most_length o v ((trace_of r).logs u), of_thread u (omega arith))),
     (recorded_thread_at_number_is_recorded r fits i l).few_events,
     recorded_threads_at_most_limit r fits,
@@ -80,9 +80,9 @@ counts_have_room_for_thread r fits i c l first = record {
     of_thread : (u : ℕ) → u < length r.threads → length ((trace_of r).logs u) ≤ most_events
     of_thread u less = omega (arith, length-map (recorded_thread r u).events label_of, (recorded_thread_at_number_is_recorded r fits u less).few_events)
 
-pub counts_after_thread : (r : Recorded) (i : ℕ) (a b : EntryCounts) → CountsFirst r i a
+pub counts_first_threads_step : (r : Recorded) (i : ℕ) (a b : EntryCounts) → CountsFirst r i a
     → CountsMore a b (map label_of (recorded_thread r i).events) → CountsFirst r (i + 1) b
-counts_after_thread r i a b first more = record {
+counts_first_threads_step r i a b first more = record {
   objects = more.objects ∙ first.objects;
   reads = λ o v. omega (arith, more.reads o v, first.reads o v, sum_below_of_successor i (λ u. reads o v ((trace_of r).logs u)));
   writes = λ o v. omega (arith, more.writes o v, first.writes o v, sum_below_of_successor i (λ u. writes o v ((trace_of r).logs u)));

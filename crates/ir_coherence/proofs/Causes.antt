@@ -11,7 +11,7 @@ use Rattle.ir_coherence.specs.Breaking.{IsUnmade, IsTwice, IsMiscounted, HasCaus
 use Rattle.ir_coherence.specs.Laws.{CoherentUnbroken, UnbrokenCoherent}
 use Rattle.ir_coherence.specs.declared.cause.Cause.{Cause}
 use Rattle.ir_coherence.specs.declared.cause.Cause.TheVariants.{Unmade, Twice, Readers}
-use Rattle.ir_coherence.proofs.Writes.{at_place_is_unique, HasLogsOfThreads, trace_has_write_if_counted, trace_write_is_counted, two_trace_writes_are_counted, other_trace_write_if_counted_twice}
+use Rattle.ir_coherence.proofs.Writes.{element_at_index_is_unique, HasLogsOfThreads, trace_has_write_if_counted, trace_write_is_counted, two_trace_writes_are_counted, other_trace_write_if_counted_twice}
 
 is_unmade_if_nobody_made : (n : ℕ) (emitted : Trace) → HasLogsOfThreads n emitted → (t i o v l : ℕ) (a : Access) → At (emitted.logs t) i (In o a v l)
     → nobody_made (writes_in n emitted) o v ≡ true → IsUnmade emitted t i
@@ -38,7 +38,7 @@ is_unmade_if_nobody_made n emitted of t i o (suc v) l a at h = record {
 not_unmade_if_somebody_made : (n : ℕ) (emitted : Trace) → (t i o v l : ℕ) (a : Access) → At (emitted.logs t) i (In o a v l)
     → nobody_made (writes_in n emitted) o v ≡ false → IsUnmade emitted t i → ⊥
 not_unmade_if_somebody_made n emitted t i o v l a at h un =
-    let same : In un.object un.access (suc un.version) un.left ≡ In o a v l = at_place_is_unique (emitted.logs t) i _ _ un.entry at in
+    let same : In un.object un.access (suc un.version) un.left ≡ In o a v l = element_at_index_is_unique (emitted.logs t) i _ _ un.entry at in
     let object : un.object ≡ o = cc in
     let version : suc un.version ≡ v = cc in
     elim (and_cases (nat_lt 0 v) (writes_in n emitted o (v - 1) == 0) h) [
@@ -72,7 +72,7 @@ is_twice_if_two_writes n emitted of t i o v l at h =
 not_twice_unless_two_writes : (n : ℕ) (emitted : Trace) → HasLogsOfThreads n emitted → (t i o v l : ℕ) → At (emitted.logs t) i (In o Writing v l)
     → nat_lt 1 (writes_in n emitted o v) ≡ false → IsTwice emitted t i → ⊥
 not_twice_unless_two_writes n emitted of t i o v l at h two =
-    let same : In two.object Writing two.version two.left ≡ In o Writing v l = at_place_is_unique (emitted.logs t) i _ _ two.entry at in
+    let same : In two.object Writing two.version two.left ≡ In o Writing v l = element_at_index_is_unique (emitted.logs t) i _ _ two.entry at in
     let object : two.object ≡ o = cc in
     let version : two.version ≡ v = cc in
     let many = two_trace_writes_are_counted n emitted of two.object two.version t i two.left two.thread two.event two.readers two.entry two.another two.apart in
@@ -92,7 +92,7 @@ is_miscounted_if_readers_differ n emitted t i o v l at h = record { object = o; 
 not_miscounted_if_readers_equal : (n : ℕ) (emitted : Trace) → (t i o v l : ℕ) → At (emitted.logs t) i (In o Writing v l) → (l == reads_in n emitted o v) ≡ true
     → IsMiscounted n emitted t i → ⊥
 not_miscounted_if_readers_equal n emitted t i o v l at h mis =
-    let same : In mis.object Writing mis.version mis.left ≡ In o Writing v l = at_place_is_unique (emitted.logs t) i _ _ mis.entry at in
+    let same : In mis.object Writing mis.version mis.left ≡ In o Writing v l = element_at_index_is_unique (emitted.logs t) i _ _ mis.entry at in
     let object : mis.object ≡ o = cc in
     let version : mis.version ≡ v = cc in
     let left : mis.left ≡ l = cc in
@@ -156,9 +156,9 @@ first_of_three_if_has_cause n emitted t i Readers f = f
 -- a label that is no entry breaks nothing
 no_cause_unless_entry : (n : ℕ) (emitted : Trace) (t i : ℕ) (m : Label) → At (emitted.logs t) i m → ((o v l : ℕ) (a : Access) → In o a v l ≡ m → ⊥)
     → (c : Cause) → HasCause n emitted t i c → ⊥
-no_cause_unless_entry n emitted t i m at none Unmade f = none f.object (suc f.version) f.left f.access (at_place_is_unique (emitted.logs t) i _ _ f.entry at)
-no_cause_unless_entry n emitted t i m at none Twice f = none f.1.object f.1.version f.1.left Writing (at_place_is_unique (emitted.logs t) i _ _ f.1.entry at)
-no_cause_unless_entry n emitted t i m at none Readers f = none f.2.object f.2.version f.2.left Writing (at_place_is_unique (emitted.logs t) i _ _ f.2.entry at)
+no_cause_unless_entry n emitted t i m at none Unmade f = none f.object (suc f.version) f.left f.access (element_at_index_is_unique (emitted.logs t) i _ _ f.entry at)
+no_cause_unless_entry n emitted t i m at none Twice f = none f.1.object f.1.version f.1.left Writing (element_at_index_is_unique (emitted.logs t) i _ _ f.1.entry at)
+no_cause_unless_entry n emitted t i m at none Readers f = none f.2.object f.2.version f.2.left Writing (element_at_index_is_unique (emitted.logs t) i _ _ f.2.entry at)
 
 -- what the counts name is the first cause
 pub has_cause_if_named_by_counts : (n : ℕ) (emitted : Trace) → HasLogsOfThreads n emitted → (t i : ℕ) (m : Label) (c : Cause) → At (emitted.logs t) i m
@@ -185,8 +185,8 @@ no_cause_if_counts_name_none n emitted of t i (Answer k x) at e c f = no_cause_u
 no_cause_if_counts_name_none n emitted of t i (In o Reading v l) at e c f =
     no_first_cause_of_unnamed_read (IsUnmade emitted t i) (IsTwice emitted t i) (IsMiscounted n emitted t i) (nobody_made (writes_in n emitted) o v)
     (not_unmade_if_somebody_made n emitted t i o v l Reading at)
-    (λ two. let bad : In two.object Writing two.version two.left ≡ In o Reading v l = at_place_is_unique (emitted.logs t) i _ _ two.entry at in cc)
-    (λ mis. let bad : In mis.object Writing mis.version mis.left ≡ In o Reading v l = at_place_is_unique (emitted.logs t) i _ _ mis.entry at in cc)
+    (λ two. let bad : In two.object Writing two.version two.left ≡ In o Reading v l = element_at_index_is_unique (emitted.logs t) i _ _ two.entry at in cc)
+    (λ mis. let bad : In mis.object Writing mis.version mis.left ≡ In o Reading v l = element_at_index_is_unique (emitted.logs t) i _ _ mis.entry at in cc)
     c e (first_of_three_if_has_cause n emitted t i c f)
 no_cause_if_counts_name_none n emitted of t i (In o Writing v l) at e c f =
     no_first_cause_of_unnamed_write (IsUnmade emitted t i) (IsTwice emitted t i) (IsMiscounted n emitted t i) (nobody_made (writes_in n emitted) o v)

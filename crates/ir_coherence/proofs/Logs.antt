@@ -69,9 +69,9 @@ counts_after_taken_events_step a b d es i e l m k =
     (counts_after_appended_labels a b d (map label_of (take i es)) (label_of (get_or es i e) ∷ []) m k)
 
 -- a sum of n numbers, each of at most as many events as a log has
-pub sum_below_at_most_product : (n : ℕ) (f : ℕ → ℕ) → ((t : ℕ) → t < n → f t ≤ most_events) → sum_below n f ≤ n * most_events
-sum_below_at_most_product zero f h = omega arith
-sum_below_at_most_product (suc n) f h = omega (arith, h n (omega arith), sum_below_at_most_product n f (λ t l. h t (omega arith)))
+pub sum_below_at_most_count_times_most_events : (n : ℕ) (f : ℕ → ℕ) → ((t : ℕ) → t < n → f t ≤ most_events) → sum_below n f ≤ n * most_events
+sum_below_at_most_count_times_most_events zero f h = omega arith
+sum_below_at_most_count_times_most_events (suc n) f h = omega (arith, h n (omega arith), sum_below_at_most_count_times_most_events n f (λ t l. h t (omega arith)))
 
 pub sum_below_of_successor : (n : ℕ) (f : ℕ → ℕ) → sum_below (n + 1) f ≡ f n + sum_below n f
 sum_below_of_successor n f = rw add-one refl

@@ -47,22 +47,22 @@ value_at_place_after_equal_set f xs i o x w l e same = elim (cases_eq i o) [
 ]
 
 -- what is in the list is what is written, or was there before
-pub element_after_set : {X : Type 0} (xs : List X) (i o : ℕ) (w y : X) → slice_get (slice_set xs i w) o ≡ Some y → (y ≡ w)
+pub slice_get_after_set_cases : {X : Type 0} (xs : List X) (i o : ℕ) (w y : X) → slice_get (slice_set xs i w) o ≡ Some y → (y ≡ w)
     ⊎ ((i ≡ o → ⊥) × (slice_get xs o ≡ Some y))
-element_after_set [] i o w y e = absurd (let bad : None ≡ Some y = e in cc)
-element_after_set (x ∷ xs) zero zero w y e = inl (sym (same_Some w y e))
-element_after_set (x ∷ xs) zero (suc o) w y e = inr ((λ q. absurd (omega (arith, q))), e)
-element_after_set (x ∷ xs) (suc i) zero w y e = inr ((λ q. absurd (omega (arith, q))), e)
-element_after_set (x ∷ xs) (suc i) (suc o) w y e = elim (element_after_set xs i o w y e) [
+slice_get_after_set_cases [] i o w y e = absurd (let bad : None ≡ Some y = e in cc)
+slice_get_after_set_cases (x ∷ xs) zero zero w y e = inl (sym (same_Some w y e))
+slice_get_after_set_cases (x ∷ xs) zero (suc o) w y e = inr ((λ q. absurd (omega (arith, q))), e)
+slice_get_after_set_cases (x ∷ xs) (suc i) zero w y e = inr ((λ q. absurd (omega (arith, q))), e)
+slice_get_after_set_cases (x ∷ xs) (suc i) (suc o) w y e = elim (slice_get_after_set_cases xs i o w y e) [
   | inl h ↦ inl h
   | inr h ↦ inr ((λ q. h.0 (omega (arith, q))), h.1)
 ]
 
-pub value_after_zero_push : {X : Type 0} (f : X → ℕ) (xs : List X) (x : X) (o : ℕ) → f x ≡ 0 → ((p : ℕ) → value_at_place f xs p ≡ 0) → value_at_place f (xs ++ x ∷ []) o ≡ 0
-value_after_zero_push f [] x zero e h = e
-value_after_zero_push f [] x (suc o) e h = refl
-value_after_zero_push f (y ∷ ys) x zero e h = h 0
-value_after_zero_push f (y ∷ ys) x (suc o) e h = value_after_zero_push f ys x o e (λ p. h (suc p))
+pub values_stay_zero_after_zero_push : {X : Type 0} (f : X → ℕ) (xs : List X) (x : X) (o : ℕ) → f x ≡ 0 → ((p : ℕ) → value_at_place f xs p ≡ 0) → value_at_place f (xs ++ x ∷ []) o ≡ 0
+values_stay_zero_after_zero_push f [] x zero e h = e
+values_stay_zero_after_zero_push f [] x (suc o) e h = refl
+values_stay_zero_after_zero_push f (y ∷ ys) x zero e h = h 0
+values_stay_zero_after_zero_push f (y ∷ ys) x (suc o) e h = values_stay_zero_after_zero_push f ys x o e (λ p. h (suc p))
 
 sum_with_zeros : (k : ℕ) → k ≡ k + (0 + 0)
 sum_with_zeros k = omega arith
@@ -77,10 +77,10 @@ reads_after_read_counted xs i w x new l e more o v = omega (
       (cond (eqb w v) 1 0) l e (more v),
 )
 
-pub writes_after_read_counted : (xs : List ObjectCounts) (i : ℕ) (x : ObjectCounts) (new : VersionCounts) → i < length xs → get_or xs i x ≡ x
+pub writes_are_unchanged_by_counted_read : (xs : List ObjectCounts) (i : ℕ) (x : ObjectCounts) (new : VersionCounts) → i < length xs → get_or xs i x ≡ x
     → (o v : ℕ) → value_at_place (λ z. count z.writes v) (slice_set xs i record { reads = new; writes = x.writes }) o ≡ value_at_place (λ z. count z.writes v) xs o
     + (0 + 0)
-writes_after_read_counted xs i x new l e o v = value_at_place_after_equal_set (λ z. count z.writes v) xs i o x record { reads = new; writes = x.writes } l e refl ∙ sum_with_zeros
+writes_are_unchanged_by_counted_read xs i x new l e o v = value_at_place_after_equal_set (λ z. count z.writes v) xs i o x record { reads = new; writes = x.writes } l e refl ∙ sum_with_zeros
     (value_at_place (λ z. count z.writes v) xs o)
 
 pub writes_after_write_counted : (xs : List ObjectCounts) (i w : ℕ) (x : ObjectCounts) (new : VersionCounts) → i < length xs → get_or xs i x ≡ x
@@ -93,10 +93,10 @@ writes_after_write_counted xs i w x new l e more o v = omega (
       (cond (eqb w v) 1 0) l e (more v),
 )
 
-pub reads_after_write_counted : (xs : List ObjectCounts) (i : ℕ) (x : ObjectCounts) (new : VersionCounts) → i < length xs → get_or xs i x ≡ x
+pub reads_are_unchanged_by_counted_write : (xs : List ObjectCounts) (i : ℕ) (x : ObjectCounts) (new : VersionCounts) → i < length xs → get_or xs i x ≡ x
     → (o v : ℕ) → value_at_place (λ z. count z.reads v) (slice_set xs i record { reads = x.reads; writes = new }) o ≡ value_at_place (λ z. count z.reads v) xs o +
     (0 + 0)
-reads_after_write_counted xs i x new l e o v = value_at_place_after_equal_set (λ z. count z.reads v) xs i o x record { reads = x.reads; writes = new } l e refl ∙ sum_with_zeros
+reads_are_unchanged_by_counted_write xs i x new l e o v = value_at_place_after_equal_set (λ z. count z.reads v) xs i o x record { reads = x.reads; writes = new } l e refl ∙ sum_with_zeros
     (value_at_place (λ z. count z.reads v) xs o)
 
 -- what is counted of an object may grow as all counts may

@@ -8,10 +8,10 @@ use Rattle.ir_coherence.specs.Counting.{writes_one, writes, writes_in}
 use Rattle.ir_runs.specs.Run.{At}
 
 -- one thing is at a place
-pub at_place_is_unique : {A : Type 0} (xs : List A) (i : ℕ) (x y : A) → At xs i x → At xs i y → x ≡ y
-at_place_is_unique [] i x y a b = absurd a
-at_place_is_unique (z ∷ zs) zero x y a b = sym a ∙ b
-at_place_is_unique (z ∷ zs) (suc i) x y a b = at_place_is_unique zs i x y a b
+pub element_at_index_is_unique : {A : Type 0} (xs : List A) (i : ℕ) (x y : A) → At xs i x → At xs i y → x ≡ y
+element_at_index_is_unique [] i x y a b = absurd a
+element_at_index_is_unique (z ∷ zs) zero x y a b = sym a ∙ b
+element_at_index_is_unique (z ∷ zs) (suc i) x y a b = element_at_index_is_unique zs i x y a b
 
 writes_one_of_write_entry : (o v k : ℕ) → writes_one o v (In o Writing v k) ≡ 1
 writes_one_of_write_entry o v k = ap (λ b. cond b (cond (eqb v v) 1 0) 0) (eq-eqb o o refl) ∙ ap (λ b. cond b 1 0) (eq-eqb v v refl)
@@ -69,11 +69,11 @@ other_write_if_writes_above_one o v k (m ∷ ks) (suc i) a h = elim (cases_lt 0 
   | inr none ↦ let r = other_write_if_writes_above_one o v k ks i a (omega arith) in (suc r.0, r.1, r.2, λ e. r.3 (omega arith))
 ]
 
-summand_positive_if_sum_positive : (n : ℕ) (f : ℕ → ℕ) → 0 < sum_below n f → (t : ℕ) × (t < n) × (0 < f t)
-summand_positive_if_sum_positive zero f h = absurd (omega arith)
-summand_positive_if_sum_positive (suc n) f h = elim (cases_lt 0 (f n)) [
+some_summand_positive_if_sum_positive : (n : ℕ) (f : ℕ → ℕ) → 0 < sum_below n f → (t : ℕ) × (t < n) × (0 < f t)
+some_summand_positive_if_sum_positive zero f h = absurd (omega arith)
+some_summand_positive_if_sum_positive (suc n) f h = elim (cases_lt 0 (f n)) [
   | inl here ↦ (n, omega arith, here)
-  | inr none ↦ let r = summand_positive_if_sum_positive n f (omega arith) in (r.0, omega (arith, r.1), r.2)
+  | inr none ↦ let r = some_summand_positive_if_sum_positive n f (omega arith) in (r.0, omega (arith, r.1), r.2)
 ]
 
 summand_at_most_sum_below : (n t : ℕ) (f : ℕ → ℕ) → t < n → f t ≤ sum_below n f
@@ -98,7 +98,7 @@ other_summand_if_sum_above_one zero t f l h = absurd (omega arith)
 other_summand_if_sum_above_one (suc n) t f l h = elim (cases_eq n t) [
   | inl e ↦ elim (cases_lt 1 (f t)) [
     | inl two ↦ inl two
-    | inr one ↦ let r = summand_positive_if_sum_positive n f (omega (arith, ap f e)) in inr (r.0, λ same. absurd (omega (arith, r.1)), r.2)
+    | inr one ↦ let r = some_summand_positive_if_sum_positive n f (omega (arith, ap f e)) in inr (r.0, λ same. absurd (omega (arith, r.1)), r.2)
   ]
   | inr ne ↦ elim (cases_lt 0 (f n)) [
     | inl here ↦ inr (n, λ same. ne (sym same), here)
@@ -118,7 +118,7 @@ thread_of_label_below_count n emitted of t i m at = elim (cases_lt t n) [
 
 pub trace_has_write_if_counted : (n : ℕ) (emitted : Trace) (o v : ℕ) → 0 < writes_in n emitted o v → (u j k : ℕ) × At (emitted.logs u) j (In o Writing v k)
 trace_has_write_if_counted n emitted o v h =
-    let s = summand_positive_if_sum_positive n (λ u. writes o v (emitted.logs u)) h in
+    let s = some_summand_positive_if_sum_positive n (λ u. writes o v (emitted.logs u)) h in
     let w = write_entry_if_writes_positive o v (emitted.logs s.0) s.2 in
     (s.0, w.0, w.1, w.2)
 

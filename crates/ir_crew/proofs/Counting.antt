@@ -3,7 +3,8 @@ use Rattle.std.proofs.Common.{◌≡◌, ◌≢◌, ℕ, zero, suc, ◌+◌, ◌
 use Rattle.std.proofs.lemmas.Bool.{cases_eq}
 use Rattle.ir_image.specs.Guest.{most_threads}
 use Rattle.ir_runs.specs.Machine.{Machine, Object}
-use Rattle.ir_object.specs.Order.{Shared, keep_if, of_thread, objects_then, IsLegal}
+use Rattle.ir_runs.specs.Run.{join_if}
+use Rattle.ir_object.specs.Order.{Shared, of_thread, objects_then, IsLegal}
 use Rattle.ir_crew.specs.Rule.{one_if_entry, entries}
 
 pub entries_with_step_added : (xs : List Shared) (x : Shared) → entries (xs ++ x ∷ []) ≡ entries xs + one_if_entry x.0
@@ -20,9 +21,9 @@ abbrev pub total : ℕ → (ℕ → ℕ) → ℕ
 total zero f = 0
 total (suc n) f = total n f + f n
 
-pub total_within_product : (n k : ℕ) (f : ℕ → ℕ) → ((t : ℕ) → f t ≤ k) → n ≤ most_threads → total n f ≤ n * k
-total_within_product zero k f h l = omega arith
-total_within_product (suc n) k f h l = let r = total_within_product n k f h (omega arith) in let e = h n in omega (arith, r, e)
+pub total_at_most_count_times_bound : (n k : ℕ) (f : ℕ → ℕ) → ((t : ℕ) → f t ≤ k) → n ≤ most_threads → total n f ≤ n * k
+total_at_most_count_times_bound zero k f h l = omega arith
+total_at_most_count_times_bound (suc n) k f h l = let r = total_at_most_count_times_bound n k f h (omega arith) in let e = h n in omega (arith, r, e)
 
 total_of_zeros : (n : ℕ) → total n (λ t. 0) ≡ 0
 total_of_zeros zero = refl
@@ -42,13 +43,13 @@ total_with_one_increased (suc n) u k f g lt here others = elim (cases_eq u n) [
 ]
 
 -- the entries are those of the threads
-pub entries_total_over_threads : {T : Type 0} (m : Machine T) (n count : ℕ) (f : ℕ → Object) (xs : List (ℕ × Shared)) → IsLegal m n count f xs
+pub total_entries_of_threads_is_all_entries : {T : Type 0} (m : Machine T) (n count : ℕ) (f : ℕ → Object) (xs : List (ℕ × Shared)) → IsLegal m n count f xs
     → total n (λ t. entries (of_thread t xs)) ≡ all_entries xs
-entries_total_over_threads m n count f [] l = total_of_zeros n
-entries_total_over_threads m n count f (x ∷ xs) l =
-    let r = entries_total_over_threads m n count (objects_then f x) xs l.1 in
+total_entries_of_threads_is_all_entries m n count f [] l = total_of_zeros n
+total_entries_of_threads_is_all_entries m n count f (x ∷ xs) l =
+    let r = total_entries_of_threads_is_all_entries m n count (objects_then f x) xs l.1 in
     let s = total_with_one_increased n x.0 (one_if_entry x.1.0) (λ t. entries (of_thread t (x ∷ xs))) (λ t. entries (of_thread t xs)) l.0.thread
-    (let e : entries (keep_if (eqb x.0 x.0) x.1 (of_thread x.0 xs)) ≡ one_if_entry x.1.0 + entries (of_thread x.0 xs) =
-    ap (λ b. entries (keep_if b x.1 (of_thread x.0 xs))) (eq-eqb x.0 x.0 refl) in omega (arith, e))
-    (λ t ne. ap (λ b. entries (keep_if b x.1 (of_thread t xs))) (ne_eqb t x.0 ne)) in
+    (let e : entries (join_if (eqb x.0 x.0) x.1 (of_thread x.0 xs)) ≡ one_if_entry x.1.0 + entries (of_thread x.0 xs) =
+    ap (λ b. entries (join_if b x.1 (of_thread x.0 xs))) (eq-eqb x.0 x.0 refl) in omega (arith, e))
+    (λ t ne. ap (λ b. entries (join_if b x.1 (of_thread t xs))) (ne_eqb t x.0 ne)) in
     omega (arith, r, s)

@@ -12,7 +12,7 @@ use Rattle.ir_image.specs.Guest.{limits_of, Guest, most_object_words, object_cou
 use Rattle.ir_image.specs.Bounds.{IsGuest}
 use Rattle.ir_image.specs.declared.form.ImageForm.{ImageForm}
 use Rattle.ir_image.specs.declared.form.ImageForm.TheVariants.{Small, Large}
-use Rattle.ir_image.proofs.CallerLemmas.{element_of_padded}
+use Rattle.ir_image.proofs.CallerLemmas.{get_or_zero_of_padded_is_unchanged}
 use Rattle.ir_object.specs.Cell.{Cell}
 use Rattle.ir_object.specs.Standing.{StandsFor}
 use Rattle.ir_runs.specs.Machine.{Object}
@@ -75,18 +75,18 @@ pub record IsLaying (g : Guest) (laid : List ℕ) (at : ℕ) : Type 0 where
       → get_or laid (content_place o i) 0 ≡ get_or g.words (object_words g * o + i) 0
   pub others : (o i : ℕ) → object_words g ≤ i → i < most_object_words → get_or laid (content_place o i) 0 ≡ 0
 
-pub laying_before_first_word : (g : Guest) (laid : List ℕ) (count : ℕ) → count ≡ object_count g → length laid ≡ table_length count
+pub laying_at_start : (g : Guest) (laid : List ℕ) (count : ℕ) → count ≡ object_count g → length laid ≡ table_length count
     → ((k : ℕ) → get_or laid k 0 ≡ 0) → IsLaying g laid 0
-laying_before_first_word g laid count is size none = record {
+laying_at_start g laid count is size none = record {
   size = omega (arith, is, size);
   free = λ o. none (word_place o);
   contents = λ o i small l. absurd (omega (arith, l));
   others = λ o i large small. none (content_place o i);
 }
 
-pub laying_with_word_added : (g : Guest) (laid more : List ℕ) (at word : ℕ) → IsGuest g → at < length g.words → IsLaying g laid at
+pub laying_step : (g : Guest) (laid more : List ℕ) (at word : ℕ) → IsGuest g → at < length g.words → IsLaying g laid at
     → word ≡ get_or g.words at 0 → more ≡ set laid (guest_word_place g.form at) word → IsLaying g more (at + 1)
-laying_with_word_added g laid more at word guest lt h is new = subst (λ z. IsLaying g z (at + 1)) (sym new) (record {
+laying_step g laid more at word guest lt h is new = subst (λ z. IsLaying g z (at + 1)) (sym new) (record {
   size = length-set laid place word ∙ h.size;
   free = λ o. get_or-set_other laid place (word_place o) word 0 (word_place_is_no_guest_word g.form o at) ∙ h.free o;
   contents = λ o i small l. elim (cases_eq (object_words g * o + i) at) [
@@ -112,9 +112,9 @@ full_laying_is_laid g laid guest h = record {
   free = λ o lt. h.free o;
   contents = λ o i lt small. elim (cases_lt i (object_words g)) [
     | inl l ↦ h.contents o i l (guest_word_number_below_count g.form (length g.words) o i guest.whole_objects lt l)
-        ∙ sym (element_of_padded (own o) i ∙ get_or-take (object_words g) (drop (object_words g * o) g.words) i 0 l
+        ∙ sym (get_or_zero_of_padded_is_unchanged (own o) i ∙ get_or-take (object_words g) (drop (object_words g * o) g.words) i 0 l
         ∙ get_or-drop (object_words g * o) g.words i 0)
-    | inr large ↦ h.others o i large small ∙ sym (element_of_padded (own o) i ∙ get_or_past (own o) i 0
+    | inr large ↦ h.others o i large small ∙ sym (get_or_zero_of_padded_is_unchanged (own o) i ∙ get_or_past (own o) i 0
         (let short = length-take (object_words g) (drop (object_words g * o) g.words) in omega (arith, short, large)))
   ];
 }
@@ -129,15 +129,15 @@ pub seats_with_last_added : (id : TableId) (t u : ℕ) (xs : List (Seat (Unit {0
 seats_with_last_added id t u [] x h e i m = ((i, m ∙ (λ j. (track ((let q : u ≡ t = omega (arith, e) in q) j) [] ∷ [], []))), tt)
 seats_with_last_added id t u (y ∷ ys) x h e i m = (h.0, seats_with_last_added id (suc t) u ys x h.1 (omega (arith, e)) i m)
 
-pub view_after_dealing_first : (l m n : ℕ) (me w : M) → me ≡ (tracks_from l (suc m), []) → w ≡ (all_but_first me.0, me.1) → n ≡ suc l
+pub view_after_dealing_first_has_later_tracks : (l m n : ℕ) (me w : M) → me ≡ (tracks_from l (suc m), []) → w ≡ (all_but_first me.0, me.1) → n ≡ suc l
     → w ≡ (tracks_from n m, [])
-view_after_dealing_first l m n me w is emitted long = emitted ∙ (λ i. (all_but_first (is i).0, (is i).1)) ∙ (λ i. (tracks_from (sym long i) m, []))
+view_after_dealing_first_has_later_tracks l m n me w is emitted long = emitted ∙ (λ i. (all_but_first (is i).0, (is i).1)) ∙ (λ i. (tracks_from (sym long i) m, []))
 
 pub dealt_view_is_first_thread : (l m : ℕ) (me w : M) → me ≡ (tracks_from l (suc m), []) → w ≡ (first_alone me.0, []) → w ≡ (track l [] ∷ [], [])
 dealt_view_is_first_thread l m me w is emitted = emitted ∙ (λ i. (first_alone (is i).0, []))
 
-pub tracks_by_successor : (l m k : ℕ) (me : M) → me ≡ (tracks_from l m, []) → m ≡ suc k → me ≡ (tracks_from l (suc k), [])
-tracks_by_successor l m k me is e = is ∙ (λ i. (tracks_from l (e i), []))
+pub tracks_from_of_equal_count : (l m k : ℕ) (me : M) → me ≡ (tracks_from l m, []) → m ≡ suc k → me ≡ (tracks_from l (suc k), [])
+tracks_from_of_equal_count l m k me is e = is ∙ (λ i. (tracks_from l (e i), []))
 
 -- ---- the end
 
@@ -179,20 +179,20 @@ final_content_is_32_bits g id v ws xs f o i word lt small e =
     ∙ get_or_of_found_word ws (content_place o i) word e) (small_words_by_legal_steps g k.steps k.guest k.legal o i)
 
 -- one word of an object's contents more
-pub contents_with_word_added : (ws old : List ℕ) (o i word : ℕ)
+pub copied_contents_step : (ws old : List ℕ) (o i word : ℕ)
     → ((k : ℕ) → k < i → get_elem? ws (content_place o k) ≡ some (get_or old k 0)) → i < length old
     → get_elem? ws (content_place o i) ≡ some word
     → (k : ℕ) → k < i + 1 → get_elem? ws (content_place o k) ≡ some (get_or (set old i word) k 0)
-contents_with_word_added ws old o i word h lt is k l = elim (cases_eq k i) [
+copied_contents_step ws old o i word h lt is k l = elim (cases_eq k i) [
   | inl e ↦ subst (λ z. get_elem? ws (content_place o z) ≡ some (get_or (set old i word) z 0)) (sym e)
       (is ∙ ap some (sym (get_or-set_same old i word 0 lt)))
   | inr ne ↦ h k (omega (arith, l, ne)) ∙ ap some (sym (get_or-set_other old i k word 0 ne))
 ]
 
 -- one object more
-pub objects_with_one_added : (ws : List ℕ) (old more : List Cell) (o : ℕ) (c : Cell) → ((k : ℕ) → k < o → IsObjectOf ws k (get_or old k empty))
+pub copied_objects_step : (ws : List ℕ) (old more : List Cell) (o : ℕ) (c : Cell) → ((k : ℕ) → k < o → IsObjectOf ws k (get_or old k empty))
     → o < length old → IsObjectOf ws o c → more ≡ set old o c → (k : ℕ) → k < o + 1 → IsObjectOf ws k (get_or more k empty)
-objects_with_one_added ws old more o c h lt is new k l = subst (λ z. IsObjectOf ws k (get_or z k empty)) (sym new) (elim (cases_eq k o) [
+copied_objects_step ws old more o c h lt is new k l = subst (λ z. IsObjectOf ws k (get_or z k empty)) (sym new) (elim (cases_eq k o) [
   | inl e ↦ subst (λ z. IsObjectOf ws z (get_or (set old o c) z empty)) (sym e)
       (subst (IsObjectOf ws o) (sym (get_or-set_same old o c empty lt)) is)
   | inr ne ↦ subst (IsObjectOf ws k) (sym (get_or-set_other old o k c empty ne)) (h k (omega (arith, l, ne)))

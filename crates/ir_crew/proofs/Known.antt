@@ -7,23 +7,24 @@ use lib.ListN.{get_elem?}
 use Rattle.atomic_table.specs.Table as table
 use Rattle.ir_image.specs.Guest.{Guest, most_threads, object_count, object_words}
 use Rattle.ir_image.specs.Bounds.{IsWord, IsGuest}
-use Rattle.ir_image.proofs.CallerLemmas.{guest_threads_at_most_limit, element_of_padded}
+use Rattle.ir_image.proofs.CallerLemmas.{guest_threads_at_most_limit, get_or_zero_of_padded_is_unchanged}
 use Rattle.ir_thread.specs.State.{most_events, thread_machine}
 use Rattle.ir_runs.specs.Machine.{Act, Silent, Result, Entry, Refusal, Exit, Load, Store, Never, Machine, Object, target, Admits, acted, emitted}
+use Rattle.ir_runs.specs.Run.{join_if}
 use Rattle.ir_runs.specs.declared.access.Access.{Access}
 use Rattle.ir_runs.specs.declared.access.Access.TheVariants.{Reading, Writing}
 use Rattle.ir_object.specs.Cell.{one_if_reading, readers, has_writer}
 use Rattle.ir_object.specs.Layout.{word_place}
-use Rattle.ir_object.specs.Order.{Shared, keep_if, of_thread, objects_then, objects_after, order_labels, Uses, IsStep, IsLegal, inside_after}
+use Rattle.ir_object.specs.Order.{Shared, of_thread, objects_then, objects_after, order_labels, Uses, IsStep, IsLegal, inside_after}
 use Rattle.ir_object.specs.Word.{fields_of, entered, left_by, bit_of}
 use Rattle.ir_object.specs.declared.fields.Fields.{Fields}
 use Rattle.ir_object.proofs.CallerLemmas.{objects_then_at_target, objects_then_at_other_object, writer_alone_after_act, WriterIsAlone, inside_of_thread_after_order, counts_after_entry, counts_after_leave, inside_thread_can_leave, writer_admitted_if_nobody_inside}
-use Rattle.ir_runs.proofs.CallerLemmas.{upd_at_own_place, upd_at_other_place, upd_by_cases}
+use Rattle.ir_runs.proofs.CallerLemmas.{upd_at_own_place, upd_at_other_place, property_of_upd_by_cases}
 use Rattle.ir_crew.specs.Plays.{inside_by, version_if, version_then, entered_at}
 use Rattle.ir_crew.specs.Rule.{View, one_if_entry, entries, label_of, start_objects, Represents, Kept}
 use Rattle.ir_crew.specs.declared.deed.ObjectStep.{ObjectStep}
 use Rattle.ir_crew.specs.declared.deed.Track.{Track}
-use Rattle.ir_crew.proofs.Counting.{all_entries, total_within_product, entries_total_over_threads}
+use Rattle.ir_crew.proofs.Counting.{all_entries, total_at_most_count_times_bound, total_entries_of_threads_is_all_entries}
 
 -- ---- how large the numbers get
 
@@ -107,18 +108,18 @@ represents_within_after_act m n k t (Exit o Writing) f b lt use_is can alone l =
       },
     )
 
-pub alone_inside_after_step : {T : Type 0} (m : Machine T) (n count : ℕ) (f : ℕ → Object) (x : ℕ × Shared) → IsStep m n count f x
+pub writer_alone_in_all_objects_after_step : {T : Type 0} (m : Machine T) (n count : ℕ) (f : ℕ → Object) (x : ℕ × Shared) → IsStep m n count f x
     → ((p : ℕ) → WriterIsAlone (f p).inside) → (p : ℕ) → WriterIsAlone (objects_then f x p).inside
-alone_inside_after_step m n count f x s h p = elim (cases_eq p (target x.1.0)) [
+writer_alone_in_all_objects_after_step m n count f x s h p = elim (cases_eq p (target x.1.0)) [
   | inl e ↦ subst (λ z. WriterIsAlone (objects_then f x z).inside) (sym e)
       (subst (λ b. WriterIsAlone b.inside) (sym (objects_then_at_target f x)) (writer_alone_after_act m x.1.0 x.0 (f (target x.1.0)) s.admits (h (target x.1.0))))
   | inr ne ↦ subst (λ b. WriterIsAlone b.inside) (sym (objects_then_at_other_object f x p ne)) (h p)
 ]
 
-pub alone_inside_after_steps : {T : Type 0} (m : Machine T) (n count : ℕ) (f : ℕ → Object) (xs : List (ℕ × Shared)) → IsLegal m n count f xs
+pub writer_alone_in_all_objects_after_steps : {T : Type 0} (m : Machine T) (n count : ℕ) (f : ℕ → Object) (xs : List (ℕ × Shared)) → IsLegal m n count f xs
     → ((p : ℕ) → WriterIsAlone (f p).inside) → (p : ℕ) → WriterIsAlone (objects_after f xs p).inside
-alone_inside_after_steps m n count f [] l h = h
-alone_inside_after_steps m n count f (x ∷ xs) l h = alone_inside_after_steps m n count (objects_then f x) xs l.1 (alone_inside_after_step m n count f x l.0 h)
+writer_alone_in_all_objects_after_steps m n count f [] l h = h
+writer_alone_in_all_objects_after_steps m n count f (x ∷ xs) l h = writer_alone_in_all_objects_after_steps m n count (objects_then f x) xs l.1 (writer_alone_in_all_objects_after_step m n count f x l.0 h)
 
 represents_within_after_steps : {T : Type 0} (m : Machine T) (n count k : ℕ) (f : ℕ → Object) (xs : List (ℕ × Shared)) (o : ℕ) (g : Fields)
     → IsLegal m n count f xs → ((p : ℕ) → WriterIsAlone (f p).inside) → RepresentsWithin n k g (f o) → (h : Fields)
@@ -139,7 +140,7 @@ represents_within_after_steps m n count k f (x ∷ xs) o g l a is =
             (record { represents = is.represents; light = let w = is.light in omega (arith, w) }),
       )
     ] in
-    let r = represents_within_after_steps m n count (k + one_if_entry x.1.0) (objects_then f x) xs o next.0 l.1 (alone_inside_after_step m n count f x l.0 a) next.1 in
+    let r = represents_within_after_steps m n count (k + one_if_entry x.1.0) (objects_then f x) xs o next.0 l.1 (writer_alone_in_all_objects_after_step m n count f x l.0 a) next.1 in
     (r.0, record { represents = r.1.represents; light = let w = r.1.light in omega (arith, w) })
 
 -- ---- contents are words
@@ -155,7 +156,7 @@ small_words_after_act (Refusal o) t b u h = h
 small_words_after_act (Exit o Reading) t b u h = h
 small_words_after_act (Exit o Writing) t b u h = h
 small_words_after_act (Load o i) t b u h = h
-small_words_after_act (Store o i w) t b u h = λ j. upd_by_cases b.words i w j (λ z. z < 2 ^ 32) (λ _. u.1) (λ _. h j)
+small_words_after_act (Store o i w) t b u h = λ j. property_of_upd_by_cases b.words i w j (λ z. z < 2 ^ 32) (λ _. u.1) (λ _. h j)
 small_words_after_act Never t b u h = h
 
 small_words_after_steps : {T : Type 0} (m : Machine T) (n count : ℕ) (f : ℕ → Object) (xs : List (ℕ × Shared)) → IsLegal m n count f xs
@@ -221,9 +222,9 @@ version_while_writing_after_steps m n count f (x ∷ xs) t o v l a h =
     let b : Object = f (target q) in
     let more = of_thread t (order_labels (objects_then f x) xs) in
     let goes = λ (w : ℕ) (s : VersionWhileWriting t (objects_then f x o) w). version_while_writing_after_steps m n count (objects_then f x) xs t o w l.1
-    (alone_inside_after_step m n count f x l.0 a) s in
+    (writer_alone_in_all_objects_after_step m n count f x l.0 a) s in
     elim (cases_eq t x.0) [
-      | inl own ↦ subst (λ c. VersionWhileWriting t (objects_after (objects_then f x) xs o) (entered_at o v (keep_if c (emitted q b) more)))
+      | inl own ↦ subst (λ c. VersionWhileWriting t (objects_after (objects_then f x) xs o) (entered_at o v (join_if c (emitted q b) more)))
           (sym (eq-eqb t x.0 own))
           (goes (version_then o (emitted q b) v) (elim (cases_eq o (target q)) [
             | inl e ↦ subst (λ p. VersionWhileWriting t (objects_then f x p) (version_then p (emitted q b) v)) (sym e)
@@ -233,7 +234,7 @@ version_while_writing_after_steps m n count f (x ∷ xs) t o v l a h =
             | inr ne ↦ subst (λ z. VersionWhileWriting t z (version_then o (emitted q b) v)) (sym (objects_then_at_other_object f x o ne))
                 (subst (VersionWhileWriting t (f o)) (sym (version_unchanged_by_other_object q b o v ne)) h)
           ]))
-      | inr other ↦ subst (λ c. VersionWhileWriting t (objects_after (objects_then f x) xs o) (entered_at o v (keep_if c (emitted q b) more)))
+      | inr other ↦ subst (λ c. VersionWhileWriting t (objects_after (objects_then f x) xs o) (entered_at o v (join_if c (emitted q b) more)))
           (sym (ne_eqb t x.0 other))
           (goes v (elim (cases_eq o (target q)) [
             | inl e ↦ subst (λ p. VersionWhileWriting t (objects_then f x p) v) (sym e)
@@ -273,13 +274,13 @@ weight_is_determined_by_object n f g b s t =
     let w : bit_of f.writer ≡ bit_of g.writer = ap bit_of (s.inside.writer ∙ sym t.inside.writer) in
     omega (arith, v, l, r, w)
 
-readers_of_nobody : (n : ℕ) → readers n (λ t. None) ≡ 0
-readers_of_nobody zero = refl
-readers_of_nobody (suc n) = let r = readers_of_nobody n in omega (arith, r)
+readers_of_nobody_is_zero : (n : ℕ) → readers n (λ t. None) ≡ 0
+readers_of_nobody_is_zero zero = refl
+readers_of_nobody_is_zero (suc n) = let r = readers_of_nobody_is_zero n in omega (arith, r)
 
-no_writer_of_nobody : (n : ℕ) → has_writer n (λ t. None) ≡ false
-no_writer_of_nobody zero = refl
-no_writer_of_nobody (suc n) = ap (λ b. Rattle.std.specs.Prelude.◌||◌ b false) (no_writer_of_nobody n)
+has_writer_of_nobody_is_false : (n : ℕ) → has_writer n (λ t. None) ≡ false
+has_writer_of_nobody_is_false zero = refl
+has_writer_of_nobody_is_false (suc n) = ap (λ b. Rattle.std.specs.Prelude.◌||◌ b false) (has_writer_of_nobody_is_false n)
 
 abbrev pub all_zero_fields : Fields
 all_zero_fields = record { version = 0; left = 0; inside = 0; writer = false }
@@ -289,7 +290,7 @@ zero_fields_represent_fresh_object n words = record {
   version = refl;
   left = refl;
   inside =
-      record { readers = sym (readers_of_nobody n); writer = sym (no_writer_of_nobody n); others = λ t l. refl };
+      record { readers = sym (readers_of_nobody_is_zero n); writer = sym (has_writer_of_nobody_is_false n); others = λ t l. refl };
 }
 
 listed_word_is_32_bits : (xs : List ℕ) (i : ℕ) → AllByRecursion IsWord xs → get_or xs i 0 < 2 ^ 32
@@ -315,11 +316,11 @@ pub small_words_by_legal_steps : (g : Guest) (steps : List (ℕ × Shared)) → 
     → IsLegal (thread_machine g.code) (length g.entries) (object_count g) (start_objects g) steps → (o : ℕ) → HasSmallWords (objects_by_steps g steps o)
 small_words_by_legal_steps g steps guest legal = small_words_after_steps (thread_machine g.code) (length g.entries) (object_count g) (start_objects g) steps legal
     (λ p i. let words : List ℕ = take (object_words g) (drop (object_words g * p) g.words) in
-    subst (λ z. z < 2 ^ 32) (sym (element_of_padded words i)) (listed_word_is_32_bits words i
+    subst (λ z. z < 2 ^ 32) (sym (get_or_zero_of_padded_is_unchanged words i)) (listed_word_is_32_bits words i
     (words_of_take_are_words (object_words g) (drop (object_words g * p) g.words) (words_of_drop_are_words (object_words g * p) g.words guest.words_fit))))
 
-alone_inside_at_start : (g : Guest) (p : ℕ) → WriterIsAlone (start_objects g p).inside
-alone_inside_at_start g p t u ne is = refl
+writer_alone_in_all_objects_at_start : (g : Guest) (p : ℕ) → WriterIsAlone (start_objects g p).inside
+writer_alone_in_all_objects_at_start g p t u ne is = refl
 
 pub seat_object_is_known : (g : Guest) (x : table.State (Unit {0}) View) (k : Kept g x) (id o : ℕ) (q : Track) → get_elem? x.views id ≡ some (q ∷ [])
     → o < object_count g
@@ -328,14 +329,14 @@ seat_object_is_known g x k id o q at lt =
     let m = thread_machine g.code in
     let n : ℕ = length g.entries in
     let own = (k.fits id (q ∷ []) at).0.0 in
-    let l = represents_within_after_steps m n (object_count g) 0 (start_objects g) k.steps o all_zero_fields k.legal (alone_inside_at_start g)
+    let l = represents_within_after_steps m n (object_count g) 0 (start_objects g) k.steps o all_zero_fields k.legal (writer_alone_in_all_objects_at_start g)
     (record { represents = zero_fields_represent_fresh_object n (start_objects g o).words; light = omega arith }) in
     let represents : Represents n (fields_of (get_or x.words (word_place o) 0)) (objects_by_steps g k.steps o) = k.table.words o lt in
     let same = weight_is_determined_by_object n (fields_of (get_or x.words (word_place o) 0)) l.0 (objects_by_steps g k.steps o) represents l.1.represents in
     let light = l.1.light in
-    let sum = entries_total_over_threads m n (object_count g) (start_objects g) k.steps k.legal in
+    let sum = total_entries_of_threads_is_all_entries m n (object_count g) (start_objects g) k.steps k.legal in
     let few = guest_threads_at_most_limit g k.guest in
-    let most = total_within_product n most_events (λ t. entries (of_thread t k.steps)) k.few few in
+    let most = total_at_most_count_times_bound n most_events (λ t. entries (of_thread t k.steps)) k.few few in
     let in_all = readers_at_most_threads n (objects_by_steps g k.steps o).inside in
     let counted = represents.inside.readers in
     record {
@@ -343,9 +344,9 @@ seat_object_is_known g x k id o q at lt =
       light = omega (arith, same, light, sum, most, few);
       narrow = omega (arith, in_all, counted, few);
       inside = inside_of_thread_after_order (start_objects g) k.steps q.thread o ∙ ap (inside_after o None) own.steps_are;
-      alone = alone_inside_after_steps m n (object_count g) (start_objects g) k.steps k.legal (alone_inside_at_start g) o;
+      alone = writer_alone_in_all_objects_after_steps m n (object_count g) (start_objects g) k.steps k.legal (writer_alone_in_all_objects_at_start g) o;
       small = small_words_by_legal_steps g k.steps k.guest k.legal o;
       version = subst (λ ks. VersionWhileWriting q.thread (objects_by_steps g k.steps o) (entered_at o 0 ks)) own.labels_are
-          (version_while_writing_after_steps m n (object_count g) (start_objects g) k.steps q.thread o 0 k.legal (alone_inside_at_start g) (λ is. absurd (cc is)));
+          (version_while_writing_after_steps m n (object_count g) (start_objects g) k.steps q.thread o 0 k.legal (writer_alone_in_all_objects_at_start g) (λ is. absurd (cc is)));
       thread = own.thread;
     }

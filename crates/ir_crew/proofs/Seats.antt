@@ -133,9 +133,9 @@ start_tracks_fit n f u (suc m) le = (
       (omega (arith, le)),
 )
 
-pub opening_keeps_rule : (g : Guest) (ws : List ℕ) → IsGuest g → IsTable (length g.entries) (object_count g) (start_objects g) ws
+pub kept_at_opening : (g : Guest) (ws : List ℕ) → IsGuest g → IsTable (length g.entries) (object_count g) (start_objects g) ws
     → Kept g (opening ws [] (tracks_from 0 (length g.entries)))
-opening_keeps_rule g ws guest table = record {
+kept_at_opening g ws guest table = record {
   guest = guest;
   steps = [];
   seat = λ _. 0;

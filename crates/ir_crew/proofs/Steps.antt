@@ -117,9 +117,9 @@ kept_with_step_added g x k id t o h d at lt may room ws hs table =
     }
 
 -- the word and the view are stored again
-pub kept_if_stored_again : (g : Guest) (x : table.State (Unit {0}) View) (k : Kept g x) (id i : ℕ) (v : View) (hs : List _) → get_elem? x.views id ≡ some v
+pub kept_if_same_word_and_view_stored : (g : Guest) (x : table.State (Unit {0}) View) (k : Kept g x) (id i : ℕ) (v : View) (hs : List _) → get_elem? x.views id ≡ some v
     → Kept g (record { words = set x.words i (get_or x.words i 0); homes = hs; views = set x.views id v })
-kept_if_stored_again g x k id i v hs at = subst (λ (z : List ℕ × List View). Kept g (record { words = z.0; homes = hs; views = z.1 }))
+kept_if_same_word_and_view_stored g x k id i v hs at = subst (λ (z : List ℕ × List View). Kept g (record { words = z.0; homes = hs; views = z.1 }))
     (λ j. (sym (set-get_or x.words i 0) j, sym (set_again x.views id v at) j))
     (record { guest = k.guest; steps = k.steps; seat = k.seat; legal = k.legal; few = k.few; fits = k.fits; table = k.table })
 
@@ -186,8 +186,8 @@ object_of_content_place o i lt = omega (arith, lt)
 pub index_of_content_place : (o i : ℕ) → i < most_object_words → index_of (content_place o i) ≡ i
 index_of_content_place o i lt = omega (arith, lt)
 
-left_below_limit_if_light : (w : ℕ) → weight (fields_of w) ≤ most_threads * most_events → (fields_of w).left + 1 < left_limit
-left_below_limit_if_light w l = let z : (fields_of w).left ≤ weight (fields_of w) = omega arith in omega (arith, z, l)
+left_below_limit_if_weight_is_bounded : (w : ℕ) → weight (fields_of w) ≤ most_threads * most_events → (fields_of w).left + 1 < left_limit
+left_below_limit_if_weight_is_bounded w l = let z : (fields_of w).left ≤ weight (fields_of w) = omega arith in omega (arith, z, l)
 
 version_within_weight_limit : (w : ℕ) → weight (fields_of w) ≤ most_threads * most_events → (fields_of w).version ≤ most_threads * most_events
 version_within_weight_limit w l = let v : (fields_of w).version ≤ weight (fields_of w) = omega arith in omega (arith, v, l)
@@ -206,7 +206,7 @@ look_is_allowed g slots id o (q ∷ [], c) alone lt x k homes at small = (
   q ∷ [],
   keeps,
   tt,
-  kept_if_stored_again g x k id (word_place o) (q ∷ []) x.homes at,
+  kept_if_same_word_and_view_stored g x k id (word_place o) (q ∷ []) x.homes at,
   (
     refl,
     subst (λ z. IsSight q.steps z (get_or x.words (word_place o) 0)) (sym (object_of_word_place o))
@@ -252,7 +252,7 @@ compare_exchange_is_allowed g slots id o old new d (q ∷ [], c) alone lt room s
         keeps,
         tt,
         subst (λ (z : Bool). Kept g (stepped x (word_place o) (either z new w) id c (q ∷ []) keeps)) (sym (ne_eqb w old miss))
-            (kept_if_stored_again g x k id (word_place o) (q ∷ []) x.homes at),
+            (kept_if_same_word_and_view_stored g x k id (word_place o) (q ∷ []) x.homes at),
         ((λ hit. absurd (miss hit)), (λ _. refl), bound),
       )
     ]
@@ -368,7 +368,7 @@ read_leave_is_allowed g slots id o me alone lt inside = word_change_is_allowed g
     let some_in : 0 < (fields_of w).inside = inside_thread_can_leave n (fields_of w) b.inside t Reading a.thread is a.represents.inside in record {
       may = record { uses = is; admits = tt; answers = refl; represents = refl };
       represents = subst (λ f. Represents n f (acted (Exit o Reading) t b))
-          (sym (fields_after_reader_leave w some_in (left_below_limit_if_light w a.light) (let v = version_within_weight_limit w a.light in omega (arith, v)))) (record {
+          (sym (fields_after_reader_leave w some_in (left_below_limit_if_weight_is_bounded w a.light) (let v = version_within_weight_limit w a.light in omega (arith, v)))) (record {
             version = a.represents.version;
             left = let e = a.represents.left in omega (arith, e);
             inside = counts_after_leave n (fields_of w) b.inside t Reading a.thread is (λ e. absurd (cc e)) a.represents.inside;
@@ -461,9 +461,9 @@ put_is_allowed g slots id o i v (q ∷ [], c) alone lt small fit inside x k home
 
 -- ---- what a call passes on of what its steps emitted
 
-pub tried_step_was_taken : (d : ℕ → Deed) (slots o old new n : ℕ) (me first w : M) → tried d (step slots (word_place o) old new none) me n w → n ≡ old
+pub tried_deed_is_done_if_word_is_expected : (d : ℕ → Deed) (slots o old new n : ℕ) (me first w : M) → tried d (step slots (word_place o) old new none) me n w → n ≡ old
     → me ≡ first → w ≡ (did first.0 o (d old), first.1)
-tried_step_was_taken d slots o old new n me first w emitted hit is = emitted.0 hit ∙ (λ i. (did (is i).0 (object_of_word_place o i) (d (hit i)), (is i).1))
+tried_deed_is_done_if_word_is_expected d slots o old new n me first w emitted hit is = emitted.0 hit ∙ (λ i. (did (is i).0 (object_of_word_place o i) (d (hit i)), (is i).1))
 
 pub alone_if_same_seat : (me first : M) → me ≡ first → IsAlone first.0 → IsAlone me.0
 alone_if_same_seat me first is a = subst (λ (m : M). IsAlone m.0) (sym is) a

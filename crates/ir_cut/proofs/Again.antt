@@ -28,17 +28,17 @@ version_of_label (Refused o) = 0
 version_of_label (Out o a v) = 0
 
 -- what is kept of one run is kept of each
-unfoldable pub has_run_from_any_run : (f : FittedTrace) → HasRun f → (run : List Step) → IsRunOf f.guest f.recorded run → HasRun f
-has_run_from_any_run f h run is = record {
+unfoldable pub has_run_with_given_run_if_has_some_run : (f : FittedTrace) → HasRun f → (run : List Step) → IsRunOf f.guest f.recorded run → HasRun f
+has_run_with_given_run_if_has_some_run f h run is = record {
   run = run;
   whole = is;
 }
 
 -- a step is of a thread that there is
-pub emitting_thread_exists : (f : FittedTrace) → HasRun f → (run : List Step) → IsRunOf f.guest f.recorded run → (t i : ℕ) (k : Label)
+pub emitting_thread_index_is_below_thread_count : (f : FittedTrace) → HasRun f → (run : List Step) → IsRunOf f.guest f.recorded run → (t i : ℕ) (k : Label)
     → Emits (machine_of f) (start_of f) run t i k → t < length f.guest.entries
-unfolding has_run_from_any_run
-emitting_thread_exists f h run is t i k emitted = emitting_thread_is_guest_thread f (has_run_from_any_run f h run is) t i k emitted
+unfolding has_run_with_given_run_if_has_some_run
+emitting_thread_index_is_below_thread_count f h run is t i k emitted = emitting_thread_is_guest_thread f (has_run_with_given_run_if_has_some_run f h run is) t i k emitted
 
 -- and one of those that it takes
 pub emitting_step_below_count : (f : FittedTrace) (run : List Step) (t i : ℕ) (k : Label) → Emits (machine_of f) (start_of f) run t i k
@@ -47,26 +47,26 @@ emitting_step_below_count f run t i k emitted = (get_or_is_item_if_at_index (tra
 
 -- ---- what is reported by an entry is in the trace
 
-event_version_is_word : (profile : Profile) (objects : ℕ) (x : Event) (o : ℕ) (a : Access) (v l : ℕ) → IsEvent profile objects x → label_of x ≡ In o a v l → v < 2 ^ 32
-event_version_is_word profile objects (Result kind value) o a v l h e = absurd (cc e)
-event_version_is_word profile objects (Try p) o a v l h e = absurd (cc e)
-event_version_is_word profile objects (Read p w) o a v l h e = subst (λ z. z < 2 ^ 32) (ap version_of_label e) h.1
-event_version_is_word profile objects (Write p w n) o a v l h e = subst (λ z. z < 2 ^ 32) (ap version_of_label e) h.1
+entry_event_version_is_word : (profile : Profile) (objects : ℕ) (x : Event) (o : ℕ) (a : Access) (v l : ℕ) → IsEvent profile objects x → label_of x ≡ In o a v l → v < 2 ^ 32
+entry_event_version_is_word profile objects (Result kind value) o a v l h e = absurd (cc e)
+entry_event_version_is_word profile objects (Try p) o a v l h e = absurd (cc e)
+entry_event_version_is_word profile objects (Read p w) o a v l h e = subst (λ z. z < 2 ^ 32) (ap version_of_label e) h.1
+entry_event_version_is_word profile objects (Write p w n) o a v l h e = subst (λ z. z < 2 ^ 32) (ap version_of_label e) h.1
 
-listed_event_version_is_word : (profile : Profile) (objects : ℕ) (es : List Event) → AllByRecursion (IsEvent profile objects) es → (e : ℕ) (x : Event) (o : ℕ) (a : Access) (v l : ℕ)
+listed_entry_event_version_is_word : (profile : Profile) (objects : ℕ) (es : List Event) → AllByRecursion (IsEvent profile objects) es → (e : ℕ) (x : Event) (o : ℕ) (a : Access) (v l : ℕ)
     → At es e x → label_of x ≡ In o a v l → v < 2 ^ 32
-listed_event_version_is_word profile objects [] all e x o a v l h is = absurd h
-listed_event_version_is_word profile objects (y ∷ es) all zero x o a v l h is = event_version_is_word profile objects y o a v l all.0 (ap label_of h ∙ is)
-listed_event_version_is_word profile objects (y ∷ es) all (suc e) x o a v l h is = listed_event_version_is_word profile objects es all.1 e x o a v l h is
+listed_entry_event_version_is_word profile objects [] all e x o a v l h is = absurd h
+listed_entry_event_version_is_word profile objects (y ∷ es) all zero x o a v l h is = entry_event_version_is_word profile objects y o a v l all.0 (ap label_of h ∙ is)
+listed_entry_event_version_is_word profile objects (y ∷ es) all (suc e) x o a v l h is = listed_entry_event_version_is_word profile objects es all.1 e x o a v l h is
 
 -- a version that is entered is a word
 pub entered_version_is_word : (f : FittedTrace) → HasRun f → IsRecorded f.recorded → (run : List Step) → IsRunOf f.guest f.recorded run
     → (t i o : ℕ) (a : Access) (v l : ℕ) → Emits (machine_of f) (start_of f) run t i (In o a v l) → v < 2 ^ 32
-unfolding has_run_from_any_run
+unfolding has_run_with_given_run_if_has_some_run
 entered_version_is_word f h recorded run is t i o a v l emitted =
-    let there : t < length f.guest.entries = emitting_thread_exists f h run is t i (In o a v l) emitted in
+    let there : t < length f.guest.entries = emitting_thread_index_is_below_thread_count f h run is t i (In o a v l) emitted in
     let es : List Event = (recorded_thread f.recorded t).events in
-    let e = entry_step_is_of_event f (has_run_from_any_run f h run is) t i o a v l emitted in
+    let e = entry_step_is_of_event f (has_run_with_given_run_if_has_some_run f h run is) t i o a v l emitted in
     let d : Event = Read 0 0 in
-    listed_event_version_is_word f.recorded.profile f.recorded.objects es (recorded_thread_at_number_is_recorded f.recorded recorded t (let same = is.0.threads in omega (arith, same, there))).events_fit
+    listed_entry_event_version_is_word f.recorded.profile f.recorded.objects es (recorded_thread_at_number_is_recorded f.recorded recorded t (let same = is.0.threads in omega (arith, same, there))).events_fit
     e.0 (slice_index_or es e.0 d) o a v l (get_or_is_at_index_if_below_length es e.0 d e.1) (e.3 d)

@@ -14,9 +14,9 @@ use Rattle.ir_fit.specs.Placed.{placed_at, placed_of}
 use Rattle.ir_fit.specs.Within.{IsFitted}
 use Rattle.ir_cut.specs.Positions.{machine_of, start_of, cut_of, EachRun, IsConsistentCut}
 use Rattle.ir_cut.specs.Searching.{AreInside, NeededBy, IsClosed}
-use Rattle.ir_cut.proofs.Again.{emitting_thread_exists}
+use Rattle.ir_cut.proofs.Again.{emitting_thread_index_is_below_thread_count}
 use Rattle.ir_cut.proofs.Listing.{run_of_trace_is_listed}
-use Rattle.ir_cut.proofs.Searched.{needing_label_is_entry, elements_at_equal_places_equal}
+use Rattle.ir_cut.proofs.Searched.{needing_label_is_entry, slice_get_at_equal_indexes_is_equal}
 
 -- what the first n events of thread t need is inside
 abbrev pub AreNeedsOfFirstInside : FittedTrace → List ℕ → ℕ → ℕ → Type 0
@@ -24,30 +24,30 @@ AreNeedsOfFirstInside f qs t n = (e : ℕ) (x : Event) → e < n → slice_get (
     → EachRun f (λ run. AreInside f run (NeededBy (label_of x)) (cut_of qs))
 
 -- it is closed, where all events in the cut are among them
-closed_if_events_in_cut_are_among_first : (f : FittedTrace) → IsFitted f → (qs : List ℕ) (t n : ℕ) → AreNeedsOfFirstInside f qs t n
+closed_if_needs_of_events_in_cut_inside : (f : FittedTrace) → IsFitted f → (qs : List ℕ) (t n : ℕ) → AreNeedsOfFirstInside f qs t n
     → ((e i : ℕ) → slice_get (placed_at (placed_of f) t).entries e ≡ Some i → i < cut_of qs t → e < n)
     → EachRun f (λ run. IsClosed f run (cut_of qs) t)
-closed_if_events_in_cut_are_among_first f fit qs t n met first run is i k emits inside w j b at need =
+closed_if_needs_of_events_in_cut_inside f fit qs t n met first run is i k emits inside w j b at need =
     let x = needing_label_is_entry b k need in
     let e = (run_of_trace_is_listed f fit.run run is).entry t i x.object x.access x.version x.left
     (subst (Emits (machine_of f) (start_of f) run t i) x.is emits) in
     met e.0 e.1 (first e.0 i e.2 inside) e.3 run is w j b at (subst (IsNeededBy b) (x.is ∙ sym e.4) need)
 
 -- at the end of the log
-pub closed_at_end_of_log : (f : FittedTrace) → IsFitted f → (qs ks : List ℕ) (t n : ℕ) → ks ≡ (placed_at (placed_of f) t).entries → length ks ≤ n
+pub closed_if_needs_of_whole_log_inside : (f : FittedTrace) → IsFitted f → (qs ks : List ℕ) (t n : ℕ) → ks ≡ (placed_at (placed_of f) t).entries → length ks ≤ n
     → AreNeedsOfFirstInside f qs t n → IsTrue true ↔ EachRun f (λ run. IsClosed f run (cut_of qs) t)
-closed_at_end_of_log f fit qs ks t n list over met = (
-  (λ _. closed_if_events_in_cut_are_among_first f fit qs t n met (λ e i at _. let l = slice_get_within (placed_at (placed_of f) t).entries e i at in
+closed_if_needs_of_whole_log_inside f fit qs ks t n list over met = (
+  (λ _. closed_if_needs_of_events_in_cut_inside f fit qs t n met (λ e i at _. let l = slice_get_within (placed_at (placed_of f) t).entries e i at in
       let same : length ks ≡ length (placed_at (placed_of f) t).entries = ap length list in omega (arith, l, same, over))),
   (λ _. refl),
 )
 
 -- where the next event isn't in the cut
-pub closed_if_next_event_outside : (f : FittedTrace) → IsFitted f → (qs ks : List ℕ) (t n k : ℕ) → t < length f.guest.entries
+pub closed_if_needs_inside_and_next_event_outside : (f : FittedTrace) → IsFitted f → (qs ks : List ℕ) (t n k : ℕ) → t < length f.guest.entries
     → ks ≡ (placed_at (placed_of f) t).entries → n < length ks → k ≡ slice_index_or ks n 0 → cut_of qs t ≤ k → AreNeedsOfFirstInside f qs t n
     → IsTrue true ↔ EachRun f (λ run. IsClosed f run (cut_of qs) t)
-closed_if_next_event_outside f fit qs ks t n k there list l read past met = (
-  (λ _. closed_if_events_in_cut_are_among_first f fit qs t n met (λ e i at inside. elim (cases_lt e n) [
+closed_if_needs_inside_and_next_event_outside f fit qs ks t n k there list l read past met = (
+  (λ _. closed_if_needs_of_events_in_cut_inside f fit qs t n met (λ e i at inside. elim (cases_lt e n) [
     | inl less ↦ less
     | inr behind ↦
         let here : slice_get (placed_at (placed_of f) t).entries n ≡ Some k = ap (λ z. slice_get z n) (sym list) ∙ slice_get-get_or ks n 0 l
@@ -55,7 +55,7 @@ closed_if_next_event_outside f fit qs ks t n k there list l read past met = (
         elim (cases_lt n e) [
           | inl before ↦ let up = (run_of_trace_is_listed f fit.run fit.run.run fit.run.whole).rise t n e k i there before here at in
               absurd (omega (arith, up, inside, past))
-          | inr same ↦ let one : k ≡ i = elements_at_equal_places_equal (placed_at (placed_of f) t).entries n e k i
+          | inr same ↦ let one : k ≡ i = slice_get_at_equal_indexes_is_equal (placed_at (placed_of f) t).entries n e k i
               (let d : n ≡ e = omega (arith, behind, same) in d) here at in absurd (omega (arith, one, inside, past))
         ]
   ])),
@@ -64,9 +64,9 @@ closed_if_next_event_outside f fit qs ks t n k there list l read past met = (
 
 -- where what it needs isn't inside
 -- the log has an event for each position
-pub event_within_log_if_position : (f : FittedTrace) (ks : List ℕ) (es : List Event) (t n : ℕ) → ks ≡ (placed_at (placed_of f) t).entries
+pub index_is_below_events_length_if_below_entries_length : (f : FittedTrace) (ks : List ℕ) (es : List Event) (t n : ℕ) → ks ≡ (placed_at (placed_of f) t).entries
     → length es ≡ length (placed_at (placed_of f) t).entries → n < length ks → n < length es
-event_within_log_if_position f ks es t n list size l = let same : length ks ≡ length (placed_at (placed_of f) t).entries = ap length list in
+index_is_below_events_length_if_below_entries_length f ks es t n list size l = let same : length ks ≡ length (placed_at (placed_of f) t).entries = ap length list in
     omega (arith, l, same, size)
 
 pub not_closed_if_need_outside : (f : FittedTrace) → IsFitted f → (qs ks : List ℕ) (es : List Event) (t n k : ℕ) (x : Event) (b : Bool)
@@ -92,7 +92,7 @@ pub needs_of_first_inside_step : (f : FittedTrace) (qs : List ℕ) (es : List Ev
 needs_of_first_inside_step f qs es t n x b log event test is met e y l at = elim (cases_lt e n) [
   | inl less ↦ met e y less at
   | inr past ↦ subst (λ z. EachRun f (λ run. AreInside f run (NeededBy (label_of z)) (cut_of qs)))
-      (elements_at_equal_places_equal es n e x y (let d : n ≡ e = omega (arith, l, past) in d) event (ap (λ z. slice_get z e) log ∙ at)) (test.0 is)
+      (slice_get_at_equal_indexes_is_equal es n e x y (let d : n ≡ e = omega (arith, l, past) in d) event (ap (λ z. slice_get z e) log ∙ at)) (test.0 is)
 ]
 
 -- ---- all threads
@@ -110,13 +110,13 @@ consistent_cut_if_threads_closed f h qs size first run is = (
     | inr past ↦ let none : cut_of qs t ≡ 0 = get_or_past qs t 0 past in omega (arith, none)
   ]),
   (λ t i u j a b at says n inside.
-      let there : t < length f.guest.entries = emitting_thread_exists f h run is t i a at in
+      let there : t < length f.guest.entries = emitting_thread_index_is_below_thread_count f h run is t i a at in
       (first t (omega (arith, there, size))).1 run is i a at inside u j b says n),
 )
 
-pub threads_of_consistent_cut_closed : (f : FittedTrace) → IsFitted f → (qs : List ℕ) → IsConsistentCut f qs → (t : ℕ) → t < length f.guest.entries
+pub threads_of_consistent_cut_are_closed_and_within_steps : (f : FittedTrace) → IsFitted f → (qs : List ℕ) → IsConsistentCut f qs → (t : ℕ) → t < length f.guest.entries
     → (cut_of qs t ≤ (recorded_thread f.recorded t).steps) × EachRun f (λ run. IsClosed f run (cut_of qs) t)
-threads_of_consistent_cut_closed f fit qs h t there = (
+threads_of_consistent_cut_are_closed_and_within_steps f fit qs h t there = (
   (let a = (h fit.run.run fit.run.whole).0 t in let b = fit.run.whole.1.steps t there in omega (arith, a, b)),
   (λ run is i k emits inside u j b says n. (h run is).1 t i u j k b emits says n inside),
 )
@@ -135,20 +135,20 @@ pub inconsistent_if_thread_not_closed : (f : FittedTrace) → IsFitted f → (qs
     → IsTrue false ↔ IsConsistentCut f qs
 inconsistent_if_thread_not_closed f fit qs n b there test is = (
   (λ h. absurd (cc h)),
-  (λ h. absurd (cc (is, test.1 (threads_of_consistent_cut_closed f fit qs h n there)))),
+  (λ h. absurd (cc (is, test.1 (threads_of_consistent_cut_are_closed_and_within_steps f fit qs h n there)))),
 )
 
-pub test_of_closed_tells_closed_and_within_steps : (f : FittedTrace) (qs : List ℕ) (t n : ℕ) (b : Bool) → n ≡ (recorded_thread f.recorded t).steps → cut_of qs t ≤ n
+pub closed_test_tells_closed_and_within_steps_if_within_steps : (f : FittedTrace) (qs : List ℕ) (t n : ℕ) (b : Bool) → n ≡ (recorded_thread f.recorded t).steps → cut_of qs t ≤ n
     → IsTrue b ↔ EachRun f (λ run. IsClosed f run (cut_of qs) t)
     → IsTrue b ↔ (cut_of qs t ≤ (recorded_thread f.recorded t).steps) × EachRun f (λ run. IsClosed f run (cut_of qs) t)
-test_of_closed_tells_closed_and_within_steps f qs t n b steps l test = (
+closed_test_tells_closed_and_within_steps_if_within_steps f qs t n b steps l test = (
   (λ is. ((let a : cut_of qs t ≤ (recorded_thread f.recorded t).steps = omega (arith, l, steps) in a), test.0 is)),
   (λ h. test.1 h.1),
 )
 
-pub consistent_cut_at_last_thread : (f : FittedTrace) → HasRun f → (qs : List ℕ) (n : ℕ) → length qs ≡ length f.guest.entries → length qs ≤ n
+pub cut_is_consistent_after_last_closed_thread : (f : FittedTrace) → HasRun f → (qs : List ℕ) (n : ℕ) → length qs ≡ length f.guest.entries → length qs ≤ n
     → AreFirstThreadsClosed f qs n → IsTrue true ↔ IsConsistentCut f qs
-consistent_cut_at_last_thread f h qs n size past first = (
+cut_is_consistent_after_last_closed_thread f h qs n size past first = (
   (λ _. consistent_cut_if_threads_closed f h qs size (λ t l. first t (omega (arith, l, past)))),
   (λ _. refl),
 )

@@ -6,8 +6,8 @@ use Rattle.std.proofs.lemmas.List.{get_or_past}
 use Rattle.std.proofs.lemmas.Option.{slice_get_within, slice_get-get_or, get_or_from_slice_get}
 use Rattle.ir_log.specs.declared.event.Event.TheVariants.{Read}
 use Rattle.ir_fit.proofs.CallerLemmas as kept
-use Rattle.ir_fit.proofs.CallerLemmas.{length_of_placed_is_threads, emitting_thread_is_guest_thread, event_positions_are_as_many_as_events, step_at_event_position_emits_event, entry_step_is_of_event, step_of_leave_emits_leave, leave_step_is_kept}
-use Rattle.ir_cut.proofs.Again.{has_run_from_any_run}
+use Rattle.ir_fit.proofs.CallerLemmas.{length_of_placed_is_threads, emitting_thread_is_guest_thread, event_positions_are_as_many_as_events, step_at_event_position_emits_event, entry_step_is_of_event, step_of_leave_emits_leave, emitted_leave_is_placed}
+use Rattle.ir_cut.proofs.Again.{has_run_with_given_run_if_has_some_run}
 use Rattle.std.specs.Prelude.{slice_get}
 use Rattle.ir_runs.specs.Machine.{In, Out}
 use Rattle.ir_runs.specs.declared.access.Access.{Access}
@@ -39,9 +39,9 @@ pub record IsListed (f : FittedTrace) (run : List Step) : Type 0 where
       → slice_get (placed_at (placed_of f) t).leaves d ≡ Some r → l.position < r.position
 
 pub run_of_trace_is_listed : (f : FittedTrace) → HasRun f → (run : List Step) → IsRunOf f.guest f.recorded run → IsListed f run
-unfolding has_run_from_any_run
+unfolding has_run_with_given_run_if_has_some_run
 run_of_trace_is_listed f h run is =
-    let k : HasRun f = has_run_from_any_run f h run is in
+    let k : HasRun f = has_run_with_given_run_if_has_some_run f h run is in
     record {
       sizes = λ t there. event_positions_are_as_many_as_events f k t there;
       event = λ t e i x there at place.
@@ -73,7 +73,7 @@ run_of_trace_is_listed f h run is =
           subst (λ z. Emits (machine_of f) (start_of f) run t z.position (Out z.object z.access z.version))
           (get_or_from_slice_get (placed_at (placed_of f) t).leaves e l l at) (step_of_leave_emits_leave f k t there e l inside);
       leave = λ t i o a v emitted.
-          let e = leave_step_is_kept f k t i o a v emitted in
+          let e = emitted_leave_is_placed f k t i o a v emitted in
           let d : Leave = record { position = i; object = o; access = a; version = v } in
           (e.0, slice_get-get_or (placed_at (placed_of f) t).leaves e.0 d e.1 ∙ ap Some (e.2 d));
       fall = λ t e d l r there less first second.
@@ -84,9 +84,9 @@ run_of_trace_is_listed f h run is =
     }
 
 -- a leave is of a thread that there is
-pub thread_of_leave_exists : (f : FittedTrace) → HasRun f → (u e : ℕ) (l : Leave) → slice_get (placed_at (placed_of f) u).leaves e ≡ Some l
+pub thread_index_of_leave_is_below_thread_count : (f : FittedTrace) → HasRun f → (u e : ℕ) (l : Leave) → slice_get (placed_at (placed_of f) u).leaves e ≡ Some l
     → u < length f.guest.entries
-thread_of_leave_exists f h u e l at = elim (cases_lt u (length f.guest.entries)) [
+thread_index_of_leave_is_below_thread_count f h u e l at = elim (cases_lt u (length f.guest.entries)) [
   | inl less ↦ less
   | inr past ↦
       let none : placed_at (placed_of f) u ≡ none_placed = get_or_past (placed_of f) u none_placed (let same = length_of_placed_is_threads f in omega (arith, past, same)) in

@@ -21,13 +21,13 @@ use Rattle.ir_runs.proofs.CallerLemmas.{sum_below_less_if_one_less}
 use Rattle.ir_cut.specs.Positions.{EachRun, cut_of}
 use Rattle.ir_cut.specs.Searching.{RaisedFor, LoweredFor, NeededBy, Needing, Rising, Falling, NoneAbove, HasBelow, HasAbove, AreLeaves, events_left, leaves_left}
 use Rattle.ir_cut.proofs.Listing.{IsListed, run_of_trace_is_listed}
-use Rattle.ir_cut.proofs.Searched.{rising_step, falling_step, elements_at_equal_places_equal}
+use Rattle.ir_cut.proofs.Searched.{rising_step, falling_step, slice_get_at_equal_indexes_is_equal}
 
 -- ---- sums
 
 -- one of the numbers is less, and the others are the same
-sum_below_is_less_if_one_is_less : (n : ℕ) (f g : ℕ → ℕ) (u : ℕ) → u < n → f u < g u → ((t : ℕ) → t ≢ u → f t ≡ g t) → sum_below n f < sum_below n g
-sum_below_is_less_if_one_is_less n f g u l less rest = sum_below_less_if_one_less n u f g l less (λ t. elim (cases_eq t u) [
+sum_below_is_less_if_one_is_less_and_others_equal : (n : ℕ) (f g : ℕ → ℕ) (u : ℕ) → u < n → f u < g u → ((t : ℕ) → t ≢ u → f t ≡ g t) → sum_below n f < sum_below n g
+sum_below_is_less_if_one_is_less_and_others_equal n f g u l less rest = sum_below_less_if_one_less n u f g l less (λ t. elim (cases_eq t u) [
   | inl same ↦ subst (λ z. f z ≤ g z) (sym same) (omega (arith, less))
   | inr ne ↦ let e = rest t ne in omega (arith, e)
 ])
@@ -37,17 +37,17 @@ sum_below_is_less_if_one_is_less n f g u l less rest = sum_below_less_if_one_les
 pub cut_position_is_indexed_number : (xs : List ℕ) (t v : ℕ) → t < length xs → v ≡ slice_index_or xs t v → cut_of xs t ≡ v
 cut_position_is_indexed_number xs t v l e = sym (e ∙ get_or_default_zero xs t v l)
 
-pub cut_position_after_set : (xs : List ℕ) (t v : ℕ) → t < length xs → cut_of (set xs t v) t ≡ v
-cut_position_after_set xs t v l = get_or-set_same xs t v 0 l
+pub cut_position_after_set_is_new_number : (xs : List ℕ) (t v : ℕ) → t < length xs → cut_of (set xs t v) t ≡ v
+cut_position_after_set_is_new_number xs t v l = get_or-set_same xs t v 0 l
 
-pub other_cut_position_after_set : (xs : List ℕ) (t v u : ℕ) → u ≢ t → cut_of (set xs t v) u ≡ cut_of xs u
-other_cut_position_after_set xs t v u ne = get_or-set_other xs t u v 0 ne
+pub other_cut_position_after_set_is_unchanged : (xs : List ℕ) (t v u : ℕ) → u ≢ t → cut_of (set xs t v) u ≡ cut_of xs u
+other_cut_position_after_set_is_unchanged xs t v u ne = get_or-set_other xs t u v 0 ne
 
 -- ---- an event is taken
 
-pub next_event_position_is_within_positions : (f : FittedTrace) (qs next : List ℕ) (t i : ℕ) → HasBelow f qs next t → cut_of next t ≡ i
+pub next_event_index_is_within_positions_if_has_below : (f : FittedTrace) (qs next : List ℕ) (t i : ℕ) → HasBelow f qs next t → cut_of next t ≡ i
     → i < length (placed_at (placed_of f) t).entries
-next_event_position_is_within_positions f qs next t i below same = subst (λ z. z < length (placed_at (placed_of f) t).entries) same
+next_event_index_is_within_positions_if_has_below f qs next t i below same = subst (λ z. z < length (placed_at (placed_of f) t).entries) same
     (slice_get_within (placed_at (placed_of f) t).entries (cut_of next t) below.0 below.1)
 
 pub rising_after_event_taken : (f : FittedTrace) → IsFitted f → (qs qs' next : List ℕ) (t i : ℕ) (es : List Event) (d : Event)
@@ -58,28 +58,28 @@ pub rising_after_event_taken : (f : FittedTrace) → IsFitted f → (qs qs' next
 rising_after_event_taken f fit qs qs' next t i es d size there below read log sizes raised ps u k rising run is =
     let inside : t < length next = omega (arith, there, size) in
     let at : cut_of next t ≡ i = cut_position_is_indexed_number next t i inside read in
-    let l : i < length es = (let a = next_event_position_is_within_positions f qs next t i below at in omega (arith, a, sizes)) in
+    let l : i < length es = (let a = next_event_index_is_within_positions_if_has_below f qs next t i below at in omega (arith, a, sizes)) in
     let event : slice_get (recorded_thread f.recorded t).events (cut_of next t) ≡ Some (slice_index_or es i d) =
     ap (slice_get (recorded_thread f.recorded t).events) at ∙ ap (λ z. slice_get z i) (sym log) ∙ slice_get-get_or es i d l in
     rising_step f run (run_of_trace_is_listed f fit.run run is) ps qs qs' next (set next t (i + 1)) u k t (slice_index_or es i d) (rising run is) there
-    below event (raised run is) (cut_position_after_set next t (i + 1) inside ∙ (let e : i + 1 ≡ cut_of next t + 1 = omega (arith, at) in e))
-    (other_cut_position_after_set next t (i + 1))
+    below event (raised run is) (cut_position_after_set_is_new_number next t (i + 1) inside ∙ (let e : i + 1 ≡ cut_of next t + 1 = omega (arith, at) in e))
+    (other_cut_position_after_set_is_unchanged next t (i + 1))
 
 pub fewer_events_left_after_event : (f : FittedTrace) (qs next : List ℕ) (t i : ℕ) → length next ≡ length f.guest.entries → t < length f.guest.entries
     → HasBelow f qs next t → i ≡ slice_index_or next t i → events_left f (set next t (i + 1)) < events_left f next
 fewer_events_left_after_event f qs next t i size there below read =
     let inside : t < length next = omega (arith, there, size) in
     let at : cut_of next t ≡ i = cut_position_is_indexed_number next t i inside read in
-    let l : i < length (placed_at (placed_of f) t).entries = next_event_position_is_within_positions f qs next t i below at in
-    sum_below_is_less_if_one_is_less (length f.guest.entries) _ _ t there (let own = cut_position_after_set next t (i + 1) inside in omega (arith, own, at, l))
-    (λ u ne. ap (λ z. length (placed_at (placed_of f) u).entries - z) (other_cut_position_after_set next t (i + 1) u ne))
+    let l : i < length (placed_at (placed_of f) t).entries = next_event_index_is_within_positions_if_has_below f qs next t i below at in
+    sum_below_is_less_if_one_is_less_and_others_equal (length f.guest.entries) _ _ t there (let own = cut_position_after_set_is_new_number next t (i + 1) inside in omega (arith, own, at, l))
+    (λ u ne. ap (λ z. length (placed_at (placed_of f) u).entries - z) (other_cut_position_after_set_is_unchanged next t (i + 1) u ne))
 
 -- ---- a leave is taken
 
 -- the last of the leaves counted by next
-leave_count_is_positive_if_has_above : (f : FittedTrace) (qs next : List ℕ) (t i : ℕ) → AreLeaves f next → t < length f.guest.entries → HasAbove f qs next t
+leave_count_is_successor_if_has_above : (f : FittedTrace) (qs next : List ℕ) (t i : ℕ) → AreLeaves f next → t < length f.guest.entries → HasAbove f qs next t
     → i ≡ slice_index_or next t i → (cut_of next t ≡ i - 1 + 1) × (t < length next)
-leave_count_is_positive_if_has_above f qs next t i are there above read =
+leave_count_is_successor_if_has_above f qs next t i are there above read =
     let inside : t < length next = (let e = are.each in omega (arith, there, e)) in
     let at : cut_of next t ≡ i = cut_position_is_indexed_number next t i inside read in
     let some = above.2 in
@@ -90,37 +90,37 @@ pub falling_after_leave_taken : (f : FittedTrace) → IsFitted f → (qs qs' nex
     → ls ≡ (placed_at (placed_of f) t).leaves → EachRun f (λ run. LoweredFor f run (Needing (slice_index_or ls (i - 1) d)) qs qs')
     → (ps : List ℕ) (u k : ℕ) → EachRun f (Falling f ps u k qs next) → EachRun f (Falling f ps u k qs' (set next t (i - 1)))
 falling_after_leave_taken f fit qs qs' next t i ls d are there above read list lowered ps u k falling run is =
-    let last = leave_count_is_positive_if_has_above f qs next t i are there above read in
+    let last = leave_count_is_successor_if_has_above f qs next t i are there above read in
     let within : i - 1 < length ls = (let a = are.some t there in let b : length ls ≡ length (placed_at (placed_of f) t).leaves =
     ap length list in omega (arith, last.0, a, b)) in
     let x : Leave = slice_index_or ls (i - 1) d in
     let is_leave : slice_get (placed_at (placed_of f) t).leaves (i - 1) ≡ Some x = ap (λ z. slice_get z (i - 1)) (sym list)
     ∙ slice_get-get_or ls (i - 1) d within in
     let index : above.0 ≡ i - 1 = (let a = above.2 in let b = last.0 in omega (arith, a, b)) in
-    let same : above.1 ≡ x = elements_at_equal_places_equal (placed_at (placed_of f) t).leaves above.0 (i - 1) above.1 x index above.3 is_leave in
+    let same : above.1 ≡ x = slice_get_at_equal_indexes_is_equal (placed_at (placed_of f) t).leaves above.0 (i - 1) above.1 x index above.3 is_leave in
     falling_step f run (run_of_trace_is_listed f fit.run run is) ps qs qs' next (set next t (i - 1)) u k t x (i - 1) (falling run is) there last.0 is_leave
-    (subst (λ z. cut_of qs t ≤ z.position) same above.4) (lowered run is) (cut_position_after_set next t (i - 1) last.1)
-    (other_cut_position_after_set next t (i - 1))
+    (subst (λ z. cut_of qs t ≤ z.position) same above.4) (lowered run is) (cut_position_after_set_is_new_number next t (i - 1) last.1)
+    (other_cut_position_after_set_is_unchanged next t (i - 1))
 
 pub fewer_leaves_left_after_leave : (f : FittedTrace) (qs next : List ℕ) (t i : ℕ) → AreLeaves f next → t < length f.guest.entries → HasAbove f qs next t
     → i ≡ slice_index_or next t i → leaves_left (set next t (i - 1)) < leaves_left next
 fewer_leaves_left_after_leave f qs next t i are there above read =
-    let last = leave_count_is_positive_if_has_above f qs next t i are there above read in
+    let last = leave_count_is_successor_if_has_above f qs next t i are there above read in
     subst (λ n. sum_below n (cut_of (set next t (i - 1))) < leaves_left next) (sym (length-set next t (i - 1)))
-    (sum_below_is_less_if_one_is_less (length next) (cut_of (set next t (i - 1))) (cut_of next) t last.1
-    (let own = cut_position_after_set next t (i - 1) last.1 in let at = last.0 in omega (arith, own, at))
-    (λ u ne. other_cut_position_after_set next t (i - 1) u ne))
+    (sum_below_is_less_if_one_is_less_and_others_equal (length next) (cut_of (set next t (i - 1))) (cut_of next) t last.1
+    (let own = cut_position_after_set_is_new_number next t (i - 1) last.1 in let at = last.0 in omega (arith, own, at))
+    (λ u ne. other_cut_position_after_set_is_unchanged next t (i - 1) u ne))
 
-pub leaves_counted_after_leave_taken : (f : FittedTrace) (qs next : List ℕ) (t i : ℕ) → AreLeaves f next → t < length f.guest.entries → HasAbove f qs next t
+pub counts_are_of_leaves_after_leave_taken : (f : FittedTrace) (qs next : List ℕ) (t i : ℕ) → AreLeaves f next → t < length f.guest.entries → HasAbove f qs next t
     → i ≡ slice_index_or next t i → AreLeaves f (set next t (i - 1))
-leaves_counted_after_leave_taken f qs next t i are there above read =
-    let last = leave_count_is_positive_if_has_above f qs next t i are there above read in
+counts_are_of_leaves_after_leave_taken f qs next t i are there above read =
+    let last = leave_count_is_successor_if_has_above f qs next t i are there above read in
     record {
       each = length-set next t (i - 1) ∙ are.each;
       some = λ u l. elim (cases_eq u t) [
         | inl same ↦ subst (λ z. cut_of (set next t (i - 1)) z ≤ length (placed_at (placed_of f) z).leaves) (sym same)
-            (let own = cut_position_after_set next t (i - 1) last.1 in let a = are.some t there in let at = last.0 in omega (arith, own, a, at))
-        | inr ne ↦ let a = are.some u l in let b = other_cut_position_after_set next t (i - 1) u ne in omega (arith, a, b)
+            (let own = cut_position_after_set_is_new_number next t (i - 1) last.1 in let a = are.some t there in let at = last.0 in omega (arith, own, a, at))
+        | inr ne ↦ let a = are.some u l in let b = other_cut_position_after_set_is_unchanged next t (i - 1) u ne in omega (arith, a, b)
       ];
     }
 
@@ -132,7 +132,7 @@ none_above_if_last_leave_inside f fit qs next t last x there at is_leave below e
     elim (cases_lt e last) [
       | inl before ↦ let up = list.fall t e last l x there before says is_leave in omega (arith, up, below)
       | inr past ↦ subst (λ z. z.position < cut_of qs t)
-          (sym (elements_at_equal_places_equal (placed_at (placed_of f) t).leaves e last l x (let d : e ≡ last = omega (arith, past, less, at) in d) says
+          (sym (slice_get_at_equal_indexes_is_equal (placed_at (placed_of f) t).leaves e last l x (let d : e ≡ last = omega (arith, past, less, at) in d) says
           is_leave)) below
     ]
 
@@ -143,16 +143,16 @@ pub event_count_is_position_count : (f : FittedTrace) → IsFitted f → (t : �
 event_count_is_position_count f fit t es there log = ap length log ∙ sym ((run_of_trace_is_listed f fit.run fit.run.run fit.run.whole).sizes t there)
 
 -- there are as many threads in the trace
-pub thread_within_recorded_threads : (f : FittedTrace) → HasRun f → (r : Recorded) (ts : List RecordedThread) (t : ℕ) → r ≡ f.recorded → ts ≡ r.threads
+pub thread_index_is_below_recorded_thread_count : (f : FittedTrace) → HasRun f → (r : Recorded) (ts : List RecordedThread) (t : ℕ) → r ≡ f.recorded → ts ≡ r.threads
     → t < length f.guest.entries → t < length ts
-thread_within_recorded_threads f h r ts t same is l = let a = h.whole.0.threads in let b : length ts ≡ length f.recorded.threads =
+thread_index_is_below_recorded_thread_count f h r ts t same is l = let a = h.whole.0.threads in let b : length ts ≡ length f.recorded.threads =
     ap length (is ∙ ap (λ z. z.threads) same) in omega (arith, l, a, b)
 
-pub copied_events_are_recorded_events : (f : FittedTrace) → HasRun f → (r : Recorded) (ts : List RecordedThread) (t : ℕ) (x : RecordedThread) (es : List Event)
+pub looked_up_events_are_recorded_events : (f : FittedTrace) → HasRun f → (r : Recorded) (ts : List RecordedThread) (t : ℕ) (x : RecordedThread) (es : List Event)
     → r ≡ f.recorded → ts ≡ r.threads → t < length f.guest.entries → x ≡ slice_index_or ts t x → es ≡ x.events
     → es ≡ (recorded_thread f.recorded t).events
-copied_events_are_recorded_events f h r ts t x es same is l read events =
-    events ∙ ap (λ z. z.events) (read ∙ get_or_default ts t x absent (thread_within_recorded_threads f h r ts t same is l)
+looked_up_events_are_recorded_events f h r ts t x es same is l read events =
+    events ∙ ap (λ z. z.events) (read ∙ get_or_default ts t x absent (thread_index_is_below_recorded_thread_count f h r ts t same is l)
     ∙ ap (λ z. slice_index_or z t absent) (is ∙ ap (λ z. z.threads) same))
 
 -- ---- positions rise
@@ -214,9 +214,9 @@ none_above_if_indexed_last_leave_inside f fit qs next t last ls d are there is l
     (ap (λ z. slice_get z last) (sym list) ∙ slice_get-get_or ls last d within)
     (leb-false (slice_index_or qs t 0) (slice_index_or ls last d).position out)
 
-pub copied_steps_are_recorded_steps : (f : FittedTrace) → HasRun f → (r : Recorded) (ts : List RecordedThread) (t : ℕ) (x : RecordedThread) (n : ℕ)
+pub looked_up_steps_are_recorded_steps : (f : FittedTrace) → HasRun f → (r : Recorded) (ts : List RecordedThread) (t : ℕ) (x : RecordedThread) (n : ℕ)
     → r ≡ f.recorded → ts ≡ r.threads → t < length f.guest.entries → x ≡ slice_index_or ts t x → n ≡ x.steps
     → n ≡ (recorded_thread f.recorded t).steps
-copied_steps_are_recorded_steps f h r ts t x n same is l read steps =
-    steps ∙ ap (λ z. z.steps) (read ∙ get_or_default ts t x absent (thread_within_recorded_threads f h r ts t same is l)
+looked_up_steps_are_recorded_steps f h r ts t x n same is l read steps =
+    steps ∙ ap (λ z. z.steps) (read ∙ get_or_default ts t x absent (thread_index_is_below_recorded_thread_count f h r ts t same is l)
     ∙ ap (λ z. slice_index_or z t absent) (is ∙ ap (λ z. z.threads) same))

@@ -40,21 +40,21 @@ AnswersInEachRun d c a next = EachRun d.fitted (λ run. AnswersBy None run d c (
 
 -- ---- what a command names is there
 
-test_true_if_not_refused : {A : Type 0} (b : Bool) (r : A) (rest : Option A) → (if not b then Some r else rest) ≡ None → b ≡ true
-test_true_if_not_refused true r rest e = refl
-test_true_if_not_refused false r rest e = absurd (cc e)
+test_is_true_if_refusal_chain_is_none : {A : Type 0} (b : Bool) (r : A) (rest : Option A) → (if not b then Some r else rest) ≡ None → b ≡ true
+test_is_true_if_refusal_chain_is_none true r rest e = refl
+test_is_true_if_refusal_chain_is_none false r rest e = absurd (cc e)
 
 -- a move that isn't refused names a thread that there is, if any
-pub thread_of_permitted_move_exists : (d : Desk) (m : Move) → refusal_of d (command.Move m) ≡ None
+pub thread_test_is_true_for_permitted_move : (d : Desk) (m : Move) → refusal_of d (command.Move m) ≡ None
     → if_some (thread_named (command.Move m)) (λ t. nat_lt t (threads_of d.fitted)) ≡ true
 unfolding refusal_of
-thread_of_permitted_move_exists d m none = test_true_if_not_refused (if_some (thread_named (command.Move m)) (λ t. nat_lt t (threads_of d.fitted))) NoSuchThread _ none
+thread_test_is_true_for_permitted_move d m none = test_is_true_if_refusal_chain_is_none (if_some (thread_named (command.Move m)) (λ t. nat_lt t (threads_of d.fitted))) NoSuchThread _ none
 
 -- a show of a thread that isn't refused names one that there is
-pub thread_of_permitted_show_exists : (d : Desk) (s : Show) (t : ℕ) → s ≡ Next t → refusal_of d (command.Show s) ≡ None → t < threads_of d.fitted
+pub thread_of_permitted_next_exists : (d : Desk) (s : Show) (t : ℕ) → s ≡ Next t → refusal_of d (command.Show s) ≡ None → t < threads_of d.fitted
 unfolding refusal_of
-thread_of_permitted_show_exists d s t is none = ltb-true t (threads_of d.fitted)
-    (test_true_if_not_refused (nat_lt t (threads_of d.fitted)) NoSuchThread _ (ap (λ z. refusal_of d (command.Show z)) (sym is) ∙ none))
+thread_of_permitted_next_exists d s t is none = ltb-true t (threads_of d.fitted)
+    (test_is_true_if_refusal_chain_is_none (nat_lt t (threads_of d.fitted)) NoSuchThread _ (ap (λ z. refusal_of d (command.Show z)) (sym is) ∙ none))
 
 -- ---- shows
 
@@ -67,47 +67,47 @@ show_at_hand_unless_next (Log t) other = refl
 show_at_hand_unless_next (Next t) other = absurd (other t refl)
 
 -- what is shown doesn't depend on the last answer
-shown_after_spoken_same : (steps : List run.Step) (d : Desk) (s : Show) → shown steps (spoken d) s ≡ shown steps d s
+shown_after_spoken_is_unchanged : (steps : List run.Step) (d : Desk) (s : Show) → shown steps (spoken d) s ≡ shown steps d s
 unfolding shown
-shown_after_spoken_same steps d (Registers t) = refl
-shown_after_spoken_same steps d (Memory t address size) = refl
-shown_after_spoken_same steps d (show.Object o) = refl
-shown_after_spoken_same steps d (Output t) = refl
-shown_after_spoken_same steps d (Log t) = refl
-shown_after_spoken_same steps d (Next t) = refl
+shown_after_spoken_is_unchanged steps d (Registers t) = refl
+shown_after_spoken_is_unchanged steps d (Memory t address size) = refl
+shown_after_spoken_is_unchanged steps d (show.Object o) = refl
+shown_after_spoken_is_unchanged steps d (Output t) = refl
+shown_after_spoken_is_unchanged steps d (Log t) = refl
+shown_after_spoken_is_unchanged steps d (Next t) = refl
 
 pub show_answers_command : (d next : Desk) (s : Show) → next ≡ spoken d → AnswersInEachRun d (command.Show s) (answer.Shown s) next
-show_answers_command d next s is run whole = inl (ap (λ z. shown run z s) is ∙ shown_after_spoken_same run d s, is)
+show_answers_command d next s is run whole = inl (ap (λ z. shown run z s) is ∙ shown_after_spoken_is_unchanged run d s, is)
 
 -- the line of the thread at hand is that of the thread of each run
-pub next_line_shown_in_standing : (d : Desk) (s : Standing) (t : ℕ) (x : thread.ThreadState) (line : List ℕ) → StandsAt d.fitted (cut_of d.at) s
+pub next_line_of_standing_is_shown_in_each_run : (d : Desk) (s : Standing) (t : ℕ) (x : thread.ThreadState) (line : List ℕ) → StandsAt d.fitted (cut_of d.at) s
     → x ≡ slice_index_or s.threads t idle → line ≡ next_text d.fitted.guest.code x
     → EachRun d.fitted (λ run. line ≡ shown run d (Next t))
 unfolding shown
-next_line_shown_in_standing d s t x line there is text run whole =
+next_line_of_standing_is_shown_in_each_run d s t x line there is text run whole =
     text ∙ ap (λ z. next_text d.fitted.guest.code z) (is ∙ (there.at.each run whole).threads t)
 
-pub next_line_shown_by_debugger : (d : Desk) (e : Debugging) (threads : List thread.ThreadState) (code : List ℕ) (t : ℕ) (x : thread.ThreadState) (line : List ℕ)
+pub next_line_of_debugger_is_shown_in_each_run : (d : Desk) (e : Debugging) (threads : List thread.ThreadState) (code : List ℕ) (t : ℕ) (x : thread.ThreadState) (line : List ℕ)
     → e.desk ≡ spoken d → IsThere e → threads ≡ e.state.threads → code ≡ e.desk.fitted.guest.code → t < threads_of d.fitted
     → x ≡ slice_index_or threads t x → line ≡ next_text code x → EachRun d.fitted (λ run. line ≡ shown run d (Next t))
-next_line_shown_by_debugger d e threads code t x line is there all same l read text =
+next_line_of_debugger_is_shown_in_each_run d e threads code t x line is there all same l read text =
     let stands : StandsAt d.fitted (cut_of d.at) e.state = subst (λ (z : Desk). StandsAt z.fitted (cut_of z.at) e.state) is there in
     let count = stands.at.threads in
     let long = ap (λ z. length z) all in
-    next_line_shown_in_standing d e.state t x line stands
+    next_line_of_standing_is_shown_in_each_run d e.state t x line stands
     (read ∙ get_or_default threads t x idle (omega (arith, l, count, long)) ∙ ap (λ z. slice_index_or z t idle) all)
     (text ∙ ap (λ z. next_text z x) (same ∙ ap (λ (z : Desk). z.fitted.guest.code) is))
 
 -- ---- all commands
 
 -- what is refused depends on the guest alone
-pub refusal_after_move_same : (d next : Desk) (cut : List ℕ) (c : Command) → next ≡ moved_to d cut → refusal_of next c ≡ refusal_of d c
+pub refusal_after_move_is_unchanged : (d next : Desk) (cut : List ℕ) (c : Command) → next ≡ moved_to d cut → refusal_of next c ≡ refusal_of d c
 unfolding refusal_of
-refusal_after_move_same d next cut c is = ap (λ z. refusal_of z c) is
+refusal_after_move_is_unchanged d next cut c is = ap (λ z. refusal_of z c) is
 
-pub refusal_after_spoken_same : (d next : Desk) (c : Command) → next ≡ spoken d → refusal_of next c ≡ refusal_of d c
+pub refusal_after_spoken_is_unchanged : (d next : Desk) (c : Command) → next ≡ spoken d → refusal_of next c ≡ refusal_of d c
 unfolding refusal_of
-refusal_after_spoken_same d next c is = ap (λ z. refusal_of z c) is
+refusal_after_spoken_is_unchanged d next c is = ap (λ z. refusal_of z c) is
 
 pub refused_command_answers_refusal : (d next : Desk) (c : Command) (r : Refusal) (a : Answer) → refusal_of d c ≡ Some r → next ≡ spoken d
     → a ≡ answer.Refused r → EachRun d.fitted (λ run. Answers run d c (answer_text run next a) next)
@@ -115,10 +115,10 @@ unfolding Answers
 refused_command_answers_refusal d next c r a why is says run whole =
     subst (λ o. AnswersBy o run d c (answer_text run next a) next) (sym why) (ap (λ z. answer_text run next z) says, is)
 
-pub permitted_command_answers : (d next : Desk) (c asked : Command) (a : Answer) → c ≡ asked → refusal_of d c ≡ None → AnswersInEachRun d asked a next
+pub permitted_command_is_answered_by_text_of_its_answer : (d next : Desk) (c asked : Command) (a : Answer) → c ≡ asked → refusal_of d c ≡ None → AnswersInEachRun d asked a next
     → EachRun d.fitted (λ run. Answers run d c (answer_text run next a) next)
 unfolding Answers
-permitted_command_answers d next c asked a same none so run whole =
+permitted_command_is_answered_by_text_of_its_answer d next c asked a same none so run whole =
     subst (λ o. AnswersBy o run d c (answer_text run next a) next) (sym none)
     (subst (λ z. AnswersBy None run d z (answer_text run next a) next) (sym same) (so run whole))
 
@@ -192,10 +192,10 @@ shown_object_exists d s objects o is last same =
     omega (arith, below, count, long)
 
 -- an object that is read in its place
-pub text_of_indexed_object_is_shown : (d : Debugging) (s : Show) (objects : List Cell) (threads : List thread.ThreadState) (x : Cell) (o words : ℕ) → s ≡ show.Object o
+pub object_text_of_state_is_text_shown_here : (d : Debugging) (s : Show) (objects : List Cell) (threads : List thread.ThreadState) (x : Cell) (o words : ℕ) → s ≡ show.Object o
     → IsLast d (Shown s) → objects ≡ d.state.objects → threads ≡ d.state.threads → words ≡ object_words d.desk.fitted.guest
     → x ≡ slice_index_or objects o x → object_text (length threads) words (object_with x (held_by threads o)) ≡ shown_here d s
-text_of_indexed_object_is_shown d s objects threads x o words is last same alike many read =
+object_text_of_state_is_text_shown_here d s objects threads x o words is last same alike many read =
     ap (λ (c : Cell). object_text (length threads) words (object_with c (held_by threads o)))
     (read ∙ get_or_default objects o x empty (shown_object_exists d s objects o is last same))
     ∙ ap (λ (cs : List Cell). object_text (length threads) words (object_with (slice_index_or cs o empty) (held_by threads o))) same
@@ -220,5 +220,5 @@ text_in_hand_is_answer_text d answer.KeptCuts last run is = refl
 text_in_hand_is_answer_text d (answer.Refused refusal) last run is = refl
 text_in_hand_is_answer_text d answer.Bye last run is = refl
 
-pub answer_has_text_with_property : (d : Debugging) (a : Answer) (P : List ℕ → Type 0) → IsLast d a → P (text_here d a) → IsText d a P
-answer_has_text_with_property d a P last holds = (text_here d a, text_in_hand_is_answer_text d a last, holds)
+pub answer_has_text_if_text_here_has_property : (d : Debugging) (a : Answer) (P : List ℕ → Type 0) → IsLast d a → P (text_here d a) → IsText d a P
+answer_has_text_if_text_here_has_property d a P last holds = (text_here d a, text_in_hand_is_answer_text d a last, holds)

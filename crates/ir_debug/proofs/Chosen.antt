@@ -29,9 +29,9 @@ all_of_conditional_cons P x xs true one others = (one, others)
 all_of_conditional_cons P x xs false one others = others
 
 -- and without some
-pub all_of_filter : {A : Type 0} (P : A → Type 0) (p : A → Bool) (xs : List A) → AllByRecursion P xs → AllByRecursion P (filter p xs)
-all_of_filter P p [] all = tt
-all_of_filter P p (x ∷ xs) all = all_of_conditional_cons P x (filter p xs) (p x) all.0 (all_of_filter P p xs all.1)
+pub filter_keeps_property_of_all : {A : Type 0} (P : A → Type 0) (p : A → Bool) (xs : List A) → AllByRecursion P xs → AllByRecursion P (filter p xs)
+filter_keeps_property_of_all P p [] all = tt
+filter_keeps_property_of_all P p (x ∷ xs) all = all_of_conditional_cons P x (filter p xs) (p x) all.0 (filter_keeps_property_of_all P p xs all.1)
 
 pub filter_is_not_longer : {A : Type 0} (p : A → Bool) (xs : List A) → length (filter p xs) ≤ length xs
 filter_is_not_longer p xs = let same = length-filter p xs in let less = count_by-le-length p xs in omega (arith, same, less)

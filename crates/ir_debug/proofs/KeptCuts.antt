@@ -7,15 +7,15 @@ use Rattle.ir_timeline.specs.Hand.{IsCutOf}
 use Rattle.ir_debug.specs.Machine.{Kept, kept_cut, kept_line}
 use Rattle.ir_debug.specs.Debugging.{AllKept}
 
-first_or_other_kept_is_cut : (f : FittedTrace) (k : Kept) (c : List ℕ) (rest : Option Kept) (b : Bool) → IsCutOf f k.cut
+conditional_kept_cut_is_cut : (f : FittedTrace) (k : Kept) (c : List ℕ) (rest : Option Kept) (b : Bool) → IsCutOf f k.cut
     → (option_map (λ z. z.cut) rest ≡ Some c → IsCutOf f c) → option_map (λ z. z.cut) (cond b (Some k) rest) ≡ Some c → IsCutOf f c
-first_or_other_kept_is_cut f k c rest true one others is = let same : k.cut ≡ c = cc is in subst (IsCutOf f) same one
-first_or_other_kept_is_cut f k c rest false one others is = others is
+conditional_kept_cut_is_cut f k c rest true one others is = let same : k.cut ≡ c = cc is in subst (IsCutOf f) same one
+conditional_kept_cut_is_cut f k c rest false one others is = others is
 
 -- one of them is consistent
 pub kept_cut_of_number_is_cut : (f : FittedTrace) (ks : List Kept) (n : ℕ) (c : List ℕ) → AllKept f ks → kept_cut ks n ≡ Some c → IsCutOf f c
 kept_cut_of_number_is_cut f [] n c all is = absurd cc
-kept_cut_of_number_is_cut f (k ∷ ks) n c all is = first_or_other_kept_is_cut f k c (find (λ z. z.number == n) ks) (k.number == n) all.0 (kept_cut_of_number_is_cut f ks n c all.1) is
+kept_cut_of_number_is_cut f (k ∷ ks) n c all is = conditional_kept_cut_is_cut f k c (find (λ z. z.number == n) ks) (k.number == n) all.0 (kept_cut_of_number_is_cut f ks n c all.1) is
 
 -- ---- what was found
 
@@ -47,5 +47,5 @@ kept_text_step ks i k first line some at none same =
     ∙ ap (λ (x : List ℕ). x ++ rest) (ap kept_line (sym at) ∙ sym (same ∙ ap (λ (x : List ℕ). x ++ kept_line k) none))
 
 -- none is left after the last
-pub kept_text_at_end : (ks : List Kept) (i : ℕ) → length ks ≤ i → flat_map kept_line (drop i ks) ≡ []
-kept_text_at_end ks i l = at_drop_all (flat_map kept_line) ks i l
+pub kept_text_at_end_is_empty : (ks : List Kept) (i : ℕ) → length ks ≤ i → flat_map kept_line (drop i ks) ≡ []
+kept_text_at_end_is_empty ks i l = at_drop_all (flat_map kept_line) ks i l

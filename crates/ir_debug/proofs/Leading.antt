@@ -24,16 +24,16 @@ use Rattle.ir_command.specs.declared.command.Point.TheVariants.{Break, Watch, Wa
 use Rattle.ir_hits.specs.Seeing.{steps_of}
 use Rattle.ir_command.specs.declared.hit.Hit.{Hit}
 
-least_cut_leads_up : (f : FittedTrace) (at to : List ℕ) (t k j : ℕ) → IsLeastCut f at t k to → k ≡ j
+each_run_leads_to_least_cut : (f : FittedTrace) (at to : List ℕ) (t k j : ℕ) → IsLeastCut f at t k to → k ≡ j
     → EachRun f (λ run. ToLeast run f at t j to)
-least_cut_leads_up f at to t k j least same run whole = (
+each_run_leads_to_least_cut f at to t k j least same run whole = (
   least.0,
   subst (λ n. IsLeast (machine_of f) (start_of f) run (cut_of at) t n (cut_of to)) same (least.1 run whole),
 )
 
-greatest_cut_leads_down : (f : FittedTrace) (at to : List ℕ) (t k j : ℕ) → IsGreatestCut f at t k to → k ≡ j
+each_run_leads_to_greatest_cut : (f : FittedTrace) (at to : List ℕ) (t k j : ℕ) → IsGreatestCut f at t k to → k ≡ j
     → EachRun f (λ run. ToGreatest run f at t j to)
-greatest_cut_leads_down f at to t k j greatest same run whole = (
+each_run_leads_to_greatest_cut f at to t k j greatest same run whole = (
   greatest.0,
   subst (λ n. IsGreatest (machine_of f) (start_of f) run (cut_of at) t n (cut_of to)) same (greatest.1 run whole),
 )
@@ -46,29 +46,29 @@ abbrev pub ToPositionInEachRun : FittedTrace → List ℕ → ℕ → ℕ → Li
 ToPositionInEachRun f at t k to = EachRun f (λ run. ToPosition run f at t k to)
 
 -- to a position that isn't below the thread's
-pub least_cut_leads_to_position : (f : FittedTrace) (at to : List ℕ) (t k position last here : ℕ) → k ≡ min position last → last ≡ last_of f t
+pub least_cut_leads_to_position_not_behind : (f : FittedTrace) (at to : List ℕ) (t k position last here : ℕ) → k ≡ min position last → last ≡ last_of f t
     → here ≡ cut_of at t → here ≤ k → IsLeastCut f at t k to → ToPositionInEachRun f at t (min position (last_of f t)) to
-least_cut_leads_to_position f at to t k position last here most is stands up least run whole =
+least_cut_leads_to_position_not_behind f at to t k position last here most is stands up least run whole =
     let wanted : k ≡ min position (last_of f t) = most ∙ ap (min position) is in
     subst (λ b. StopsAt run f at t (if b then Forwards else Backwards) (min position (last_of f t)) to)
     (sym (le-leb (cut_of at t) (min position (last_of f t)) (omega (arith, wanted, stands, up))))
-    (least_cut_leads_up f at to t k (min position (last_of f t)) least wanted run whole)
+    (each_run_leads_to_least_cut f at to t k (min position (last_of f t)) least wanted run whole)
 
 -- to one that is
-pub greatest_cut_leads_to_position : (f : FittedTrace) (at to : List ℕ) (t k position last here : ℕ) → k ≡ min position last → last ≡ last_of f t
+pub greatest_cut_leads_to_position_behind : (f : FittedTrace) (at to : List ℕ) (t k position last here : ℕ) → k ≡ min position last → last ≡ last_of f t
     → here ≡ cut_of at t → k < here → IsGreatestCut f at t k to → ToPositionInEachRun f at t (min position (last_of f t)) to
-greatest_cut_leads_to_position f at to t k position last here most is stands down greatest run whole =
+greatest_cut_leads_to_position_behind f at to t k position last here most is stands down greatest run whole =
     let wanted : k ≡ min position (last_of f t) = most ∙ ap (min position) is in
     subst (λ b. StopsAt run f at t (if b then Forwards else Backwards) (min position (last_of f t)) to)
     (sym (lt-leb (cut_of at t) (min position (last_of f t)) (omega (arith, wanted, stands, down))))
-    (greatest_cut_leads_down f at to t k (min position (last_of f t)) greatest wanted run whole)
+    (each_run_leads_to_greatest_cut f at to t k (min position (last_of f t)) greatest wanted run whole)
 
 -- steps on, counted no further than a position can be
 pub step_leads_to_least_cut : (f : FittedTrace) (at to : List ℕ) (m : Move) (t n k sum last here : ℕ) → m ≡ move.Step t n → here ≡ cut_of at t
     → sum ≡ min (here + n) (2 ^ 64 - 1) → last < 2 ^ 64 → last ≡ last_of f t → k ≡ min sum last → IsLeastCut f at t k to → LeadsInEachRun f at m to
 step_leads_to_least_cut f at to m t n k sum last here asked stands added fits is most least =
     let short : k ≡ min (here + n) last = omega (arith, added, fits, most) in
-    subst (λ z. LeadsInEachRun f at z to) (sym asked) (least_cut_leads_up f at to t k (min (cut_of at t + n) (last_of f t)) least
+    subst (λ z. LeadsInEachRun f at z to) (sym asked) (each_run_leads_to_least_cut f at to t k (min (cut_of at t + n) (last_of f t)) least
     (short ∙ ap (λ z. min (z + n) last) stands ∙ ap (min (cut_of at t + n)) is))
 
 -- steps back
@@ -76,7 +76,7 @@ pub back_leads_to_greatest_cut : (f : FittedTrace) (at to : List ℕ) (m : Move)
     → IsGreatestCut f at t k to → LeadsInEachRun f at m to
 back_leads_to_greatest_cut f at to m t n k here asked stands less greatest =
     subst (λ z. LeadsInEachRun f at z to) (sym asked)
-    (greatest_cut_leads_down f at to t k (cut_of at t - n) greatest (less ∙ ap (λ z. z - n) stands))
+    (each_run_leads_to_greatest_cut f at to t k (cut_of at t - n) greatest (less ∙ ap (λ z. z - n) stands))
 
 -- ---- to a hit
 

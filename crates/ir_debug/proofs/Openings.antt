@@ -22,9 +22,9 @@ use Rattle.ir_debug.specs.declared.ended.SessionErr.TheVariants as err
 
 -- ---- before a line is read
 
-empty_input_is_consumed : (a : Option (List ℕ)) → Consumes a a []
-empty_input_is_consumed None = tt
-empty_input_is_consumed (Some xs) = refl
+unchanged_input_consumes_empty_text : (a : Option (List ℕ)) → Consumes a a []
+unchanged_input_consumes_empty_text None = tt
+unchanged_input_consumes_empty_text (Some xs) = refl
 
 lines_of_empty_input : lines_of [] ≡ []
 unfolding split_lines
@@ -34,10 +34,10 @@ rest_of_empty_input : (split_lines []).rest ≡ []
 unfolding split_lines
 rest_of_empty_input = refl
 
-through_of_empty_lines_is_lines : (lines : List (List ℕ)) → lines ≡ [] → through quits lines ≡ lines
+through_of_no_lines_is_no_lines : (lines : List (List ℕ)) → lines ≡ [] → through quits lines ≡ lines
 unfolding through
-through_of_empty_lines_is_lines [] e = refl
-through_of_empty_lines_is_lines (l ∷ ls) e = absurd cc
+through_of_no_lines_is_no_lines [] e = refl
+through_of_no_lines_is_no_lines (l ∷ ls) e = absurd cc
 
 session_text_of_no_lines_is_opening_text : (o : Opening) → SessionText o [] (opening_text o) o
 unfolding LinesAnswered
@@ -51,10 +51,10 @@ pub answered_in_part_of_opening_prefix : (image trace : List ℕ) (o : Opening) 
     → AppendsPrefix w0 w1 (opening_text o) → ReadsUpTo limit a a (AnsweredInPart image trace a w0 w1)
 answered_in_part_of_opening_prefix image trace o limit a w0 w1 opens prefix = record {
   consumed = [];
-  taken = empty_input_is_consumed a;
+  taken = unchanged_input_consumes_empty_text a;
   within = omega arith;
   holds = record {
-    goes = through_of_empty_lines_is_lines (lines_of []) lines_of_empty_input;
+    goes = through_of_no_lines_is_no_lines (lines_of []) lines_of_empty_input;
     ended = λ some. absurd (some rest_of_empty_input);
     wrote = inl (
       lines_of_empty_input,
@@ -65,8 +65,8 @@ answered_in_part_of_opening_prefix image trace o limit a w0 w1 opens prefix = re
 
 -- ---- where no machine is ready
 
-pub reads_empty_input : (limit : ℕ) (a : Option (List ℕ)) (P : List ℕ → Type 0) → P [] → ReadsUpTo limit a a P
-reads_empty_input limit a P p = record { consumed = []; taken = empty_input_is_consumed a; within = omega arith; holds = p }
+pub reads_up_to_unchanged_input_if_holds_of_empty : (limit : ℕ) (a : Option (List ℕ)) (P : List ℕ → Type 0) → P [] → ReadsUpTo limit a a P
+reads_up_to_unchanged_input_if_holds_of_empty limit a P p = record { consumed = []; taken = unchanged_input_consumes_empty_text a; within = omega arith; holds = p }
 
 pub if_some_if_each_holds : (a : Option (List ℕ)) (P : List ℕ → Type 0) → ((input : List ℕ) → P input) → IfSome a P
 if_some_if_each_holds None P p = tt
@@ -90,9 +90,9 @@ session_of_refused_opening image trace o p limit result w0 w1 is says ending ope
 
 -- ---- after the opening lines
 
-pub reads_of_implied : (limit : ℕ) (a b : Option (List ℕ)) (P Q : List ℕ → Type 0) → ((consumed : List ℕ) → P consumed → Q consumed)
+pub reads_up_to_of_implied : (limit : ℕ) (a b : Option (List ℕ)) (P Q : List ℕ → Type 0) → ((consumed : List ℕ) → P consumed → Q consumed)
     → ReadsUpTo limit a b P → ReadsUpTo limit a b Q
-reads_of_implied limit a b P Q go reads = record {
+reads_up_to_of_implied limit a b P Q go reads = record {
   consumed = reads.consumed;
   taken = reads.taken;
   within = reads.within;
@@ -111,13 +111,13 @@ if_served_by_implied_end (Err fault.Write) P Q go p = tt
 if_served_by_implied_end (Err fault.TooLong) P Q go p = go p
 
 -- what was opened, and its opening lines, where a debugger is ready
-pub ready_debugger_opens : (image trace : List ℕ) (o : Opened) (d : Debugging) → o ≡ opened.Ready d → Opens image trace (opening_of o)
+pub opens_ready_desk_if_opening_is_ready : (image trace : List ℕ) (o : Opened) (d : Debugging) → o ≡ opened.Ready d → Opens image trace (opening_of o)
     → Opens image trace (Ready d.desk)
-ready_debugger_opens image trace o d is = subst (λ (x : Opened). Opens image trace (opening_of x)) is
+opens_ready_desk_if_opening_is_ready image trace o d is = subst (λ (x : Opened). Opens image trace (opening_of x)) is
 
-pub opening_text_of_ready_debugger : (o : Opened) (d : Debugging) (w0 w1 : Option (List ℕ)) → o ≡ opened.Ready d
+pub appends_opening_text_of_ready_desk_if_opening_is_ready : (o : Opened) (d : Debugging) (w0 w1 : Option (List ℕ)) → o ≡ opened.Ready d
     → Appends w0 w1 (opening_text (opening_of o)) → Appends w0 w1 (opening_text (Ready d.desk))
-opening_text_of_ready_debugger o d w0 w1 is = subst (λ (x : Opened). Appends w0 w1 (opening_text (opening_of x))) is
+appends_opening_text_of_ready_desk_if_opening_is_ready o d w0 w1 is = subst (λ (x : Opened). Appends w0 w1 (opening_text (opening_of x))) is
 
 -- all answers after the opening lines
 abbrev pub transcript_if_lines_answered : (image trace : List ℕ) (d : Desk) (lines : List (List ℕ)) (w0 w1 w2 : Option (List ℕ)) → Opens image trace (Ready d)

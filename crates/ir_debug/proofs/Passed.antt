@@ -63,9 +63,9 @@ property_by_either_disjunct true b P p q e = p refl
 property_by_either_disjunct false b P p q e = q e
 
 -- the addresses of code and private memory are low
-pub address_in_guest_is_low : (g : Guest) (size address : ℕ) → length g.code ≤ 16384
+pub address_in_guest_is_at_most_two_to_31 : (g : Guest) (size address : ℕ) → length g.code ≤ 16384
     → lies_in_code g size address || lies_in_memory size address ≡ true → address ≤ 2 ^ 31
-address_in_guest_is_low g size address short =
+address_in_guest_is_at_most_two_to_31 g size address short =
     property_by_either_disjunct (lies_in_code g size address) (lies_in_memory size address) (address ≤ 2 ^ 31)
     (λ e. let le = leb-true (address + size) (code_start + 4 * length g.code)
     (right_of_true_and (nat_le code_start address) (nat_le (address + size) (code_start + 4 * length g.code)) e) in

@@ -15,12 +15,12 @@ use Rattle.ir_debug.specs.declared.ended.Ended.TheVariants as ended
 use Rattle.ir_debug.specs.Machine.{Desk, Replies, quits}
 use Rattle.ir_debug.specs.Session.{ReadsThrough, ended_by}
 use Rattle.ir_debug.proofs.LongLines.{replies_to_line_if_to_kept_bytes, quits_of_kept_bytes_is_quits_of_line}
-use Rattle.ir_debug.proofs.Openings.{reads_of_implied}
+use Rattle.ir_debug.proofs.Openings.{reads_up_to_of_implied}
 
 -- an answer that was written whole is a prefix of itself
-reply_is_prefix_of_itself : {S : Type 0} (R : Replying S) (s next : S) (line : List ℕ) (old new : Option (List ℕ)) → Replied R s line next old new
+replied_prefix_if_replied : {S : Type 0} (R : Replying S) (s next : S) (line : List ℕ) (old new : Option (List ℕ)) → Replied R s line next old new
     → RepliedPrefix R s line old new
-reply_is_prefix_of_itself R s next line old new p = record {
+replied_prefix_if_replied R s next line old new p = record {
   text = p.text;
   next = next;
   is = p.is;
@@ -28,11 +28,11 @@ reply_is_prefix_of_itself R s next line old new p = record {
 }
 
 -- the same of the answer to what an input ended in
-last_reply_is_prefix_of_itself : {S : Type 0} (R : Replying S) (s : S) (line : List ℕ) (old new : Option (List ℕ)) → (line ≡ [] → ⊥)
+replied_prefix_if_last_line_is_replied : {S : Type 0} (R : Replying S) (s : S) (line : List ℕ) (old new : Option (List ℕ)) → (line ≡ [] → ⊥)
     → Wrote R s (last_line line) old new → RepliedPrefix R s line old new
 unfolding LinesAnswered
-last_reply_is_prefix_of_itself R s [] old new some p = absurd (some refl)
-last_reply_is_prefix_of_itself R s (b ∷ line) old new some p = record {
+replied_prefix_if_last_line_is_replied R s [] old new some p = absurd (some refl)
+replied_prefix_if_last_line_is_replied R s (b ∷ line) old new some p = record {
   text = p.answered.0;
   next = p.answered.1;
   is = p.answered.3;
@@ -54,9 +54,9 @@ module _ (s0 : Desk) (input w0 left left' written : Option (List ℕ)) (s : Desk
   -- a line feed, whose line was answered and quits
   pub read_through_line_that_quits : (next : Desk) (written' : Option (List ℕ)) → Consumes left left' (10 ∷ []) → Replied Replies s line next written written'
       → ReadsUpTo limit input left' (ReadsThrough ended.Quit left')
-  read_through_line_that_quits next written' took p = reads_of_implied limit input left' _ (ReadsThrough ended.Quit left') (λ consumed h. (h.0, h.1))
+  read_through_line_that_quits next written' took p = reads_up_to_of_implied limit input left' _ (ReadsThrough ended.Quit left') (λ consumed h. (h.0, h.1))
       (feed_failed Replies quits replies_to_line_if_to_kept_bytes quits_of_kept_bytes_is_quits_of_line s0 input w0 left left' written s line n at limit below written' took
-      (reply_is_prefix_of_itself Replies s next line written written' p))
+      (replied_prefix_if_replied Replies s next line written written' p))
 
   -- the input ended, and what it ended in was answered
   pub read_through_end : Consumes left left' [] → IsAtEnd left' → (result : Result Served Fault) (written' : Option (List ℕ))
@@ -65,10 +65,10 @@ module _ (s0 : Desk) (input w0 left left' written : Option (List ℕ)) (s : Desk
       → IfOk (ended_by result) (λ e. ReadsUpTo limit input left' (ReadsThrough e left'))
   read_through_end took gone (Ok Quit) written' p served =
       let some : line ≡ [] → ⊥ = nonempty_if_last_line_quits line served in
-      reads_of_implied limit input left' _ (ReadsThrough ended.Quit left') (λ consumed h. (h.0, h.1))
+      reads_up_to_of_implied limit input left' _ (ReadsThrough ended.Quit left') (λ consumed h. (h.0, h.1))
       (finish_failed Replies quits replies_to_line_if_to_kept_bytes quits_of_kept_bytes_is_quits_of_line s0 input w0 left left' written s line n at limit below took (Err Write) written' gone refl some
-      (last_reply_is_prefix_of_itself Replies s line written written' some p))
-  read_through_end took gone (Ok InputEnd) written' p served = reads_of_implied limit input left' _ (ReadsThrough ended.InputEnd left')
+      (replied_prefix_if_last_line_is_replied Replies s line written written' some p))
+  read_through_end took gone (Ok InputEnd) written' p served = reads_up_to_of_implied limit input left' _ (ReadsThrough ended.InputEnd left')
       (λ consumed h. gone)
       (finish_ended Replies quits replies_to_line_if_to_kept_bytes quits_of_kept_bytes_is_quits_of_line s0 input w0 left left' written s line n at limit below took (Ok InputEnd) written' p served tt)
   read_through_end took gone (Err Read) written' p served = tt

@@ -42,10 +42,10 @@ appended_prefix_is_reply_prefix asked line old new answer w w' is a t = record {
 }
 
 -- a line without words has no answer
-pub empty_line_has_no_reply : (asked : Result (Option Command) Refusal) (line : List ℕ) (old new : Debugging) (w : Option (List ℕ))
+pub line_without_command_is_replied_nothing : (asked : Result (Option Command) Refusal) (line : List ℕ) (old new : Debugging) (w : Option (List ℕ))
     → asked ≡ command_of line → asked ≡ Ok None → new ≡ old → Replied Replies old.desk line new.desk w w
 unfolding Replies
-empty_line_has_no_reply asked line old new w is none same = record {
+line_without_command_is_replied_nothing asked line old new w is none same = record {
   text = [];
   is = λ run of. subst (λ (x : Result (Option Command) Refusal). RepliesBy x run old.desk [] new.desk) is
       (subst (λ (x : Result (Option Command) Refusal). RepliesBy x run old.desk [] new.desk) (sym none)

@@ -28,7 +28,7 @@ command_asked c = Ok (Some c)
 abbrev command_refused : Refusal → AskedCommand
 command_refused r = Err r
 
-row_commands_of_lines : (command_of (codes "jump") ≡ command_refused UnknownCommand)
+command_of_line_examples : (command_of (codes "jump") ≡ command_refused UnknownCommand)
     × (command_of (codes "break 0 0x1001c") ≡ command_asked (Set (Break 0 0x1001c)))
     × (command_of (codes "step 0") ≡ command_refused BadArgument)
     × (command_of (codes "step 0 4294967296") ≡ command_refused BadArgument)
@@ -40,15 +40,15 @@ row_commands_of_lines : (command_of (codes "jump") ≡ command_refused UnknownCo
     × (command_of (codes "quit 1") ≡ command_refused BadArgument)
     × (command_of (codes "goto 1 0xFFFFFFFFFFFFFFFF\r") ≡ command_asked (Move (Goto 1 0xFFFFFFFFFFFFFFFF)))
 unfolding command_of command_named words_of number_of
-row_commands_of_lines = (refl, refl, refl, refl, refl, refl, refl, refl, refl, refl, refl)
+command_of_line_examples = (refl, refl, refl, refl, refl, refl, refl, refl, refl, refl, refl)
 
-row_longest_blank_line : (b : ℕ) → command_of (replicate 1024 32) ≡ Ok None
+command_of_1024_blanks_is_none : (b : ℕ) → command_of (replicate 1024 32) ≡ Ok None
 unfolding command_of words_of
-row_longest_blank_line b = refl
+command_of_1024_blanks_is_none b = refl
 
-row_line_too_long : command_of (replicate 1025 32) ≡ command_refused LineTooLong
+command_of_1025_blanks_is_line_too_long : command_of (replicate 1025 32) ≡ command_refused LineTooLong
 unfolding command_of
-row_line_too_long = refl
+command_of_1025_blanks_is_line_too_long = refl
 
 -- ---- refusals: two threads at one entry, one object, 18 words of code
 
@@ -58,7 +58,7 @@ guest_of_two_threads = record { form = Small; entries = 0x10000 ∷ 0x10000 ∷ 
 abbrev desk_of_two_threads : Desk
 desk_of_two_threads = desk_of (record { guest = guest_of_two_threads; recorded = record { objects = 1; budget = 1000; profile = One; threads = [] } })
 
-row_refusals_of_commands : (refusal_of desk_of_two_threads (Move (Step 2 1)) ≡ Some NoSuchThread)
+refusal_of_command_examples : (refusal_of desk_of_two_threads (Move (Step 2 1)) ≡ Some NoSuchThread)
     × (refusal_of desk_of_two_threads (Show (Object 1)) ≡ Some NoSuchObject)
     × (refusal_of desk_of_two_threads (Show (Memory 0 4294967295 256)) ≡ Some BadAddress)
     × (refusal_of desk_of_two_threads (Show (Memory 0 0x10047 1)) ≡ None)
@@ -69,11 +69,11 @@ row_refusals_of_commands : (refusal_of desk_of_two_threads (Move (Step 2 1)) ≡
     × (refusal_of desk_of_two_threads (Move End) ≡ None)
     × (refusal_of desk_of_two_threads (Quit) ≡ None)
 unfolding refusal_of
-row_refusals_of_commands = (refl, refl, refl, refl, refl, refl, refl, refl, refl, refl)
+refusal_of_command_examples = (refl, refl, refl, refl, refl, refl, refl, refl, refl, refl)
 
-row_commands_that_may_lack : (may_lack desk_of_two_threads (Show (Registers 0)) ≡ false)
+may_lack_of_show_examples : (may_lack desk_of_two_threads (Show (Registers 0)) ≡ false)
     × (may_lack desk_of_two_threads (Show (Next 0)) ≡ true)
-row_commands_that_may_lack = (refl, refl)
+may_lack_of_show_examples = (refl, refl)
 
 -- ---- answers
 
@@ -85,12 +85,12 @@ trace_of_nine_steps = record {
       record { objects = 1; budget = 1000; profile = One; threads = record { steps = 9; end = Breakpoint; events = [] } ∷ [] };
 }
 
-row_texts_of_moves : (moved_text trace_of_nine_steps (Step 0 1) (9 ∷ []) ≡ codes "at 9 end\n")
+moved_text_examples : (moved_text trace_of_nine_steps (Step 0 1) (9 ∷ []) ≡ codes "at 9 end\n")
     × (moved_text trace_of_nine_steps (Goto 0 0) (0 ∷ []) ≡ codes "at 0 start\n")
     × (moved_text trace_of_nine_steps (Step 0 1) (8 ∷ []) ≡ codes "at 8\n")
     × (moved_text trace_of_nine_steps Start (0 ∷ 0 ∷ []) ≡ codes "at 0 0\n")
 unfolding digits
-row_texts_of_moves = (refl, refl, refl, refl)
+moved_text_examples = (refl, refl, refl, refl)
 
-row_last_cut : last_cut trace_of_nine_steps ≡ 9 ∷ []
-row_last_cut = refl
+last_cut_of_nine_step_trace_is_9 : last_cut trace_of_nine_steps ≡ 9 ∷ []
+last_cut_of_nine_step_trace_is_9 = refl

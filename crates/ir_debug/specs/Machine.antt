@@ -121,7 +121,7 @@ has_number d (command.Keeping (Load n)) = is_some (kept_cut d.kept n)
 has_number d (command.Keeping (Drop n)) = not (n == 0) && is_some (kept_cut d.kept n)
 has_number d c = true
 
--- there is place for one more, and a number, of which a command can name it
+-- there is place for one more, and a number by which a command can name it
 abbrev pub has_place : Desk → Command → Bool
 has_place d (command.Set point) = nat_lt (length d.points) most_points && nat_lt d.last_point most_small
 has_place d (command.Keeping Keep) = nat_lt (length d.kept) (most_kept + 1) && nat_lt d.last_kept most_small
@@ -172,12 +172,12 @@ StopsAt run f at t Backwards k to = (length to ≡ threads_of f) × runs.IsGreat
 abbrev pub Leads : List runs.Step → FittedTrace → List ℕ → Move → List ℕ → Type 0
 Leads run f at (Step t count) to = StopsAt run f at t Forwards (min (cut_of at t + count) (last_of f t)) to
 Leads run f at (Back t count) to = StopsAt run f at t Backwards (cut_of at t - count) to
-Leads run f at (Goto t k) to = let last = min k (last_of f t) in
-    StopsAt run f at t (if nat_le (cut_of at t) last then Forwards else Backwards) last to
+Leads run f at (Goto t k) to = let stop = min k (last_of f t) in
+    StopsAt run f at t (if nat_le (cut_of at t) stop then Forwards else Backwards) stop to
 Leads run f at Start to = to ≡ first_cut f
 Leads run f at End to = to ≡ last_cut f
 
--- where it stops: there; or at its last position, or at 0
+-- where it stops: at the hit; without one at its last position, or at 0
 abbrev pub stop_of : FittedTrace → ℕ → Direction → Option Hit → ℕ
 stop_of f t direction (Some hit) = hit.position
 stop_of f t Forwards None = last_of f t
@@ -260,7 +260,7 @@ RepliesBy (Ok (Some c)) run d text next = Answers run d c text next
 RepliesBy (Ok None) run d text next = Gives [] d text next
 RepliesBy (Err r) run d text next = Refuses r d text next
 
--- the machine may answer a line so, whichever run with the trace it holds
+-- the machine may answer a line so, whichever run has the trace
 unfoldable pub Replies : Desk → List ℕ → List ℕ → Desk → Type 0
 Replies d line text next = EachRun d.fitted (λ run. RepliesBy (command_of line) run d text next)
 

@@ -30,11 +30,12 @@ fn ended(served: Result<Served, Fault>) -> Result<Ended, SessionErr>
 
 /// Opens a debugger on an image and a trace and answers the lines that the reader gives.
 ///
-/// The bytes that are written are the opening lines, and then the answers of the small machine that holds a run of the
-/// guest with the trace and a position of each thread, and nothing else. Which order the threads that replay the run
-/// took makes no difference. Each entry and leave of theirs is reported to the gate. At most `limit` bytes are read; if so many
-/// hold no line of `quit`, the lines that are whole in them are answered, and then `TooLong`. An image or a trace
+/// The bytes that are written are the opening lines, and then the answers of the small machine that holds the guest, its
+/// trace and a position of each thread, whichever run has the trace, and nothing else. Which order the threads that replay the run
+/// took makes no difference. At most `limit` bytes are read. If the input has so many or more, and no whole line of
+/// them is `quit`, those lines are answered, and then `TooLong`. An image or a trace
 /// that is refused, and a trace that no run of the guest has, is named in the opening lines; then no line is read.
+/// Each entry and leave of the threads is reported to the gate, of which no clause speaks.
 ///
 /// # Errors
 /// `NoMem` before a byte is written; `Read` and `Write` only where that device failed; `TooLong`.
@@ -59,7 +60,7 @@ pub fn session_up_to<H: Hands, R: Source, W: Sink>(
         (Session image.now trace.now limit result (W.written writer.old) (W.written writer.new))) }
     // No byte was read after the line that quits, and if the input ended the reader is at its end.
     ensures last { IfOk result (λ e. ReadsUpTo limit (R.left reader.old) (R.left reader.new) (ReadsThrough e (R.left reader.new))) }
-    // Where nothing was opened, nothing was read.
+    // Where the session ended well and nothing was opened, nothing was read.
     ensures unread { IfRefused result (reader.new ≡ reader.old) }
     // Where memory runs out, nothing was read or written.
     ensures no_memory { result ≡ Err SessionErr.NoMem → (reader.new ≡ reader.old) × (writer.new ≡ writer.old) }

@@ -24,17 +24,17 @@ is_made_in_larger_part a f c above (variant.Read object version) h = has_maker_i
 is_made_in_larger_part a f c above (variant.Write object version readers) h = has_maker_in_larger_part a f c above object version h
 is_made_in_larger_part a f c above (variant.Try object) h = tt
 
-can_follow_in_larger_part : (a b : Recorded) (f c : ℕ → ℕ) (t : ℕ) → ((u : ℕ) → f u ≤ c u) → f t ≡ c t → CanFollow a b f t → CanFollow a b c t
-can_follow_in_larger_part a b f c t above same h = record {
+can_follow_in_larger_part_if_own_count_equal : (a b : Recorded) (f c : ℕ → ℕ) (t : ℕ) → ((u : ℕ) → f u ≤ c u) → f t ≡ c t → CanFollow a b f t → CanFollow a b c t
+can_follow_in_larger_part_if_own_count_equal a b f c t above same h = record {
   event = h.event;
   first = subst (λ n. event_at a t n ≡ Some h.event) same h.first;
   second = subst (λ n. event_at b t n ≡ Some h.event) same h.second;
   made = is_made_in_larger_part a f c above h.event h.made;
 }
 
-condition_counts_one_at_most : (b : Bool) → cond b 1 0 ≤ 1
-condition_counts_one_at_most true = omega arith
-condition_counts_one_at_most false = omega arith
+cond_one_or_zero_is_at_most_one : (b : Bool) → cond b 1 0 ≤ 1
+cond_one_or_zero_is_at_most_one true = omega arith
+cond_one_or_zero_is_at_most_one false = omega arith
 
 -- where no thread can follow, no part is greater
 part_is_greatest_if_none_follow : (a b : Recorded) (c : ℕ → ℕ) → ((t : ℕ) → CanFollow a b c t → ⊥) → (longer : List ℕ) → IsPart a b longer
@@ -45,20 +45,20 @@ part_is_greatest_if_none_follow a b c rests (u ∷ us) is t =
     let here = below t in
     elim (cases_eq u t) [
       | inl same ↦ elim (cases_lt (part us t) (c t)) [
-        | inl less ↦ let one = condition_counts_one_at_most (eqb u t) in omega (arith, less, one)
+        | inl less ↦ let one = cond_one_or_zero_is_at_most_one (eqb u t) in omega (arith, less, one)
         | inr past ↦
             let all : part us t ≡ c t = omega (arith, here, past) in
             let own : part us u ≡ c u = subst (λ w. part us w ≡ c w) (sym same) all in
-            absurd (rests u (can_follow_in_larger_part a b (part us) c u below own is.1))
+            absurd (rests u (can_follow_in_larger_part_if_own_count_equal a b (part us) c u below own is.1))
       ]
       | inr ne ↦ let none = ap {B = ℕ} (λ (x : Bool). cond x 1 0) (ne_eqb u t ne) in omega (arith, here, none)
     ]
 
 -- ---- a part by the counts of its threads
 
-counts_after_thread_followed : (c : List ℕ) (t u : ℕ) (f : ℕ → ℕ) → t < length c → ((w : ℕ) → get_or c w 0 ≡ f w)
+counts_after_thread_followed_are_one_more_for_it : (c : List ℕ) (t u : ℕ) (f : ℕ → ℕ) → t < length c → ((w : ℕ) → get_or c w 0 ≡ f w)
     → get_or (set c t (get_or c t 0 + 1)) u 0 ≡ cond (eqb t u) 1 0 + f u
-counts_after_thread_followed c t u f within same = elim (cases_eq u t) [
+counts_after_thread_followed_are_one_more_for_it c t u f within same = elim (cases_eq u t) [
   | inl here ↦
       let new = get_or-set_same c t (get_or c t 0 + 1) 0 within in
       let one = ap {B = ℕ} (λ (x : Bool). cond x 1 0) (eq-eqb t u (sym here)) in
@@ -80,8 +80,8 @@ pub built_after_thread_followed : (a b : Recorded) (c new : List ℕ) (t : ℕ) 
 built_after_thread_followed a b c new t h within can is = subst (IsBuilt a b) (sym is) (record {
   size = length-set c t (counts_of c t + 1) ∙ h.size;
   order = t ∷ h.order;
-  built = (h.built, can_follow_in_larger_part a b (counts_of c) (part h.order) t (λ u. let e = h.counts u in omega (arith, e)) (h.counts t) can);
-  counts = λ u. counts_after_thread_followed c t u (part h.order) within h.counts;
+  built = (h.built, can_follow_in_larger_part_if_own_count_equal a b (counts_of c) (part h.order) t (λ u. let e = h.counts u in omega (arith, e)) (h.counts t) can);
+  counts = λ u. counts_after_thread_followed_are_one_more_for_it c t u (part h.order) within h.counts;
 })
 
 -- fewer events are left then

@@ -35,17 +35,17 @@ if_ok_weaker (Ok x) P Q more p = more x p
 if_ok_weaker (Err e) P Q more p = tt
 
 -- what made the version that a read entry found
-pub maker_text_of_read_entry : (r : Recorded) (e : Event) (o v : ℕ) (made : Option Place) (text : List ℕ) → e ≡ variant.Read o v
+pub by_text_says_maker_of_read_entry : (r : Recorded) (e : Event) (o v : ℕ) (made : Option Place) (text : List ℕ) → e ≡ variant.Read o v
     → ((t i l : ℕ) (a : Access) → At ((trace_of r).logs t) i (In o a v l) → IsMadeBy r o v made)
     → text ≡ codes " by " ++ maker_text made → (t i : ℕ) → event_at r t i ≡ Some e → IsMakerOf r e text
-maker_text_of_read_entry r e o v made text is by said t i = subst (λ (x : Event). event_at r t i ≡ Some x → IsMakerOf r x text) (sym is)
+by_text_says_maker_of_read_entry r e o v made text is by said t i = subst (λ (x : Event). event_at r t i ≡ Some x → IsMakerOf r x text) (sym is)
     (λ there. (made, by t i 0 Reading (label_of_event_is_at_its_place (recorded_thread r t).events i (variant.Read o v) there), said))
 
 -- what made the version that a write entry found
-pub maker_text_of_write_entry : (r : Recorded) (e : Event) (o v l : ℕ) (made : Option Place) (text : List ℕ) → e ≡ variant.Write o v l
+pub by_text_says_maker_of_write_entry : (r : Recorded) (e : Event) (o v l : ℕ) (made : Option Place) (text : List ℕ) → e ≡ variant.Write o v l
     → ((t i k : ℕ) (a : Access) → At ((trace_of r).logs t) i (In o a v k) → IsMadeBy r o v made)
     → text ≡ codes " by " ++ maker_text made → (t i : ℕ) → event_at r t i ≡ Some e → IsMakerOf r e text
-maker_text_of_write_entry r e o v l made text is by said t i = subst (λ (x : Event). event_at r t i ≡ Some x → IsMakerOf r x text) (sym is)
+by_text_says_maker_of_write_entry r e o v l made text is by said t i = subst (λ (x : Event). event_at r t i ≡ Some x → IsMakerOf r x text) (sym is)
     (λ there. (made, by t i l Writing (label_of_event_is_at_its_place (recorded_thread r t).events i (variant.Write o v l) there), said))
 
 -- the texts of the first n threads were put after the first lines

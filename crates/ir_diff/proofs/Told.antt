@@ -14,15 +14,15 @@ use Rattle.ir_diff.specs.Progress.{AreMakersOf}
 
 -- ---- flags
 
-pub tells_if_true : (flag : Bool) (P : Type 0) → flag ≡ true → P → Tells flag P
-tells_if_true flag P is p = record { set = λ e. p; clear = λ e. absurd (false≢true (sym e ∙ is)) }
+pub tells_if_flag_true_and_proposition_holds : (flag : Bool) (P : Type 0) → flag ≡ true → P → Tells flag P
+tells_if_flag_true_and_proposition_holds flag P is p = record { set = λ e. p; clear = λ e. absurd (false≢true (sym e ∙ is)) }
 
-pub tells_if_false : (flag : Bool) (P : Type 0) → flag ≡ false → (P → ⊥) → Tells flag P
-tells_if_false flag P is none = record { set = λ e. absurd (true≢false (sym e ∙ is)); clear = λ e. none }
+pub tells_if_flag_false_and_proposition_fails : (flag : Bool) (P : Type 0) → flag ≡ false → (P → ⊥) → Tells flag P
+tells_if_flag_false_and_proposition_fails flag P is none = record { set = λ e. absurd (true≢false (sym e ∙ is)); clear = λ e. none }
 
 -- the same flag tells what is equivalent
-pub tells_equivalent : (flag : Bool) (P Q : Type 0) → (P → Q) → (Q → P) → Tells flag P → Tells flag Q
-tells_equivalent flag P Q to from told = record { set = λ e. to (told.set e); clear = λ e q. told.clear e (from q) }
+pub tells_of_equivalent_proposition : (flag : Bool) (P Q : Type 0) → (P → Q) → (Q → P) → Tells flag P → Tells flag Q
+tells_of_equivalent_proposition flag P Q to from told = record { set = λ e. to (told.set e); clear = λ e q. told.clear e (from q) }
 
 -- ---- write entries
 
@@ -46,10 +46,10 @@ noted_maker_is_only_write r m o w u j l p are noted write =
 
 -- ---- the maker of a version
 
-pub tells_has_maker_if_noted : (r : Recorded) (c : ℕ → ℕ) (m : Makers) (o v w : ℕ) (p : Place) (flag : Bool) → AreMakersOf r m → v ≡ suc w
+pub tells_has_maker_if_tells_noted_maker_in_part : (r : Recorded) (c : ℕ → ℕ) (m : Makers) (o v w : ℕ) (p : Place) (flag : Bool) → AreMakersOf r m → v ≡ suc w
     → maker_in m o w ≡ Some p → Tells flag (p.event < c p.thread) → Tells flag (HasMaker r c o v)
-tells_has_maker_if_noted r c m o v w p flag are is noted told =
-    subst (λ z. Tells flag (HasMaker r c o z)) (sym is) (tells_equivalent flag (p.event < c p.thread) (HasMaker r c o (suc w)) to from told)
+tells_has_maker_if_tells_noted_maker_in_part r c m o v w p flag are is noted told =
+    subst (λ z. Tells flag (HasMaker r c o z)) (sym is) (tells_of_equivalent_proposition flag (p.event < c p.thread) (HasMaker r c o (suc w)) to from told)
   where
     to : p.event < c p.thread → HasMaker r c o (suc w)
     to counted = let there = are.makes.sound o w p noted in (p.thread, p.event, there.0, counted, there.1)
@@ -64,10 +64,10 @@ no_maker_if_none_noted r c m o v w are is none h = let made = subst (HasMaker r 
 
 -- ---- the maker of a version, if another thread made it
 
-pub tells_others_maker_if_noted : (r : Recorded) (c : ℕ → ℕ) (m : Makers) (t o v w : ℕ) (p : Place) (flag : Bool) → AreMakersOf r m → v ≡ suc w
+pub tells_others_maker_if_tells_noted_maker_own_or_in_part : (r : Recorded) (c : ℕ → ℕ) (m : Makers) (t o v w : ℕ) (p : Place) (flag : Bool) → AreMakersOf r m → v ≡ suc w
     → maker_in m o w ≡ Some p → Tells flag (p.thread ≢ t → p.event < c p.thread) → Tells flag (HasOthersMaker r c t o v)
-tells_others_maker_if_noted r c m t o v w p flag are is noted told =
-    tells_equivalent flag (p.thread ≢ t → p.event < c p.thread) (HasOthersMaker r c t o v) to from told
+tells_others_maker_if_tells_noted_maker_own_or_in_part r c m t o v w p flag are is noted told =
+    tells_of_equivalent_proposition flag (p.thread ≢ t → p.event < c p.thread) (HasOthersMaker r c t o v) to from told
   where
     to : (p.thread ≢ t → p.event < c p.thread) → HasOthersMaker r c t o v
     to counted u j x l later other write =

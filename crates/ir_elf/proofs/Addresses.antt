@@ -12,33 +12,33 @@ use Rattle.ir_elf.proofs.Order.{IsNext, AreOrdered}
 
 -- ---- bytes over others
 
-pub get_or_of_over_before : (place : ℕ) (own all : List ℕ) (i : ℕ) → i < place → place + length own ≤ length all
+pub get_or_of_over_before_is_unchanged : (place : ℕ) (own all : List ℕ) (i : ℕ) → i < place → place + length own ≤ length all
     → get_or (over place own all) i 0 ≡ get_or all i 0
-get_or_of_over_before place own all i lt fits =
+get_or_of_over_before_is_unchanged place own all i lt fits =
     let taken = length-take-le place all (omega arith) in
     let joined = length-append (take place all) own in
     get_or_append_left (take place all ++ own) (drop (place + length own) all) 0 i (omega (arith, lt, taken, joined))
     ∙ get_or_append_left (take place all) own 0 i (omega (arith, lt, taken)) ∙ get_or-take place all i 0 lt
 
-get_or_of_over_inside : (place : ℕ) (own all : List ℕ) (i : ℕ) → place ≤ i → i < place + length own → place + length own ≤ length all
+get_or_of_over_inside_is_put_element : (place : ℕ) (own all : List ℕ) (i : ℕ) → place ≤ i → i < place + length own → place + length own ≤ length all
     → get_or (over place own all) i 0 ≡ get_or own (i - place) 0
-get_or_of_over_inside place own all i low high fits =
+get_or_of_over_inside_is_put_element place own all i low high fits =
     let taken = length-take-le place all (omega arith) in
     let joined = length-append (take place all) own in
     get_or_append_left (take place all ++ own) (drop (place + length own) all) 0 i (omega (arith, high, taken, joined))
     ∙ get_or-append_right (take place all) own place i 0 taken low
 
-pub get_or_of_over_after : (place : ℕ) (own all : List ℕ) (i : ℕ) → place + length own ≤ i → place + length own ≤ length all
+pub get_or_of_over_after_is_unchanged : (place : ℕ) (own all : List ℕ) (i : ℕ) → place + length own ≤ i → place + length own ≤ length all
     → get_or (over place own all) i 0 ≡ get_or all i 0
-get_or_of_over_after place own all i low fits =
+get_or_of_over_after_is_unchanged place own all i low fits =
     let taken = length-take-le place all (omega arith) in
     let joined : length (take place all ++ own) ≡ place + length own = length-append (take place all) own ∙ ap (λ (k : ℕ). k + length own) taken in
     let back : place + length own + (i - (place + length own)) ≡ i = omega (arith, low) in
     get_or-append_right (take place all ++ own) (drop (place + length own) all) (place + length own) i 0 joined low
     ∙ get_or-drop (place + length own) all (i - (place + length own)) 0 ∙ ap (λ (k : ℕ). get_or all k 0) back
 
-length_of_over : (place : ℕ) (own all : List ℕ) → place + length own ≤ length all → length (over place own all) ≡ length all
-length_of_over place own all fits =
+over_keeps_length : (place : ℕ) (own all : List ℕ) → place + length own ≤ length all → length (over place own all) ≡ length all
+over_keeps_length place own all fits =
     let taken = length-take-le place all (omega arith) in
     let joined = length-append (take place all) own in
     let whole = length-append (take place all ++ own) (drop (place + length own) all) in
@@ -81,11 +81,11 @@ segment_fits_in_part part s last all next whole same =
     let held = next.held in
     omega (arith, size, within, held, whole)
 
-pub length_of_with_segment : (part : Part) (s : Segment) (last : ℕ) (all : List ℕ) → IsNext last s → length all ≡ size_of part
+pub length_of_with_segment_is_size_of_part : (part : Part) (s : Segment) (last : ℕ) (all : List ℕ) → IsNext last s → length all ≡ size_of part
     → length (with_segment part s all) ≡ size_of part
-length_of_with_segment part s last all next whole =
+length_of_with_segment_is_size_of_part part s last all next whole =
     cond_both (is_same s.part part) (over s.place s.bytes all) all (λ xs. length xs ≡ size_of part)
-    (λ same. length_of_over s.place s.bytes all (segment_fits_in_part part s last all next whole same) ∙ whole) (λ other. whole)
+    (λ same. over_keeps_length s.place s.bytes all (segment_fits_in_part part s last all next whole same) ∙ whole) (λ other. whole)
 
 -- below a segment nothing changes
 with_segment_below_is_unchanged : (part : Part) (s : Segment) (last : ℕ) (all : List ℕ) (i : ℕ) → IsNext last s → length all ≡ size_of part
@@ -93,7 +93,7 @@ with_segment_below_is_unchanged : (part : Part) (s : Segment) (last : ℕ) (all 
 with_segment_below_is_unchanged part s last all i next whole lt =
     cond_both (is_same s.part part) (over s.place s.bytes all) all (λ xs. get_or xs i 0 ≡ get_or all i 0)
     (λ same. let start : start_of s.part ≡ start_of part = ap start_of (parts_are_equal_if_is_same_is_true s.part part same) in
-    get_or_of_over_before s.place s.bytes all i (omega (arith, start, lt)) (segment_fits_in_part part s last all next whole same)) (λ other. refl)
+    get_or_of_over_before_is_unchanged s.place s.bytes all i (omega (arith, start, lt)) (segment_fits_in_part part s last all next whole same)) (λ other. refl)
 
 -- above it nothing either
 with_segment_above_is_unchanged : (part : Part) (s : Segment) (last : ℕ) (all : List ℕ) (i : ℕ) → IsNext last s → length all ≡ size_of part
@@ -102,7 +102,7 @@ with_segment_above_is_unchanged part s last all i next whole le =
     cond_both (is_same s.part part) (over s.place s.bytes all) all (λ xs. get_or xs i 0 ≡ get_or all i 0)
     (λ same. let start : start_of s.part ≡ start_of part = ap start_of (parts_are_equal_if_is_same_is_true s.part part same) in
     let held = next.held in
-    get_or_of_over_after s.place s.bytes all i (omega (arith, start, le, held)) (segment_fits_in_part part s last all next whole same)) (λ other. refl)
+    get_or_of_over_after_is_unchanged s.place s.bytes all i (omega (arith, start, le, held)) (segment_fits_in_part part s last all next whole same)) (λ other. refl)
 
 -- in it is what the file holds, and 0 after that
 with_segment_inside_is_file_byte : (part : Part) (s : Segment) (last : ℕ) (all : List ℕ) (i : ℕ) → IsNext last s → length all ≡ size_of part → i < size_of part
@@ -116,8 +116,8 @@ with_segment_inside_is_file_byte part s last all i next whole lt low high zero =
     let there : i - s.place ≡ start_of part + i - address_of s = omega (arith, start) in
     let fits = segment_fits_in_part part s last all next whole same in
     let placed : get_or (over s.place s.bytes all) i 0 ≡ get_or s.bytes (i - s.place) 0 = elim (cases_lt i (s.place + length s.bytes)) [
-      | inl l ↦ get_or_of_over_inside s.place s.bytes all i (omega (arith, low, start)) l fits
-      | inr g ↦ get_or_of_over_after s.place s.bytes all i g fits ∙ zero ∙ sym (get_or_past s.bytes (i - s.place) 0 (omega (arith, g)))
+      | inl l ↦ get_or_of_over_inside_is_put_element s.place s.bytes all i (omega (arith, low, start)) l fits
+      | inr g ↦ get_or_of_over_after_is_unchanged s.place s.bytes all i g fits ∙ zero ∙ sym (get_or_past s.bytes (i - s.place) 0 (omega (arith, g)))
     ] in
     rw same (placed ∙ ap (λ (k : ℕ). get_or s.bytes k 0) there)
 
@@ -146,7 +146,7 @@ place_below_segments_is_untouched part (s ∷ ss) all last i o lt whole =
     let next = o.0 in
     let low = next.low in
     let far : start_of part + i < address_of s = omega (arith, low, lt) in
-    let rest = place_below_segments_is_untouched part ss (with_segment part s all) (end_of s) i o.1 (omega (arith, far)) (length_of_with_segment part s last all next whole) in
+    let rest = place_below_segments_is_untouched part ss (with_segment part s all) (end_of s) i o.1 (omega (arith, far)) (length_of_with_segment_is_size_of_part part s last all next whole) in
     record {
       kept = rest.kept ∙ with_segment_below_is_unchanged part s last all i next whole far;
       none = rw (byte_in_below_is_none s (start_of part + i) far) rest.none;
@@ -161,7 +161,7 @@ with_segments_puts_byte_of_address part (s ∷ ss) all last i o le lt whole zero
     let next = o.0 in
     let a = start_of part + i in
     let more = with_segment part s all in
-    let length_is = length_of_with_segment part s last all next whole in
+    let length_is = length_of_with_segment_is_size_of_part part s last all next whole in
     elim (cases_lt a (address_of s)) [
       | inl l ↦ (let rest = place_below_segments_is_untouched part ss more (end_of s) i o.1 (omega (arith, l)) length_is in
           rest.kept ∙ with_segment_below_is_unchanged part s last all i next whole l ∙ zero ∙ sym (rw (byte_in_below_is_none s a l, rest.none) refl))

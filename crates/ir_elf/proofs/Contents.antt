@@ -5,7 +5,7 @@ use Rattle.std.proofs.lemmas.Bool.{cases_lt, cases_Bool, cond_both, ltb-true, lt
 use Rattle.std.proofs.lemmas.List.{get_or-take, get_or_past, get_or-replicate, length-replicate}
 use Rattle.byteorder.specs.Endian.{little_number}
 use Rattle.ir_bytes.specs.Reading.{◌>>=◌, bytes_at, fields_at}
-use Rattle.ir_bytes.proofs.CallerLemmas.{two_steps_succeed, four_steps_succeed, ok_is_injective}
+use Rattle.ir_bytes.proofs.CallerLemmas.{each_of_two_is_ok_if_bind_is_ok, each_of_four_is_ok_if_binds_are_ok, ok_is_injective}
 use Rattle.ir_image.specs.Guest.{Guest, code_start, memory_start, memory_size}
 use Rattle.ir_elf.specs.declared.part.Part.{Part}
 use Rattle.ir_elf.specs.declared.part.Part.TheVariants.{Code, Memory, Table}
@@ -20,15 +20,15 @@ use Rattle.ir_elf.specs.Reading.{code_memory, code_words, data_bytes, table_foun
 use Rattle.ir_elf.specs.Addresses.{byte_of, byte_at, word_at, IsInParts}
 use Rattle.ir_elf.proofs.Limits.{parts_of_ok_unless, guest_by}
 use Rattle.ir_elf.proofs.Order.{IsNext, AreOrdered, segments_from_are_ordered}
-use Rattle.ir_elf.proofs.Addresses.{get_or_of_over_before, get_or_of_over_after, parts_are_equal_if_is_same_is_true, segment_fits_in_part, length_of_with_segment, with_segments_puts_byte_of_address}
-use Rattle.ir_elf.proofs.Words.{length_of_words_in}
+use Rattle.ir_elf.proofs.Addresses.{get_or_of_over_before_is_unchanged, get_or_of_over_after_is_unchanged, parts_are_equal_if_is_same_is_true, segment_fits_in_part, length_of_with_segment_is_size_of_part, with_segments_puts_byte_of_address}
+use Rattle.ir_elf.proofs.Words.{length_of_words_in_is_quarter_of_length}
 
 -- ---- the parts of a guest
 
 pub segments_at_are_ordered : (file : List ℕ) (ss : List Segment) → segments_at file ≡ Ok ss → AreOrdered 0 ss
 unfolding segments_at
 segments_at_are_ordered file ss e =
-    four_steps_succeed (headers_place_at file) (λ found. bytes_at Short found.place file) (λ found before. fields_at header_at found.number before.1)
+    each_of_four_is_ok_if_binds_are_ok (headers_place_at file) (λ found. bytes_at Short found.place file) (λ found before. fields_at header_at found.number before.1)
     (λ found before headers. segments_from file 0 headers.0) ss e
     (λ found before headers e0 e1 e2 e3. segments_from_are_ordered file 0 headers.0 ss e3)
 
@@ -42,25 +42,25 @@ pub is_guest_of_if_guest_read : (ss : List Segment) (g : Guest) → guest_of ss 
 unfolding guest_of
 is_guest_of_if_guest_read ss g e =
     let p = parts_of_ok_unless (ltb 0 (code_words ss)) NoCode (table_found (code_words ss) (table_of ss) >>= λ t. Ok (guest_by ss t)) g e in
-    two_steps_succeed (table_found (code_words ss) (table_of ss)) (λ t. Ok (guest_by ss t)) g p.1 (λ t e0 e1.
+    each_of_two_is_ok_if_bind_is_ok (table_found (code_words ss) (table_of ss)) (λ t. Ok (guest_by ss t)) g p.1 (λ t e0 e1.
     record { t = t; some_code = ltb-true _ _ p.0; table = e0; guest = ok_is_injective Refusal (guest_by ss t) g e1 })
 
 pub is_guest_of_if_file_read : (file : List ℕ) (ss : List Segment) (g : Guest) → segments_at file ≡ Ok ss → elf_guest_at file ≡ Ok g → IsGuestOf ss g
 unfolding elf_guest_at
 is_guest_of_if_file_read file ss g e h =
-    two_steps_succeed (segments_at file) (λ s. guest_of s) g h (λ s e0 e1.
+    each_of_two_is_ok_if_bind_is_ok (segments_at file) (λ s. guest_of s) g h (λ s e0 e1.
     is_guest_of_if_guest_read ss g (subst (λ (x : List Segment). guest_of x ≡ Ok g) (ok_is_injective Refusal s ss (sym e0 ∙ e)) e1))
 
 -- ---- memory
 
-length_of_with_segments : (part : Part) (ss : List Segment) (last : ℕ) (all : List ℕ) → AreOrdered last ss → length all ≡ size_of part
+length_of_with_segments_is_size_of_part : (part : Part) (ss : List Segment) (last : ℕ) (all : List ℕ) → AreOrdered last ss → length all ≡ size_of part
     → length (with_segments part ss all) ≡ size_of part
-length_of_with_segments part [] last all o whole = whole
-length_of_with_segments part (s ∷ ss) last all o whole =
-    length_of_with_segments part ss (end_of s) (with_segment part s all) o.1 (length_of_with_segment part s last all o.0 whole)
+length_of_with_segments_is_size_of_part part [] last all o whole = whole
+length_of_with_segments_is_size_of_part part (s ∷ ss) last all o whole =
+    length_of_with_segments_is_size_of_part part ss (end_of s) (with_segment part s all) o.1 (length_of_with_segment_is_size_of_part part s last all o.0 whole)
 
-pub length_of_memory_of : (part : Part) (ss : List Segment) → AreOrdered 0 ss → length (memory_of part ss) ≡ size_of part
-length_of_memory_of part ss o = length_of_with_segments part ss 0 (replicate (size_of part) 0) o (length-replicate (size_of part) 0)
+pub length_of_memory_of_is_size_of_part : (part : Part) (ss : List Segment) → AreOrdered 0 ss → length (memory_of part ss) ≡ size_of part
+length_of_memory_of_is_size_of_part part ss o = length_of_with_segments_is_size_of_part part ss 0 (replicate (size_of part) 0) o (length-replicate (size_of part) 0)
 
 pub memory_byte_is_byte_at : (part : Part) (ss : List Segment) (i : ℕ) → AreOrdered 0 ss → i < size_of part
     → get_or (memory_of part ss) i 0 ≡ byte_at ss (start_of part + i)
@@ -76,10 +76,10 @@ with_segment_past_held_is_unchanged part s last all i next whole past =
     (λ same. let fits = segment_fits_in_part part s last all next whole same in
     elim (cases_lt 0 (length s.bytes)) [
       | inl l ↦ (let held : held_in part s ≡ s.place + length s.bytes = rw (same, lt-ltb 0 (length s.bytes) l) refl in
-          get_or_of_over_after s.place s.bytes all i (omega (arith, held, past)) fits)
+          get_or_of_over_after_is_unchanged s.place s.bytes all i (omega (arith, held, past)) fits)
       | inr g ↦ elim (cases_lt i s.place) [
-        | inl l ↦ get_or_of_over_before s.place s.bytes all i l fits
-        | inr h ↦ get_or_of_over_after s.place s.bytes all i (omega (arith, g, h)) fits
+        | inl l ↦ get_or_of_over_before_is_unchanged s.place s.bytes all i l fits
+        | inr h ↦ get_or_of_over_after_is_unchanged s.place s.bytes all i (omega (arith, g, h)) fits
       ]
     ]) (λ other. refl)
 
@@ -87,7 +87,7 @@ with_segments_past_held_is_unchanged : (part : Part) (ss : List Segment) (last :
     → greatest (held_in part) ss ≤ i → get_or (with_segments part ss all) i 0 ≡ get_or all i 0
 with_segments_past_held_is_unchanged part [] last all i o whole past = refl
 with_segments_past_held_is_unchanged part (s ∷ ss) last all i o whole past =
-    with_segments_past_held_is_unchanged part ss (end_of s) (with_segment part s all) i o.1 (length_of_with_segment part s last all o.0 whole) (omega (arith, past))
+    with_segments_past_held_is_unchanged part ss (end_of s) (with_segment part s all) i o.1 (length_of_with_segment_is_size_of_part part s last all o.0 whole) (omega (arith, past))
     ∙ with_segment_past_held_is_unchanged part s last all i o.0 whole (omega (arith, past))
 
 memory_past_held_is_zero : (part : Part) (ss : List Segment) (i : ℕ) → AreOrdered 0 ss → i < size_of part → greatest (held_in part) ss ≤ i
@@ -117,9 +117,9 @@ guest_byte_is_byte_at file segments g i e h lt =
 abbrev word_of_four_bytes : List ℕ → ℕ → ℕ
 word_of_four_bytes xs i = little_number 4 (get_or xs i 0 ∷ get_or xs (i + 1) 0 ∷ get_or xs (i + 2) 0 ∷ get_or xs (i + 3) 0 ∷ [])
 
-little_number_of_equal_bytes : (a b c d x y z w : ℕ) → a ≡ x → b ≡ y → c ≡ z → d ≡ w
+little_numbers_of_equal_bytes_are_equal : (a b c d x y z w : ℕ) → a ≡ x → b ≡ y → c ≡ z → d ≡ w
     → little_number 4 (a ∷ b ∷ c ∷ d ∷ []) ≡ little_number 4 (x ∷ y ∷ z ∷ w ∷ [])
-little_number_of_equal_bytes a b c d x y z w p q r s = λ i. little_number 4 (p i ∷ q i ∷ r i ∷ s i ∷ [])
+little_numbers_of_equal_bytes_are_equal a b c d x y z w p q r s = λ i. little_number 4 (p i ∷ q i ∷ r i ∷ s i ∷ [])
 
 word_in_is_of_four_bytes : (xs : List ℕ) (k : ℕ) → k < length (words_in xs) → get_or (words_in xs) k 0 ≡ word_of_four_bytes xs (4 * k)
 word_in_is_of_four_bytes [] k lt = absurd (omega (arith, lt))
@@ -133,16 +133,16 @@ word_in_is_of_four_bytes (a ∷ b ∷ c ∷ d ∷ more) (suc k) lt =
     ap (λ (m : ℕ). get_or all m 0) {x = suc (suc (suc (suc n)))} (omega (arith, e)) in
     let start : get_or more (4 * k) 0 ≡ get_or all (4 * suc k) 0 = ap (λ (m : ℕ). get_or all m 0) {x = suc (suc (suc (suc (4 * k))))}
     (omega arith) in
-    word_in_is_of_four_bytes more k (omega (arith, lt)) ∙ little_number_of_equal_bytes _ _ _ _ _ _ _ _ start (step 1 (4 * k + 1) refl) (step 2 (4 * k + 2) refl)
+    word_in_is_of_four_bytes more k (omega (arith, lt)) ∙ little_numbers_of_equal_bytes_are_equal _ _ _ _ _ _ _ _ start (step 1 (4 * k + 1) refl) (step 2 (4 * k + 2) refl)
     (step 3 (4 * k + 3) refl)
 
 code_word_is_word_at : (ss : List Segment) (k : ℕ) → AreOrdered 0 ss → k < length (words_in (take (4 * code_words ss) (code_memory ss)))
     → get_or (words_in (take (4 * code_words ss) (code_memory ss))) k 0 ≡ word_at ss (code_start + 4 * k)
 code_word_is_word_at ss k o lt =
     let own = take (4 * code_words ss) (code_memory ss) in
-    let count = length_of_words_in own in
+    let count = length_of_words_in_is_quarter_of_length own in
     let least = length-take (4 * code_words ss) (code_memory ss) in
-    let whole : length (code_memory ss) ≡ 65536 = length_of_memory_of Code ss o in
+    let whole : length (code_memory ss) ≡ 65536 = length_of_memory_of_is_size_of_part Code ss o in
     let at : (j : ℕ) → j < 4 → get_or own (4 * k + j) 0 ≡ byte_at ss (code_start + (4 * k + j)) = λ j l.
     get_or-take (4 * code_words ss) (code_memory ss) (4 * k + j) 0 (omega (arith, lt, count, least, l))
     ∙ memory_byte_is_byte_at Code ss (4 * k + j) o (omega (arith, lt, count, least, whole, l)) in
@@ -150,7 +150,7 @@ code_word_is_word_at ss k o lt =
     ap (byte_at ss) (omega arith) in
     let first : byte_at ss (code_start + (4 * k + 0)) ≡ byte_at ss (code_start + 4 * k) = ap (byte_at ss) (omega arith) in
     let start : get_or own (4 * k) 0 ≡ get_or own (4 * k + 0) 0 = ap (λ (n : ℕ). get_or own n 0) (omega arith) in
-    word_in_is_of_four_bytes own k lt ∙ little_number_of_equal_bytes _ _ _ _ _ _ _ _ (start ∙ at 0 (omega arith) ∙ first) (at 1 (omega arith) ∙ moved 1)
+    word_in_is_of_four_bytes own k lt ∙ little_numbers_of_equal_bytes_are_equal _ _ _ _ _ _ _ _ (start ∙ at 0 (omega arith) ∙ first) (at 1 (omega arith) ∙ moved 1)
     (at 2 (omega arith) ∙ moved 2) (at 3 (omega arith) ∙ moved 3)
 
 pub guest_code_word_is_word_at : (file : List ℕ) (segments : List Segment) (g : Guest) (k : ℕ) → segments_at file ≡ Ok segments → elf_guest_at file ≡ Ok g
@@ -182,13 +182,13 @@ address_of_byte_is_in_parts (s ∷ ss) last a b words o most e =
 number_at_most_four_times_quotient_rounded_up : (n : ℕ) → n ≤ 4 * ((n + 3) / 4)
 number_at_most_four_times_quotient_rounded_up n = omega arith
 
-code_words_reach_segments : (ss : List Segment) → AreOrdered 0 ss → greatest (size_in Code) ss ≤ size_of Code
+greatest_size_in_code_within_code_words : (ss : List Segment) → AreOrdered 0 ss → greatest (size_in Code) ss ≤ size_of Code
     → greatest (size_in Code) ss ≤ 4 * length (words_in (take (4 * code_words ss) (code_memory ss)))
-code_words_reach_segments ss o most =
+greatest_size_in_code_within_code_words ss o most =
     let own = take (4 * code_words ss) (code_memory ss) in
-    let count = length_of_words_in own in
+    let count = length_of_words_in_is_quarter_of_length own in
     let least = length-take (4 * code_words ss) (code_memory ss) in
-    let whole : length (code_memory ss) ≡ 65536 = length_of_memory_of Code ss o in
+    let whole : length (code_memory ss) ≡ 65536 = length_of_memory_of_is_size_of_part Code ss o in
     let up = number_at_most_four_times_quotient_rounded_up (greatest (size_in Code) ss) in
     omega (arith, count, least, whole, up, most)
 
@@ -210,4 +210,4 @@ file_byte_is_in_parts file segments g a b e h there =
     let p = is_guest_of_if_file_read file segments g e h in
     let o = segments_at_are_ordered file segments e in
     subst (λ (x : Guest). IsInParts (length x.code) a) p.guest
-    (address_of_byte_is_in_parts segments 0 a b _ o (code_words_reach_segments segments o (greatest_size_in_code_within_part segments 0 o)) there)
+    (address_of_byte_is_in_parts segments 0 a b _ o (greatest_size_in_code_within_code_words segments o (greatest_size_in_code_within_part segments 0 o)) there)

@@ -46,21 +46,21 @@ header_at_is_header_in_if_whole file p there =
 
 -- ---- what is missing
 
-number_at_is_short : {B : Type 0} (m n : ℕ) (bytes : List ℕ) (f : ℕ × List ℕ → Result B Refusal)
+number_at_and_rest_refuse_short_bytes : {B : Type 0} (m n : ℕ) (bytes : List ℕ) (f : ℕ × List ℕ → Result B Refusal)
     → ((x : ℕ) (b : List ℕ) → length b < n → f (x, b) ≡ Err refusal.Short) → length bytes < m + n
     → (number_at refusal.Short m bytes >>= f) ≡ Err refusal.Short
 unfolding number_at
-number_at_is_short m n bytes f h lt = elim (cases_lt (length bytes) m) [
+number_at_and_rest_refuse_short_bytes m n bytes f h lt = elim (cases_lt (length bytes) m) [
   | inl l ↦ rw (lt-ltb (length bytes) m l) refl
   | inr g ↦ (let left = length-drop m bytes in
       rw (le-ltb (length bytes) m g) (h (little_number m bytes) (drop m bytes) (omega (arith, left, g, lt))))
 ]
 
-bytes_at_is_short : {B : Type 0} (m n : ℕ) (bytes : List ℕ) (f : List ℕ × List ℕ → Result B Refusal)
+bytes_at_and_rest_refuse_short_bytes : {B : Type 0} (m n : ℕ) (bytes : List ℕ) (f : List ℕ × List ℕ → Result B Refusal)
     → ((x b : List ℕ) → length b < n → f (x, b) ≡ Err refusal.Short) → length bytes < m + n
     → (bytes_at refusal.Short m bytes >>= f) ≡ Err refusal.Short
 unfolding bytes_at
-bytes_at_is_short m n bytes f h lt = elim (cases_lt (length bytes) m) [
+bytes_at_and_rest_refuse_short_bytes m n bytes f h lt = elim (cases_lt (length bytes) m) [
   | inl l ↦ rw (lt-ltb (length bytes) m l) refl
   | inr g ↦ (let left = length-drop m bytes in
       rw (le-ltb (length bytes) m g) (h (take m bytes) (drop m bytes) (omega (arith, left, g, lt))))
@@ -91,14 +91,14 @@ after_place k x = number_at refusal.Short 4 x.1 >>= after_address k x.0
 abbrev after_kind : ℕ × List ℕ → HeaderRead
 after_kind x = number_at refusal.Short 4 x.1 >>= after_place x.0
 
-header_at_is_short : (bytes : List ℕ) → length bytes < 32 → header_at bytes ≡ Err refusal.Short
+header_at_refuses_short_bytes : (bytes : List ℕ) → length bytes < 32 → header_at bytes ≡ Err refusal.Short
 unfolding header_at
-header_at_is_short bytes lt =
-    number_at_is_short 4 28 bytes after_kind (λ k b0. number_at_is_short 4 24 b0 (after_place k) (λ p b1.
-    number_at_is_short 4 20 b1 (after_address k p) (λ a b2. bytes_at_is_short 4 16 b2 (after_physical k p a) (λ u b3.
-    number_at_is_short 4 12 b3 (after_length k p a) (λ l b4. number_at_is_short 4 8 b4 (after_size k p a l) (λ s b5.
-    number_at_is_short 4 4 b5 (after_flags k p a l s) (λ f b6.
-    bytes_at_is_short 4 0 b6 (λ y. Ok (record { kind = k; place = p; address = a; length = l; size = s; flags = f }, y.1))
+header_at_refuses_short_bytes bytes lt =
+    number_at_and_rest_refuse_short_bytes 4 28 bytes after_kind (λ k b0. number_at_and_rest_refuse_short_bytes 4 24 b0 (after_place k) (λ p b1.
+    number_at_and_rest_refuse_short_bytes 4 20 b1 (after_address k p) (λ a b2. bytes_at_and_rest_refuse_short_bytes 4 16 b2 (after_physical k p a) (λ u b3.
+    number_at_and_rest_refuse_short_bytes 4 12 b3 (after_length k p a) (λ l b4. number_at_and_rest_refuse_short_bytes 4 8 b4 (after_size k p a l) (λ s b5.
+    number_at_and_rest_refuse_short_bytes 4 4 b5 (after_flags k p a l s) (λ f b6.
+    bytes_at_and_rest_refuse_short_bytes 4 0 b6 (λ y. Ok (record { kind = k; place = p; address = a; length = l; size = s; flags = f }, y.1))
     (λ x b7 none. absurd (omega (arith, none))))))))))
     lt
 
@@ -115,27 +115,27 @@ headers_at_are_headers_in_if_whole file (suc n) p there =
     rw (header_at_is_header_in_if_whole file p (omega (arith, there)), headers_at_are_headers_in_if_whole file n (p + 32) (omega (arith, there)))
     (ap (λ (k : ℕ). Ok (headers_in file p (suc n), drop k file)) same)
 
-headers_at_are_short : (file : List ℕ) (n p : ℕ) → p ≤ length file → length file < p + 32 * n
+headers_at_refuse_short_file : (file : List ℕ) (n p : ℕ) → p ≤ length file → length file < p + 32 * n
     → fields_at header_at n (drop p file) ≡ Err refusal.Short
 unfolding fields_at
-headers_at_are_short file zero p le lt = absurd (omega (arith, le, lt))
-headers_at_are_short file (suc n) p le lt =
+headers_at_refuse_short_file file zero p le lt = absurd (omega (arith, le, lt))
+headers_at_refuse_short_file file (suc n) p le lt =
     let left = length-drop p file in
     elim (cases_lt (length file) (p + 32)) [
-      | inl l ↦ rw (header_at_is_short (drop p file) (omega (arith, l, left, le))) refl
-      | inr g ↦ rw (header_at_is_header_in_if_whole file p g, headers_at_are_short file n (p + 32) g (omega (arith, lt))) refl
+      | inl l ↦ rw (header_at_refuses_short_bytes (drop p file) (omega (arith, l, left, le))) refl
+      | inr g ↦ rw (header_at_is_header_in_if_whole file p g, headers_at_refuse_short_file file n (p + 32) g (omega (arith, lt))) refl
     ]
 
-pub headers_agree_with_tests : {B Y : Type 0} (file : List ℕ) (place number : ℕ) (f : List Header → Result B Refusal) (k : B → Result Y Refusal)
+pub headers_then_rest_agree_with_tests : {B Y : Type 0} (file : List ℕ) (place number : ℕ) (f : List Header → Result B Refusal) (k : B → Result Y Refusal)
     (others : List Test) → Agrees (f (headers_in file place number) >>= k) others
     → Agrees ((bytes_at refusal.Short place file >>= λ before. fields_at header_at number before.1 >>= λ hs. f hs.0) >>= k)
     (test (is_whole file place (32 * number)) refusal.Short others)
 unfolding bytes_at
-headers_agree_with_tests file place number f k others h = elim (cases_lt (length file) place) [
+headers_then_rest_agree_with_tests file place number f k others h = elim (cases_lt (length file) place) [
   | inl l ↦ rw (lt-ltb (length file) place l, lt-leb (place + 32 * number) (length file) (omega (arith, l))) refl
   | inr g ↦ elim (cases_lt (length file) (place + 32 * number)) [
     | inl l ↦ rw
-        (le-ltb (length file) place g, headers_at_are_short file number place g l, lt-leb (place + 32 * number) (length file) l) refl
+        (le-ltb (length file) place g, headers_at_refuse_short_file file number place g l, lt-leb (place + 32 * number) (length file) l) refl
     | inr le ↦ rw
         (le-ltb (length file) place g, headers_at_are_headers_in_if_whole file number place le, le-leb (place + 32 * number) (length file) le) h
   ]

@@ -3,7 +3,7 @@ use Rattle.std.proofs.Common.{◌≡◌, ℕ, ◌+◌, ◌-◌, ◌≤◌, cond,
 use Rattle.std.proofs.lemmas.Bool.{leb-true, and_parts}
 use Rattle.std.proofs.lemmas.Option.{same_Some}
 use Rattle.ir_bytes.specs.Reading.{◌>>=◌, bytes_at}
-use Rattle.ir_bytes.proofs.CallerLemmas.{two_steps_succeed, three_steps_succeed, guard_passed_if_ok, ok_is_injective, conditional_cases, bytes_at_gives_parts}
+use Rattle.ir_bytes.proofs.CallerLemmas.{each_of_two_is_ok_if_bind_is_ok, each_of_three_is_ok_if_binds_are_ok, guard_passed_if_ok, ok_is_injective, conditional_cases, bytes_at_gives_parts}
 use Rattle.ir_elf.specs.declared.part.Part.{Part}
 use Rattle.ir_elf.specs.declared.part.Part.TheVariants.{Code, Memory, Table}
 use Rattle.ir_elf.specs.declared.refusal.Refusal.{Refusal}
@@ -31,11 +31,11 @@ record FitsPart (h : Header) (part : Part) : Type 0 where
   high : h.address + h.size ≤ start_of part + size_of part
   held : h.length ≤ h.size
 
-part_placed_is_found_part : (h : Header) (found : Option Part) (part : Part) → part_placed h found ≡ Ok part → found ≡ Some part
-part_placed_is_found_part h (Some p) part e =
+found_is_some_part_if_part_placed_is_ok : (h : Header) (found : Option Part) (part : Part) → part_placed h found ≡ Ok part → found ≡ Some part
+found_is_some_part_if_part_placed_is_ok h (Some p) part e =
     let q = parts_of_ok_unless (is_placed p h) Outside (Ok p) part e in
     ap (λ (x : Part). Some x) (ok_is_injective Refusal p part q.1)
-part_placed_is_found_part h None part e = absurd cc
+found_is_some_part_if_part_placed_is_ok h None part e = absurd cc
 
 abbrev LiesWithin : Header → Part → Type 0
 LiesWithin h part = is_within part h.address h.size ≡ true
@@ -50,17 +50,17 @@ part_around_contains_header h part e =
 header_fits_part_of : (h : Header) (part : Part) → part_of h ≡ Ok part → FitsPart h part
 header_fits_part_of h part e =
     let p = parts_of_ok_unless (leb h.length h.size) Outside (part_placed h (part_around h)) part e in
-    let t = part_around_contains_header h part (part_placed_is_found_part h (part_around h) part p.1) in
+    let t = part_around_contains_header h part (found_is_some_part_if_part_placed_is_ok h (part_around h) part p.1) in
     let both = and_parts (leb (start_of part) h.address) (leb (h.address + h.size) (start_of part + size_of part)) t in
     record { low = leb-true _ _ both.0; high = leb-true _ _ both.1; held = leb-true _ _ p.0 }
 
 -- ---- one segment
 
-length_of_bytes_from : (place n : ℕ) (file own : List ℕ) → bytes_from place n file ≡ Ok own → length own ≡ n
+length_of_bytes_from_is_n : (place n : ℕ) (file own : List ℕ) → bytes_from place n file ≡ Ok own → length own ≡ n
 unfolding bytes_from
-length_of_bytes_from place n file own e =
-    two_steps_succeed (bytes_at Short place file) (λ before. bytes_at Short n before.1 >>= λ x. Ok x.0) own e (λ before e0 e1.
-    two_steps_succeed (bytes_at Short n before.1) (λ x. Ok x.0) own e1 (λ x e2 e3.
+length_of_bytes_from_is_n place n file own e =
+    each_of_two_is_ok_if_bind_is_ok (bytes_at Short place file) (λ before. bytes_at Short n before.1 >>= λ x. Ok x.0) own e (λ before e0 e1.
+    each_of_two_is_ok_if_bind_is_ok (bytes_at Short n before.1) (λ x. Ok x.0) own e1 (λ x e2 e3.
     let p = bytes_at_gives_parts Short n before.1 x e2 in
     subst (λ (y : List ℕ). length y ≡ n) (ok_is_injective Refusal x.0 own e3) (ap length p.prefix ∙ length-take-le n before.1 p.long)))
 
@@ -70,13 +70,13 @@ segment_of_header own part h = record { part = part; place = h.address - start_o
 segment_at_is_next : (file : List ℕ) (last : ℕ) (h : Header) (s : Segment) → segment_at file last h ≡ Ok s → IsNext last s
 unfolding segment_at
 segment_at_is_next file last h s e =
-    three_steps_succeed (bytes_from h.place h.length file) (λ own. part_of h)
+    each_of_three_is_ok_if_binds_are_ok (bytes_from h.place h.length file) (λ own. part_of h)
     (λ own part. unless (leb last h.address) Order (unless (is_protected part h.flags) Writable (Ok (segment_of_header own part h)))) s e
     (λ own part e0 e1 e2.
     let a = parts_of_ok_unless (leb last h.address) Order (unless (is_protected part h.flags) Writable (Ok (segment_of_header own part h))) s e2 in
     let b = parts_of_ok_unless (is_protected part h.flags) Writable (Ok (segment_of_header own part h)) s a.1 in
     let p = header_fits_part_of h part e1 in
-    let count = length_of_bytes_from h.place h.length file own e0 in
+    let count = length_of_bytes_from_is_n h.place h.length file own e0 in
     let above = leb-true last h.address a.0 in
     let low = p.low in
     let high = p.high in
@@ -100,7 +100,7 @@ loaded_segment_is_next_if_some : (file : List ℕ) (last : ℕ) (h : Header) (fi
 loaded_segment_is_next_if_some file last h first e =
     let g = guard_passed_if_ok (is_refused h.kind) Dynamic (cond (is_loaded h) (segment_at file last h >>= λ s. Ok (Some s)) (Ok None)) first e in
     conditional_cases (is_loaded h) (segment_at file last h >>= λ s. Ok (Some s)) (Ok None) (Ok first) g.1
-    (λ t e1. two_steps_succeed (segment_at file last h) (λ s. Ok (Some s)) first e1 (λ s e2 e3.
+    (λ t e1. each_of_two_is_ok_if_bind_is_ok (segment_at file last h) (λ s. Ok (Some s)) first e1 (λ s e2 e3.
     is_next_if_some_of_equal last (Some s) first (segment_at_is_next file last h s e2) (ok_is_injective Refusal (Some s) first e3)))
     (λ f e1. is_next_if_some_of_equal last None first tt (ok_is_injective Refusal None first e1))
 
@@ -112,7 +112,7 @@ with_first_is_ordered last (Some s) others p q = (p, q)
 pub segments_from_are_ordered : (file : List ℕ) (last : ℕ) (hs : List Header) (ss : List Segment) → segments_from file last hs ≡ Ok ss → AreOrdered last ss
 segments_from_are_ordered file last [] ss e = subst (AreOrdered last) (ok_is_injective Refusal [] ss e) tt
 segments_from_are_ordered file last (h ∷ hs) ss e =
-    three_steps_succeed (loaded_at file last h) (λ first. segments_from file (end_after last first) hs) (λ first others. Ok (with_first first others)) ss e
+    each_of_three_is_ok_if_binds_are_ok (loaded_at file last h) (λ first. segments_from file (end_after last first) hs) (λ first others. Ok (with_first first others)) ss e
     (λ first others e0 e1 e2.
     subst (AreOrdered last) (ok_is_injective Refusal (with_first first others) ss e2)
     (with_first_is_ordered last first others (loaded_segment_is_next_if_some file last h first e0) (segments_from_are_ordered file (end_after last first) hs others e1)))

@@ -17,27 +17,27 @@ use Rattle.ir_elf.specs.Table.{TableParts, form_of, threads_field, entry_at, are
 use Rattle.ir_elf.specs.Reading.{code_words, table_found, guest_of, elf_guest_at}
 use Rattle.ir_elf.specs.Tests.{Test, first_failed, test, number_in, field, headers_place, headers_number, headers_in, segments_in, segment_tests, entry_tests, form_in, table_tests, found_tests, guest_tests, elf_tests, IsElfGuest}
 use Rattle.ir_elf.proofs.Limits.{table_parts_by, guest_by}
-use Rattle.ir_elf.proofs.Refused.{Agrees, field_and_rest, bind_is_associative, field_bind_agrees_with_tests, headers_place_agrees_with_tests}
-use Rattle.ir_elf.proofs.HeaderTests.{headers_agree_with_tests}
-use Rattle.ir_elf.proofs.SegmentTests.{segments_from_agree_with_tests}
+use Rattle.ir_elf.proofs.Refused.{Agrees, field_and_rest, bind_is_associative, field_bind_then_rest_agrees_with_tests, headers_place_then_rest_agrees_with_tests}
+use Rattle.ir_elf.proofs.HeaderTests.{headers_then_rest_agree_with_tests}
+use Rattle.ir_elf.proofs.SegmentTests.{segments_from_then_rest_agree_with_tests}
 
 -- ---- entries
 
-entries_agree_with_tests : {Y : Type 0} (code : ℕ) (table : List ℕ) (n place : ℕ) (k : List ℕ × List ℕ → Result Y Refusal) (others : List Test)
+entries_then_rest_agree_with_tests : {Y : Type 0} (code : ℕ) (table : List ℕ) (n place : ℕ) (k : List ℕ × List ℕ → Result Y Refusal) (others : List Test)
     → ((xs : List ℕ) → Agrees (k (xs, drop (place + 4 * n) table)) others)
     → Agrees (fields_at (entry_at code) n (drop place table) >>= k) (entry_tests table code place n others)
 unfolding fields_at
-entries_agree_with_tests code table zero place k others h =
+entries_then_rest_agree_with_tests code table zero place k others h =
     let same : place + 4 * 0 ≡ place = omega arith in
     subst (λ (q : ℕ). Agrees (k ([], drop q table)) others) same (h [])
-entries_agree_with_tests code table (suc n) place k others h =
+entries_then_rest_agree_with_tests code table (suc n) place k others h =
     let same : place + 4 * suc n ≡ place + 4 + 4 * n = omega arith in
     let after : ℕ × List ℕ → Result (List ℕ × List ℕ) Refusal = λ first. fields_at (entry_at code) n first.1 >>= λ xs. Ok
     (first.0 ∷ xs.0, xs.1) in
     let x = field_and_rest place 4 table in
-    field_bind_agrees_with_tests refusal.Table place 4 (is_place code) refusal.Entry table after k (entry_tests table code (place + 4) n others) (omega arith)
+    field_bind_then_rest_agrees_with_tests refusal.Table place 4 (is_place code) refusal.Entry table after k (entry_tests table code (place + 4) n others) (omega arith)
     (ap fault_of (bind_is_associative (fields_at (entry_at code) n (drop (place + 4) table)) (λ xs. Ok (x.0 ∷ xs.0, xs.1)) k)
-    ∙ entries_agree_with_tests code table n (place + 4) (λ xs. k (x.0 ∷ xs.0, xs.1)) others
+    ∙ entries_then_rest_agree_with_tests code table n (place + 4) (λ xs. k (x.0 ∷ xs.0, xs.1)) others
     (λ xs. subst (λ (q : ℕ). Agrees (k (x.0 ∷ xs, drop q table)) others) same (h (x.0 ∷ xs))))
 
 -- ---- the table
@@ -65,10 +65,10 @@ table_at_agrees_with_tests code table k h =
     let t3 = test (are_objects form (length (drop (8 + 4 * n) table))) refusal.Table [] in
     let t2 = entry_tests table code 8 n t3 in
     let t1 = field refusal.Table table 4 4 (λ n. leb 1 n && leb n (limits_of form).threads) refusal.Table t2 in
-    field_bind_agrees_with_tests refusal.Table 0 4 (λ n. leb 1 n && leb n 2) refusal.Table table (after_form code) k t1 (omega arith)
-    (field_bind_agrees_with_tests refusal.Table 4 4 (λ n. leb 1 n && leb n (limits_of form).threads) refusal.Table table (after_threads form code) k t2 (omega arith)
+    field_bind_then_rest_agrees_with_tests refusal.Table 0 4 (λ n. leb 1 n && leb n 2) refusal.Table table (after_form code) k t1 (omega arith)
+    (field_bind_then_rest_agrees_with_tests refusal.Table 4 4 (λ n. leb 1 n && leb n (limits_of form).threads) refusal.Table table (after_threads form code) k t2 (omega arith)
     (ap fault_of (bind_is_associative (fields_at (entry_at code) n (drop 8 table)) (after_entries form) k)
-    ∙ entries_agree_with_tests code table n 8 (λ x. after_entries form x >>= k) t3
+    ∙ entries_then_rest_agree_with_tests code table n 8 (λ x. after_entries form x >>= k) t3
     (λ xs. objects_agree_with_test (are_objects form (length (drop (8 + 4 * n) table))) (table_parts_by form xs (drop (8 + 4 * n) table)) k h)))
 
 table_found_agrees_with_tests : (code : ℕ) (table : Option (List ℕ)) (k : TableParts → Result Guest Refusal) → ((t : TableParts) → fault_of (k t) ≡ None)
@@ -104,9 +104,9 @@ fault_is_first_failed_test file =
     let t2 = guest_tests (segments_in file hs) in
     let t1 = segment_tests file 0 hs t2 in
     ap fault_of (bind_is_associative (headers_place_at file) (after_place file) guest_of)
-    ∙ headers_place_agrees_with_tests file (λ found. after_place file found >>= guest_of) t1
-    (headers_agree_with_tests file place number (segments_from file 0) guest_of t1
-    (segments_from_agree_with_tests file 0 hs guest_of t2 (guest_of_agrees_with_tests (segments_in file hs))))
+    ∙ headers_place_then_rest_agrees_with_tests file (λ found. after_place file found >>= guest_of) t1
+    (headers_then_rest_agree_with_tests file place number (segments_from file 0) guest_of t1
+    (segments_from_then_rest_agree_with_tests file 0 hs guest_of t2 (guest_of_agrees_with_tests (segments_in file hs))))
 
 guest_if_no_fault : (r : Result Guest Refusal) → fault_of r ≡ None → (g : Guest) × (r ≡ Ok g)
 guest_if_no_fault (Ok g) e = (g, refl)

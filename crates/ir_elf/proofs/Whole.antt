@@ -7,7 +7,7 @@ use Rattle.std.proofs.lemmas.Option.{same_Some}
 use Rattle.std.proofs.lemmas.List.Concat.{flat_map-cons}
 use Rattle.byteorder.specs.Endian.{little_bytes, little_number}
 use Rattle.ir_bytes.specs.Reading.{◌>>=◌, bytes_at, field_at, fields_at}
-use Rattle.ir_bytes.proofs.CallerLemmas.{two_steps_succeed, three_steps_succeed, four_steps_succeed, guard_passed_if_ok, test_passed_if_ok, ok_is_injective, conditional_cases, test_true_if_no_fault, number_within_if_no_fault, IsBytes, drop_of_bytes_is_bytes, prefix_encodes_number, bytes_are_bytes_of_their_number, Takes, field_at_takes_field, bytes_at_takes_bytes, fields_at_takes_fields}
+use Rattle.ir_bytes.proofs.CallerLemmas.{each_of_two_is_ok_if_bind_is_ok, each_of_three_is_ok_if_binds_are_ok, each_of_four_is_ok_if_binds_are_ok, guard_passed_if_ok, test_passed_if_ok, ok_is_injective, conditional_cases, test_true_if_no_fault, number_within_if_no_fault, IsBytes, drop_of_bytes_is_bytes, prefix_encodes_number, bytes_are_bytes_of_their_number, Takes, field_at_takes_field, bytes_at_takes_bytes, fields_at_takes_fields}
 use Rattle.ir_image.specs.declared.form.ImageForm.{ImageForm}
 use Rattle.ir_image.specs.declared.form.ImageForm.TheVariants.{Small, Large}
 use Rattle.ir_image.specs.Guest.{limits_of, Guest, most_code_words}
@@ -28,7 +28,7 @@ use Rattle.ir_elf.specs.Reading.{code_memory, code_words, data_bytes, table_foun
 use Rattle.ir_elf.proofs.Limits.{parts_of_ok_unless, number_is_place_if_is_place_is_true, table_parts_by, guest_of_segments_has_limits, guest_within_limits_is_guest}
 use Rattle.ir_elf.proofs.Order.{IsNext, AreOrdered, segment_of_header}
 use Rattle.ir_elf.proofs.Addresses.{parts_are_equal_if_is_same_is_true}
-use Rattle.ir_elf.proofs.Contents.{segments_at_are_ordered, is_guest_of_if_guest_read, is_guest_of_if_file_read, length_of_memory_of, greatest_size_in_code_within_part}
+use Rattle.ir_elf.proofs.Contents.{segments_at_are_ordered, is_guest_of_if_guest_read, is_guest_of_if_file_read, length_of_memory_of_is_size_of_part, greatest_size_in_code_within_part}
 
 -- ---- bytes
 
@@ -55,8 +55,8 @@ bytes_over_bytes_are_bytes place own all p q =
 bytes_from_are_bytes : (place n : ℕ) (file own : List ℕ) → IsBytes file → bytes_from place n file ≡ Ok own → IsBytes own
 unfolding bytes_from
 bytes_from_are_bytes place n file own fits e =
-    two_steps_succeed (bytes_at refusal.Short place file) (λ before. bytes_at refusal.Short n before.1 >>= λ x. Ok x.0) own e (λ before e0 e1.
-    two_steps_succeed (bytes_at refusal.Short n before.1) (λ x. Ok x.0) own e1 (λ x e2 e3.
+    each_of_two_is_ok_if_bind_is_ok (bytes_at refusal.Short place file) (λ before. bytes_at refusal.Short n before.1 >>= λ x. Ok x.0) own e (λ before e0 e1.
+    each_of_two_is_ok_if_bind_is_ok (bytes_at refusal.Short n before.1) (λ x. Ok x.0) own e1 (λ x e2 e3.
     let p = bytes_at_takes_bytes refusal.Short place file before fits e0 in
     let q = bytes_at_takes_bytes refusal.Short n before.1 x p.takes.rest_fits e2 in
     subst IsBytes (ok_is_injective Refusal x.0 own e3) q.fit))
@@ -67,7 +67,7 @@ HasBytes s = IsBytes s.bytes
 segment_at_has_bytes : (file : List ℕ) (last : ℕ) (h : Header) (s : Segment) → IsBytes file → segment_at file last h ≡ Ok s → HasBytes s
 unfolding segment_at
 segment_at_has_bytes file last h s fits e =
-    three_steps_succeed (bytes_from h.place h.length file) (λ own. part_of h)
+    each_of_three_is_ok_if_binds_are_ok (bytes_from h.place h.length file) (λ own. part_of h)
     (λ own part. unless (leb last h.address) refusal.Order (unless (is_protected part h.flags) refusal.Writable (Ok (segment_of_header own part h)))) s e
     (λ own part e0 e1 e2.
     let a = parts_of_ok_unless (leb last h.address) refusal.Order (unless (is_protected part h.flags) refusal.Writable (Ok (segment_of_header own part h))) s e2 in
@@ -82,7 +82,7 @@ loaded_at_has_bytes : (file : List ℕ) (last : ℕ) (h : Header) (first : Optio
 loaded_at_has_bytes file last h first fits e =
     let g = guard_passed_if_ok (is_refused h.kind) refusal.Dynamic (cond (is_loaded h) (segment_at file last h >>= λ s. Ok (Some s)) (Ok None)) first e in
     conditional_cases (is_loaded h) (segment_at file last h >>= λ s. Ok (Some s)) (Ok None) (Ok first) g.1
-    (λ t e1. two_steps_succeed (segment_at file last h) (λ s. Ok (Some s)) first e1 (λ s e2 e3.
+    (λ t e1. each_of_two_is_ok_if_bind_is_ok (segment_at file last h) (λ s. Ok (Some s)) first e1 (λ s e2 e3.
     subst FirstHasBytes (ok_is_injective Refusal (Some s) first e3) (segment_at_has_bytes file last h s fits e2)))
     (λ f e1. subst FirstHasBytes (ok_is_injective Refusal None first e1) tt)
 
@@ -95,7 +95,7 @@ segments_from_have_bytes : (file : List ℕ) (last : ℕ) (hs : List Header) (ss
     → AllByRecursion HasBytes ss
 segments_from_have_bytes file last [] ss fits e = subst (AllByRecursion HasBytes) (ok_is_injective Refusal [] ss e) tt
 segments_from_have_bytes file last (h ∷ hs) ss fits e =
-    three_steps_succeed (loaded_at file last h) (λ first. segments_from file (end_after last first) hs) (λ first others. Ok (with_first first others)) ss e
+    each_of_three_is_ok_if_binds_are_ok (loaded_at file last h) (λ first. segments_from file (end_after last first) hs) (λ first others. Ok (with_first first others)) ss e
     (λ first others e0 e1 e2.
     subst (AllByRecursion HasBytes) (ok_is_injective Refusal (with_first first others) ss e2)
     (with_first_have_bytes first others (loaded_at_has_bytes file last h first fits e0) (segments_from_have_bytes file (end_after last first) hs others fits e1)))
@@ -103,7 +103,7 @@ segments_from_have_bytes file last (h ∷ hs) ss fits e =
 segments_at_have_bytes : (file : List ℕ) (ss : List Segment) → IsBytes file → segments_at file ≡ Ok ss → AllByRecursion HasBytes ss
 unfolding segments_at
 segments_at_have_bytes file ss fits e =
-    four_steps_succeed (headers_place_at file) (λ found. bytes_at refusal.Short found.place file)
+    each_of_four_is_ok_if_binds_are_ok (headers_place_at file) (λ found. bytes_at refusal.Short found.place file)
     (λ found before. fields_at header_at found.number before.1) (λ found before headers. segments_from file 0 headers.0) ss e
     (λ found before headers e0 e1 e2 e3. segments_from_have_bytes file 0 headers.0 ss fits e3)
 
@@ -149,9 +149,9 @@ table_of_is_bytes (s ∷ ss) table h e =
     conditional_cases (is_same s.part Table) (Some s.bytes) (table_of ss) (Some table) e
     (λ t e1. subst IsBytes (same_Some s.bytes table e1) h.0) (λ f e1. table_of_is_bytes ss table h.1 e1)
 
-entry_at_takes_little_bytes : (words : ℕ) (bytes : List ℕ) (n : ℕ × List ℕ) → IsBytes bytes → entry_at words bytes ≡ Ok n
+entry_at_takes_little_bytes_of_place : (words : ℕ) (bytes : List ℕ) (n : ℕ × List ℕ) → IsBytes bytes → entry_at words bytes ≡ Ok n
     → Takes bytes (little_bytes 4 n.0) n.1 × IsPlace words n.0
-entry_at_takes_little_bytes words bytes n fits e =
+entry_at_takes_little_bytes_of_place words bytes n fits e =
     let t = field_at_takes_field refusal.Table (entry_field words) bytes n fits e in
     (t.takes, number_is_place_if_is_place_is_true words n.0 (test_true_if_no_fault _ refusal.Entry t.passes))
 
@@ -169,14 +169,14 @@ abbrev table_parts_encoding : TableParts → List ℕ
 table_parts_encoding t =
     little_bytes 4 (number_of t.form) ++ (little_bytes 4 (length t.entries) ++ (words_encoding t.entries ++ words_encoding t.words))
 
-append_of_four_parts : (a b c d e : List ℕ) (x y z w : List ℕ) → a ≡ x ++ b → b ≡ y ++ c → c ≡ z ++ d → d ≡ w → a ≡ x ++ (y ++ (z ++ w))
-append_of_four_parts a b c d e x y z w p q r s =
+append_of_four_successive_splits : (a b c d e : List ℕ) (x y z w : List ℕ) → a ≡ x ++ b → b ≡ y ++ c → c ≡ z ++ d → d ≡ w → a ≡ x ++ (y ++ (z ++ w))
+append_of_four_successive_splits a b c d e x y z w p q r s =
     p ∙ ap (λ (k : List ℕ). x ++ k) (q ∙ ap (λ (k : List ℕ). y ++ k) (r ∙ ap (λ (k : List ℕ). z ++ k) s))
 
 table_is_encoding_of_parts : (code : ℕ) (bytes : List ℕ) (t : TableParts) → IsBytes bytes → table_at code bytes ≡ Ok t → bytes ≡ table_parts_encoding t
 unfolding table_at
 table_is_encoding_of_parts code bytes t fits e =
-    four_steps_succeed (field_at refusal.Table form_field bytes) (λ form. field_at refusal.Table (threads_field (form_of form.0)) form.1)
+    each_of_four_is_ok_if_binds_are_ok (field_at refusal.Table form_field bytes) (λ form. field_at refusal.Table (threads_field (form_of form.0)) form.1)
     (λ form threads. fields_at (entry_at code) threads.0 threads.1)
     (λ form threads entries. cond (are_objects (form_of form.0) (length entries.1)) (Ok (table_parts_by (form_of form.0) entries.0 entries.1))
     (Err refusal.Table)) t e (λ form threads entries e0 e1 e2 e3.
@@ -184,13 +184,13 @@ table_is_encoding_of_parts code bytes t fits e =
     let t0 = field_at_takes_field refusal.Table form_field bytes form fits e0 in
     let n = number_within_if_no_fault 1 2 form.0 refusal.Table t0.passes in
     let t1 = field_at_takes_field refusal.Table (threads_field f) form.1 threads t0.takes.rest_fits e1 in
-    let t2 = fields_at_takes_fields (IsPlace code) (little_bytes 4) (entry_at code) (entry_at_takes_little_bytes code) threads.0 threads.1 entries t1.takes.rest_fits e2 in
+    let t2 = fields_at_takes_fields (IsPlace code) (little_bytes 4) (entry_at code) (entry_at_takes_little_bytes_of_place code) threads.0 threads.1 entries t1.takes.rest_fits e2 in
     let p = test_passed_if_ok (are_objects f (length entries.1)) refusal.Table (table_parts_by f entries.0 entries.1) t e3 in
     let both = and_parts (eqb (length entries.1 % (4 * (limits_of f).words)) 0)
     (leb (length entries.1) (4 * ((limits_of f).words * (limits_of f).objects))) p.0 in
     let whole = words_encoding_of_words_in entries.1 t2.takes.rest_fits (size_of_whole_objects_is_multiple_of_4 f (length entries.1) (eqb-true _ _ both.0)) in
     subst (λ (x : TableParts). bytes ≡ table_parts_encoding x) p.1
-    (append_of_four_parts bytes form.1 threads.1 entries.1 [] (little_bytes 4 (number_of f)) (little_bytes 4 (length entries.0)) (words_encoding entries.0)
+    (append_of_four_successive_splits bytes form.1 threads.1 entries.1 [] (little_bytes 4 (number_of f)) (little_bytes 4 (length entries.0)) (words_encoding entries.0)
     (words_encoding (words_in entries.1))
     (t0.takes.parts ∙ ap (λ (k : ℕ). little_bytes 4 k ++ form.1) (sym (number_of_form_of form.0 n.0 n.1)))
     (t1.takes.parts ∙ ap (λ (k : ℕ). little_bytes 4 k ++ threads.1) (sym t2.count)) t2.takes.parts (sym whole)))
@@ -228,14 +228,14 @@ greatest_held_in_memory_within_part (s ∷ ss) last o =
 table_words_are_words : (code : ℕ) (bytes : List ℕ) (t : TableParts) → IsBytes bytes → table_at code bytes ≡ Ok t → AllByRecursion IsWord t.words
 unfolding table_at
 table_words_are_words code bytes t fits e =
-    four_steps_succeed (field_at refusal.Table form_field bytes) (λ form. field_at refusal.Table (threads_field (form_of form.0)) form.1)
+    each_of_four_is_ok_if_binds_are_ok (field_at refusal.Table form_field bytes) (λ form. field_at refusal.Table (threads_field (form_of form.0)) form.1)
     (λ form threads. fields_at (entry_at code) threads.0 threads.1)
     (λ form threads entries. cond (are_objects (form_of form.0) (length entries.1)) (Ok (table_parts_by (form_of form.0) entries.0 entries.1))
     (Err refusal.Table)) t e (λ form threads entries e0 e1 e2 e3.
     let f = form_of form.0 in
     let t0 = field_at_takes_field refusal.Table form_field bytes form fits e0 in
     let t1 = field_at_takes_field refusal.Table (threads_field f) form.1 threads t0.takes.rest_fits e1 in
-    let t2 = fields_at_takes_fields (IsPlace code) (little_bytes 4) (entry_at code) (entry_at_takes_little_bytes code) threads.0 threads.1 entries t1.takes.rest_fits e2 in
+    let t2 = fields_at_takes_fields (IsPlace code) (little_bytes 4) (entry_at code) (entry_at_takes_little_bytes_of_place code) threads.0 threads.1 entries t1.takes.rest_fits e2 in
     let p = test_passed_if_ok (are_objects f (length entries.1)) refusal.Table (table_parts_by f entries.0 entries.1) t e3 in
     subst (λ (x : TableParts). AllByRecursion IsWord x.words) p.1 (words_in_are_words entries.1 t2.takes.rest_fits))
 
@@ -248,13 +248,13 @@ guest_table_words_are_words : (ss : List Segment) (t : TableParts) → AllByRecu
     → AllByRecursion IsWord t.words
 guest_table_words_are_words ss t have e = found_table_words_are_words (code_words ss) (table_of ss) t (λ own. table_of_is_bytes ss own have) e
 
-code_words_within_most : (n : ℕ) → n ≤ size_of Code → (n + 3) / 4 ≤ most_code_words
-code_words_within_most n h = omega (arith, h)
+quarter_rounded_up_is_at_most_most_code_words : (n : ℕ) → n ≤ size_of Code → (n + 3) / 4 ≤ most_code_words
+quarter_rounded_up_is_at_most_most_code_words n h = omega (arith, h)
 
 guest_of_segments_is_guest : (ss : List Segment) (g : Guest) → AreOrdered 0 ss → AllByRecursion HasBytes ss → guest_of ss ≡ Ok g → IsGuest g
 guest_of_segments_is_guest ss g o have e =
     let p = is_guest_of_if_guest_read ss g e in
-    let limits = guest_of_segments_has_limits ss g (code_words_within_most _ (greatest_size_in_code_within_part ss 0 o)) (greatest_held_in_memory_within_part ss 0 o) (length_of_memory_of Code ss o) e in
+    let limits = guest_of_segments_has_limits ss g (quarter_rounded_up_is_at_most_most_code_words _ (greatest_size_in_code_within_part ss 0 o)) (greatest_held_in_memory_within_part ss 0 o) (length_of_memory_of_is_size_of_part Code ss o) e in
     guest_within_limits_is_guest g limits
     (subst (λ (x : Guest). AllByRecursion IsWord x.code) p.guest
     (words_in_are_words (take (4 * code_words ss) (code_memory ss)) (take_of_bytes_is_bytes (4 * code_words ss) (code_memory ss) (memory_of_is_bytes Code ss have))))
@@ -264,5 +264,5 @@ guest_of_segments_is_guest ss g o have e =
 pub elf_guest_is_guest : (file : List ℕ) (g : Guest) → AllByRecursion IsByte file → elf_guest_at file ≡ Ok g → IsGuest g
 unfolding elf_guest_at
 elf_guest_is_guest file g fits e =
-    two_steps_succeed (segments_at file) (λ s. guest_of s) g e (λ ss e0 e1.
+    each_of_two_is_ok_if_bind_is_ok (segments_at file) (λ s. guest_of s) g e (λ ss e0 e1.
     guest_of_segments_is_guest ss g (segments_at_are_ordered file ss e0) (segments_at_have_bytes file ss fits e0) e1)

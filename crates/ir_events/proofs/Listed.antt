@@ -25,20 +25,20 @@ listed_before_first_step f t k first = record {
 }
 
 -- a later event has a later position
-later_event_has_later_position : (f : FittedTrace) → HasRun f → (t : ℕ) → t < length f.guest.entries → (i j : ℕ) → i ≤ j → j < length (entries_of f t)
+event_positions_are_nondecreasing : (f : FittedTrace) → HasRun f → (t : ℕ) → t < length f.guest.entries → (i j : ℕ) → i ≤ j → j < length (entries_of f t)
     → entry_of f t i ≤ entry_of f t j
-later_event_has_later_position f h t l i j up lj = elim (cases_eq j i) [
+event_positions_are_nondecreasing f h t l i j up lj = elim (cases_eq j i) [
   | inl same ↦ subst (λ n. entry_of f t i ≤ entry_of f t n) (sym same) (omega arith)
   | inr ne ↦ let less = event_positions_rise f h t l i j (omega (arith, up, ne)) lj in omega (arith, less)
 ]
 
 -- the thread has gone on, at most to the next event
-pub listed_up_to_next_event : (f : FittedTrace) (t k k' : ℕ) (pcs : List ℕ) → HasRun f → t < length f.guest.entries → IsListed f t k pcs
+pub listed_pcs_unchanged_up_to_next_event : (f : FittedTrace) (t k k' : ℕ) (pcs : List ℕ) → HasRun f → t < length f.guest.entries → IsListed f t k pcs
     → (length pcs < length (entries_of f t) → k' ≤ entry_of f t (length pcs)) → IsListed f t k' pcs
-listed_up_to_next_event f t k k' pcs h l is within = record {
+listed_pcs_unchanged_up_to_next_event f t k k' pcs h l is within = record {
   few = is.few;
   each = is.each;
-  ahead = λ i past li. let next = within (omega (arith, past, li)) in let up = later_event_has_later_position f h t l (length pcs) i past li in
+  ahead = λ i past li. let next = within (omega (arith, past, li)) in let up = event_positions_are_nondecreasing f h t l (length pcs) i past li in
       omega (arith, next, up);
 }
 
@@ -49,17 +49,17 @@ pc_of_standing_thread_is_that_of_run f s t k stands at run whole =
     ap (λ (x : thread.ThreadState). x.core.pc) ((stands.at.each run whole).threads t ∙ ap (thread_at f run t) at)
 
 -- the next event, by a list of the positions
-pub position_at_most_next_event : (f : FittedTrace) (t i k : ℕ) (es pcs : List ℕ) → es ≡ entries_of f t → length pcs ≡ i → k ≤ slice_index es i
+pub position_at_most_next_event_if_at_most_listed : (f : FittedTrace) (t i k : ℕ) (es pcs : List ℕ) → es ≡ entries_of f t → length pcs ≡ i → k ≤ slice_index es i
     → k ≤ entry_of f t (length pcs)
-position_at_most_next_event f t i k es pcs same size within = subst (λ (z : List ℕ × ℕ). k ≤ slice_index z.0 z.1) (λ j. (same j, sym size j)) within
+position_at_most_next_event_if_at_most_listed f t i k es pcs same size within = subst (λ (z : List ℕ × ℕ). k ≤ slice_index z.0 z.1) (λ j. (same j, sym size j)) within
 
-position_is_next_event : (f : FittedTrace) (t i k : ℕ) (es pcs : List ℕ) → es ≡ entries_of f t → length pcs ≡ i → k ≡ slice_index es i
+position_is_next_event_if_it_is_listed_one : (f : FittedTrace) (t i k : ℕ) (es pcs : List ℕ) → es ≡ entries_of f t → length pcs ≡ i → k ≡ slice_index es i
     → k ≡ entry_of f t (length pcs)
-position_is_next_event f t i k es pcs same size at = at ∙ (λ j. slice_index (same j) (sym size j))
+position_is_next_event_if_it_is_listed_one f t i k es pcs same size at = at ∙ (λ j. slice_index (same j) (sym size j))
 
 -- one more pc
-pub pc_count_after_one_added : (i pc : ℕ) (pcs pcs' : List ℕ) → pcs' ≡ pcs ++ pc ∷ [] → length pcs ≡ i → length pcs' ≡ i + 1
-pc_count_after_one_added i pc pcs pcs' more size = let n = length-append pcs (pc ∷ []) in let same = ap (λ (xs : List ℕ). length xs) more in
+pub length_is_one_more_after_push : (i pc : ℕ) (pcs pcs' : List ℕ) → pcs' ≡ pcs ++ pc ∷ [] → length pcs ≡ i → length pcs' ≡ i + 1
+length_is_one_more_after_push i pc pcs pcs' more size = let n = length-append pcs (pc ∷ []) in let same = ap (λ (xs : List ℕ). length xs) more in
     omega (arith, n, same, size)
 
 listed_after_pc_added : (f : FittedTrace) (t k pc : ℕ) (pcs : List ℕ) (s : Standing) → HasRun f → t < length f.guest.entries
@@ -77,7 +77,7 @@ listed_after_pc_added f t k pc pcs s h l is more stands at here =
             subst (λ j. slice_index (pcs ++ pc ∷ []) j ≡ pc_of f run t j) (sym last)
             (get_or-append_seam pcs pc [] 0 ∙ here ∙ pc_of_standing_thread_is_that_of_run f s t (entry_of f t (length pcs)) stands at run whole)
       ];
-      ahead = λ i past li. let up = later_event_has_later_position f h t l (length pcs) i (omega (arith, past, size)) li in omega (arith, at, up);
+      ahead = λ i past li. let up = event_positions_are_nondecreasing f h t l (length pcs) i (omega (arith, past, size)) li in omega (arith, at, up);
     }
 
 -- the thread is at the next event, whose pc is added
@@ -88,7 +88,7 @@ pub listed_at_next_event : (f : FittedTrace) (t i k pc : ℕ) (es pcs pcs' : Lis
 listed_at_next_event f t i k pc es pcs pcs' s h l is same size more stands at here made =
     subst (IsListed f t (positions (flat_in f s) t)) (sym made)
     (listed_after_pc_added f t k pc pcs s h l is (let n = ap (λ (xs : List ℕ). length xs) same in omega (arith, n, size, more)) stands
-    (position_is_next_event f t i (positions (flat_in f s) t) es pcs same size at) here)
+    (position_is_next_event_if_it_is_listed_one f t i (positions (flat_in f s) t) es pcs same size at) here)
 
 -- at the end of the thread no event is left
 pub listed_are_thread_pcs_at_end : (f : FittedTrace) (ends : List ℕ) (t k : ℕ) (pcs : List ℕ) → AreEnds f ends → t < length f.guest.entries

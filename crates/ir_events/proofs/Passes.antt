@@ -16,8 +16,8 @@ use Rattle.ir_events.proofs.Ends.{all_at_ends_if_all_rest, thread_with_steps_is_
 pub further_reflexive : (f : FittedTrace) (t : ℕ) (s : Standing) → IsFurther f t s s
 further_reflexive f t s = record { above = omega arith; others = λ u ne. refl }
 
-pub further_after_going : (f : FittedTrace) (t n : ℕ) (old new : Standing) → HasGone (flat_in f old) (flat_in f new) t n → IsFurther f t old new
-further_after_going f t n old new gone = record { above = let own = gone.own in omega (arith, own); others = gone.others }
+pub is_further_after_thread_has_gone : (f : FittedTrace) (t n : ℕ) (old new : Standing) → HasGone (flat_in f old) (flat_in f new) t n → IsFurther f t old new
+is_further_after_thread_has_gone f t n old new gone = record { above = let own = gone.own in omega (arith, own); others = gone.others }
 
 pub further_transitive : (f : FittedTrace) (t : ℕ) (old s new : Standing) → IsFurther f t old s → IsFurther f t s new → IsFurther f t old new
 further_transitive f t old s new a b = record {

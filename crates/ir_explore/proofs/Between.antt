@@ -9,8 +9,8 @@ use Rattle.ir_explore.specs.Following.{BothWays, Keeps, IsOpen}
 use Rattle.ir_explore.specs.Levels.{AllFollowed, AllOpen, AreWithin, AreAsked, AreGoneOver, LevelEnds}
 use Rattle.ir_explore.specs.Origins.{Whole, BeginsAt, Adds, IsReachedBy, AreReached, first_origin}
 use Rattle.ir_explore.specs.Searching.{HasGone, IsBetween}
-use Rattle.ir_explore.proofs.Gone.{asked_all, gone_over_if_notes_kept, gone_over_after_level, node_levels_bounded_after_adds, added_nodes_begin_next_level, row_of_empty_rows_is_empty}
-use Rattle.ir_explore.proofs.Reached.{place_of_element_is_below_length, rising_after_level_added}
+use Rattle.ir_explore.proofs.Gone.{asked_all, gone_over_if_notes_and_nodes_kept, next_level_is_gone_over_after_level_ends, node_levels_bounded_after_adds, added_nodes_begin_next_level, element_of_replicated_empty_list_is_empty}
+use Rattle.ir_explore.proofs.Reached.{index_of_element_is_below_length, nodes_rising_after_level_added}
 
 module _ (noted more : ℕ → BothWays) (size : ℕ) (nodes new : List Origin) (refusals table : List Refusal) (opened : List (List Bool)) (level : Level)
     (between : IsBetween noted size nodes refusals opened level) (kept : (t : ℕ) (refused : Bool) → Keeps (noted t refused) (more t refused)) (adds : Adds level.number nodes new)
@@ -21,9 +21,9 @@ module _ (noted more : ℕ → BothWays) (size : ℕ) (nodes new : List Origin) 
   -- part of a level more
   pub has_part : (threads bigger : ℕ) → threads ≡ length opened → length new ≤ bigger → HasGone more threads bigger new table level.number
   has_part threads bigger same few = record {
-    gone = subst (λ z. AreGoneOver more z new level.number) (sym same) (gone_over_if_notes_kept noted more (length opened) nodes new level.number kept adds.stays between.has.gone);
+    gone = subst (λ z. AreGoneOver more z new level.number) (sym same) (gone_over_if_notes_and_nodes_kept noted more (length opened) nodes new level.number kept adds.stays between.has.gone);
     reached = reached;
-    rising = rising_after_level_added level.number nodes new between.has.rising levels_now adds;
+    rising = nodes_rising_after_level_added level.number nodes new between.has.rising levels_now adds;
     most = node_levels_bounded_after_adds level.number nodes new levels_now adds;
     first = adds.stays 0 first_origin between.has.first;
     few = few;
@@ -42,8 +42,8 @@ module _ (noted more : ℕ → BothWays) (size : ℕ) (nodes new : List Origin) 
         levels = node_levels_bounded_after_adds level.number nodes new levels_now adds;
       } in
       let gone : AreGoneOver more (length opened) new (suc level.number) =
-      gone_over_after_level noted more (length opened) nodes new rows level.number kept adds between.has.gone
-      (place_of_element_is_below_length nodes 0 first_origin between.has.first) ends in
+      next_level_is_gone_over_after_level_ends noted more (length opened) nodes new rows level.number kept adds between.has.gone
+      (index_of_element_is_below_length nodes 0 first_origin between.has.first) ends in
       let one : suc level.number ≡ next.number = (let a = number in omega (arith, a)) in
       let less_one : level.number ≡ next.number - 1 = (let a = number in omega (arith, a)) in
       let at : length nodes ≡ next.first = sym between.until ∙ sym first in
@@ -51,7 +51,7 @@ module _ (noted more : ℕ → BothWays) (size : ℕ) (nodes new : List Origin) 
         has = record {
           gone = subst (λ z. AreGoneOver more z new next.number) (sym same) (subst (AreGoneOver more (length opened) new) one gone);
           reached = reached;
-          rising = rising_after_level_added level.number nodes new between.has.rising levels_now adds;
+          rising = nodes_rising_after_level_added level.number nodes new between.has.rising levels_now adds;
           most = λ v n is. let a = node_levels_bounded_after_adds level.number nodes new levels_now adds v n is in omega (arith, a, one);
           first = adds.stays 0 first_origin between.has.first;
           few = omega (arith, all);
@@ -75,9 +75,9 @@ all_are_asked_if_next_level_is_empty noted size nodes refusals opened level betw
     (let a = between.until in let b = between.order in omega (arith, a, b, over)) size between.all
 
 -- before the first level there is one node, and nothing is opened
-pub first_level_is_between : (noted : ℕ → BothWays) (threads : ℕ) (refusals : List Refusal)
+pub is_between_levels_at_start : (noted : ℕ → BothWays) (threads : ℕ) (refusals : List Refusal)
     → IsBetween noted 1 (first_origin ∷ []) refusals (replicate threads []) (record { number = 0; first = 0; until = 1 })
-first_level_is_between noted threads refusals = record {
+is_between_levels_at_start noted threads refusals = record {
   has = record {
     gone = tt;
     reached = λ v n is. reached v n is;
@@ -88,9 +88,9 @@ first_level_is_between noted threads refusals = record {
   };
   ends = record {
     threads_are = refl;
-    followed = λ t row is v o. absurd (no_node_open row (row_of_empty_rows_is_empty threads t row is) v o);
+    followed = λ t row is v o. absurd (no_node_open row (element_of_replicated_empty_list_is_empty threads t row is) v o);
     opens = λ t row few is v low less. absurd (omega (arith, less));
-    within = λ t row is. let e = ap length (row_of_empty_rows_is_empty threads t row is) in omega (arith, e);
+    within = λ t row is. let e = ap length (element_of_replicated_empty_list_is_empty threads t row is) in omega (arith, e);
     levels = λ v n is. let x = level_is_first v n is in omega (arith, x);
   };
   stands = λ v low less. omega (arith, less);

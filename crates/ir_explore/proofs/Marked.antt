@@ -3,11 +3,11 @@ use Rattle.std.proofs.Common.{◌≡◌, ℕ, ◌+◌, ◌<◌, ◌≤◌, Bool,
 use Rattle.std.proofs.lemmas.Bool.{cases_eq}
 use Rattle.ir_explore.specs.Following.{BothWays, IsOpen, StaysOpen}
 use Rattle.ir_explore.specs.Ways.{shut, IsBefore, IsMarkedBack, Leads, HasMarked}
-use Rattle.ir_explore.proofs.Opens.{shut_less_after_opening, stays_open_through_opening, open_after_opening_cases}
-use Rattle.ir_explore.proofs.Reached.{place_of_element_is_below_length}
+use Rattle.ir_explore.proofs.Opens.{fewer_shut_after_opening, stays_open_after_setting_true_if_stayed_open, open_after_opening_cases}
+use Rattle.ir_explore.proofs.Reached.{index_of_element_is_below_length}
 
-pub marked_node_leads_to_marked_node : (noted : ℕ → BothWays) (threads : ℕ) (marks : List Bool) (v : ℕ) → IsOpen marks v → HasMarked noted threads marks v
-marked_node_leads_to_marked_node noted threads marks v is = (place_of_element_is_below_length marks v true is, [], v, refl, is)
+pub marked_node_leads_to_itself_as_marked_node : (noted : ℕ → BothWays) (threads : ℕ) (marks : List Bool) (v : ℕ) → IsOpen marks v → HasMarked noted threads marks v
+marked_node_leads_to_itself_as_marked_node noted threads marks v is = (index_of_element_is_below_length marks v true is, [], v, refl, is)
 
 pub leads_to_marked_node_if_next_node_does : (noted : ℕ → BothWays) (threads : ℕ) (marks : List Bool) (v t : ℕ) (refused : Bool) (w : ℕ) → v < length marks → t < threads
     → noted t refused v ≡ Some (Some w) → HasMarked noted threads marks w → HasMarked noted threads marks v
@@ -24,9 +24,9 @@ leads_to_old_marked_node_if_to_new_marked_node noted threads old new same ways v
         leads_to_marked_node_if_next_node_does noted threads old v t refused x (omega (arith, l, same)) few to (by ts x less path)
 
 -- who has a way is marked, where marks are passed on back
-pub node_is_marked_if_it_leads_to_marked_node : (noted : ℕ → BothWays) (threads : ℕ) (old new : List Bool) → length new ≡ length old → StaysOpen old new
+pub node_is_marked_if_it_leads_to_one_and_marks_are_closed_back : (noted : ℕ → BothWays) (threads : ℕ) (old new : List Bool) → length new ≡ length old → StaysOpen old new
     → IsMarkedBack noted threads new → (v : ℕ) → HasMarked noted threads old v → IsOpen new v
-node_is_marked_if_it_leads_to_marked_node noted threads old new same stays back v (l, ts, w, path, is) = by ts v l path
+node_is_marked_if_it_leads_to_one_and_marks_are_closed_back noted threads old new same stays back v (l, ts, w, path, is) = by ts v l path
   where
     by : (ts : List (ℕ × Bool)) (v : ℕ) → v < length old → Leads noted threads (length old) v ts w → IsOpen new v
     by [] v l path = subst (IsOpen new) (sym path) (stays w is)
@@ -41,24 +41,24 @@ pub record Sweeping (noted : ℕ → BothWays) (threads : ℕ) (old marks : List
   pub less : changed ≡ true → shut marks < shut old
   pub back : changed ≡ false → (v : ℕ) → length marks ≤ v + k → v < length marks → IsBefore noted threads marks v → IsOpen marks v
 
-pub sweep_starts : (noted : ℕ → BothWays) (threads : ℕ) (marks : List Bool) → Sweeping noted threads marks marks false 0
-sweep_starts noted threads marks = record {
+pub sweeping_at_start : (noted : ℕ → BothWays) (threads : ℕ) (marks : List Bool) → Sweeping noted threads marks marks false 0
+sweeping_at_start noted threads marks = record {
   nodes = refl;
   stays = λ v is. is;
-  ways = λ v is. marked_node_leads_to_marked_node noted threads marks v is;
+  ways = λ v is. marked_node_leads_to_itself_as_marked_node noted threads marks v is;
   most = omega arith;
   less = λ is. absurd (true≢false (sym is));
   back = λ same v low less. absurd (omega (arith, low, less));
 }
 
 -- a node is marked
-pub sweep_marks_node : (noted : ℕ → BothWays) (threads : ℕ) (old marks : List Bool) (changed : Bool) (k node : ℕ) (d : Bool)
+pub sweeping_step_with_mark : (noted : ℕ → BothWays) (threads : ℕ) (old marks : List Bool) (changed : Bool) (k node : ℕ) (d : Bool)
     → Sweeping noted threads old marks changed k → node < length marks → get_or marks node d ≡ false → IsBefore noted threads marks node
     → Sweeping noted threads old (slice_set marks node true) true (k + 1)
-sweep_marks_node noted threads old marks changed k node d s l unmarked (t, refused, w, few, to, is) =
-    let fewer = shut_less_after_opening marks node d l unmarked in record {
+sweeping_step_with_mark noted threads old marks changed k node d s l unmarked (t, refused, w, few, to, is) =
+    let fewer = fewer_shut_after_opening marks node d l unmarked in record {
       nodes = length-set marks node true ∙ s.nodes;
-      stays = stays_open_through_opening old marks node l s.stays;
+      stays = stays_open_after_setting_true_if_stayed_open old marks node l s.stays;
       ways = λ v now. elim (open_after_opening_cases marks node v now) [
         | inl before ↦ s.ways v before
         | inr same ↦ subst (HasMarked noted threads old) (sym same)
@@ -70,10 +70,10 @@ sweep_marks_node noted threads old marks changed k node d s l unmarked (t, refus
     }
 
 -- a node stays as it is
-pub sweep_leaves_node : (noted : ℕ → BothWays) (threads : ℕ) (old marks : List Bool) (changed : Bool) (k node : ℕ)
+pub sweeping_step_without_mark : (noted : ℕ → BothWays) (threads : ℕ) (old marks : List Bool) (changed : Bool) (k node : ℕ)
     → Sweeping noted threads old marks changed k → node + (k + 1) ≡ length marks → (IsBefore noted threads marks node → IsOpen marks node)
     → Sweeping noted threads old marks changed (k + 1)
-sweep_leaves_node noted threads old marks changed k node s here is = record {
+sweeping_step_without_mark noted threads old marks changed k node s here is = record {
   nodes = s.nodes;
   stays = s.stays;
   ways = s.ways;

@@ -16,24 +16,24 @@ use Rattle.ir_explore.specs.Levels.{AreAsked, Covered}
 use Rattle.ir_explore.specs.Meaning.{Means, Steps}
 use Rattle.ir_explore.specs.Origins.{Goes, BeginsAt, first_origin, AreReached, LeadsBy}
 use Rattle.ir_explore.specs.Ways.{Leads, HasMarked}
-use Rattle.ir_explore.proofs.Reached.{place_of_element_is_below_length}
+use Rattle.ir_explore.proofs.Reached.{index_of_element_is_below_length}
 use Rattle.ir_explore.proofs.Gone.{element_below_length_exists}
 
 -- one thread's turn at an order's end is a switch at most
-changes_of_replicated_thread : (t n : ℕ) → changes t (replicate n t) ≡ 0
-changes_of_replicated_thread t zero = refl
-changes_of_replicated_thread t (suc n) = ap (λ b. cond b (changes t (replicate n t)) (suc (changes t (replicate n t)))) (eq-eqb t t refl) ∙ changes_of_replicated_thread t n
+changes_of_replicated_thread_are_zero : (t n : ℕ) → changes t (replicate n t) ≡ 0
+changes_of_replicated_thread_are_zero t zero = refl
+changes_of_replicated_thread_are_zero t (suc n) = ap (λ b. cond b (changes t (replicate n t)) (suc (changes t (replicate n t)))) (eq-eqb t t refl) ∙ changes_of_replicated_thread_are_zero t n
 
 repeated_turn_adds_one_change_at_most : (t : ℕ) (ts : List ℕ) (u n : ℕ) → changes t (ts ++ replicate n u) ≤ suc (changes t ts)
 repeated_turn_adds_one_change_at_most t [] u zero = omega arith
 repeated_turn_adds_one_change_at_most t [] u (suc n) = elim (cases_eq u t) [
   | inl same ↦
       let e = ap (λ b. cond b (changes t (replicate n u)) (suc (changes u (replicate n u)))) (eq-eqb u t same) in
-      let none : changes t (replicate n u) ≡ 0 = subst (λ z. changes t (replicate n z) ≡ 0) (sym same) (changes_of_replicated_thread t n) in
+      let none : changes t (replicate n u) ≡ 0 = subst (λ z. changes t (replicate n z) ≡ 0) (sym same) (changes_of_replicated_thread_are_zero t n) in
       omega (arith, e, none)
   | inr other ↦
       let e = ap (λ b. cond b (changes t (replicate n u)) (suc (changes u (replicate n u)))) (ne_eqb u t other) in
-      let none = changes_of_replicated_thread u n in
+      let none = changes_of_replicated_thread_are_zero u n in
       omega (arith, e, none)
 ]
 repeated_turn_adds_one_change_at_most t (v ∷ ts) u n = elim (cases_eq v t) [
@@ -53,12 +53,12 @@ repeated_turn_adds_one_change_at_most t (v ∷ ts) u n = elim (cases_eq v t) [
 
 pub repeated_turn_adds_one_switch_at_most : (ts : List ℕ) (u n : ℕ) → switches (ts ++ replicate n u) ≤ suc (switches ts)
 repeated_turn_adds_one_switch_at_most [] u zero = omega arith
-repeated_turn_adds_one_switch_at_most [] u (suc n) = let h = changes_of_replicated_thread u n in omega (arith, h)
+repeated_turn_adds_one_switch_at_most [] u (suc n) = let h = changes_of_replicated_thread_are_zero u n in omega (arith, h)
 repeated_turn_adds_one_switch_at_most (t ∷ ts) u n = repeated_turn_adds_one_change_at_most t ts u n
 
-pub switches_of_replicated_thread : (u n : ℕ) → switches (replicate n u) ≤ 0
-switches_of_replicated_thread u zero = omega arith
-switches_of_replicated_thread u (suc n) = let h = changes_of_replicated_thread u n in omega (arith, h)
+pub switches_of_replicated_thread_are_zero : (u n : ℕ) → switches (replicate n u) ≤ 0
+switches_of_replicated_thread_are_zero u zero = omega arith
+switches_of_replicated_thread_are_zero u (suc n) = let h = changes_of_replicated_thread_are_zero u n in omega (arith, h)
 
 module _ {T : Type 0} (m : Machine T) (answers : Answers T) (Alike : State T → State T → Type 0) (s : State T) (state_of : ℕ → State T)
     (noted : ℕ → BothWays) (threads size : ℕ) (means : Means m answers Alike s state_of noted threads size) where
@@ -84,13 +84,13 @@ module _ {T : Type 0} (m : Machine T) (answers : Answers T) (Alike : State T →
         replicate (length r.1) n.thread,
         (n, is, r.1, r.2, refl),
         goes_path n.thread r.1 0 v some goes,
-        switches_of_replicated_thread n.thread (length r.1),
+        switches_of_replicated_thread_are_zero n.thread (length r.1),
       )
   node_order nodes refusals reached all some (suc k) v n is same =
       let r = reached v n is in
       let before : BeginsAt nodes (suc k) n.from = subst (λ z. BeginsAt nodes z n.from) same r.0 in
       let from = node_order nodes refusals reached all some k n.from before.0 before.1 before.2 in
-      let l : n.from < size = (let h = place_of_element_is_below_length nodes n.from before.0 before.1 in omega (arith, h, all)) in
+      let l : n.from < size = (let h = index_of_element_is_below_length nodes n.from before.0 before.1 in omega (arith, h, all)) in
       let goes = subst (λ z. Goes (noted n.thread) z n.from r.1 v) all r.3 in (
         from.0 ++ replicate (length r.1) n.thread,
         (n, is, from.0, from.1, r.1, r.2, refl),
@@ -158,7 +158,7 @@ module _ {T : Type 0} (m : Machine T) (answers : Answers T) (Alike : State T →
       → length nodes ≤ size → Covers m answers Alike s state_of (Opened nodes c h) 0 c
   covered_covers nodes c h first wide =
       let inside : (v : ℕ) (n : Origin) → slice_get nodes v ≡ Some n → v < size =
-      λ v n is. (let a = place_of_element_is_below_length nodes v n is in omega (arith, a, wide)) in record {
+      λ v n is. (let a = index_of_element_is_below_length nodes v n is in omega (arith, a, wide)) in record {
         begins = means.begins;
         opens = λ t. (omega arith, (first_origin, first, omega arith), λ u few same. h.opens u few);
         at_rest = λ k t v o. means.at_rest v (inside v o.1.0 o.1.1);

@@ -8,42 +8,42 @@ use Rattle.ir_explore.specs.Following.{Leading, BothWays, Keeps, IsOpen, StaysOp
 use Rattle.ir_explore.specs.TurnSoFar.{left_to_open}
 use Rattle.ir_explore.specs.Ways.{shut}
 
-pub shut_less_after_opening : (xs : List Bool) (x : ℕ) (d : Bool) → x < length xs → get_or xs x d ≡ false → shut (slice_set xs x true) < shut xs
+pub fewer_shut_after_opening : (xs : List Bool) (x : ℕ) (d : Bool) → x < length xs → get_or xs x d ≡ false → shut (slice_set xs x true) < shut xs
 unfolding shut
-shut_less_after_opening [] x d l e = absurd (omega (arith, l))
-shut_less_after_opening (true ∷ xs) zero d l e = absurd (true≢false e)
-shut_less_after_opening (false ∷ xs) zero d l e = omega arith
-shut_less_after_opening (true ∷ xs) (suc x) d l e = shut_less_after_opening xs x d (omega (arith, l)) e
-shut_less_after_opening (false ∷ xs) (suc x) d l e = let h = shut_less_after_opening xs x d (omega (arith, l)) e in omega (arith, h)
+fewer_shut_after_opening [] x d l e = absurd (omega (arith, l))
+fewer_shut_after_opening (true ∷ xs) zero d l e = absurd (true≢false e)
+fewer_shut_after_opening (false ∷ xs) zero d l e = omega arith
+fewer_shut_after_opening (true ∷ xs) (suc x) d l e = fewer_shut_after_opening xs x d (omega (arith, l)) e
+fewer_shut_after_opening (false ∷ xs) (suc x) d l e = let h = fewer_shut_after_opening xs x d (omega (arith, l)) e in omega (arith, h)
 
 pub opened_place_is_open : (xs : List Bool) (x : ℕ) → x < length xs → IsOpen (slice_set xs x true) x
 opened_place_is_open [] x l = absurd (omega (arith, l))
 opened_place_is_open (b ∷ xs) zero l = refl
 opened_place_is_open (b ∷ xs) (suc x) l = opened_place_is_open xs x (omega (arith, l))
 
-other_place_after_opening : (xs : List Bool) (x v : ℕ) → (v ≡ x → ⊥) → slice_get (slice_set xs x true) v ≡ slice_get xs v
-other_place_after_opening [] x v ne = refl
-other_place_after_opening (b ∷ xs) zero zero ne = absurd (ne refl)
-other_place_after_opening (b ∷ xs) zero (suc v) ne = refl
-other_place_after_opening (b ∷ xs) (suc x) zero ne = refl
-other_place_after_opening (b ∷ xs) (suc x) (suc v) ne = other_place_after_opening xs x v (λ e. ne (ap suc e))
+slice_get_of_slice_set_at_other_place : (xs : List Bool) (x v : ℕ) → (v ≡ x → ⊥) → slice_get (slice_set xs x true) v ≡ slice_get xs v
+slice_get_of_slice_set_at_other_place [] x v ne = refl
+slice_get_of_slice_set_at_other_place (b ∷ xs) zero zero ne = absurd (ne refl)
+slice_get_of_slice_set_at_other_place (b ∷ xs) zero (suc v) ne = refl
+slice_get_of_slice_set_at_other_place (b ∷ xs) (suc x) zero ne = refl
+slice_get_of_slice_set_at_other_place (b ∷ xs) (suc x) (suc v) ne = slice_get_of_slice_set_at_other_place xs x v (λ e. ne (ap suc e))
 
 pub stays_open_after_opening : (xs : List Bool) (x : ℕ) → x < length xs → StaysOpen xs (slice_set xs x true)
 stays_open_after_opening xs x l v o = elim (cases_eq v x) [
   | inl same ↦ subst (IsOpen (slice_set xs x true)) (sym same) (opened_place_is_open xs x l)
-  | inr ne ↦ other_place_after_opening xs x v ne ∙ o
+  | inr ne ↦ slice_get_of_slice_set_at_other_place xs x v ne ∙ o
 ]
 
 -- what is opened now was so before, or is the one node
 pub open_after_opening_cases : (xs : List Bool) (x v : ℕ) → IsOpen (slice_set xs x true) v → IsOpen xs v ⊎ (v ≡ x)
 open_after_opening_cases xs x v o = elim (cases_eq v x) [
   | inl same ↦ inr same
-  | inr ne ↦ inl (sym (other_place_after_opening xs x v ne) ∙ o)
+  | inr ne ↦ inl (sym (slice_get_of_slice_set_at_other_place xs x v ne) ∙ o)
 ]
 
 -- what was opened before, and stays so after this node
-pub stays_open_through_opening : (old xs : List Bool) (x : ℕ) → x < length xs → StaysOpen old xs → StaysOpen old (slice_set xs x true)
-stays_open_through_opening old xs x l stays v o = stays_open_after_opening xs x l v (stays v o)
+pub stays_open_after_setting_true_if_stayed_open : (old xs : List Bool) (x : ℕ) → x < length xs → StaysOpen old xs → StaysOpen old (slice_set xs x true)
+stays_open_after_setting_true_if_stayed_open old xs x l stays v o = stays_open_after_opening xs x l v (stays v o)
 
 pub open_if_element_true : (xs : List Bool) (x : ℕ) (d : Bool) → x < length xs → get_or xs x d ≡ true → IsOpen xs x
 open_if_element_true xs x d l e = slice_get-get_or xs x d l ∙ ap Some e
@@ -78,9 +78,9 @@ pub get_or_false_is_true_if_open : (xs : List Bool) (v : ℕ) → IsOpen xs v �
 get_or_false_is_true_if_open xs v o = get_or_from_slice_get xs v true false o
 
 -- what a thread goes on to stays so, where what was noted stays and nothing is shut
-pub goes_to_if_notes_kept : (leading more : Leading) (xs ys : List Bool) (v : ℕ) → Keeps leading more → StaysOpen xs ys
+pub goes_to_open_if_notes_kept_and_open_stays_open : (leading more : Leading) (xs ys : List Bool) (v : ℕ) → Keeps leading more → StaysOpen xs ys
     → GoesTo leading (IsOpen xs) v → GoesTo more (IsOpen ys) v
-goes_to_if_notes_kept leading more xs ys v kept stays g = elim g [
+goes_to_open_if_notes_kept_and_open_stays_open leading more xs ys v kept stays g = elim g [
   | inl none ↦ inl (kept v None none)
   | inr s ↦ inr (s.0, kept v (Some s.0) s.1, stays s.0 s.2)
 ]
@@ -89,7 +89,7 @@ goes_to_if_notes_kept leading more xs ys v kept stays g = elim g [
 pub followed_if_notes_kept : (leading more : BothWays) (xs : List Bool) → ((refused : Bool) → Keeps (leading refused) (more refused))
     → IsFollowed leading xs → IsFollowed more xs
 followed_if_notes_kept leading more xs kept f v o refused =
-    goes_to_if_notes_kept (leading refused) (more refused) xs xs v (kept refused) (λ w is. is) (f v o refused)
+    goes_to_open_if_notes_kept_and_open_stays_open (leading refused) (more refused) xs xs v (kept refused) (λ w is. is) (f v o refused)
 
 -- a row of nodes, once node y is opened too: it stood there shut, or is one more
 pub record Opening (xs ys : List Bool) (y : ℕ) : Type 0 where
@@ -103,7 +103,7 @@ setting_shut_place_is_opening xs y d l e = record {
   opens = opened_place_is_open xs y l;
   stays = stays_open_after_opening xs y l;
   only = open_after_opening_cases xs y;
-  counts = inl (length-set xs y true, shut_less_after_opening xs y d l e);
+  counts = inl (length-set xs y true, fewer_shut_after_opening xs y d l e);
 }
 
 shut_ignores_open_place_added : (xs : List Bool) → shut (xs ++ true ∷ []) ≡ shut xs

@@ -10,10 +10,10 @@ use Rattle.ir_explore.specs.Following.{BothWays, Keeps, Stay}
 use Rattle.ir_explore.specs.TurnSoFar.{IsAfter}
 use Rattle.ir_explore.specs.Origins.{Goes, AreWaysUnder, Whole, Refused, AreWaysOf, BeginsAt, IsReachedBy, AreReached, AreRising, Adds}
 
-pub place_of_element_is_below_length : {A : Type 0} (xs : List A) (v : ℕ) (n : A) → slice_get xs v ≡ Some n → v < length xs
-place_of_element_is_below_length [] v n e = absurd (cc e)
-place_of_element_is_below_length (x ∷ xs) zero n e = omega arith
-place_of_element_is_below_length (x ∷ xs) (suc v) n e = let h = place_of_element_is_below_length xs v n e in omega (arith, h)
+pub index_of_element_is_below_length : {A : Type 0} (xs : List A) (v : ℕ) (n : A) → slice_get xs v ≡ Some n → v < length xs
+index_of_element_is_below_length [] v n e = absurd (cc e)
+index_of_element_is_below_length (x ∷ xs) zero n e = omega arith
+index_of_element_is_below_length (x ∷ xs) (suc v) n e = let h = index_of_element_is_below_length xs v n e in omega (arith, h)
 
 pub goes_if_notes_kept : (leading more : BothWays) (size wide : ℕ) → ((refused : Bool) → Keeps (leading refused) (more refused)) → size ≤ wide
     → (ways : List Bool) (v w : ℕ) → Goes leading size v ways w → Goes more wide v ways w
@@ -42,10 +42,10 @@ begins_at_if_nodes_kept nodes more stays (suc k) from b = (b.0, stays from b.0 b
 abbrev pub AllKept : (ℕ → BothWays) → (ℕ → BothWays) → Type 0
 AllKept noted more = (t : ℕ) (refused : Bool) → Keeps (noted t refused) (more t refused)
 
-pub reached_by_if_grown : (noted more : ℕ → BothWays) (refusals table : List Refusal) (nodes new : List Origin) → AllKept noted more
+pub reached_by_kept_if_notes_and_nodes_grow : (noted more : ℕ → BothWays) (refusals table : List Refusal) (nodes new : List Origin) → AllKept noted more
     → Stay refusals table → Stay nodes new → length nodes ≤ length new → (v : ℕ) (n : Origin) → IsReachedBy noted refusals nodes v n
     → IsReachedBy more table new v n
-reached_by_if_grown noted more refusals table nodes new kept stay stays longer v n r = (
+reached_by_kept_if_notes_and_nodes_grow noted more refusals table nodes new kept stay stays longer v n r = (
   begins_at_if_nodes_kept nodes new stays n.level n.from r.0,
   r.1,
   (r.2.0, ways_under_number_stay_if_table_grows refusals table stay n.last_refusal r.2.0 r.2.1, r.2.2),
@@ -55,7 +55,7 @@ reached_by_if_grown noted more refusals table nodes new kept stay stays longer v
 pub reached_if_notes_kept : (noted more : ℕ → BothWays) (refusals table : List Refusal) (nodes : List Origin) → AllKept noted more
     → Stay refusals table → AreReached noted refusals nodes → AreReached more table nodes
 reached_if_notes_kept noted more refusals table nodes kept stay r v n e =
-    reached_by_if_grown noted more refusals table nodes nodes kept stay (λ u m is. is) (omega arith) v n (r v n e)
+    reached_by_kept_if_notes_and_nodes_grow noted more refusals table nodes nodes kept stay (λ u m is. is) (omega arith) v n (r v n e)
 
 -- a node more, reached as its origin says
 pub reached_after_node_added : (noted more : ℕ → BothWays) (refusals table : List Refusal) (nodes : List Origin) (new : Origin) → AllKept noted more
@@ -63,15 +63,15 @@ pub reached_after_node_added : (noted more : ℕ → BothWays) (refusals table :
     → AreReached more table (nodes ++ new ∷ [])
 reached_after_node_added noted more refusals table nodes new kept stay r by v n e = elim (slice_get_after_push_cases nodes new v n e) [
   | inl old ↦
-      reached_by_if_grown noted more refusals table nodes (nodes ++ new ∷ []) kept stay
+      reached_by_kept_if_notes_and_nodes_grow noted more refusals table nodes (nodes ++ new ∷ []) kept stay
       (λ u m is. slice_get_kept_by_append nodes (new ∷ []) u m is) (let h = length-append nodes (new ∷ []) in omega (arith, h)) v n (r v n old)
   | inr p ↦ subst (λ z. IsReachedBy more table (nodes ++ new ∷ []) v z) p.1
       (subst (λ z. IsReachedBy more table (nodes ++ new ∷ []) z new) (sym p.0) by)
 ]
 
-replicate_and_one_more : (n : ℕ) → replicate n false ++ false ∷ [] ≡ replicate (suc n) false
-replicate_and_one_more zero = refl
-replicate_and_one_more (suc n) = ap (λ z. false ∷ z) (replicate_and_one_more n)
+replicate_false_append_one : (n : ℕ) → replicate n false ++ false ∷ [] ≡ replicate (suc n) false
+replicate_false_append_one zero = refl
+replicate_false_append_one (suc n) = ap (λ z. false ∷ z) (replicate_false_append_one n)
 
 pub table_stays_after_step : (refusals table : List Refusal) (n : Origin) (refused : Bool) (next : Origin) → IsAfter refusals table n refused next
     → Stay refusals table
@@ -80,15 +80,15 @@ table_stays_after_step refusals table n true next a v x is =
     subst (λ z. slice_get z v ≡ Some x) (sym a.0) (slice_get_kept_by_append refusals (record { before = n.last_refusal; entries = n.entries } ∷ []) v x is)
 
 -- the ways of a turn that goes on by one more
-ways_after_step : (refusals table : List Refusal) (n : Origin) (refused : Bool) (next : Origin) → IsAfter refusals table n refused next
+ways_after_step_end_with_its_way : (refusals table : List Refusal) (n : Origin) (refused : Bool) (next : Origin) → IsAfter refusals table n refused next
     → (ways : List Bool) → AreWaysOf refusals n ways → AreWaysOf table next (ways ++ refused ∷ [])
-ways_after_step refusals table n false next a ways (before, spelled, is) =
+ways_after_step_end_with_its_way refusals table n false next a ways (before, spelled, is) =
     subst (λ z. AreWaysOf table z (ways ++ false ∷ [])) (sym a.1) (
       before,
       ways_under_number_stay_if_table_grows refusals table (table_stays_after_step refusals table n false next a) n.last_refusal before spelled,
-      ap (λ z. z ++ false ∷ []) is ∙ append_assoc before (replicate n.entries false) (false ∷ []) ∙ ap (λ z. before ++ z) (replicate_and_one_more n.entries),
+      ap (λ z. z ++ false ∷ []) is ∙ append_assoc before (replicate n.entries false) (false ∷ []) ∙ ap (λ z. before ++ z) (replicate_false_append_one n.entries),
     )
-ways_after_step refusals table n true next a ways (before, spelled, is) =
+ways_after_step_end_with_its_way refusals table n true next a ways (before, spelled, is) =
     let last : Refusal = record { before = n.last_refusal; entries = n.entries } in
     let at : slice_get table (length refusals) ≡ Some last =
     subst (λ z. slice_get z (length refusals) ≡ Some last) (sym a.0) (added_element_is_last refusals last) in
@@ -118,7 +118,7 @@ reached_by_after_step noted more refusals table nodes new kept stays longer v w 
     (goes_if_notes_kept (noted n.thread) (more n.thread) (length nodes) (length new) (kept n.thread) longer r.1 n.from v r.3) is less in (
       subst (λ z. BeginsAt new z next.from) (sym t.2) (subst (λ z. BeginsAt new n.level z) (sym t.0) (begins_at_if_nodes_kept nodes new stays n.level n.from r.0)),
       r.1 ++ refused ∷ [],
-      ways_after_step refusals table n refused next after r.1 r.2,
+      ways_after_step_end_with_its_way refusals table n refused next after r.1 r.2,
       subst (λ z. Goes (more z) (length new) next.from (r.1 ++ refused ∷ []) w) (sym t.1)
           (subst (λ z. Goes (more n.thread) (length new) z (r.1 ++ refused ∷ []) w) (sym t.0) goes),
     )
@@ -126,12 +126,12 @@ reached_by_after_step noted more refusals table nodes new kept stays longer v w 
 pub adds_reflexive : (k : ℕ) (nodes : List Origin) → Adds k nodes nodes
 adds_reflexive k nodes = record {
   stays = λ v n e. e;
-  level = λ v n l e. absurd (let h = place_of_element_is_below_length nodes v n e in omega (arith, h, l));
+  level = λ v n l e. absurd (let h = index_of_element_is_below_length nodes v n e in omega (arith, h, l));
   longer = omega arith;
 }
 
-pub adds_after_node_pushed : (k : ℕ) (old nodes : List Origin) (new : Origin) → new.level ≡ k → Adds k old nodes → Adds k old (nodes ++ new ∷ [])
-adds_after_node_pushed k old nodes new same a = record {
+pub adds_after_node_of_level_pushed : (k : ℕ) (old nodes : List Origin) (new : Origin) → new.level ≡ k → Adds k old nodes → Adds k old (nodes ++ new ∷ [])
+adds_after_node_of_level_pushed k old nodes new same a = record {
   stays = λ v n e. slice_get_kept_by_append nodes (new ∷ []) v n (a.stays v n e);
   level = λ v n l e. elim (slice_get_after_push_cases nodes new v n e) [
     | inl is ↦ a.level v n l is
@@ -146,9 +146,9 @@ element_below_length_exists (x ∷ xs) zero l = (x, refl)
 element_below_length_exists (x ∷ xs) (suc v) l = element_below_length_exists xs v (omega (arith, l))
 
 -- nodes of level k come after those of levels up to k
-pub rising_after_level_added : (k : ℕ) (old new : List Origin) → AreRising old → ((v : ℕ) (n : Origin) → slice_get old v ≡ Some n → n.level ≤ k)
+pub nodes_rising_after_level_added : (k : ℕ) (old new : List Origin) → AreRising old → ((v : ℕ) (n : Origin) → slice_get old v ≡ Some n → n.level ≤ k)
     → Adds k old new → AreRising new
-rising_after_level_added k old new rising most a u v x y at there order =
+nodes_rising_after_level_added k old new rising most a u v x y at there order =
     let was : (w : ℕ) (n : Origin) → slice_get new w ≡ Some n → w < length old → slice_get old w ≡ Some n =
     λ w n is less.
     let o = element_below_length_exists old w less in

@@ -31,21 +31,21 @@ use Rattle.ir_explore_run.specs.Conditions.{fulfils_each, NoneBefore}
 use Rattle.ir_explore_run.specs.Plan.{ExplorePlan, setup_of}
 use Rattle.ir_explore_run.specs.Until.{recording, IsHit, IsHitText, IsFinding}
 use Rattle.ir_explore_run.proofs.Answered.{log_is_answered_by_world}
-use Rattle.ir_explore_run.proofs.Fulfilled.{never_within_level_of_first}
+use Rattle.ir_explore_run.proofs.Fulfilled.{never_within_level_of_outcome_if_none_before_it}
 
 -- who steps is one of the guest's threads
-turns_are_of_threads : (code : List ℕ) (n : ℕ) (s : State thread.ThreadState) (turns : List Turn) (steps : List Step) → IsIdle (thread_machine code) s n
+threads_of_taken_turns_are_below_count : (code : List ℕ) (n : ℕ) (s : State thread.ThreadState) (turns : List Turn) (steps : List Step) → IsIdle (thread_machine code) s n
     → IsRun (thread_machine code) s steps → TakesEach turns steps → AllByRecursion (λ t. t.0 < n) turns
-turns_are_of_threads code n s [] steps rest ok taken = tt
-turns_are_of_threads code n s (t ∷ turns) [] rest ok taken = absurd (cc taken)
-turns_are_of_threads code n s (t ∷ turns) (e ∷ steps) rest ok taken =
+threads_of_taken_turns_are_below_count code n s [] steps rest ok taken = tt
+threads_of_taken_turns_are_below_count code n s (t ∷ turns) [] rest ok taken = absurd (cc taken)
+threads_of_taken_turns_are_below_count code n s (t ∷ turns) (e ∷ steps) rest ok taken =
     let own : e.0 ≡ t.0 = same_head e.0 t.0 (map (λ (e : Step). e.0) steps) (map (λ (t : Turn). t.0) turns) taken in
     let less : e.0 < n = elim (cases_lt e.0 n) [
       | inl l ↦ l
       | inr g ↦ absurd (subst (λ q. Admits (thread_machine code) (act_of q e.1) (s.objects (target (act_of q e.1)))) (rest e.0 g) ok.0)
     ] in (
       subst (λ z. z < n) own less,
-      turns_are_of_threads code n (after (thread_machine code) s e) turns steps (idle_after_step (thread_machine code) s n rest e ok.0) ok.1
+      threads_of_taken_turns_are_below_count code n (after (thread_machine code) s e) turns steps (idle_after_step (thread_machine code) s n rest e ok.0) ok.1
           (same_tail e.0 t.0 (map (λ (e : Step). e.0) steps) (map (λ (t : Turn). t.0) turns) taken),
     )
 
@@ -57,11 +57,11 @@ shown_order_is_not_empty setup s level turns some shown none =
     (shown.taken ∙ ap (λ o. map (λ (t : Turn). t.0) o) none)
 
 -- the run by the order of an outcome that fulfils each condition
-pub is_hit_if_shown_outcome_fulfils : (guest : Guest) (plan : ExplorePlan) (cs : List Condition) (flats : List SourcedFlat) (outcomes : List Shown) (levels place : ℕ)
+pub is_hit_if_shown_outcome_is_first_to_fulfil : (guest : Guest) (plan : ExplorePlan) (cs : List Condition) (flats : List SourcedFlat) (outcomes : List Shown) (levels place : ℕ)
     (x : Shown) (s : SourcedFlat) (list : List ℕ) → AreExplored (setup_of guest plan) flats levels outcomes → IsAt flats outcomes place x s
     → NoneBefore guest cs flats outcomes place → fulfils_each guest cs (outcome_of (tables s.flat)) ≡ true
     → SpellsTurns list (turns_of_items x.turns.items) → IsHit guest plan cs x.level list
-is_hit_if_shown_outcome_fulfils guest plan cs flats outcomes levels place x s list e at none does spells =
+is_hit_if_shown_outcome_is_first_to_fulfil guest plan cs flats outcomes levels place x s list e at none does spells =
     let setup = setup_of guest plan in
     let turns = turns_of_items x.turns.items in
     let shown : IsShown setup s x.level turns = e.shown place x s at in
@@ -70,7 +70,7 @@ is_hit_if_shown_outcome_fulfils guest plan cs flats outcomes levels place x s li
     let few = shown.few in record {
       turns = turns;
       spelled = spells (length guest.entries)
-          (turns_are_of_threads guest.code (length guest.entries) first turns shown.steps (guest_start_is_idle guest most_budget plan.profile)
+          (threads_of_taken_turns_are_below_count guest.code (length guest.entries) first turns shown.steps (guest_start_is_idle guest most_budget plan.profile)
           shown.counted.complete.0 shown.taken);
       run = shown.steps;
       counted = shown.counted;
@@ -81,7 +81,7 @@ is_hit_if_shown_outcome_fulfils guest plan cs flats outcomes levels place x s li
       };
       fulfilled = ap (fulfils_each guest cs) shown.same ∙ does;
       switched = omega (arith, least, few);
-      fewest = never_within_level_of_first setup cs flats outcomes levels place x e at.0 none;
+      fewest = never_within_level_of_outcome_if_none_before_it setup cs flats outcomes levels place x e at.0 none;
     }
 
 -- a recording by the list is of the run that was found

@@ -5,7 +5,7 @@ use Rattle.std.specs.Io.KnownBytes.{Appends}
 use Rattle.std.proofs.KnownBytes.{Appends-nil}
 use Rattle.std.proofs.lemmas.Option.{slice_get-get_or}
 use Rattle.ir_explore.specs.Following.{Stay}
-use Rattle.ir_explore.proofs.CallerLemmas.{place_of_element_is_below_length}
+use Rattle.ir_explore.proofs.CallerLemmas.{index_of_element_is_below_length}
 use Rattle.ir_files.proofs.CallerLemmas.{appends_prefix_after_whole_text}
 use Rattle.ir_stream.specs.Answers.{AppendsPrefix}
 use Rattle.ir_graph.specs.Setup.{Setup}
@@ -22,7 +22,7 @@ use Rattle.ir_explore_run.specs.Printed.{HasPrinted}
 use Rattle.ir_explore_run.specs.Texts.{Objects, objects_of, AreTexts, IsPart, AreKnown, known_of, IsEnding, IsAnswerAbout}
 use Rattle.ir_explore_run.specs.declared.fault.ExploreFault.TheVariants.{NoMem, Write}
 use Rattle.ir_explore_run.specs.Plan.{ExplorePlan, setup_of}
-use Rattle.ir_explore_run.proofs.Joined.{texts_of_no_outcome, texts_kept_among_more_outcomes}
+use Rattle.ir_explore_run.proofs.Joined.{texts_of_no_outcome_are_empty, texts_kept_among_more_outcomes}
 
 -- before the first outcome nothing is printed
 pub empty_text_is_part : (setup : Setup) → IsPart setup []
@@ -31,7 +31,7 @@ empty_text_is_part setup = record {
   outcomes = [];
   levels = 0;
   explored = are_explored_before_first_level setup [];
-  texts = texts_of_no_outcome (objects_of setup.guest) [] [];
+  texts = texts_of_no_outcome_are_empty (objects_of setup.guest) [] [];
 }
 
 -- the lines of the outcomes that a search has found
@@ -47,21 +47,21 @@ printed_outcomes_are_part setup o e text same explored printed = record {
 }
 
 -- out of memory before anything is printed
-pub stops_before_first_line : (guest : Guest) (plan : ExplorePlan) (w : Writer) → w.before ≡ w.after → StopsPrinting NoMem guest plan w
-stops_before_first_line guest plan w same =
+pub out_of_memory_before_first_line_stops_printing : (guest : Guest) (plan : ExplorePlan) (w : Writer) → w.before ≡ w.after → StopsPrinting NoMem guest plan w
+out_of_memory_before_first_line_stops_printing guest plan w same =
     inl ([], empty_text_is_part (setup_of guest plan), subst (λ z. Took (record w { after = z }) []) same (Appends-nil w.before))
 
 -- the writer fails in a whole answer
-pub stops_in_answer : (guest : Guest) (plan : ExplorePlan) (answered : ExitStatus) (text : List ℕ) (w : Writer) → IsAnswerAbout guest plan answered text
+pub failed_writer_in_answer_stops_printing : (guest : Guest) (plan : ExplorePlan) (answered : ExitStatus) (text : List ℕ) (w : Writer) → IsAnswerAbout guest plan answered text
     → Failed w text → StopsPrinting Write guest plan w
-stops_in_answer guest plan answered text w answer failed = inr (refl, answered, text, answer, failed)
+failed_writer_in_answer_stops_printing guest plan answered text w answer failed = inr (refl, answered, text, answer, failed)
 
 -- a list whose elements stay is no longer than what it becomes
-pub kept_list_is_not_longer : {A : Type 0} (xs ys : List A) → Stay xs ys → length xs ≤ length ys
-kept_list_is_not_longer [] ys stay = omega arith
-kept_list_is_not_longer (x ∷ xs) ys stay =
+pub length_is_at_most_that_of_list_where_it_stays : {A : Type 0} (xs ys : List A) → Stay xs ys → length xs ≤ length ys
+length_is_at_most_that_of_list_where_it_stays [] ys stay = omega arith
+length_is_at_most_that_of_list_where_it_stays (x ∷ xs) ys stay =
     let at = slice_get-get_or (x ∷ xs) (length xs) x (omega arith) in
-    let less = place_of_element_is_below_length ys (length xs) (get_or (x ∷ xs) (length xs) x) (stay (length xs) (get_or (x ∷ xs) (length xs) x) at) in
+    let less = index_of_element_is_below_length ys (length xs) (get_or (x ∷ xs) (length xs) x) (stay (length xs) (get_or (x ∷ xs) (length xs) x) at) in
     omega (arith, less)
 
 -- what was printed, among the outcomes that were found since
@@ -94,11 +94,11 @@ explored_is_known guest plan e is = record {
 }
 
 -- the lines of all outcomes and then how the search ended are the answer
-pub answer_of_lines_and_ending : (guest : Guest) (plan : ExplorePlan) (o : Objects) (s : Exploring) (e : Explored) (lines last : List ℕ)
+pub printed_lines_and_ending_are_answer : (guest : Guest) (plan : ExplorePlan) (o : Objects) (s : Exploring) (e : Explored) (lines last : List ℕ)
     (answered : ExitStatus) → o ≡ objects_of guest → e.states.graph.flats.items ≡ s.states.graph.flats.items
     → e.outcomes.items ≡ s.list.outcomes.items → IsExplored (setup_of guest plan) plan.bounds plan.switches e
     → HasPrinted o s (length s.list.outcomes.items) lines → IsEnding (known_of e) answered last → IsAnswerAbout guest plan answered (lines ++ last)
-answer_of_lines_and_ending guest plan o s e lines last answered same flats outcomes is printed ending = inl (
+printed_lines_and_ending_are_answer guest plan o s e lines last answered same flats outcomes is printed ending = inl (
   known_of e,
   explored_is_known guest plan e is,
   record {

@@ -11,9 +11,9 @@ use Rattle.ir_explore_run.specs.Plan.{ExplorePlan, setup_of}
 use Rattle.ir_explore_run.proofs.Fulfilled.{never_within_if_none_before, never_fulfils_if_none_before}
 
 -- what was found out up to a number of switches that is the plan's, or is all
-known_at_plan_switches : (guest : Guest) (plan : ExplorePlan) (n : ℕ) (k : Known) → AreKnown guest (record plan { switches = n }) k
+are_known_of_plan_if_known_at_n_switches : (guest : Guest) (plan : ExplorePlan) (n : ℕ) (k : Known) → AreKnown guest (record plan { switches = n }) k
     → (k.ended ≡ Covered → n ≡ plan.switches) → AreKnown guest plan k
-known_at_plan_switches guest plan n k a last = record {
+are_known_of_plan_if_known_at_n_switches guest plan n k a last = record {
   explored = a.explored;
   all = a.all;
   reached = a.reached;
@@ -24,14 +24,14 @@ known_at_plan_switches guest plan n k a last = record {
 }
 
 -- after the last search
-pub sought_after_last_search : (guest : Guest) (plan : ExplorePlan) (cs : List Condition) (n : ℕ) (k : Known) (found : Option ℕ)
+pub is_sought_if_known_at_n_switches_and_first_found : (guest : Guest) (plan : ExplorePlan) (cs : List Condition) (n : ℕ) (k : Known) (found : Option ℕ)
     → AreKnown guest (record plan { switches = n }) k → IsFirst guest cs k.flats k.outcomes found
     → (found ≡ None → k.ended ≡ Covered → n ≡ plan.switches) → IsSought guest plan cs k found
-sought_after_last_search guest plan cs n k found a first last = record {
+is_sought_if_known_at_n_switches_and_first_found guest plan cs n k found a first last = record {
   explored = a.explored;
   reached = a.reached;
   first = first;
-  whole = λ none. known_at_plan_switches guest plan n k a (last none);
+  whole = λ none. are_known_of_plan_if_known_at_n_switches guest plan n k a (last none);
 }
 
 -- none was found

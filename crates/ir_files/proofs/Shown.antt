@@ -5,7 +5,7 @@ use Rattle.std.specs.List.{list_all}
 use Rattle.std.specs.Io.KnownBytes.{Appends}
 use Rattle.ir_lemmas.proofs.CallerLemmas.{false_if_not_is_true, left_of_true_and, right_of_true_and}
 use Rattle.ir_stream.specs.Answers.{AppendsPrefix}
-use Rattle.ir_stream.proofs.CallerLemmas.{prefix_after_whole_text, prefix_of_longer_text}
+use Rattle.ir_stream.proofs.CallerLemmas.{appends_prefix_of_append_if_first_appended, appends_prefix_of_longer_text}
 use Rattle.ir_files.specs.Shown.{shown, shown_byte, is_control, is_late_control, is_plain, mark}
 
 shown_of_plain_byte : (b : ℕ) → is_plain b ≡ true → shown_byte b ≡ b
@@ -31,4 +31,4 @@ append_reassociated done part more end = ap (λ z. done ++ z) (append_assoc part
 pub part_prefix_is_whole_prefix : (a b c : Option (List ℕ)) (done part rest whole : List ℕ) → whole ≡ (done ++ part) ++ rest → Appends a b done
     → AppendsPrefix b c part → AppendsPrefix a c whole
 part_prefix_is_whole_prefix a b c done part rest whole e begun f = subst (AppendsPrefix a c) (sym e)
-    (prefix_of_longer_text a c (done ++ part) rest (prefix_after_whole_text a b c done part begun f))
+    (appends_prefix_of_longer_text a c (done ++ part) rest (appends_prefix_of_append_if_first_appended a b c done part begun f))

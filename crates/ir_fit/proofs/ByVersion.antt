@@ -8,7 +8,7 @@ use Rattle.std.proofs.lemmas.List.Sorted.{IsPermutation-refl}
 use Rattle.ir_runs.specs.declared.access.Access.{Access}
 use Rattle.ir_runs.specs.declared.access.Access.TheVariants.{Reading, Writing}
 use Rattle.ir_runs.specs.Run.{join_if}
-use Rattle.ir_runs.proofs.CallerLemmas.{join_if_of_append}
+use Rattle.ir_runs.proofs.CallerLemmas.{conditional_cons_join_if_of_append}
 use Rattle.ir_log.specs.declared.event.Event.{Event}
 use Rattle.ir_log.specs.declared.event.Event.TheVariants.{Answer, Read, Write, Try}
 use Rattle.ir_fit.specs.Placed.{Visit, enter_if, entered_by, same_access, picked, Listing, listed}
@@ -128,9 +128,9 @@ pub record SortedBelow (n : ℕ) (old new : List (List Place)) : Type 0 where
 pub sorted_below_zero : (xs : List (List Place)) → SortedBelow 0 xs xs
 sorted_below_zero xs = record { size = refl; below = λ o l. absurd (omega (arith, l)); rest = λ o l. refl }
 
-pub sorted_below_with_list_sorted : (n : ℕ) (old new : List (List Place)) (x y : List Place) → n < length new → x ≡ get_or new n x → IsPermutation x y
+pub sorted_below_step : (n : ℕ) (old new : List (List Place)) (x y : List Place) → n < length new → x ≡ get_or new n x → IsPermutation x y
     → IsNonDecreasingBy (λ (p : Place). p.version) y → SortedBelow n old new → SortedBelow (n + 1) old (slice_set new n y)
-sorted_below_with_list_sorted n old new x y l read same up h = record {
+sorted_below_step n old new x y l read same up h = record {
   size = length-set new n y ∙ h.size;
   below = λ o lo. elim (cases_eq o n) [
     | inl here ↦
@@ -165,7 +165,7 @@ lists_are_sorted_if_sorted_below_length n old new h l o = elim (cases_lt o n) [
 pub picked_append : (o : ℕ) (a : Access) (xs ys : List Visit) → picked o a (xs ++ ys) ≡ picked o a xs ++ picked o a ys
 picked_append o a [] ys = refl
 picked_append o a (x ∷ xs) ys = ap (join_if (eqb x.0 o && same_access x.1 a) x.2) (picked_append o a xs ys)
-    ∙ join_if_of_append (eqb x.0 o && same_access x.1 a) x.2 (picked o a xs) (picked o a ys)
+    ∙ conditional_cons_join_if_of_append (eqb x.0 o && same_access x.1 a) x.2 (picked o a xs) (picked o a ys)
 
 pub adds_all_of_nothing : (x : Listing) → AddsAll x x []
 adds_all_of_nothing x o a = sym (append-nil (listed x o a))
@@ -175,33 +175,33 @@ adds_all_of_append x y z vs ws h k o a =
     k o a ∙ ap (λ xs. xs ++ picked o a ws) (h o a) ∙ append_assoc (listed x o a) (picked o a vs) (picked o a ws)
     ∙ ap (λ xs. listed x o a ++ xs) (sym (picked_append o a vs ws))
 
-pub enter_if_commutes_with_append : (t : ℕ) (e : Event) (k : ℕ) (vs ws : List Visit) → enter_if t e k (vs ++ ws) ≡ enter_if t e k vs ++ ws
-enter_if_commutes_with_append t (Answer kind value) k vs ws = refl
-enter_if_commutes_with_append t (Try o) k vs ws = refl
-enter_if_commutes_with_append t (Read o v) k vs ws = refl
-enter_if_commutes_with_append t (Write o v r) k vs ws = refl
+pub conditional_cons_enter_if_of_append : (t : ℕ) (e : Event) (k : ℕ) (vs ws : List Visit) → enter_if t e k (vs ++ ws) ≡ enter_if t e k vs ++ ws
+conditional_cons_enter_if_of_append t (Answer kind value) k vs ws = refl
+conditional_cons_enter_if_of_append t (Try o) k vs ws = refl
+conditional_cons_enter_if_of_append t (Read o v) k vs ws = refl
+conditional_cons_enter_if_of_append t (Write o v r) k vs ws = refl
 
-entered_by_with_next_event : (t : ℕ) (es : List Event) (ks : List ℕ) (i : ℕ) (d : Event) → i < length es → i < length ks
+entered_by_of_take_step : (t : ℕ) (es : List Event) (ks : List ℕ) (i : ℕ) (d : Event) → i < length es → i < length ks
     → entered_by t (take (suc i) es) ks ≡ entered_by t (take i es) ks ++ enter_if t (get_or es i d) (get_or ks i 0) []
-entered_by_with_next_event t [] ks i d l m = absurd (omega (arith, l))
-entered_by_with_next_event t (e ∷ es) [] i d l m = absurd (omega (arith, m))
-entered_by_with_next_event t (e ∷ es) (k ∷ ks) zero d l m = refl
-entered_by_with_next_event t (e ∷ es) (k ∷ ks) (suc i) d l m = ap (enter_if t e k) (entered_by_with_next_event t es ks i d (omega (arith, l)) (omega (arith, m)))
-    ∙ enter_if_commutes_with_append t e k (entered_by t (take i es) ks) (enter_if t (get_or es i d) (get_or ks i 0) [])
+entered_by_of_take_step t [] ks i d l m = absurd (omega (arith, l))
+entered_by_of_take_step t (e ∷ es) [] i d l m = absurd (omega (arith, m))
+entered_by_of_take_step t (e ∷ es) (k ∷ ks) zero d l m = refl
+entered_by_of_take_step t (e ∷ es) (k ∷ ks) (suc i) d l m = ap (enter_if t e k) (entered_by_of_take_step t es ks i d (omega (arith, l)) (omega (arith, m)))
+    ∙ conditional_cons_enter_if_of_append t e k (entered_by t (take i es) ks) (enter_if t (get_or es i d) (get_or ks i 0) [])
 
 -- one more event of a log
-pub adds_all_with_event : (x y z : Listing) (t : ℕ) (es : List Event) (ks : List ℕ) (i : ℕ) (d : Event) → i < length es → i < length ks
+pub adds_all_events_step : (x y z : Listing) (t : ℕ) (es : List Event) (ks : List ℕ) (i : ℕ) (d : Event) → i < length es → i < length ks
     → AddsAll x y (entered_by t (take i es) ks) → AddsAll y z (enter_if t (get_or es i d) (get_or ks i 0) [])
     → AddsAll x z (entered_by t (take (i + 1) es) ks)
-adds_all_with_event x y z t es ks i d l m old new =
+adds_all_events_step x y z t es ks i d l m old new =
     let next : entered_by t (take (i + 1) es) ks ≡ entered_by t (take i es) ks ++ enter_if t (get_or es i d) (get_or ks i 0) [] =
-    ap (λ n. entered_by t (take n es) ks) (add-one i) ∙ entered_by_with_next_event t es ks i d l m in
+    ap (λ n. entered_by t (take n es) ks) (add-one i) ∙ entered_by_of_take_step t es ks i d l m in
     subst (AddsAll x z) (sym next) (adds_all_of_append x y z (entered_by t (take i es) ks) (enter_if t (get_or es i d) (get_or ks i 0) []) old new)
 
 -- one more leave
-pub adds_all_with_leave : (x y z : Listing) (t : ℕ) (ls : List Leave) (i : ℕ) (d : Leave) → i < length ls → AddsAll x y (left_by t (take i ls))
+pub adds_all_leaves_step : (x y z : Listing) (t : ℕ) (ls : List Leave) (i : ℕ) (d : Leave) → i < length ls → AddsAll x y (left_by t (take i ls))
     → AddsAll y z (left_by t (get_or ls i d ∷ [])) → AddsAll x z (left_by t (take (i + 1) ls))
-adds_all_with_leave x y z t ls i d l old new =
+adds_all_leaves_step x y z t ls i d l old new =
     let f : Leave → Visit = λ g. (g.object, g.access, record { position = g.position; version = g.version; thread = t }) in
     let next : left_by t (take (i + 1) ls) ≡ left_by t (take i ls) ++ f (get_or ls i d) ∷ [] = map_more f ls i d l in
     subst (AddsAll x z) (sym next) (adds_all_of_append x y z (left_by t (take i ls)) (f (get_or ls i d) ∷ []) old new)

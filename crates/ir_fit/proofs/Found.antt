@@ -14,7 +14,7 @@ use Rattle.ir_log.specs.declared.event.Event.{Event}
 use Rattle.ir_log.specs.declared.event.Event.TheVariants.{Answer, Read, Write, Try}
 use Rattle.ir_trace.specs.Recorded.{recorded_thread}
 use Rattle.ir_fit.proofs.Placements.{placed_of_trace_are_of_run}
-use Rattle.ir_fit.proofs.Listed.{get_or_is_at_index_if_below_length, get_or_is_item_if_at_index, emitting_thread_is_guest_thread, event_positions_are_as_many_as_events, step_at_event_position_emits_event, entry_step_is_of_event, step_of_leave_emits_leave, leave_step_is_kept}
+use Rattle.ir_fit.proofs.Listed.{get_or_is_at_index_if_below_length, get_or_is_item_if_at_index, emitting_thread_is_guest_thread, event_positions_are_as_many_as_events, step_at_event_position_emits_event, entry_step_is_of_event, step_of_leave_emits_leave, emitted_leave_is_placed}
 use Rattle.ir_fit.specs.Fit.{FittedTrace}
 use Rattle.ir_fit.specs.Placed.{placed_at, Visit, entered_by, of_threads, all_left, all_entered, same_access, picked, Listing, listed, IsListing, placed_of}
 use Rattle.ir_fit.specs.Listed.{EmitsIn, OnlyLeaves, AllLeaves, OnlyEntries, AllEntries, left_by}
@@ -35,11 +35,11 @@ same_access_is_reflexive : (a : Access) → same_access a a ≡ true
 same_access_is_reflexive Reading = refl
 same_access_is_reflexive Writing = refl
 
-same_access_means_equal : (a b : Access) → same_access a b ≡ true → a ≡ b
-same_access_means_equal Reading Reading h = refl
-same_access_means_equal Reading Writing h = absurd (cc h)
-same_access_means_equal Writing Reading h = absurd (cc h)
-same_access_means_equal Writing Writing h = refl
+accesses_equal_if_same_access_is_true : (a b : Access) → same_access a b ≡ true → a ≡ b
+accesses_equal_if_same_access_is_true Reading Reading h = refl
+accesses_equal_if_same_access_is_true Reading Writing h = absurd (cc h)
+accesses_equal_if_same_access_is_true Writing Reading h = absurd (cc h)
+accesses_equal_if_same_access_is_true Writing Writing h = refl
 
 -- at the prefix, or after it
 item_of_join_if_is_joined_or_of_list : {A : Type 0} (b : Bool) (x y : A) (xs : List A) (i : ℕ) → At (join_if b x xs) i y → ((b ≡ true) × (x ≡ y))
@@ -62,7 +62,7 @@ picked_place_is_of_visit o a (v ∷ vs) i p h = elim (item_of_join_if_is_joined_
   | inl (b, e) ↦
       let both = conjuncts_are_true (eqb v.0 o) (same_access v.1 a) b in
       let object : v.0 ≡ o = eqb-true v.0 o both.0 in
-      let access : v.1 ≡ a = same_access_means_equal v.1 a both.1 in
+      let access : v.1 ≡ a = accesses_equal_if_same_access_is_true v.1 a both.1 in
       (0, λ k. (object k, access k, e k))
   | inr (j, at) ↦ let g = picked_place_is_of_visit o a vs j p at in (suc g.0, g.1)
 ]
@@ -200,7 +200,7 @@ listed_leaves_are_all_leaves f x is o a v ps found h t k emitted =
     let p : Place = record { position = k; version = v; thread = t } in
     let below = emitting_thread_is_guest_thread f h t k (Out o a v) emitted in
     let ls : List Leave = (placed_at (placed_of f) t).leaves in
-    let leave = leave_step_is_kept f h t k o a v emitted in
+    let leave = emitted_leave_is_placed f h t k o a v emitted in
     let e : Leave = record { position = k; object = o; access = a; version = v } in
     let at : At (left_by t ls) leave.0 (o, a, p) =
     leave_is_left_visit t ls leave.0 e (subst (At ls leave.0) (leave.2 e) (get_or_is_at_index_if_below_length ls leave.0 e leave.1)) in

@@ -324,10 +324,10 @@ step_of_leave_emits_leave f h t l i d li =
     (step_at_place_of_leave 0 (trail_in f h t) i e (subst (λ xs. At xs i e) (placed_leaves_are_leaves_of_run f h t l) (get_or_is_at_index_if_below_length (placed_at (placed_of f) t).leaves i d li)))
 
 -- each leave is one of these
-pub leave_step_is_kept : (f : FittedTrace) (h : HasRun f) (t k o : ℕ) (a : Access) (v : ℕ) → EmitsIn f h t k (Out o a v)
+pub emitted_leave_is_placed : (f : FittedTrace) (h : HasRun f) (t k o : ℕ) (a : Access) (v : ℕ) → EmitsIn f h t k (Out o a v)
     → (i : ℕ) × (i < length (placed_at (placed_of f) t).leaves)
     × ((d : Leave) → get_or (placed_at (placed_of f) t).leaves i d ≡ record { position = k; object = o; access = a; version = v })
-leave_step_is_kept f h t k o a v emitted =
+emitted_leave_is_placed f h t k o a v emitted =
     let l = emitting_thread_is_guest_thread f h t k (Out o a v) emitted in
     let g = leave_of_step 0 (trail_in f h t) k emitted.0 o a v emitted.1 in
     let at : At (placed_at (placed_of f) t).leaves g.0 (leave_at (0 + k) o a v) =

@@ -7,7 +7,7 @@ use Rattle.std.proofs.Math.Seq.{drop-append_seam}
 use Rattle.ir_image.specs.Guest.{Guest, object_count}
 use Rattle.ir_thread.specs.State.{one_if_held, ask_of, after_ask, shared_ask, reply_of, thread_machine}
 use Rattle.ir_thread.proofs.CallerLemmas.{ask_of_permitted, held_count_after_leave}
-use Rattle.ir_runs.proofs.CallerLemmas.{upd_at_own_place, upd_at_other_place, upd_by_cases, trail_append, end_append, trail_of_cons_own_thread, trail_of_cons_other_thread, last_step_can_be_taken, events_then_left_log_is_log, follows_with_last_step_added, done_is_decidable, agrees_is_decidable, last_step_fits, sum_below_is_monotone, sum_below_less_if_one_less}
+use Rattle.ir_runs.proofs.CallerLemmas.{upd_at_own_place, upd_at_other_place, property_of_upd_by_cases, trail_append, end_append, trail_of_cons_own_thread, trail_of_cons_other_thread, last_step_can_be_taken, events_then_left_log_is_log, follows_with_last_step_added, ask_is_done_or_not, agrees_is_decidable, last_step_fits, sum_below_is_monotone, sum_below_less_if_one_less}
 use Rattle.ir_runs.specs.Machine as machine
 use Rattle.ir_runs.specs.Machine.{Machine, act_of, target, emitted, reply, Admits, Label, logged, Trace}
 use Rattle.ir_thread.specs.State as thread
@@ -17,7 +17,7 @@ use Rattle.ir_thread.specs.declared.ask.Ask.TheVariants.{Private, Done, Leave as
 use Rattle.ir_flat.specs.Alone.{WentAlone}
 use Rattle.ir_flat.specs.Flat.{Flat, thread_of, tables, machine as machine_of, start_flat, start_threads, idle, IsFlat}
 use Rattle.ir_runs.specs.Run.{State, Step, act, asked, Can, after, label, end, trail, events, log, count}
-use Rattle.ir_flat.proofs.CallerLemmas.{tallies_along_run, shared_done_is_done, moved_thread, threads_after_step, start_thread_is_fresh, start_thread_has_no_steps, length_of_start_threads, length_of_start_cells}
+use Rattle.ir_flat.proofs.CallerLemmas.{tallies_along_run, ask_is_done_if_shared_ask_is_done, moved_thread, threads_after_step, start_thread_is_fresh, start_thread_has_no_steps, length_of_start_threads, length_of_start_cells}
 use Rattle.ir_log.specs.Logging.{label_of}
 use Rattle.ir_trace.specs.Recorded.{Recorded, RecordedThread, recorded_thread, trace_of}
 use Rattle.ir_trace.specs.Absent.{absent}
@@ -30,7 +30,7 @@ use Rattle.ir_runs.specs.Verdicts.{Agrees, sum_below, Check, unlogged, left_log,
 use Rattle.ir_runs.specs.declared.thread_verdict.ThreadVerdict.{ThreadVerdict}
 use Rattle.ir_runs.specs.declared.thread_verdict.ThreadVerdict.TheVariants.{Same, Disagrees, Starves}
 use Rattle.ir_fit.specs.declared.follower.look.Move.{Move}
-use Rattle.ir_fit.proofs.Placed.{AllQuiet, join_if_is_quiet, places_of_quiet_steps_are_empty, leaves_of_quiet_steps_are_empty, places_append, leaves_append, entries_after_placed_by, leaves_after_placed_by, room_after_placed_by, entries_count_events_after_placed, leaves_within_events_after_placed}
+use Rattle.ir_fit.proofs.Placed.{AllQuiet, join_if_is_quiet, places_of_quiet_steps_are_empty, leaves_of_quiet_steps_are_empty, places_from_of_append, leaves_from_of_append, entries_after_placed_by, leaves_after_placed_by, room_after_placed_by, entries_count_events_after_placed, leaves_within_events_after_placed}
 use Rattle.ir_fit.proofs.Seen.{end_asked, ends_now_is_end_asked, label_of_step, events_within_after_following_step}
 use Rattle.ir_thread.specs.declared.profile.Profile.{Profile}
 
@@ -59,14 +59,14 @@ abbrev pub GuestFollows : Guest → Recorded → List Step → Type 0
 GuestFollows guest r run = Follows (closing (guest_machine guest r) (trace_of r)) (guest_machine guest r) (guest_start guest r) (trace_of r)
     run
 
-pub follower_made_of_run : (guest : Guest) (r : Recorded) (f : Flat) (ps : List Growing) (run : List Step) → GuestFollows guest r run
+pub is_follower_if_tables_are_run_end : (guest : Guest) (r : Recorded) (f : Flat) (ps : List Growing) (run : List Step) → GuestFollows guest r run
     → tables f ≡ end (guest_machine guest r) (guest_start guest r) run → f.code ≡ guest.code → length f.threads ≡ length guest.entries
     → length f.objects ≡ object_count guest
     → ((t : ℕ) → t < length guest.entries → (growing_at ps t).entries ≡ places_of
     (trail (guest_machine guest r) (guest_start guest r) run t))
     → ((t : ℕ) → t < length guest.entries → (growing_at ps t).leaves ≡ leaves_of (trail (guest_machine guest r) (guest_start guest r) run t))
     → IsFollower guest r f ps
-follower_made_of_run guest r f ps run h ends code threads objects placed left = record {
+is_follower_if_tables_are_run_end guest r f ps run h ends code threads objects placed left = record {
   run = run;
   follows = h;
   ends = ends;
@@ -88,7 +88,7 @@ follower_made_of_run guest r f ps run h ends code threads objects placed left = 
 
 pub start_flat_is_follower : (guest : Guest) (r : Recorded) (ps : List Growing)
     → ((t : ℕ) → ((growing_at ps t).entries ≡ []) × ((growing_at ps t).leaves ≡ [])) → IsFollower guest r (start_flat guest r.budget r.profile) ps
-start_flat_is_follower guest r ps none = follower_made_of_run guest r (start_flat guest r.budget r.profile) ps [] (tt, λ t. tt)
+start_flat_is_follower guest r ps none = is_follower_if_tables_are_run_end guest r (start_flat guest r.budget r.profile) ps [] (tt, λ t. tt)
     refl refl (length_of_start_threads guest r.budget r.profile 0 (length guest.entries)) (length_of_start_cells guest 0 (object_count guest)) (λ t l. (none t).0)
     (λ t l. (none t).1)
 
@@ -190,7 +190,7 @@ module _ (guest : Guest) (r : Recorded) (f : Flat) (ps qs : List Growing) (n : M
         (ap (λ z. place_if z (thread_of f n.thread).steps []) emits_there
         ∙ ap (λ (i : ℕ). place_if (label (guest_machine guest r) (end (guest_machine guest r) (guest_start guest r) k.run)
         (n.thread, n.result)) i []) position)
-        ∙ sym (places_append 0 (trail (guest_machine guest r) (guest_start guest r) k.run n.thread)
+        ∙ sym (places_from_of_append 0 (trail (guest_machine guest r) (guest_start guest r) k.run n.thread)
         ((
           (end (guest_machine guest r) (guest_start guest r) k.run).now n.thread,
           label (guest_machine guest r)
@@ -211,7 +211,7 @@ module _ (guest : Guest) (r : Recorded) (f : Flat) (ps qs : List Growing) (n : M
         (ap (λ z. leave_if z (thread_of f n.thread).steps []) emits_there
         ∙ ap (λ (i : ℕ). leave_if (label (guest_machine guest r) (end (guest_machine guest r) (guest_start guest r) k.run)
         (n.thread, n.result)) i []) position)
-        ∙ sym (leaves_append 0 (trail (guest_machine guest r) (guest_start guest r) k.run n.thread)
+        ∙ sym (leaves_from_of_append 0 (trail (guest_machine guest r) (guest_start guest r) k.run n.thread)
         ((
           (end (guest_machine guest r) (guest_start guest r) k.run).now n.thread,
           label (guest_machine guest r)
@@ -232,7 +232,7 @@ follower_after_move guest r f g ps qs n move each more taken code threads object
     let step : StepFollows m (trace_of r) (end m s k.run) (left_steps (trail m s k.run t) ((trace_of r).steps t))
     (left_log (trail m s k.run t) ((trace_of r).logs t)) t v =
     property_moves_to_run_end guest r f ps k t (λ n z a es. StepFollows n (trace_of r) z a es t v) move.follows in
-    follower_made_of_run guest r g qs (k.run ++ (t, v) ∷ []) (follows_with_last_step_added m s (trace_of r) k.run k.follows t v step.0 (step.1, step.2, step.3))
+    is_follower_if_tables_are_run_end guest r g qs (k.run ++ (t, v) ∷ []) (follows_with_last_step_added m s (trace_of r) k.run k.follows t v step.0 (step.1, step.2, step.3))
     (taken ∙ ap (λ c. after (thread_machine c) (tables f) (t, v)) k.code ∙ ap (λ z. after m z (t, v)) k.ends
     ∙ sym (end_append m s k.run ((t, v) ∷ [])))
     (code ∙ k.code) (threads ∙ k.threads) (objects ∙ k.objects)
@@ -294,17 +294,17 @@ follower_after_private_steps guest r f g ps t n w le k =
     (subst (λ c. ask_of c ((end (thread_machine c) (tables f) (replicate j (t, 0))).now t) ≡ Private) k.code (w.each j l)) in
     let rest : ℕ → List (thread.ThreadState × Label) = λ u. trail m (end m s k.run) (replicate n (t, 0)) u in
     let quiet : (u : ℕ) → AllQuiet (rest u) = private_steps_are_quiet guest.code (end m s k.run) t n each in
-    follower_made_of_run guest r g ps (k.run ++ replicate n (t, 0))
+    is_follower_if_tables_are_run_end guest r g ps (k.run ++ replicate n (t, 0))
     (private_steps_follow_trace guest.code (trace_of r) s k.run t n k.follows each (subst (λ z. n ≤ z) (steps_ahead_are_left_steps guest r f ps k t) le))
     (w.ends ∙ ap (λ c. end (thread_machine c) (tables f) (replicate n (t, 0))) k.code ∙ ap (λ z. end m z (replicate n (t, 0))) k.ends
     ∙ sym (end_append m s k.run (replicate n (t, 0))))
     (w.code ∙ k.code) (w.threads ∙ k.threads) (w.objects ∙ k.objects)
     (λ u l. k.placed u l ∙ sym (append-nil (places_of (trail m s k.run u)))
     ∙ ap (λ z. places_of (trail m s k.run u) ++ z) (sym (places_of_quiet_steps_are_empty (0 + length (trail m s k.run u)) (rest u) (quiet u)))
-    ∙ sym (places_append 0 (trail m s k.run u) (rest u)) ∙ ap (λ z. places_of z) (sym (trail_append m s k.run (replicate n (t, 0)) u)))
+    ∙ sym (places_from_of_append 0 (trail m s k.run u) (rest u)) ∙ ap (λ z. places_of z) (sym (trail_append m s k.run (replicate n (t, 0)) u)))
     (λ u l. k.left u l ∙ sym (append-nil (leaves_of (trail m s k.run u)))
     ∙ ap (λ z. leaves_of (trail m s k.run u) ++ z) (sym (leaves_of_quiet_steps_are_empty (0 + length (trail m s k.run u)) (rest u) (quiet u)))
-    ∙ sym (leaves_append 0 (trail m s k.run u) (rest u)) ∙ ap (λ z. leaves_of z) (sym (trail_append m s k.run (replicate n (t, 0)) u)))
+    ∙ sym (leaves_from_of_append 0 (trail m s k.run u) (rest u)) ∙ ap (λ z. leaves_of z) (sym (trail_append m s k.run (replicate n (t, 0)) u)))
 
 -- ---- fewer are left
 
@@ -389,9 +389,9 @@ pub object_exists_if_thread_leaves_it : (f : Flat) (t o : ℕ) (a : Access) → 
 object_exists_if_thread_leaves_it f t o a flat l is = let p = subst (Permits (thread_of f t)) is (ask_of_permitted f.code (thread_of f t)) in
     omega (arith, p.1, flat.places t l)
 
-pub room_to_keep_leave : (r : Recorded) (f : Flat) (ps : List Growing) (t o : ℕ) (a : Access) → IsPlaced r f ps → t < length f.threads
+pub leaves_below_room_if_thread_asks_leave : (r : Recorded) (f : Flat) (ps : List Growing) (t o : ℕ) (a : Access) → IsPlaced r f ps → t < length f.threads
     → ask_of f.code (thread_of f t) ≡ Leaves o a → length (growing_at ps t).leaves < (growing_at ps t).room
-room_to_keep_leave r f ps t o a kept l is =
+leaves_below_room_if_thread_asks_leave r f ps t o a kept l is =
     let p = subst (Permits (thread_of f t)) is (ask_of_permitted f.code (thread_of f t)) in
     let some = held_count_after_leave (thread_of f t).held o p.1 (λ none. cc (p.2, none)) in
     omega (arith, some, kept.fewer t l, kept.within t l, kept.rooms t l)
@@ -404,7 +404,7 @@ found_growing_is_growing_at ps t p l e = e ∙ get_or_default ps t p none_growin
 held_after_private_step : (code : List ℕ) (s : State thread.ThreadState) (t u : ℕ) → ask_of code (s.now t) ≡ Private
     → ((after (thread_machine code) s (t, 0)).now u).held ≡ (s.now u).held
 held_after_private_step code s t u is = ap (λ now. (now u).held) (threads_after_step code s (t, 0))
-    ∙ upd_by_cases s.now t (moved_thread code s (t, 0)) u (λ z. z.held ≡ (s.now u).held)
+    ∙ property_of_upd_by_cases s.now t (moved_thread code s (t, 0)) u (λ z. z.held ≡ (s.now u).held)
     (λ e. ap (λ q. (after_ask code (s.now t) q
     (reply_of q (reply (act_of (shared_ask q) 0) (s.objects (target (act_of (shared_ask q) 0)))))).held) is
     ∙ ap (λ i. (s.now i).held) (sym e))
@@ -552,9 +552,9 @@ pub fewer_ahead_past_private_steps : (r q : Recorded) (f g h : Flat) (t n : ℕ)
 fewer_ahead_past_private_steps r q f g h t n w less = let same = all_ahead_not_more_after_private_steps r f g t n w in omega (arith, same, less)
 
 -- a step after a look, and what comes after it
-pub goes_on_by_three_parts : (r q p : Recorded) (f g g' h i : Flat) (ps bs bs' cs ds : List Growing) → GoesOn r f ps g bs → g' ≡ g → bs' ≡ bs → q ≡ r
+pub goes_on_composes_three_parts : (r q p : Recorded) (f g g' h i : Flat) (ps bs bs' cs ds : List Growing) → GoesOn r f ps g bs → g' ≡ g → bs' ≡ bs → q ≡ r
     → GoesOn q g' bs' h cs → p ≡ q → GoesOn p h cs i ds → GoesOn r f ps i ds
-goes_on_by_three_parts r q p f g g' h i ps bs bs' cs ds goes same kept trace step after_it then =
+goes_on_composes_three_parts r q p f g g' h i ps bs bs' cs ds goes same kept trace step after_it then =
     goes_on_is_transitive r f h i ps cs ds (goes_on_is_transitive r f g h ps bs cs goes
     (subst (λ z. GoesOn r z bs h cs) same (subst (λ z. GoesOn r g' z h cs) kept (subst (λ z. GoesOn z g' bs' h cs) trace step))))
     (subst (λ z. GoesOn z h cs i ds) (after_it ∙ trace) then)
@@ -603,7 +603,7 @@ thread_stands_same_if_done guest r f ps k t done = property_moves_to_run_end gue
 thread_not_done_at_run_end : (guest : Guest) (r : Recorded) (f : Flat) (ps : List Growing) → (k : IsFollower guest r f ps) → (t : ℕ)
     → ask_of f.code (thread_of f t) ≢ Done → asked (guest_machine guest r) (end (guest_machine guest r) (guest_start guest r) k.run) t ≢
     machine.Done
-thread_not_done_at_run_end guest r f ps k t ne done = ne (shared_done_is_done (ask_of f.code (thread_of f t))
+thread_not_done_at_run_end guest r f ps k t ne done = ne (ask_is_done_if_shared_ask_is_done (ask_of f.code (thread_of f t))
     (property_moves_from_run_end guest r f ps k t (λ m s n es. asked m s t ≡ machine.Done) done))
 
 pub thread_stands_disagreeing_if_not_agreeing : (guest : Guest) (r : Recorded) (f : Flat) (ps : List Growing) → (k : IsFollower guest r f ps) → (t : ℕ)
@@ -631,7 +631,7 @@ pub stopped_thread_has_verdict : (guest : Guest) (r : Recorded) (f : Flat) (ps :
 stopped_thread_has_verdict guest r f ps k t stopped =
     let m = guest_machine guest r in
     let s = guest_start guest r in
-    elim (done_is_decidable (asked m (end m s k.run) t)) [
+    elim (ask_is_done_or_not (asked m (end m s k.run) t)) [
       | inl d ↦ (Same, d)
       | inr ne ↦ elim (agrees_is_decidable m ((trace_of r).ends t) ((end m s k.run).now t) (left_steps (trail m s k.run t) ((trace_of r).steps t))
           (left_log (trail m s k.run t) ((trace_of r).logs t))) [

@@ -15,7 +15,7 @@ use Rattle.ir_fit.specs.declared.leave.Leave.{Leave}
 use Rattle.ir_fit.specs.declared.visit_kind.VisitKind.{VisitKind}
 use Rattle.ir_fit.specs.declared.visit_kind.VisitKind.TheVariants.{Entries, Leaves}
 use Rattle.ir_fit.specs.declared.run_visits.RunVisits.{RunVisits}
-use Rattle.ir_fit.proofs.ByVersion.{picked_append, enter_if_commutes_with_append, none_listed_is_empty, listed_is_sorted_permutation_if_in_order}
+use Rattle.ir_fit.proofs.ByVersion.{picked_append, conditional_cons_enter_if_of_append, none_listed_is_empty, listed_is_sorted_permutation_if_in_order}
 
 -- ---- of all threads
 
@@ -61,19 +61,19 @@ picked_permuted_if_thread_has_more o a (suc n) t f g more l here others = elim (
 
 -- ---- the visits of one thread
 
-entered_by-take-drop : (t : ℕ) (es : List Event) (ks : List ℕ) (i j m : ℕ) → j ≡ i + m → length es ≤ length ks
+entered_by_of_take_splits_at_drop : (t : ℕ) (es : List Event) (ks : List ℕ) (i j m : ℕ) → j ≡ i + m → length es ≤ length ks
     → entered_by t (take j es) ks ≡ entered_by t (take i es) ks ++ entered_by t (take m (drop i es)) (drop i ks)
-entered_by-take-drop t es ks zero j m sum l = ap (λ n. entered_by t (take n es) ks) (omega (arith, sum))
-entered_by-take-drop t es ks (suc i) zero m sum l = absurd (omega (arith, sum))
-entered_by-take-drop t [] ks (suc i) (suc j) zero sum l = refl
-entered_by-take-drop t [] ks (suc i) (suc j) (suc m) sum l = refl
-entered_by-take-drop t (e ∷ es) [] (suc i) (suc j) m sum l = absurd (omega (arith, l))
-entered_by-take-drop t (e ∷ es) (k ∷ ks) (suc i) (suc j) m sum l =
-    ap (enter_if t e k) (entered_by-take-drop t es ks i j m (omega (arith, sum)) (omega (arith, l)))
-    ∙ enter_if_commutes_with_append t e k (entered_by t (take i es) ks) (entered_by t (take m (drop i es)) (drop i ks))
+entered_by_of_take_splits_at_drop t es ks zero j m sum l = ap (λ n. entered_by t (take n es) ks) (omega (arith, sum))
+entered_by_of_take_splits_at_drop t es ks (suc i) zero m sum l = absurd (omega (arith, sum))
+entered_by_of_take_splits_at_drop t [] ks (suc i) (suc j) zero sum l = refl
+entered_by_of_take_splits_at_drop t [] ks (suc i) (suc j) (suc m) sum l = refl
+entered_by_of_take_splits_at_drop t (e ∷ es) [] (suc i) (suc j) m sum l = absurd (omega (arith, l))
+entered_by_of_take_splits_at_drop t (e ∷ es) (k ∷ ks) (suc i) (suc j) m sum l =
+    ap (enter_if t e k) (entered_by_of_take_splits_at_drop t es ks i j m (omega (arith, sum)) (omega (arith, l)))
+    ∙ conditional_cons_enter_if_of_append t e k (entered_by t (take i es) ks) (entered_by t (take m (drop i es)) (drop i ks))
 
-left_by-take-drop : (t : ℕ) (ls : List Leave) (i m : ℕ) → left_by t (take (i + m) ls) ≡ left_by t (take i ls) ++ left_by t (take m (drop i ls))
-left_by-take-drop t ls i m = ap (left_by t) (take-add i m ls) ∙ map-append _ (take i ls) (take m (drop i ls))
+left_by_of_take_splits_at_drop : (t : ℕ) (ls : List Leave) (i m : ℕ) → left_by t (take (i + m) ls) ≡ left_by t (take i ls) ++ left_by t (take m (drop i ls))
+left_by_of_take_splits_at_drop t ls i m = ap (left_by t) (take-add i m ls) ∙ map-append _ (take i ls) (take m (drop i ls))
 
 -- ---- entries or leaves
 
@@ -81,50 +81,50 @@ by_kind_of_same : {X : Type 0} (kind : VisitKind) (x : X) → by_kind kind x x �
 by_kind_of_same Entries x = refl
 by_kind_of_same Leaves x = refl
 
-append_by_kind : (kind : VisitKind) (xs ys zs us vs ws : List Visit) → xs ≡ ys ++ zs → us ≡ vs ++ ws → by_kind kind xs us ≡ by_kind kind ys vs ++ by_kind kind zs ws
-append_by_kind Entries xs ys zs us vs ws entries leaves = entries
-append_by_kind Leaves xs ys zs us vs ws entries leaves = leaves
+by_kind_of_appends : (kind : VisitKind) (xs ys zs us vs ws : List Visit) → xs ≡ ys ++ zs → us ≡ vs ++ ws → by_kind kind xs us ≡ by_kind kind ys vs ++ by_kind kind zs ws
+by_kind_of_appends Entries xs ys zs us vs ws entries leaves = entries
+by_kind_of_appends Leaves xs ys zs us vs ws entries leaves = leaves
 
 of_threads_by_kind : (kind : VisitKind) (n : ℕ) (f g : ℕ → List Visit)
     → of_threads n (λ t. by_kind kind (f t) (g t)) ≡ by_kind kind (of_threads n f) (of_threads n g)
 of_threads_by_kind Entries n f g = refl
 of_threads_by_kind Leaves n f g = refl
 
-all_by_kind_if_counted : (kind : VisitKind) (t n : ℕ) (es : List Event) (ks : List ℕ) (ls : List Leave) → by_kind kind (length es) (length ls) ≤ n
+by_kind_of_take_is_all_if_counted : (kind : VisitKind) (t n : ℕ) (es : List Event) (ks : List ℕ) (ls : List Leave) → by_kind kind (length es) (length ls) ≤ n
     → by_kind kind (entered_by t (take n es) ks) (left_by t (take n ls)) ≡ by_kind kind (entered_by t es ks) (left_by t ls)
-all_by_kind_if_counted Entries t n es ks ls l = ap (λ xs. entered_by t xs ks) (take_all n es l)
-all_by_kind_if_counted Leaves t n es ks ls l = ap (left_by t) (take_all n ls l)
+by_kind_of_take_is_all_if_counted Entries t n es ks ls l = ap (λ xs. entered_by t xs ks) (take_all n es l)
+by_kind_of_take_is_all_if_counted Leaves t n es ks ls l = ap (left_by t) (take_all n ls l)
 
 -- those before number j are those before number i, and those between
-first_visits_append : (run : RunVisits) (t i j : ℕ) → t < length run.places.now → i ≤ j
+first_visits_split_at_visits_between : (run : RunVisits) (t i j : ℕ) → t < length run.places.now → i ≤ j
     → first_visits run t j ≡ first_visits run t i ++ visits_between run t i j
-first_visits_append run t i j l le =
+first_visits_split_at_visits_between run t i j l le =
     let es = (recorded_thread run.trace.now t).events in
     let ks = (placed_at run.places.now t).entries in
     let ls = (placed_at run.places.now t).leaves in
     let sum : j ≡ i + (j - i) = omega (arith, le) in
-    append_by_kind run.kind (entered_by t (take j es) ks) (entered_by t (take i es) ks) (entered_by t (take (j - i) (drop i es)) (drop i ks))
+    by_kind_of_appends run.kind (entered_by t (take j es) ks) (entered_by t (take i es) ks) (entered_by t (take (j - i) (drop i es)) (drop i ks))
     (left_by t (take j ls)) (left_by t (take i ls)) (left_by t (take (j - i) (drop i ls)))
-    (entered_by-take-drop t es ks i j (j - i) sum (run.positions t l))
-    (ap (λ n. left_by t (take n ls)) sum ∙ left_by-take-drop t ls i (j - i))
+    (entered_by_of_take_splits_at_drop t es ks i j (j - i) sum (run.positions t l))
+    (ap (λ n. left_by t (take n ls)) sum ∙ left_by_of_take_splits_at_drop t ls i (j - i))
 
-all_visits_if_counted : (run : RunVisits) (counts : List ℕ)
+first_visits_are_all_if_counted : (run : RunVisits) (counts : List ℕ)
     → ((t : ℕ) → t < length run.places.now → count_of run t ≤ get_or counts t 0)
     → of_threads (length run.places.now) (λ t. first_visits run t (get_or counts t 0)) ≡ all_visits run
-all_visits_if_counted run counts counted =
+first_visits_are_all_if_counted run counts counted =
     let n = length run.places.now in
     let es : ℕ → List Event = λ t. (recorded_thread run.trace.now t).events in
     let ks : ℕ → List ℕ = λ t. (placed_at run.places.now t).entries in
     let ls : ℕ → List Leave = λ t. (placed_at run.places.now t).leaves in
     of_threads_same_if_each_same n (λ t. first_visits run t (get_or counts t 0))
     (λ t. by_kind run.kind (entered_by t (es t) (ks t)) (left_by t (ls t)))
-    (λ t l. all_by_kind_if_counted run.kind t (get_or counts t 0) (es t) (ks t) (ls t) (counted t l))
+    (λ t l. by_kind_of_take_is_all_if_counted run.kind t (get_or counts t 0) (es t) (ks t) (ls t) (counted t l))
     ∙ of_threads_by_kind run.kind n (λ t. entered_by t (es t) (ks t)) (λ t. left_by t (ls t))
 
 -- ---- what is listed
 
-pub none_are_listed : (run : RunVisits) → AreListed run (replicate (length run.places.now) 0) none_listed
-none_are_listed run =
+pub are_listed_at_start : (run : RunVisits) → AreListed run (replicate (length run.places.now) 0) none_listed
+are_listed_at_start run =
     let n = length run.places.now in
     let none : of_threads n (λ t. first_visits run t (get_or (replicate n 0) t 0)) ≡ [] = of_threads_empty_if_each_empty n
     (λ t. first_visits run t (get_or (replicate n 0) t 0))
@@ -135,16 +135,16 @@ none_are_listed run =
           (subst (IsPermutation []) (sym (none_listed_is_empty o a)) (IsPermutation-refl []));
     }
 
-pub are_listed_with_more : (run : RunVisits) (counts : List ℕ) (t k : ℕ) (x y : Listing) → t < length run.places.now → get_or counts t 0 ≤ k
+pub are_listed_step : (run : RunVisits) (counts : List ℕ) (t k : ℕ) (x y : Listing) → t < length run.places.now → get_or counts t 0 ≤ k
     → AddsAll x y (visits_between run t (get_or counts t 0) k) → AreListed run counts x → AreListed run (slice_set counts t k) y
-are_listed_with_more run counts t k x y l le adds h =
+are_listed_step run counts t k x y l le adds h =
     let n = length run.places.now in
     let i = get_or counts t 0 in
     let more = visits_between run t i k in
     let old : ℕ → List Visit = λ u. first_visits run u (get_or counts u 0) in
     let new : ℕ → List Visit = λ u. first_visits run u (get_or (slice_set counts t k) u 0) in
     let here : new t ≡ old t ++ more = ap (first_visits run t) (get_or-set_same counts t k 0 (omega (arith, l, h.each)))
-    ∙ first_visits_append run t i k l le in
+    ∙ first_visits_split_at_visits_between run t i k l le in
     record {
       each = length-set counts t k ∙ h.each;
       same = λ o a.
@@ -160,7 +160,7 @@ pub listing_if_counted_and_ordered : (run : RunVisits) (counts : List ℕ) (x y 
     → ((t : ℕ) → t < length run.places.now → count_of run t ≤ get_or counts t 0) → IsInOrder x y → IsListing (all_visits run) y
 listing_if_counted_and_ordered run counts x y h counted sorted = record {
   same = λ o a. IsPermutation-trans (picked o a (all_visits run)) (listed x o a) (listed y o a)
-      (subst (λ vs. IsPermutation (picked o a vs) (listed x o a)) (all_visits_if_counted run counts counted) (h.same o a))
+      (subst (λ vs. IsPermutation (picked o a vs) (listed x o a)) (first_visits_are_all_if_counted run counts counted) (h.same o a))
       (listed_is_sorted_permutation_if_in_order x y sorted o a).0;
   sorted = λ o a. (listed_is_sorted_permutation_if_in_order x y sorted o a).1;
 }

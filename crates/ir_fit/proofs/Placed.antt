@@ -12,7 +12,7 @@ use Rattle.ir_thread.specs.declared.ask.Ask.TheVariants.{Private, Env, Enter, Tr
 use Rattle.ir_thread.specs.declared.ask.Reply.{Reply}
 use Rattle.ir_thread.specs.declared.ask.Reply.TheVariants.{Go, Value}
 use Rattle.ir_runs.specs.Machine.{act_of, target, Admits, Label, Quiet, Answer, In, Refused, Out}
-use Rattle.ir_thread.proofs.CallerLemmas.{held_count_after_leave, held_after_other_try_answer}
+use Rattle.ir_thread.proofs.CallerLemmas.{held_count_after_leave, held_is_unchanged_by_other_try_answer}
 use Rattle.ir_flat.specs.Flat.{Flat, thread_of, tables, machine}
 use Rattle.ir_fit.proofs.Seen.{label_of_step}
 use Rattle.ir_runs.specs.Run.{join_if}
@@ -20,35 +20,35 @@ use Rattle.ir_fit.specs.Placed.{place_if, places_from, leave_if, leaves_from}
 use Rattle.ir_fit.specs.Growing.{Growing, placed_by}
 use Rattle.ir_fit.specs.declared.leave.Leave.{Leave}
 
-place_if_commutes_with_append : (k : Label) (i : ℕ) (ps qs : List ℕ) → place_if k i (ps ++ qs) ≡ place_if k i ps ++ qs
-place_if_commutes_with_append Quiet i ps qs = refl
-place_if_commutes_with_append (Answer a v) i ps qs = refl
-place_if_commutes_with_append (In o a v l) i ps qs = refl
-place_if_commutes_with_append (Refused o) i ps qs = refl
-place_if_commutes_with_append (Out o a v) i ps qs = refl
+conditional_cons_place_if_of_append : (k : Label) (i : ℕ) (ps qs : List ℕ) → place_if k i (ps ++ qs) ≡ place_if k i ps ++ qs
+conditional_cons_place_if_of_append Quiet i ps qs = refl
+conditional_cons_place_if_of_append (Answer a v) i ps qs = refl
+conditional_cons_place_if_of_append (In o a v l) i ps qs = refl
+conditional_cons_place_if_of_append (Refused o) i ps qs = refl
+conditional_cons_place_if_of_append (Out o a v) i ps qs = refl
 
-leave_if_commutes_with_append : (k : Label) (i : ℕ) (ps qs : List Leave) → leave_if k i (ps ++ qs) ≡ leave_if k i ps ++ qs
-leave_if_commutes_with_append Quiet i ps qs = refl
-leave_if_commutes_with_append (Answer a v) i ps qs = refl
-leave_if_commutes_with_append (In o a v l) i ps qs = refl
-leave_if_commutes_with_append (Refused o) i ps qs = refl
-leave_if_commutes_with_append (Out o a v) i ps qs = refl
+conditional_cons_leave_if_of_append : (k : Label) (i : ℕ) (ps qs : List Leave) → leave_if k i (ps ++ qs) ≡ leave_if k i ps ++ qs
+conditional_cons_leave_if_of_append Quiet i ps qs = refl
+conditional_cons_leave_if_of_append (Answer a v) i ps qs = refl
+conditional_cons_leave_if_of_append (In o a v l) i ps qs = refl
+conditional_cons_leave_if_of_append (Refused o) i ps qs = refl
+conditional_cons_leave_if_of_append (Out o a v) i ps qs = refl
 
-pub places_append : {T : Type 0} (i : ℕ) (xs ys : List (T × Label))
+pub places_from_of_append : {T : Type 0} (i : ℕ) (xs ys : List (T × Label))
     → places_from i (xs ++ ys) ≡ places_from i xs ++ places_from (i + length xs) ys
-places_append i [] ys = ap (λ (k : ℕ). places_from k ys) (let e : i ≡ i + 0 = omega arith in e)
-places_append i (x ∷ xs) ys =
-    ap (place_if x.1 i) (places_append (suc i) xs ys
+places_from_of_append i [] ys = ap (λ (k : ℕ). places_from k ys) (let e : i ≡ i + 0 = omega arith in e)
+places_from_of_append i (x ∷ xs) ys =
+    ap (place_if x.1 i) (places_from_of_append (suc i) xs ys
     ∙ ap (λ (k : ℕ). places_from (suc i) xs ++ places_from k ys) (let e : suc i + length xs ≡ i + suc (length xs) = omega arith in e))
-    ∙ place_if_commutes_with_append x.1 i (places_from (suc i) xs) (places_from (i + suc (length xs)) ys)
+    ∙ conditional_cons_place_if_of_append x.1 i (places_from (suc i) xs) (places_from (i + suc (length xs)) ys)
 
-pub leaves_append : {T : Type 0} (i : ℕ) (xs ys : List (T × Label))
+pub leaves_from_of_append : {T : Type 0} (i : ℕ) (xs ys : List (T × Label))
     → leaves_from i (xs ++ ys) ≡ leaves_from i xs ++ leaves_from (i + length xs) ys
-leaves_append i [] ys = ap (λ (k : ℕ). leaves_from k ys) (let e : i ≡ i + 0 = omega arith in e)
-leaves_append i (x ∷ xs) ys =
-    ap (leave_if x.1 i) (leaves_append (suc i) xs ys
+leaves_from_of_append i [] ys = ap (λ (k : ℕ). leaves_from k ys) (let e : i ≡ i + 0 = omega arith in e)
+leaves_from_of_append i (x ∷ xs) ys =
+    ap (leave_if x.1 i) (leaves_from_of_append (suc i) xs ys
     ∙ ap (λ (k : ℕ). leaves_from (suc i) xs ++ leaves_from k ys) (let e : suc i + length xs ≡ i + suc (length xs) = omega arith in e))
-    ∙ leave_if_commutes_with_append x.1 i (leaves_from (suc i) xs) (leaves_from (i + suc (length xs)) ys)
+    ∙ conditional_cons_leave_if_of_append x.1 i (leaves_from (suc i) xs) (leaves_from (i + suc (length xs)) ys)
 
 -- steps that emit nothing
 abbrev pub AllQuiet : {T : Type 0} → List (T × Label) → Type 0
@@ -144,7 +144,7 @@ leaves_within_events_after_placed code f t p x (Enter o a) r k h = let more = he
 leaves_within_events_after_placed code f t p x (Try o) Go k h = omega (arith, h)
 leaves_within_events_after_placed code f t p x (Try o) (Value zero) k h = omega (arith, h)
 leaves_within_events_after_placed code f t p x (Try o) (Value (suc zero)) k h = let more = held_count_after_set_some_is_at_most_one_more x.held o Writing k.2 in omega (arith, h, more)
-leaves_within_events_after_placed code f t p x (Try o) (Value (suc (suc v))) k h = let same = ap held_count (held_after_other_try_answer x.held o v) in omega (arith, h, same)
+leaves_within_events_after_placed code f t p x (Try o) (Value (suc (suc v))) k h = let same = ap held_count (held_is_unchanged_by_other_try_answer x.held o v) in omega (arith, h, same)
 leaves_within_events_after_placed code f t p x (Leaves o a) r k h =
     let less = held_count_after_leave x.held o k.1 (some_is_not_none (held_at x.held o) a k.2) in
     let n : length (placed_by f t p (Leaves o a)).leaves ≡ length p.leaves + 1 = length_of_append_item p.leaves _ in

@@ -151,11 +151,11 @@ has_run_if_all_threads_same g r header f ps followed placed vs each stand same =
     )
 
 -- the same of the parts that are put together
-pub parts_have_run_if_all_threads_same : (g : Guest) (r other : Recorded) → HasHeader g r → (f : Flat) (ps more : List Growing) → IsFollowed g r f ps
+pub equal_trace_has_run_if_all_threads_same : (g : Guest) (r other : Recorded) → HasHeader g r → (f : Flat) (ps more : List Growing) → IsFollowed g r f ps
     → length ps ≡ length f.threads → (vs : List ThreadVerdict) → length vs ≡ length f.threads → AreStanding r f ps vs
     → ((t : ℕ) (v : ThreadVerdict) → slice_get vs t ≡ Some v → v ≡ Same) → other ≡ r → more ≡ ps → (places : List Placed) → places ≡ map grown more
     → HasRun (record { guest = g; recorded = other }) × (places ≡ placed_of (record { guest = g; recorded = other }))
-parts_have_run_if_all_threads_same g r other header f ps more followed placed vs each stand same e kept places gathered =
+equal_trace_has_run_if_all_threads_same g r other header f ps more followed placed vs each stand same e kept places gathered =
     let both = has_run_if_all_threads_same g r header f ps followed placed vs each stand same in (
       subst (λ z. HasRun (record { guest = g; recorded = z })) (sym e) both.0,
       gathered ∙ ap (map grown) kept ∙ both.1 ∙ ap (λ z. placed_of (record { guest = g; recorded = z })) (sym e),

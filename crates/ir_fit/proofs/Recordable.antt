@@ -22,7 +22,7 @@ use Rattle.ir_runs.specs.declared.access.Access.TheVariants.{Reading, Writing}
 use Rattle.ir_runs.proofs.CallerLemmas.{trail_of_cons_own_thread, trail_of_cons_other_thread, prefix_of_run_is_run}
 use Rattle.ir_flat.specs.Flat.{tables, start_flat}
 use Rattle.ir_flat.specs.Laws.{Fits}
-use Rattle.ir_flat.proofs.CallerLemmas.{counts_all_fit, start_thread_has_no_steps, start_thread_is_fresh, tallies_along_run, StepsFit, CodeFits, IsWithin, profiles_of, start_thread_at_place, within_bounds_at_run_end}
+use Rattle.ir_flat.proofs.CallerLemmas.{object_counts_fit_after_guest_run, start_thread_has_no_steps, start_thread_is_fresh, tallies_along_run, StepsFit, CodeFits, IsWithin, profiles_of, get_or_of_start_threads_is_start_state, within_bounds_at_run_end}
 use Rattle.ir_log.specs.Logging.{label_of}
 use Rattle.ir_log.specs.declared.event.Event.{Event}
 use Rattle.ir_log.specs.declared.event.Event.TheVariants.{Answer, Read, Write, Try}
@@ -136,7 +136,7 @@ module _ (g : Guest) (budget : ℕ) (profile : Profile) (run : List Step) (guest
       prefix_of_run_is_run (thread_machine g.code) first before more (subst (IsRun (thread_machine g.code) first) is ok) in
       record {
         within = within_bounds_at_run_end g budget profile before guest begins;
-        counts = λ o. counts_all_fit g budget profile before (guest_threads_at_most_limit g guest) begins o;
+        counts = λ o. object_counts_fit_after_guest_run g budget profile before (guest_threads_at_most_limit g guest) begins o;
       }) t
 
   -- what is recorded of each thread, and of all
@@ -169,7 +169,7 @@ module _ (g : Guest) (budget : ℕ) (profile : Profile) (run : List Step) (guest
       let objects = guest_objects_at_most_limit g guest in
       let size = length-map (logged_of t).events label_of in
       let same = ap (λ (z : List Label). length z) (logged_of t).same in
-      let own : profiles_of g budget profile t ≡ profile = ap (λ x. x.profile) (start_thread_at_place g budget profile 0 (length g.entries) t l) in
+      let own : profiles_of g budget profile t ≡ profile = ap (λ x. x.profile) (get_or_of_start_threads_is_start_state g budget profile 0 (length g.entries) t l) in
       record {
         steps_fit = omega (arith, counted.steps, no_step, most, bounded.limit, bounded.places, objects, few);
         code_fits = end_code_is_word (last.now t).ended bounded.code;

@@ -18,9 +18,9 @@ use Rattle.ir_thread.proofs.CallerLemmas.{ask_of_permitted, end_number_and_code}
 use Rattle.ir_object.specs.Cell.{Cell}
 use Rattle.ir_object.specs.Standing.{Admitted}
 use Rattle.ir_flat.specs.Flat.{Flat, thread_of, cell_of, tables, machine, IsFlat}
-use Rattle.ir_flat.proofs.CallerLemmas.{may_step_is_admits, events_added_by}
+use Rattle.ir_flat.proofs.CallerLemmas.{may_step_iff_admits, events_added_by}
 use Rattle.std.proofs.lemmas.Option.{slice_get_within}
-use Rattle.ir_lemmas.proofs.CallerLemmas.{found_element_of_all_by_recursion, false_test_refutes}
+use Rattle.ir_lemmas.proofs.CallerLemmas.{slice_get_element_satisfies_all_by_recursion, proposition_refuted_if_test_is_false}
 use Rattle.ir_log.specs.Logging.{label_of}
 use Rattle.ir_log.specs.Asked.{ask_of as event_ask, Suits}
 use Rattle.ir_log.proofs.CallerLemmas.{ask_of_suiting_call_event as call_asked, ask_of_suiting_entry_event as entry_asked}
@@ -127,11 +127,11 @@ agrees_ahead_if_agrees_as_asked r f t q is h =
 -- ---- the next event of a log
 
 -- the log from an event on
-pub labels_ahead_start_with_event : (xs : List Event) (i : ℕ) (e : Event) → slice_get xs i ≡ Some e → drop i (map label_of xs) ≡ label_of e
+pub drop_of_mapped_labels_is_label_then_drop : (xs : List Event) (i : ℕ) (e : Event) → slice_get xs i ≡ Some e → drop i (map label_of xs) ≡ label_of e
     ∷ drop (suc i) (map label_of xs)
-labels_ahead_start_with_event [] i e h = absurd (cc h)
-labels_ahead_start_with_event (x ∷ xs) zero e h = let same : x ≡ e = cc h in ap (λ z. label_of z ∷ map label_of xs) same
-labels_ahead_start_with_event (x ∷ xs) (suc i) e h = labels_ahead_start_with_event xs i e h
+drop_of_mapped_labels_is_label_then_drop [] i e h = absurd (cc h)
+drop_of_mapped_labels_is_label_then_drop (x ∷ xs) zero e h = let same : x ≡ e = cc h in ap (λ z. label_of z ∷ map label_of xs) same
+drop_of_mapped_labels_is_label_then_drop (x ∷ xs) (suc i) e h = drop_of_mapped_labels_is_label_then_drop xs i e h
 
 -- a log whose next event suits what is asked
 event_suits_call_if_label_does : (x : Event) (es : List Label) (kind : EnvKind) → verdicts.Suits (machine.Env kind) (label_of x ∷ es) → Suits (Env kind) x
@@ -204,10 +204,10 @@ suited_call_can_follow r f t v kind j fits is steps next suits =
     let same : j ≡ kind = cc asked in
     let here : Answer j v ≡ Answer kind v = ap (λ z. Answer z v) same in
     let es : log_ahead r f t ≡ machine.Answer kind v ∷ drop (suc (thread_of f t).events) (map label_of (recorded_thread r t).events) =
-    labels_ahead_start_with_event (recorded_thread r t).events (thread_of f t).events (Answer kind v)
+    drop_of_mapped_labels_is_label_then_drop (recorded_thread r t).events (thread_of f t).events (Answer kind v)
     (subst (λ z. slice_get (recorded_thread r t).events (thread_of f t).events ≡ Some z) here next) in
     let result : is_result kind v ≡ true = subst (λ z. is_result z v ≡ true) same
-    (found_element_of_all_by_recursion (IsEvent r.profile r.objects) (recorded_thread r t).events (thread_of f t).events (Answer j v) fits.events_fit next) in
+    (slice_get_element_satisfies_all_by_recursion (IsEvent r.profile r.objects) (recorded_thread r t).events (thread_of f t).events (Answer j v) fits.events_fit next) in
     can_follow_if_follows_as_asked r f t v (Env kind) is (record {
       can = result;
       steps = steps;
@@ -271,18 +271,18 @@ pub found_cell_open_if_test_true : (b : Bool) (found c : Cell) (e : Event) → f
 found_cell_open_if_test_true b found c e same test is = subst (λ z. IsOpen z e) same (test.0 is)
 
 pub found_cell_shut_if_test_false : (b : Bool) (found c : Cell) (e : Event) → found ≡ c → IsTrue b ↔ IsOpen found e → b ≡ false → IsOpen c e → ⊥
-found_cell_shut_if_test_false b found c e same test is h = false_test_refutes b (IsOpen found e) test is (subst (λ z. IsOpen z e) (sym same) h)
+found_cell_shut_if_test_false b found c e same test is h = proposition_refuted_if_test_is_false b (IsOpen found e) test is (subst (λ z. IsOpen z e) (sym same) h)
 
 pub open_entry_can_follow : (r : Recorded) (f : Flat) (t o : ℕ) (a : Access) (e : Event) → IsFlat f → t < length f.threads
     → ask_of f.code (thread_of f t) ≡ Enter o a → 0 < steps_ahead r f t
     → slice_get (recorded_thread r t).events (thread_of f t).events ≡ Some e → Suits (Enter o a) e → IsOpen (cell_of f o) e
     → CanFollow r f t 0
 open_entry_can_follow r f t o a e flat l is steps next suits opens =
-    let es = labels_ahead_start_with_event (recorded_thread r t).events (thread_of f t).events e next in
+    let es = drop_of_mapped_labels_is_label_then_drop (recorded_thread r t).events (thread_of f t).events e next in
     let both = open_entry_is_admitted_and_logs f t 0 o a e (log_ahead r f t) (drop (suc (thread_of f t).events) (map label_of (recorded_thread r t).events)) es
     suits opens in
     can_follow_if_follows_as_asked r f t 0 (Enter o a) is (record {
-      can = (may_step_is_admits f t 0 (Enter o a) flat l (subst (Permits (thread_of f t)) is (ask_of_permitted f.code (thread_of f t)))).0 both.0;
+      can = (may_step_iff_admits f t 0 (Enter o a) flat l (subst (Permits (thread_of f t)) is (ask_of_permitted f.code (thread_of f t)))).0 both.0;
       steps = steps;
       logs = both.1;
       ends = tt;
@@ -295,15 +295,15 @@ pub shut_entry_is_stopped : (r : Recorded) (f : Flat) (t o : ℕ) (a : Access) (
 shut_entry_is_stopped r f t o a e flat l is next suits shut v h =
     let k : FollowsAs r f t v (steps_ahead r f t) (log_ahead r f t) (Enter o a) = follows_as_asked_if_can_follow r f t v (Enter o a) is h in
     shut (admitted_entry_that_logs_is_open f t v o a e (log_ahead r f t) (drop (suc (thread_of f t).events) (map label_of (recorded_thread r t).events))
-    (labels_ahead_start_with_event (recorded_thread r t).events (thread_of f t).events e next) suits
-    ((may_step_is_admits f t v (Enter o a) flat l (subst (Permits (thread_of f t)) is (ask_of_permitted f.code (thread_of f t)))).1 k.can) k.logs)
+    (drop_of_mapped_labels_is_label_then_drop (recorded_thread r t).events (thread_of f t).events e next) suits
+    ((may_step_iff_admits f t v (Enter o a) flat l (subst (Permits (thread_of f t)) is (ask_of_permitted f.code (thread_of f t)))).1 k.can) k.logs)
 
 pub suited_entry_agrees : (r : Recorded) (f : Flat) (t o : ℕ) (a : Access) (e : Event) → ask_of f.code (thread_of f t) ≡ Enter o a
     → 0 < steps_ahead r f t
     → slice_get (recorded_thread r t).events (thread_of f t).events ≡ Some e → Suits (Enter o a) e → AgreesAhead r f t
 suited_entry_agrees r f t o a e is steps next suits = agrees_ahead_if_agrees_as_asked r f t (Enter o a) is (record {
   steps = steps;
-  suits = subst (verdicts.Suits (machine.Enter o a)) (sym (labels_ahead_start_with_event (recorded_thread r t).events (thread_of f t).events e next))
+  suits = subst (verdicts.Suits (machine.Enter o a)) (sym (drop_of_mapped_labels_is_label_then_drop (recorded_thread r t).events (thread_of f t).events e next))
       (label_suits_entry_if_event_does e _ o a suits);
   ends = tt;
 })
@@ -321,7 +321,7 @@ refused_try_can_follow r f t o p is steps next suits =
     let rest = drop (suc (thread_of f t).events) (map label_of (recorded_thread r t).events) in
     let same : ◌≡◌ {A = ℕ} p o = label_suits_try_if_event_does (Refused p) rest o suits in
     let es : log_ahead r f t ≡ machine.Refused o ∷ rest =
-    labels_ahead_start_with_event (recorded_thread r t).events (thread_of f t).events (Refused p) next ∙ ap (λ z. machine.Refused z ∷ rest) same in
+    drop_of_mapped_labels_is_label_then_drop (recorded_thread r t).events (thread_of f t).events (Refused p) next ∙ ap (λ z. machine.Refused z ∷ rest) same in
     can_follow_if_follows_as_asked r f t 0 (Try o) is (record {
       can = tt;
       steps = steps;
@@ -340,11 +340,11 @@ open_try_can_follow r f t o (Read p w) flat l is steps next suits opens = absurd
     suits_read (inr h) = cc h
 open_try_can_follow r f t o (Refused p) flat l is steps next suits opens = absurd opens
 open_try_can_follow r f t o (Write p w n) flat l is steps next suits opens =
-    let es = labels_ahead_start_with_event (recorded_thread r t).events (thread_of f t).events (Write p w n) next in
+    let es = drop_of_mapped_labels_is_label_then_drop (recorded_thread r t).events (thread_of f t).events (Write p w n) next in
     let both = open_entry_is_admitted_and_logs f t 0 o Writing (Write p w n) (log_ahead r f t)
     (drop (suc (thread_of f t).events) (map label_of (recorded_thread r t).events)) es (event_suiting_try_suits_entry o p w n suits) opens in
     can_follow_if_follows_as_asked r f t 1 (Try o) is (record {
-      can = (may_step_is_admits f t 1 (Try o) flat l (subst (Permits (thread_of f t)) is (ask_of_permitted f.code (thread_of f t)))).0 both.0;
+      can = (may_step_iff_admits f t 1 (Try o) flat l (subst (Permits (thread_of f t)) is (ask_of_permitted f.code (thread_of f t)))).0 both.0;
       steps = steps;
       logs = both.1;
       ends = tt;
@@ -355,12 +355,12 @@ shut_try_does_not_follow : (r : Recorded) (f : Flat) (t o p w n v : ℕ) → IsF
     → slice_get (recorded_thread r t).events (thread_of f t).events ≡ Some (Write p w n) → Suits (Try o) (Write p w n)
     → (IsOpen (cell_of f o) (Write p w n) → ⊥) → FollowsAs r f t v (steps_ahead r f t) (log_ahead r f t) (Try o) → ⊥
 shut_try_does_not_follow r f t o p w n zero flat l is next suits shut k =
-    let both = k.logs ∙ labels_ahead_start_with_event (recorded_thread r t).events (thread_of f t).events (Write p w n) next in cc both
+    let both = k.logs ∙ drop_of_mapped_labels_is_label_then_drop (recorded_thread r t).events (thread_of f t).events (Write p w n) next in cc both
 shut_try_does_not_follow r f t o p w n (suc zero) flat l is next suits shut k =
     shut (admitted_entry_that_logs_is_open f t 0 o Writing (Write p w n) (log_ahead r f t)
     (drop (suc (thread_of f t).events) (map label_of (recorded_thread r t).events))
-    (labels_ahead_start_with_event (recorded_thread r t).events (thread_of f t).events (Write p w n) next) (event_suiting_try_suits_entry o p w n suits)
-    ((may_step_is_admits f t 1 (Try o) flat l (subst (Permits (thread_of f t)) is (ask_of_permitted f.code (thread_of f t)))).1 k.can) k.logs)
+    (drop_of_mapped_labels_is_label_then_drop (recorded_thread r t).events (thread_of f t).events (Write p w n) next) (event_suiting_try_suits_entry o p w n suits)
+    ((may_step_iff_admits f t 1 (Try o) flat l (subst (Permits (thread_of f t)) is (ask_of_permitted f.code (thread_of f t)))).1 k.can) k.logs)
 shut_try_does_not_follow r f t o p w n (suc (suc v)) flat l is next suits shut k = k.can
 
 -- a try that the log says got in
@@ -395,7 +395,7 @@ try_that_got_in_awaits r f t o (Read p w) is next in_ = absurd in_
 try_that_got_in_awaits r f t o (Refused p) is next in_ = absurd in_
 try_that_got_in_awaits r f t o (Write p w n) is next in_ =
     subst (λ q. verdicts.Awaits (shared_ask q) (log_ahead r f t)) (sym is)
-    (subst (verdicts.Awaits (machine.Try o)) (sym (labels_ahead_start_with_event (recorded_thread r t).events (thread_of f t).events (Write p w n) next)) tt)
+    (subst (verdicts.Awaits (machine.Try o)) (sym (drop_of_mapped_labels_is_label_then_drop (recorded_thread r t).events (thread_of f t).events (Write p w n) next)) tt)
 
 pub entry_awaits_event : (r : Recorded) (f : Flat) (t o : ℕ) (a : Access) → ask_of f.code (thread_of f t) ≡ Enter o a
     → verdicts.Awaits (shared_ask (ask_of f.code (thread_of f t))) (log_ahead r f t)
@@ -405,7 +405,7 @@ pub suited_try_agrees : (r : Recorded) (f : Flat) (t o : ℕ) (e : Event) → as
     → slice_get (recorded_thread r t).events (thread_of f t).events ≡ Some e → Suits (Try o) e → AgreesAhead r f t
 suited_try_agrees r f t o e is steps next suits = agrees_ahead_if_agrees_as_asked r f t (Try o) is (record {
   steps = steps;
-  suits = subst (verdicts.Suits (machine.Try o)) (sym (labels_ahead_start_with_event (recorded_thread r t).events (thread_of f t).events e next))
+  suits = subst (verdicts.Suits (machine.Try o)) (sym (drop_of_mapped_labels_is_label_then_drop (recorded_thread r t).events (thread_of f t).events e next))
       (label_suits_try_if_event_does e _ o suits);
   ends = tt;
 })
@@ -460,16 +460,16 @@ spent_thread_disagrees r f t none h = let some : 0 < steps_ahead r f t = h.0 in 
 
 -- ---- ends
 
-no_labels_past_length : (xs : List Event) (i : ℕ) → length xs ≤ i → ◌≡◌ {A = List Label} (drop i (map label_of xs)) []
-no_labels_past_length [] zero h = refl
-no_labels_past_length [] (suc i) h = refl
-no_labels_past_length (x ∷ xs) zero h = absurd (omega (arith, h))
-no_labels_past_length (x ∷ xs) (suc i) h = no_labels_past_length xs i (omega (arith, h))
+drop_of_mapped_labels_past_length_is_empty : (xs : List Event) (i : ℕ) → length xs ≤ i → ◌≡◌ {A = List Label} (drop i (map label_of xs)) []
+drop_of_mapped_labels_past_length_is_empty [] zero h = refl
+drop_of_mapped_labels_past_length_is_empty [] (suc i) h = refl
+drop_of_mapped_labels_past_length_is_empty (x ∷ xs) zero h = absurd (omega (arith, h))
+drop_of_mapped_labels_past_length_is_empty (x ∷ xs) (suc i) h = drop_of_mapped_labels_past_length_is_empty xs i (omega (arith, h))
 
-no_labels_means_past_length : (xs : List Event) (i : ℕ) → ◌≡◌ {A = List Label} (drop i (map label_of xs)) [] → length xs ≤ i
-no_labels_means_past_length [] i h = omega arith
-no_labels_means_past_length (x ∷ xs) zero h = absurd (cc h)
-no_labels_means_past_length (x ∷ xs) (suc i) h = let rest : length xs ≤ i = no_labels_means_past_length xs i h in omega (arith, rest)
+past_length_if_drop_of_mapped_labels_is_empty : (xs : List Event) (i : ℕ) → ◌≡◌ {A = List Label} (drop i (map label_of xs)) [] → length xs ≤ i
+past_length_if_drop_of_mapped_labels_is_empty [] i h = omega arith
+past_length_if_drop_of_mapped_labels_is_empty (x ∷ xs) zero h = absurd (cc h)
+past_length_if_drop_of_mapped_labels_is_empty (x ∷ xs) (suc i) h = let rest : length xs ≤ i = past_length_if_drop_of_mapped_labels_is_empty xs i h in omega (arith, rest)
 
 pub end_as_recorded_can_follow : (r : Recorded) (f : Flat) (t : ℕ) (e : end.End) → ask_of f.code (thread_of f t) ≡ End e → 0 < steps_ahead r f t
     → EndsSo r f t e → CanFollow r f t 0
@@ -477,7 +477,7 @@ end_as_recorded_can_follow r f t e is steps so = can_follow_if_follows_as_asked 
   can = tt;
   steps = steps;
   logs = refl;
-  ends = ((λ i. Some (so.number i, so.code i)), so.steps, no_labels_past_length (recorded_thread r t).events (thread_of f t).events so.events);
+  ends = ((λ i. Some (so.number i, so.code i)), so.steps, drop_of_mapped_labels_past_length_is_empty (recorded_thread r t).events (thread_of f t).events so.events);
 })
 
 pub end_not_as_recorded_disagrees : (r : Recorded) (f : Flat) (t : ℕ) (e : end.End) → ask_of f.code (thread_of f t) ≡ End e → (EndsSo r f t e → ⊥)
@@ -489,7 +489,7 @@ end_not_as_recorded_disagrees r f t e is other h =
       number = ap (λ z. z.0) pair;
       code = ap (λ z. z.1) pair;
       steps = k.ends.1;
-      events = no_labels_means_past_length (recorded_thread r t).events (thread_of f t).events k.ends.2;
+      events = past_length_if_drop_of_mapped_labels_is_empty (recorded_thread r t).events (thread_of f t).events k.ends.2;
     })
   where
     some_pair : {x y : ℕ × ℕ} → ◌≡◌ {A = Option (ℕ × ℕ)} (Some x) (Some y) → x ≡ y
@@ -497,21 +497,21 @@ end_not_as_recorded_disagrees r f t e is other h =
 
 -- ---- steps that are the thread's own
 
-own_step_follows_as : (r : Recorded) (f : Flat) (t n : ℕ) (es : List Label) (q : Ask) → IsOwn q → 0 < n → FollowsAs r f t 0 n es q
-own_step_follows_as r f t n es Private k steps = record { can = tt; steps = steps; logs = refl; ends = tt }
-own_step_follows_as r f t n es (Env kind) k steps = absurd k
-own_step_follows_as r f t n es (Enter o a) k steps = absurd k
-own_step_follows_as r f t n es (Try o) k steps = absurd k
-own_step_follows_as r f t n es (Leave o a) k steps = record { can = tt; steps = steps; logs = refl; ends = tt }
-own_step_follows_as r f t n es (Get o i) k steps = record { can = tt; steps = steps; logs = refl; ends = tt }
-own_step_follows_as r f t n es (Put o i w) k steps = record { can = tt; steps = steps; logs = refl; ends = tt }
-own_step_follows_as r f t n es Print k steps = record { can = tt; steps = steps; logs = refl; ends = tt }
-own_step_follows_as r f t n es (End e) k steps = absurd k
-own_step_follows_as r f t n es Done k steps = absurd k
+own_ask_follows_if_step_is_left : (r : Recorded) (f : Flat) (t n : ℕ) (es : List Label) (q : Ask) → IsOwn q → 0 < n → FollowsAs r f t 0 n es q
+own_ask_follows_if_step_is_left r f t n es Private k steps = record { can = tt; steps = steps; logs = refl; ends = tt }
+own_ask_follows_if_step_is_left r f t n es (Env kind) k steps = absurd k
+own_ask_follows_if_step_is_left r f t n es (Enter o a) k steps = absurd k
+own_ask_follows_if_step_is_left r f t n es (Try o) k steps = absurd k
+own_ask_follows_if_step_is_left r f t n es (Leave o a) k steps = record { can = tt; steps = steps; logs = refl; ends = tt }
+own_ask_follows_if_step_is_left r f t n es (Get o i) k steps = record { can = tt; steps = steps; logs = refl; ends = tt }
+own_ask_follows_if_step_is_left r f t n es (Put o i w) k steps = record { can = tt; steps = steps; logs = refl; ends = tt }
+own_ask_follows_if_step_is_left r f t n es Print k steps = record { can = tt; steps = steps; logs = refl; ends = tt }
+own_ask_follows_if_step_is_left r f t n es (End e) k steps = absurd k
+own_ask_follows_if_step_is_left r f t n es Done k steps = absurd k
 
-pub own_step_can_follow : (r : Recorded) (f : Flat) (t : ℕ) → IsOwn (ask_of f.code (thread_of f t)) → 0 < steps_ahead r f t → CanFollow r f t 0
-own_step_can_follow r f t own steps = can_follow_if_follows_as_asked r f t 0 (ask_of f.code (thread_of f t))
-    refl (own_step_follows_as r f t (steps_ahead r f t) (log_ahead r f t) (ask_of f.code (thread_of f t)) own steps)
+pub own_ask_can_follow_if_step_is_ahead : (r : Recorded) (f : Flat) (t : ℕ) → IsOwn (ask_of f.code (thread_of f t)) → 0 < steps_ahead r f t → CanFollow r f t 0
+own_ask_can_follow_if_step_is_ahead r f t own steps = can_follow_if_follows_as_asked r f t 0 (ask_of f.code (thread_of f t))
+    refl (own_ask_follows_if_step_is_left r f t (steps_ahead r f t) (log_ahead r f t) (ask_of f.code (thread_of f t)) own steps)
 
 -- ---- threads that are stopped
 

@@ -55,16 +55,16 @@ IsOther guest r Objects = (length r.threads ≡ length guest.entries) × (r.obje
 
 -- why no run of the guest has the trace: its header isn't the guest's; or an event breaks coherence, the first such; or none does, and
 -- these are the verdicts on its threads: not all are the same, since no run has the trace (`fits_exactly`)
-abbrev pub IsRefusal : Guest → Recorded → Verdict → Type 0
-IsRefusal guest r (Header c) = IsOther guest r c
-IsRefusal guest r (Incoherent t i c) = HasHeader guest r × IsFirstBreak (length guest.entries) (trace_of r) t i c
-IsRefusal guest r (verdict.Threads vs) = HasHeader guest r × ((t i : ℕ) (c : Cause) → HasCause (length guest.entries) (trace_of r) t i c → ⊥)
+abbrev pub IsVerdictOnTrace : Guest → Recorded → Verdict → Type 0
+IsVerdictOnTrace guest r (Header c) = IsOther guest r c
+IsVerdictOnTrace guest r (Incoherent t i c) = HasHeader guest r × IsFirstBreak (length guest.entries) (trace_of r) t i c
+IsVerdictOnTrace guest r (verdict.Threads vs) = HasHeader guest r × ((t i : ℕ) (c : Cause) → HasCause (length guest.entries) (trace_of r) t i c → ⊥)
     × AreVerdicts guest r vs.items
 
 -- out of memory; or a refusal with its reason, and no run of the guest has the trace. A session uses the second row alone
 abbrev pub IsRefused : Guest → Recorded → FitErr → Type 0
 IsRefused guest r NoMem = ⊤
-IsRefused guest r (Refused v) = IsRefusal guest r v × ((run : List Step) → IsRunOf guest r run → ⊥)
+IsRefused guest r (Refused v) = IsVerdictOnTrace guest r v × ((run : List Step) → IsRunOf guest r run → ⊥)
 
 -- why a header isn't the guest's
 abbrev pub header_cause_number : HeaderCause → ℕ

@@ -17,7 +17,7 @@ use Rattle.ir_fit.specs.Fit.{FittedTrace, HasRun}
 use Rattle.ir_fit.specs.Placed.{placed_at, placed_of}
 use Rattle.ir_fit.specs.Within.{IsFitted}
 use Rattle.ir_fit.specs.declared.leave.Leave.{Leave}
-use Rattle.ir_fit.proofs.CallerLemmas.{event_positions_are_as_many_as_events, event_position_below_steps, get_or_is_item_if_at_index, step_of_leave_emits_leave, leave_step_is_kept, leave_positions_rise}
+use Rattle.ir_fit.proofs.CallerLemmas.{event_positions_are_as_many_as_events, event_position_below_steps, get_or_is_item_if_at_index, step_of_leave_emits_leave, emitted_leave_is_placed, leave_positions_rise}
 use Rattle.ir_cut.specs.Positions.{EachRun, machine_of, start_of}
 use Rattle.ir_cut.proofs.CallerLemmas.{trail_same_in_runs_of_trace}
 use Rattle.ir_past.specs.Past.{event_at, entered}
@@ -26,9 +26,9 @@ use Rattle.ir_events.specs.Events.{entry_of}
 use Rattle.ir_fit_run.specs.Positions.{IsInside, LeavesFrom, EntryLeaves, LeavesAfter, IsLeaveOf, EntersAt, IsLeaveAs, NoLeaveAs, IsFirstLeaveAs}
 
 -- a step of one run is one of each
-pub step_emits_in_each_run : (f : FittedTrace) (h : HasRun f) (t k : ℕ) (a : Label) → Emits (machine_of f) (start_of f) h.run t k a
+pub step_emits_in_each_run_if_in_one : (f : FittedTrace) (h : HasRun f) (t k : ℕ) (a : Label) → Emits (machine_of f) (start_of f) h.run t k a
     → EachRun f (λ run. Emits (machine_of f) (start_of f) run t k a)
-step_emits_in_each_run f h t k a emitted run of = (
+step_emits_in_each_run_if_in_one f h t k a emitted run of = (
   emitted.0,
   subst (λ (steps : List (thread.ThreadState × Label)). At steps k (emitted.0, a)) (trail_same_in_runs_of_trace f h.run run h.whole of t) emitted.1,
 )
@@ -63,7 +63,7 @@ leaving_step_is_listed : (f : FittedTrace) (h : HasRun f) (t from : ℕ) (ls : L
     → LeavesFrom f t from o a v k
     → (i : ℕ) × (start ≤ i) × (i < length ls) × ((d : Leave) → get_or ls i d ≡ record { position = k; object = o; access = a; version = v })
 leaving_step_is_listed f h t from ls start o a v k x at =
-    let found = leave_step_is_kept f h t k o a v (at.1 h.run h.whole) in
+    let found = emitted_leave_is_placed f h t k o a v (at.1 h.run h.whole) in
     let same = x.leaves in
     let p : Leave = record { position = k; object = o; access = a; version = v } in
     let within : found.0 < length ls = subst (λ (z : List Leave). found.0 < length z) (sym same) found.1 in
@@ -85,7 +85,7 @@ pub first_listed_leave_leaves_first : (f : FittedTrace) → HasRun f → (t from
 first_listed_leave_leaves_first f h t from ls start o a v k l x first = (
   (
     (let past = x.point.1 first.number p first.from first.within in let here = first.there p in omega (arith, past, here)),
-    step_emits_in_each_run f h t k (Out o a v) emitted,
+    step_emits_in_each_run_if_in_one f h t k (Out o a v) emitted,
   ),
   λ n at.
       let other = leaving_step_is_listed f h t from ls start o a v n x at in
@@ -179,8 +179,8 @@ event_without_entry_never_leaves f t from k (Try p) none at = at
 -- ---- within a thread
 
 -- the position of an event fits, and one more
-pub entry_position_fits : (f : FittedTrace) → IsFitted f → (t i : ℕ) → IsInside f t i → entry_of f t i + 1 < 2 ^ 64
-entry_position_fits f fitted t i recorded_event_is_inside =
+pub entry_position_plus_one_fits_64_bits : (f : FittedTrace) → IsFitted f → (t i : ℕ) → IsInside f t i → entry_of f t i + 1 < 2 ^ 64
+entry_position_plus_one_fits_64_bits f fitted t i recorded_event_is_inside =
     let within = event_position_below_steps f fitted.run t recorded_event_is_inside.thread i recorded_event_is_inside.event in
     let same = fitted.run.whole.0.threads in
     let fits = (recorded_thread_at_number_is_recorded f.recorded fitted.within t (let l = recorded_event_is_inside.thread in omega (arith, l, same))).steps_fit in
@@ -207,20 +207,20 @@ pub leave_is_within_thread : (f : FittedTrace) → HasRun f → (t i k : ℕ) �
     → k < (recorded_thread f.recorded t).steps
 leave_is_within_thread f h t i k l at = entry_leave_is_within_thread f h t (entry_of f t i + 1) k (event_at f.recorded t i) l at
 
-entry_leave_is_past_start : (f : FittedTrace) (t from k : ℕ) (e : Option Event) → EntryLeaves f t from e k → from ≤ k
-entry_leave_is_past_start f t from k None at = absurd at
-entry_leave_is_past_start f t from k (Some (Answer kind value)) at = absurd at
-entry_leave_is_past_start f t from k (Some (Read o v)) at = at.0
-entry_leave_is_past_start f t from k (Some (Write o v readers)) at = at.0
-entry_leave_is_past_start f t from k (Some (Try o)) at = absurd at
+entry_leave_is_at_or_after_start : (f : FittedTrace) (t from k : ℕ) (e : Option Event) → EntryLeaves f t from e k → from ≤ k
+entry_leave_is_at_or_after_start f t from k None at = absurd at
+entry_leave_is_at_or_after_start f t from k (Some (Answer kind value)) at = absurd at
+entry_leave_is_at_or_after_start f t from k (Some (Read o v)) at = at.0
+entry_leave_is_at_or_after_start f t from k (Some (Write o v readers)) at = at.0
+entry_leave_is_at_or_after_start f t from k (Some (Try o)) at = absurd at
 
 -- and is past the event
 pub leave_is_past_event : (f : FittedTrace) (t i k : ℕ) → LeavesAfter f t i k → entry_of f t i + 1 ≤ k
-leave_is_past_event f t i k at = entry_leave_is_past_start f t (entry_of f t i + 1) k (event_at f.recorded t i) at
+leave_is_past_event f t i k at = entry_leave_is_at_or_after_start f t (entry_of f t i + 1) k (event_at f.recorded t i) at
 
 -- its position fits, and one more
-pub leave_position_fits : (f : FittedTrace) → IsFitted f → (t i k : ℕ) → t < length f.guest.entries → LeavesAfter f t i k → k + 1 < 2 ^ 64
-leave_position_fits f fitted t i k l at =
+pub leave_position_plus_one_fits_64_bits : (f : FittedTrace) → IsFitted f → (t i k : ℕ) → t < length f.guest.entries → LeavesAfter f t i k → k + 1 < 2 ^ 64
+leave_position_plus_one_fits_64_bits f fitted t i k l at =
     let within = leave_is_within_thread f fitted.run t i k l at in
     let same = fitted.run.whole.0.threads in
     let fits = (recorded_thread_at_number_is_recorded f.recorded fitted.within t (omega (arith, l, same))).steps_fit in
@@ -238,7 +238,7 @@ recorded_event_is_inside f h t i e there =
     }
 
 -- and has as many events there
-pub inside_event_is_recorded : (f : FittedTrace) → HasRun f → (t i : ℕ) → IsInside f t i → (r : Recorded) → r ≡ f.recorded → i < length (recorded_thread r t).events
-inside_event_is_recorded f h t i recorded_event_is_inside r same =
+pub inside_event_number_is_below_event_count : (f : FittedTrace) → HasRun f → (t i : ℕ) → IsInside f t i → (r : Recorded) → r ≡ f.recorded → i < length (recorded_thread r t).events
+inside_event_number_is_below_event_count f h t i recorded_event_is_inside r same =
     subst (λ (x : Recorded). i < length (recorded_thread x t).events) (sym same)
     (let long = event_positions_are_as_many_as_events f h t recorded_event_is_inside.thread in let within = recorded_event_is_inside.event in omega (arith, within, long))

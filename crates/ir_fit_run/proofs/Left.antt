@@ -17,7 +17,7 @@ use Rattle.ir_past.specs.Past.{event_at, entered}
 use Rattle.ir_past.proofs.CallerLemmas.{entry_is_left_in_complete_run}
 use Rattle.ir_events.specs.Events.{entry_of}
 use Rattle.ir_fit_run.specs.Positions.{LeavesFrom, EntryLeaves, IsLeaveOf}
-use Rattle.ir_fit_run.proofs.Leaves.{step_emits_in_each_run, recorded_event_is_inside}
+use Rattle.ir_fit_run.proofs.Leaves.{step_emits_in_each_run_if_in_one, recorded_event_is_inside}
 use Rattle.ir_fit_run.proofs.Paired.{slice_get_is_get_or_below_length}
 
 -- the step of an event emits what is logged as it
@@ -36,7 +36,7 @@ first_leave_behind_entry_exists f h t j o a v l enters =
     let x : LeavesFirst (machine_of f) (start_of f) h.run t j o a v = entry_is_left_in_complete_run f.guest.code (start_of f)
     (guest_start_is_start f.guest f.recorded.budget f.recorded.profile) h.run (h.whole.1.runs, h.whole.1.done) t j o a v l enters in (
       x.leave,
-      ((let past = x.past in omega (arith, past)), step_emits_in_each_run f h t x.leave (Out o a v) x.leaves),
+      ((let past = x.past in omega (arith, past)), step_emits_in_each_run_if_in_one f h t x.leave (Out o a v) x.leaves),
       λ n at. x.first n (let from = at.0 in omega (arith, from)) (at.1 h.run h.whole),
     )
 

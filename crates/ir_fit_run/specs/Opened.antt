@@ -4,7 +4,7 @@ use Rattle.ir_image.specs.Guest.{Guest, guest_at, image_fault_number as image_fa
 use Rattle.ir_image.specs.declared.image_err.ImageErr.{ImageErr}
 use Rattle.ir_trace.specs.Recorded.{Recorded, recorded_at, trace_fault_number as trace_fault}
 use Rattle.ir_trace.specs.declared.trace_err.TraceErr.{TraceErr}
-use Rattle.ir_fit.specs.Fit.{FittedTrace, HasRun, IsRefusal as IsRefusedBy}
+use Rattle.ir_fit.specs.Fit.{FittedTrace, HasRun, IsVerdictOnTrace as IsRefusedBy}
 use Rattle.ir_fit.specs.declared.verdict.Verdict.{Verdict}
 use Rattle.ir_files.specs.declared.exit_status.ExitStatus.{ExitStatus}
 use Rattle.ir_files.specs.declared.exit_status.ExitStatus.TheVariants as status

@@ -13,7 +13,7 @@ use Rattle.ir_flat.specs.Alone.{WentAlone}
 use Rattle.ir_flat.specs.Flat.{Flat, idle, thread_of, tables, machine, IsFlat}
 use Rattle.ir_flat.specs.Next.{with_thread, MayStep}
 use Rattle.ir_runs.specs.Run.{after, label, IsRun, end, join_if, trail, events, log}
-use Rattle.ir_flat.proofs.Keeps.{may_step_is_can, next_is_flat}
+use Rattle.ir_flat.proofs.Keeps.{may_step_iff_can, next_is_flat}
 use Rattle.ir_flat.proofs.Next.{tables_of_permitted_next_are_after}
 
 run_of_successor : (code : List ℕ) (k : ℕ) (x : thread.ThreadState) → run_of code k (step_of code x) ≡ run_of code (suc k) x
@@ -41,9 +41,9 @@ private_step_is_quiet : (f : Flat) (t : ℕ) → ask_of f.code (thread_of f t) �
 private_step_is_quiet f t is = ap (λ q. emitted (act_of (shared_ask q) 0) ((tables f).objects (target (act_of (shared_ask q) 0)))) is
 
 -- no step
-went_alone_by_no_steps : (f : Flat) (t : ℕ) (y : thread.ThreadState) → PrivateSteps f.code 0 (thread_of f t) y → WentAlone f (with_thread f t y) t 0
+went_alone_by_zero_private_steps : (f : Flat) (t : ℕ) (y : thread.ThreadState) → PrivateSteps f.code 0 (thread_of f t) y → WentAlone f (with_thread f t y) t 0
 unfolding run_of
-went_alone_by_no_steps f t y p =
+went_alone_by_zero_private_steps f t y p =
     let same : set f.threads t y ≡ f.threads = ap (set f.threads t) p.steps ∙ set-get_or f.threads t idle in
     record {
       runs = tt;
@@ -56,11 +56,11 @@ went_alone_by_no_steps f t y p =
     }
 
 -- what is said of the steps after the first is said of all
-went_alone_by_step_and_more : (f : Flat) (t : ℕ) (y : thread.ThreadState) (n : ℕ) → IsFlat f → t < length f.threads → PrivateSteps f.code (suc n) (thread_of f t) y
+went_alone_by_private_steps_step : (f : Flat) (t : ℕ) (y : thread.ThreadState) (n : ℕ) → IsFlat f → t < length f.threads → PrivateSteps f.code (suc n) (thread_of f t) y
     → ((g : Flat) (u : ℕ) (z : thread.ThreadState) → IsFlat g → u < length g.threads → PrivateSteps g.code n (thread_of g u) z
     → WentAlone g (with_thread g u z) u n) → WentAlone f (with_thread f t y) t (suc n)
 unfolding run_of
-went_alone_by_step_and_more f t y n flat l p rest =
+went_alone_by_private_steps_step f t y n flat l p rest =
     let is : ask_of f.code (thread_of f t) ≡ Private = p.each 0 (omega arith) in
     let x : thread.ThreadState = after_ask f.code (thread_of f t) Private Go in
     let g : Flat = with_thread f t x in
@@ -76,7 +76,7 @@ went_alone_by_step_and_more f t y n flat l p rest =
     let again_flat : with_thread g t y ≡ with_thread f t y = ap (λ xs. record f { threads = xs }) again in
     record {
       runs = (
-        (may_step_is_can f t 0 flat l).0 (subst (MayStep f 0) (sym is) tt),
+        (may_step_iff_can f t 0 flat l).0 (subst (MayStep f 0) (sym is) tt),
         subst (λ s. IsRun (machine f) s (replicate n (t, 0))) first
             w.runs,
       );
@@ -101,8 +101,8 @@ went_alone_by_step_and_more f t y n flat l p rest =
 
 pub went_alone_by_private_steps : (n : ℕ) (f : Flat) (t : ℕ) (y : thread.ThreadState) → IsFlat f → t < length f.threads → PrivateSteps f.code n (thread_of f t) y
     → WentAlone f (with_thread f t y) t n
-went_alone_by_private_steps zero f t y flat l p = went_alone_by_no_steps f t y p
-went_alone_by_private_steps (suc n) f t y flat l p = went_alone_by_step_and_more f t y n flat l p (went_alone_by_private_steps n)
+went_alone_by_private_steps zero f t y flat l p = went_alone_by_zero_private_steps f t y p
+went_alone_by_private_steps (suc n) f t y flat l p = went_alone_by_private_steps_step f t y n flat l p (went_alone_by_private_steps n)
 
 -- the threads and objects keep what they always keep
 pub flat_after_private_steps : (n : ℕ) (f : Flat) (t : ℕ) (y : thread.ThreadState) → IsFlat f → t < length f.threads → PrivateSteps f.code n (thread_of f t) y
@@ -121,17 +121,17 @@ flat_after_private_steps (suc n) f t y flat l p =
     (subst (λ z. PrivateSteps f.code n z y) (sym now) (private_steps_after_first f.code n (thread_of f t) y p)))
 
 -- the same, of the value that the code's parts are
-pub flat_after_run_of_value : (p f new : Flat) (t n : ℕ) → p ≡ f → t < length f.threads → IsFlat p
+pub flat_after_private_run_of_equal_state : (p f new : Flat) (t n : ℕ) → p ≡ f → t < length f.threads → IsFlat p
     → ((k : ℕ) → k < n → ask_of p.code (run_of p.code k (thread_of p t)) ≡ Private)
     → new ≡ with_thread p t (run_of p.code n (thread_of p t)) → IsFlat new
-flat_after_run_of_value p f new t n same l flat each e =
+flat_after_private_run_of_equal_state p f new t n same l flat each e =
     subst IsFlat (sym e) (flat_after_private_steps n p t (run_of p.code n (thread_of p t)) flat (subst (λ z. t < length z.threads) (sym same) l)
     (record { steps = refl; each = each }))
 
-pub went_alone_by_run_of_value : (p f new : Flat) (t n : ℕ) → p ≡ f → t < length f.threads → IsFlat p
+pub went_alone_by_private_run_of_equal_state : (p f new : Flat) (t n : ℕ) → p ≡ f → t < length f.threads → IsFlat p
     → ((k : ℕ) → k < n → ask_of p.code (run_of p.code k (thread_of p t)) ≡ Private)
     → new ≡ with_thread p t (run_of p.code n (thread_of p t)) → WentAlone f new t n
-went_alone_by_run_of_value p f new t n same l flat each e =
+went_alone_by_private_run_of_equal_state p f new t n same l flat each e =
     subst (λ g. WentAlone f g t n) (sym e) (subst (λ z. WentAlone z (with_thread p t (run_of p.code n (thread_of p t))) t n) same
     (went_alone_by_private_steps n p t (run_of p.code n (thread_of p t)) flat (subst (λ z. t < length z.threads) (sym same) l)
     (record { steps = refl; each = each })))

@@ -5,8 +5,8 @@ use Rattle.std.proofs.lemmas.Bool.Decides.{nat_tests}
 use Rattle.std.proofs.lemmas.List.{get_or_past, length-replicate}
 use Rattle.ir_image.specs.Guest.{Guest, object_count, object_words}
 use Rattle.ir_image.specs.Bounds.{IsWord, IsGuest}
-use Rattle.ir_image.proofs.CallerLemmas.{guest_threads_at_most_limit, element_of_padded}
-use Rattle.ir_mach.proofs.CallerLemmas.{property_at_place_or_default, all_of_take, all_of_drop, HasWords, start_core_has_words}
+use Rattle.ir_image.proofs.CallerLemmas.{guest_threads_at_most_limit, get_or_zero_of_padded_is_unchanged}
+use Rattle.ir_mach.proofs.CallerLemmas.{get_or_with_default_satisfies_property, all_of_take, all_of_drop, HasWords, start_core_has_words}
 use Rattle.ir_thread.specs.Permitted.{IsRunning, Permits, held_count}
 use Rattle.ir_thread.specs.State.{end_code, ask_of, after_ask, after_reply, most_events, shared_ask, reply_of, is_result, thread_machine}
 use Rattle.ir_thread.specs.State as thread
@@ -21,7 +21,7 @@ use Rattle.ir_runs.specs.declared.access.Access.TheVariants.{Reading, Writing}
 use Rattle.ir_runs.specs.declared.env_kind.EnvKind.{EnvKind}
 use Rattle.ir_runs.specs.declared.env_kind.EnvKind.TheVariants.{Clock, Random, Input}
 use Rattle.ir_runs.specs.Run.{State, Step, act, Can, after, IsRun, end}
-use Rattle.ir_runs.proofs.CallerLemmas.{upd_by_cases}
+use Rattle.ir_runs.proofs.CallerLemmas.{property_of_upd_by_cases}
 use Rattle.ir_flat.specs.Flat.{idle, thread_of, tables, start_threads, start_cells, start_flat}
 use Rattle.ir_flat.specs.Room.{empty}
 use Rattle.ir_flat.proofs.Kept.{events_after_ask, events_within_most_after_ask, length_of_held_after_ask}
@@ -153,7 +153,7 @@ object_words_stay_words (Try o) (suc (suc r)) t b h asks i = h i
 object_words_stay_words (Leave o Reading) r t b h asks i = h i
 object_words_stay_words (Leave o Writing) r t b h asks i = h i
 object_words_stay_words (Get o j) r t b h asks i = h i
-object_words_stay_words (Put o j w) r t b h asks i = upd_by_cases b.words j w i IsWord (λ _. asks) (λ _. h i)
+object_words_stay_words (Put o j w) r t b h asks i = property_of_upd_by_cases b.words j w i IsWord (λ _. asks) (λ _. h i)
 object_words_stay_words Print r t b h asks i = h i
 object_words_stay_words (End e) r t b h asks i = h i
 object_words_stay_words Done r t b h asks i = h i
@@ -177,11 +177,11 @@ within_bounds_after_step code {budget} {objects} {profiles} s e h can =
     let v : ℕ = reply (act (thread_machine code) s e) b in
     let asks : AsksWords q = ask_of_has_words code x (h.threads e.0).words in
     record {
-      threads = λ t. upd_by_cases s.now e.0 (after_ask code x q (reply_of q v)) t (IsBounded budget objects (profiles t))
+      threads = λ t. property_of_upd_by_cases s.now e.0 (after_ask code x q (reply_of q v)) t (IsBounded budget objects (profiles t))
           (λ same. subst (λ z. IsBounded budget objects (profiles z) (after_ask code x q (reply_of q v))) (sym same)
           (bounded_after_ask code x q v (h.threads e.0) (ask_of_permitted code x) asks (reply_is_word code q e.1 b (h.words o) can)))
           (λ _. h.threads t);
-      words = λ p. upd_by_cases s.objects o (acted (act (thread_machine code) s e) e.0 b) p (λ z. (i : ℕ) → IsWord (z.words i))
+      words = λ p. property_of_upd_by_cases s.objects o (acted (act (thread_machine code) s e) e.0 b) p (λ z. (i : ℕ) → IsWord (z.words i))
           (λ _. object_words_stay_words q e.1 e.0 b (h.words o) asks) (λ _. h.words p);
     }
 
@@ -194,12 +194,12 @@ within_bounds_after_run code s (e ∷ run) h ok = within_bounds_after_run code (
 -- ---- the start
 
 -- a thread of the guest's is one at its start
-pub start_thread_at_place : (g : Guest) (budget : ℕ) (profile : Profile) (from n t : ℕ) → t < n
+pub get_or_of_start_threads_is_start_state : (g : Guest) (budget : ℕ) (profile : Profile) (from n t : ℕ) → t < n
     → get_or (start_threads g budget profile from n) t idle ≡ thread.start_state g (from + t) budget profile
-start_thread_at_place g budget profile from zero t l = absurd (omega arith)
-start_thread_at_place g budget profile from (suc n) zero l = ap (λ z. thread.start_state g z budget profile)
+get_or_of_start_threads_is_start_state g budget profile from zero t l = absurd (omega arith)
+get_or_of_start_threads_is_start_state g budget profile from (suc n) zero l = ap (λ z. thread.start_state g z budget profile)
     (let e : from ≡ from + 0 = omega arith in e)
-start_thread_at_place g budget profile from (suc n) (suc t) l = start_thread_at_place g budget profile (suc from) n t (omega (arith, l))
+get_or_of_start_threads_is_start_state g budget profile from (suc n) (suc t) l = get_or_of_start_threads_is_start_state g budget profile (suc from) n t (omega (arith, l))
     ∙ ap (λ z. thread.start_state g z budget profile) (let e : suc from + t ≡ from + suc t = omega arith in e)
 
 start_thread_is_bounded : (g : Guest) (budget : ℕ) (profile : Profile) (t : ℕ) → IsGuest g → t < length g.entries
@@ -238,7 +238,7 @@ guest_start_threads_are_bounded : (g : Guest) (budget : ℕ) (profile : Profile)
     → IsBounded budget (object_count g) (profiles_of g budget profile t) (thread_of (start_flat g budget profile) t)
 guest_start_threads_are_bounded g budget profile t is = elim (cases_lt t (length g.entries)) [
   | inl l ↦ subst (λ x. IsBounded budget (object_count g) x.profile x)
-      (sym (start_thread_at_place g budget profile 0 (length g.entries) t l
+      (sym (get_or_of_start_threads_is_start_state g budget profile 0 (length g.entries) t l
       ∙ ap (λ z. thread.start_state g z budget profile) (let e : 0 + t ≡ t = omega arith in e)))
       (start_thread_is_bounded g budget profile t is l)
   | inr past ↦ subst (λ x. IsBounded budget (object_count g) x.profile x)
@@ -252,8 +252,8 @@ start_object_words_are_words : (g : Guest) (budget : ℕ) (profile : Profile) (o
 start_object_words_are_words g budget profile o i is = elim (cases_lt o (object_count g)) [
   | inl l ↦
       let words : List ℕ = take (object_words g) (drop (object_words g * (0 + o)) g.words) in
-      subst (λ xs. IsWord (get_or xs i 0)) (sym (start_cell_has_first_words g 0 (object_count g) o l)) (subst IsWord (sym (element_of_padded words i))
-      (property_at_place_or_default IsWord words i 0 (omega arith) (all_of_take IsWord (object_words g) (drop (object_words g * (0 + o)) g.words)
+      subst (λ xs. IsWord (get_or xs i 0)) (sym (start_cell_has_first_words g 0 (object_count g) o l)) (subst IsWord (sym (get_or_zero_of_padded_is_unchanged words i))
+      (get_or_with_default_satisfies_property IsWord words i 0 (omega arith) (all_of_take IsWord (object_words g) (drop (object_words g * (0 + o)) g.words)
       (all_of_drop IsWord (object_words g * (0 + o)) g.words is.words_fit))))
   | inr past ↦ subst (λ c. IsWord (get_or c.words i 0))
       (sym (get_or_past (start_cells g 0 (object_count g)) o empty

@@ -28,17 +28,17 @@ thread_that_steps_is_not_done code s e can is = subst (λ q. Admits (thread_mach
     (s.objects (target (act_of (shared_ask q) e.1)))) is can
 
 -- what asks others for nothing more, is done
-pub shared_done_is_done : (q : Ask) → shared_ask q ≡ machine.Done → q ≡ Done
-shared_done_is_done Private e = absurd (cc e)
-shared_done_is_done (Env k) e = absurd (cc e)
-shared_done_is_done (Enter o a) e = absurd (cc e)
-shared_done_is_done (Try o) e = absurd (cc e)
-shared_done_is_done (Leave o a) e = absurd (cc e)
-shared_done_is_done (Get o i) e = absurd (cc e)
-shared_done_is_done (Put o i w) e = absurd (cc e)
-shared_done_is_done Print e = absurd (cc e)
-shared_done_is_done (End k) e = absurd (cc e)
-shared_done_is_done Done e = refl
+pub ask_is_done_if_shared_ask_is_done : (q : Ask) → shared_ask q ≡ machine.Done → q ≡ Done
+ask_is_done_if_shared_ask_is_done Private e = absurd (cc e)
+ask_is_done_if_shared_ask_is_done (Env k) e = absurd (cc e)
+ask_is_done_if_shared_ask_is_done (Enter o a) e = absurd (cc e)
+ask_is_done_if_shared_ask_is_done (Try o) e = absurd (cc e)
+ask_is_done_if_shared_ask_is_done (Leave o a) e = absurd (cc e)
+ask_is_done_if_shared_ask_is_done (Get o i) e = absurd (cc e)
+ask_is_done_if_shared_ask_is_done (Put o i w) e = absurd (cc e)
+ask_is_done_if_shared_ask_is_done Print e = absurd (cc e)
+ask_is_done_if_shared_ask_is_done (End k) e = absurd (cc e)
+ask_is_done_if_shared_ask_is_done Done e = refl
 
 emitted_length_is_events_added : (code : List ℕ) (q : Ask) (r : ℕ) (b : Object) → Admits (thread_machine code) (act_of (shared_ask q) r) b
     → length (logged (emitted (act_of (shared_ask q) r) b) []) ≡ events_added_by q
@@ -80,9 +80,9 @@ pub record Tallies (code : List ℕ) (s : State thread.ThreadState) (run : List 
   pub events : ((end (thread_machine code) s run).now t).events ≡ (s.now t).events + length (log (thread_machine code) s run t)
   pub steps : ((end (thread_machine code) s run).now t).steps ≡ (s.now t).steps + count (thread_machine code) s run t
 
-tallies_for_own_step : (code : List ℕ) (s : State thread.ThreadState) (e : Step) (run : List Step) → Can (thread_machine code) s e
+tallies_of_cons_own_step : (code : List ℕ) (s : State thread.ThreadState) (e : Step) (run : List Step) → Can (thread_machine code) s e
     → Tallies code (after (thread_machine code) s e) run e.0 → Tallies code s (e ∷ run) e.0
-tallies_for_own_step code s e run can k =
+tallies_of_cons_own_step code s e run can k =
     let m = thread_machine code in
     let now : (after m s e).now e.0 ≡ moved_thread code s e = ap (λ f. f e.0) (threads_after_step code s e)
     ∙ upd_at_own_place s.now e.0 (moved_thread code s e) in
@@ -102,7 +102,7 @@ pub tallies_along_run : (code : List ℕ) (s : State thread.ThreadState) (run : 
 tallies_along_run code s [] ok t = record { events = omega arith; steps = omega arith }
 tallies_along_run code s (e ∷ run) ok t = elim (cases_eq t e.0) [
   | inl same ↦ subst (Tallies code s (e ∷ run)) (sym same)
-      (tallies_for_own_step code s e run ok.0 (tallies_along_run code (after (thread_machine code) s e) run ok.1 e.0))
+      (tallies_of_cons_own_step code s e run ok.0 (tallies_along_run code (after (thread_machine code) s e) run ok.1 e.0))
   | inr ne ↦
       let m = thread_machine code in
       let k : Tallies code (after m s e) run t = tallies_along_run code (after m s e) run ok.1 t in

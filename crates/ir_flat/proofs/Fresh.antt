@@ -44,8 +44,8 @@ pub record IsFresh (places : ℕ) (x : thread.ThreadState) : Type 0 where
   pub none : (o : ℕ) → held_at x.held o ≡ None
   pub events : x.events ≡ 0
 
-nothing_held_in_empty_places : (n o : ℕ) → held_at (replicate n None) o ≡ None
-nothing_held_in_empty_places n o = elim (cases_lt o n) [
+held_at_of_replicated_none_is_none : (n o : ℕ) → held_at (replicate n None) o ≡ None
+held_at_of_replicated_none_is_none n o = elim (cases_lt o n) [
   | inl l ↦ get_or-replicate n o None None l
   | inr g ↦ get_or_past (replicate n None) o None
       (subst (λ k. k ≤ o) (sym (length-replicate n None)) g)
@@ -53,7 +53,7 @@ nothing_held_in_empty_places n o = elim (cases_lt o n) [
 
 pub start_thread_is_fresh : (g : Guest) (budget : ℕ) (profile : Profile) (from n t : ℕ) → IsFresh (object_count g) (get_or (start_threads g budget profile from n) t idle)
 start_thread_is_fresh g budget profile from zero t = record { none = λ o. refl; events = refl }
-start_thread_is_fresh g budget profile from (suc n) zero = record { none = nothing_held_in_empty_places (object_count g); events = refl }
+start_thread_is_fresh g budget profile from (suc n) zero = record { none = held_at_of_replicated_none_is_none (object_count g); events = refl }
 start_thread_is_fresh g budget profile from (suc n) (suc t) = start_thread_is_fresh g budget profile (suc from) n t
 
 -- a thread at the start has taken no step
@@ -63,10 +63,10 @@ start_thread_has_no_steps guest budget profile from (suc n) zero = refl
 start_thread_has_no_steps guest budget profile from (suc n) (suc t) = start_thread_has_no_steps guest budget profile (suc from) n t
 
 -- a place for each object
-pub start_thread_has_place_for_objects : (g : Guest) (budget : ℕ) (profile : Profile) (from n t : ℕ) → t < n → length (get_or (start_threads g budget profile from n) t idle).held ≡ object_count g
-start_thread_has_place_for_objects g budget profile from zero t l = absurd (omega arith)
-start_thread_has_place_for_objects g budget profile from (suc n) zero l = length-replicate (object_count g) None
-start_thread_has_place_for_objects g budget profile from (suc n) (suc t) l = start_thread_has_place_for_objects g budget profile (suc from) n t (omega arith)
+pub length_of_start_thread_held_is_object_count : (g : Guest) (budget : ℕ) (profile : Profile) (from n t : ℕ) → t < n → length (get_or (start_threads g budget profile from n) t idle).held ≡ object_count g
+length_of_start_thread_held_is_object_count g budget profile from zero t l = absurd (omega arith)
+length_of_start_thread_held_is_object_count g budget profile from (suc n) zero l = length-replicate (object_count g) None
+length_of_start_thread_held_is_object_count g budget profile from (suc n) (suc t) l = length_of_start_thread_held_is_object_count g budget profile (suc from) n t (omega arith)
 
 abbrev all_zero_fields : Fields
 all_zero_fields = record { version = 0; left = 0; inside = 0; writer = false }
@@ -127,7 +127,7 @@ start_is_flat g budget profile ok =
     record {
       few_threads = omega (arith, n, guest_threads_at_most_limit g ok);
       few_objects = omega (arith, m, guest_objects_at_most_limit g ok);
-      places = λ t l. start_thread_has_place_for_objects g budget profile 0 (length g.entries) t (omega (arith, n, l)) ∙ sym m;
+      places = λ t l. length_of_start_thread_held_is_object_count g budget profile 0 (length g.entries) t (omega (arith, n, l)) ∙ sym m;
       objects = λ o l. record {
         counts = zero_fields_count_nobody (length (start_threads g budget profile 0 (length g.entries))) (inside_of (start_flat g budget profile) o)
             (cell_of (start_flat g budget profile) o).fields (start_cell_has_zero_fields g 0 (object_count g) o) (no_thread_inside_at_start g budget profile o);
@@ -137,17 +137,17 @@ start_is_flat g budget profile ok =
     }
 
 -- the loop that makes the threads
-pub start_threads_with_made_thread : (g : Guest) (budget : ℕ) (profile : Profile) (n : ℕ) (before after : List thread.ThreadState) (x : thread.ThreadState) → before ≡ start_threads g budget profile 0 n
+pub made_start_threads_step : (g : Guest) (budget : ℕ) (profile : Profile) (n : ℕ) (before after : List thread.ThreadState) (x : thread.ThreadState) → before ≡ start_threads g budget profile 0 n
     → x ≡ thread.start_state g n budget profile → after ≡ before ++ x ∷ [] → after ≡ start_threads g budget profile 0 (n + 1)
-start_threads_with_made_thread g budget profile n before after x is new made =
+made_start_threads_step g budget profile n before after x is new made =
     made ∙ ap (λ xs. xs ++ x ∷ []) is ∙ ap (λ y. start_threads g budget profile 0 n ++ y ∷ []) new
     ∙ ap (λ k. start_threads g budget profile 0 n ++ thread.start_state g k budget profile ∷ []) (let e : n ≡ 0 + n = omega arith in e)
     ∙ sym (start_threads_of_successor g budget profile 0 n) ∙ ap (start_threads g budget profile 0) (let e : suc n ≡ n + 1 = omega arith in e)
 
 -- the loop that makes the objects
-pub start_cells_with_made_cell : (g : Guest) (n : ℕ) (before after : List Cell) (x : Cell) → before ≡ start_cells g 0 n → x ≡ start_cell (first_words g n)
+pub made_start_cells_step : (g : Guest) (n : ℕ) (before after : List Cell) (x : Cell) → before ≡ start_cells g 0 n → x ≡ start_cell (first_words g n)
     → after ≡ before ++ x ∷ [] → after ≡ start_cells g 0 (n + 1)
-start_cells_with_made_cell g n before after x is new made =
+made_start_cells_step g n before after x is new made =
     made ∙ ap (λ xs. xs ++ x ∷ []) is ∙ ap (λ y. start_cells g 0 n ++ y ∷ []) new
     ∙ ap (λ k. start_cells g 0 n ++ start_cell (first_words g k) ∷ []) (let e : n ≡ 0 + n = omega arith in e)
     ∙ sym (start_cells_of_successor g 0 n) ∙ ap (start_cells g 0) (let e : suc n ≡ n + 1 = omega arith in e)

@@ -16,49 +16,49 @@ use Rattle.ir_object.specs.Cell.{Cell, Counts, readers, one_if_reading}
 use Rattle.ir_object.specs.Standing.{CanLeave}
 use Rattle.ir_object.specs.Word.{IsFields, entered, left_by, bit_of}
 use Rattle.ir_object.proofs.CallerLemmas.{no_writer_if_reader_admitted, reader_admitted_if_no_writer, nobody_inside_if_writer_admitted, writer_admitted_if_nobody_inside, counts_after_entry, inside_thread_can_leave, counts_after_leave}
-use Rattle.ir_runs.proofs.CallerLemmas.{upd_by_cases, upd_with_old_value}
+use Rattle.ir_runs.proofs.CallerLemmas.{property_of_upd_by_cases, upd_with_old_value}
 use Rattle.ir_flat.specs.Flat.{Flat, idle, thread_of, cell_of, inside_of, tables, machine, IsShared, IsFlat, IsKept}
 use Rattle.ir_flat.specs.Room.{empty}
 use Rattle.ir_flat.specs.Next.{with_thread, with_object, answered, next, next_try, MayStep, MayTry}
 use Rattle.ir_runs.specs.Run.{Can, after}
 use Rattle.ir_flat.proofs.Kept.{length_of_held_after_ask, kept_after_step, events_below_within_limit}
-use Rattle.ir_flat.proofs.Next.{list_set_is_upd, inside_of_with_thread, held_at_other_place_after_set, tables_of_permitted_next_are_after}
+use Rattle.ir_flat.proofs.Next.{get_or_of_set_is_upd, inside_of_with_thread, held_at_other_place_after_set, tables_of_permitted_next_are_after}
 
 -- the code's tests are those of the step
-pub may_step_is_admits : (f : Flat) (t r : ℕ) (q : Ask) → IsFlat f → t < length f.threads → Permits (thread_of f t) q
+pub may_step_iff_admits : (f : Flat) (t r : ℕ) (q : Ask) → IsFlat f → t < length f.threads → Permits (thread_of f t) q
     → MayStep f r q ↔ Admits (machine f) (act_of (shared_ask q) r) ((tables f).objects (target (act_of (shared_ask q) r)))
-may_step_is_admits f t r Private flat l p = ((λ _. tt), λ _. tt)
-may_step_is_admits f t r (Env kind) flat l p = ((λ h. h), λ h. h)
-may_step_is_admits f t r (Enter o Reading) flat l p =
+may_step_iff_admits f t r Private flat l p = ((λ _. tt), λ _. tt)
+may_step_iff_admits f t r (Env kind) flat l p = ((λ h. h), λ h. h)
+may_step_iff_admits f t r (Enter o Reading) flat l p =
     let c = (flat.objects o (omega (arith, p.2, flat.places t l))).counts in (
       no_writer_if_reader_admitted (length f.threads) (cell_of f o).fields (inside_of f o) c,
       reader_admitted_if_no_writer (length f.threads) (cell_of f o).fields
           (inside_of f o) c,
     )
-may_step_is_admits f t r (Enter o Writing) flat l p =
+may_step_iff_admits f t r (Enter o Writing) flat l p =
     let c = (flat.objects o (omega (arith, p.2, flat.places t l))).counts in (
       nobody_inside_if_writer_admitted (length f.threads) (cell_of f o).fields (inside_of f o) c,
       writer_admitted_if_nobody_inside (length f.threads) (cell_of f o).fields
           (inside_of f o) c,
     )
-may_step_is_admits f t zero (Try o) flat l p = ((λ _. tt), λ _. tt)
-may_step_is_admits f t (suc zero) (Try o) flat l p =
+may_step_iff_admits f t zero (Try o) flat l p = ((λ _. tt), λ _. tt)
+may_step_iff_admits f t (suc zero) (Try o) flat l p =
     let c = (flat.objects o (omega (arith, p.2, flat.places t l))).counts in (
       nobody_inside_if_writer_admitted (length f.threads) (cell_of f o).fields (inside_of f o) c,
       writer_admitted_if_nobody_inside (length f.threads) (cell_of f o).fields
           (inside_of f o) c,
     )
-may_step_is_admits f t (suc (suc r)) (Try o) flat l p = ((λ h. h), λ h. h)
-may_step_is_admits f t r (Leave o a) flat l p = ((λ _. tt), λ _. tt)
-may_step_is_admits f t r (Get o i) flat l p = ((λ _. tt), λ _. tt)
-may_step_is_admits f t r (Put o i w) flat l p = ((λ _. tt), λ _. tt)
-may_step_is_admits f t r Print flat l p = ((λ _. tt), λ _. tt)
-may_step_is_admits f t r (End e) flat l p = ((λ _. tt), λ _. tt)
-may_step_is_admits f t r Done flat l p = ((λ h. h), λ h. h)
+may_step_iff_admits f t (suc (suc r)) (Try o) flat l p = ((λ h. h), λ h. h)
+may_step_iff_admits f t r (Leave o a) flat l p = ((λ _. tt), λ _. tt)
+may_step_iff_admits f t r (Get o i) flat l p = ((λ _. tt), λ _. tt)
+may_step_iff_admits f t r (Put o i w) flat l p = ((λ _. tt), λ _. tt)
+may_step_iff_admits f t r Print flat l p = ((λ _. tt), λ _. tt)
+may_step_iff_admits f t r (End e) flat l p = ((λ _. tt), λ _. tt)
+may_step_iff_admits f t r Done flat l p = ((λ h. h), λ h. h)
 
-pub may_step_is_can : (f : Flat) (t r : ℕ) → IsFlat f → t < length f.threads
+pub may_step_iff_can : (f : Flat) (t r : ℕ) → IsFlat f → t < length f.threads
     → MayStep f r (ask_of f.code (thread_of f t)) ↔ Can (machine f) (tables f) (t, r)
-may_step_is_can f t r flat l = may_step_is_admits f t r (ask_of f.code (thread_of f t)) flat l (ask_of_permitted f.code (thread_of f t))
+may_step_iff_can f t r flat l = may_step_iff_admits f t r (ask_of f.code (thread_of f t)) flat l (ask_of_permitted f.code (thread_of f t))
 
 pub readers_at_most_threads : (n : ℕ) (inside : ℕ → Option Access) → readers n inside ≤ n
 readers_at_most_threads zero inside = omega arith
@@ -70,10 +70,10 @@ readers_at_most_threads (suc n) inside = let rest = readers_at_most_threads n in
     at_most_one (Some Writing) = omega arith
 
 -- what a word counts was logged, so it fits
-pub counts_within_logged_limit : (f : Flat) (o : ℕ) → IsFlat f → o < length f.objects
+pub sum_of_cell_counts_within_event_limit : (f : Flat) (o : ℕ) → IsFlat f → o < length f.objects
     → (cell_of f o).fields.version + (cell_of f o).fields.left + (cell_of f o).fields.inside + bit_of (cell_of f o).fields.writer ≤
     most_threads * most_events
-counts_within_logged_limit f o flat l =
+sum_of_cell_counts_within_event_limit f o flat l =
     let c = (flat.objects o l).counts in
     let seen = flat.kept.logged o in
     let most = events_below_within_limit (length f.threads) (thread_of f) flat.kept.events in
@@ -90,15 +90,15 @@ inside_within_most_threads f o flat l =
     omega (arith, inside, most, few)
 
 pub entered_fields_fit : (f : Flat) (o : ℕ) (a : Access) → IsFlat f → o < length f.objects → IsFields (entered a (cell_of f o).fields)
-entered_fields_fit f o Reading flat l = let all = counts_within_logged_limit f o flat l in let few = inside_within_most_threads f o flat l in
+entered_fields_fit f o Reading flat l = let all = sum_of_cell_counts_within_event_limit f o flat l in let few = inside_within_most_threads f o flat l in
     record { version = omega (arith, all); left = omega (arith, all); inside = omega (arith, few) }
-entered_fields_fit f o Writing flat l = let all = counts_within_logged_limit f o flat l in let few = inside_within_most_threads f o flat l in
+entered_fields_fit f o Writing flat l = let all = sum_of_cell_counts_within_event_limit f o flat l in let few = inside_within_most_threads f o flat l in
     record { version = omega (arith, all); left = omega (arith, all); inside = omega (arith, few) }
 
 pub left_fields_fit : (f : Flat) (o : ℕ) (a : Access) → IsFlat f → o < length f.objects → IsFields (left_by a (cell_of f o).fields)
-left_fields_fit f o Reading flat l = let all = counts_within_logged_limit f o flat l in let few = inside_within_most_threads f o flat l in
+left_fields_fit f o Reading flat l = let all = sum_of_cell_counts_within_event_limit f o flat l in let few = inside_within_most_threads f o flat l in
     record { version = omega (arith, all); left = omega (arith, all); inside = omega (arith, few) }
-left_fields_fit f o Writing flat l = let all = counts_within_logged_limit f o flat l in
+left_fields_fit f o Writing flat l = let all = sum_of_cell_counts_within_event_limit f o flat l in
     record { version = omega (arith, all); left = omega arith; inside = omega arith }
 
 pub flat_inside_thread_can_leave : (f : Flat) (t o : ℕ) (a : Access) → IsFlat f → t < length f.threads → o < length f.objects → inside_of f o t ≡ Some a
@@ -122,18 +122,18 @@ shared_after_object_change : (f : Flat) (t : ℕ) (y : thread.ThreadState) (o : 
     → IsShared (with_object (with_thread f t y) o c) i
 shared_after_object_change f t y o c l k same counts count i old =
     let cell : cell_of (with_object (with_thread f t y) o c) i ≡ upd (cell_of f) o c i =
-    ap (λ table. table i) (list_set_is_upd f.objects o c empty k) in
+    ap (λ table. table i) (get_or_of_set_is_upd f.objects o c empty k) in
     record {
       counts = subst (λ n. Counts n (cell_of (with_object (with_thread f t y) o c) i).fields (inside_of (with_thread f t y) i))
           (sym (length-set f.threads t y))
           (subst (λ z. Counts (length f.threads) z.fields (inside_of (with_thread f t y) i)) (sym cell)
           (subst (Counts (length f.threads) (upd (cell_of f) o c i).fields) (sym (inside_of_with_thread f t y i l))
-          (upd_by_cases (cell_of f) o c i (λ z. Counts (length f.threads) z.fields (upd (inside_of f i) t (held_at y.held i)))
+          (property_of_upd_by_cases (cell_of f) o c i (λ z. Counts (length f.threads) z.fields (upd (inside_of f i) t (held_at y.held i)))
           (λ e. subst (λ j. Counts (length f.threads) c.fields (upd (inside_of f j) t (held_at y.held j))) (sym e) counts)
           (λ ne. subst (Counts (length f.threads) (cell_of f i).fields)
           (sym (upd_with_old_value (inside_of f i) t (held_at y.held i) (sym (same i ne)))) old.counts))));
       words = subst (λ z. length z.words ≡ most_object_words) (sym cell)
-          (upd_by_cases (cell_of f) o c i (λ z. length z.words ≡ most_object_words) (λ _. count) (λ _. old.words));
+          (property_of_upd_by_cases (cell_of f) o c i (λ z. length z.words ≡ most_object_words) (λ _. count) (λ _. old.words));
     }
 
 -- an object that thread t has entered
@@ -206,38 +206,38 @@ next_keeps_object_count f t r (End e) = refl
 next_keeps_object_count f t r Done = refl
 
 -- a thread that is written keeps its places
-written_thread_keeps_places : (f : Flat) (t : ℕ) (y : thread.ThreadState) → t < length f.threads → length y.held ≡ length (thread_of f t).held → (u : ℕ)
+held_length_is_unchanged_by_written_thread : (f : Flat) (t : ℕ) (y : thread.ThreadState) → t < length f.threads → length y.held ≡ length (thread_of f t).held → (u : ℕ)
     → length (thread_of (with_thread f t y) u).held ≡ length (thread_of f u).held
-written_thread_keeps_places f t y l same u = ap (λ table. length (table u).held) (list_set_is_upd f.threads t y idle l)
-    ∙ upd_by_cases (thread_of f) t y u (λ z. length z.held ≡ length (thread_of f u).held)
+held_length_is_unchanged_by_written_thread f t y l same u = ap (λ table. length (table u).held) (get_or_of_set_is_upd f.threads t y idle l)
+    ∙ property_of_upd_by_cases (thread_of f) t y u (λ z. length z.held ≡ length (thread_of f u).held)
     (λ e. same ∙ ap (λ j. length (thread_of f j).held) (sym e)) (λ _. refl)
 
-next_keeps_places : (f : Flat) (t r : ℕ) (q : Ask) → t < length f.threads → (u : ℕ)
+held_length_is_unchanged_by_next : (f : Flat) (t r : ℕ) (q : Ask) → t < length f.threads → (u : ℕ)
     → length (thread_of (next f t r q) u).held ≡ length (thread_of f u).held
-next_keeps_places f t r Private l = written_thread_keeps_places f t _ l (length_of_held_after_ask f.code (thread_of f t) Private Go)
-next_keeps_places f t r (Env kind) l = written_thread_keeps_places f t _ l (length_of_held_after_ask f.code (thread_of f t) (Env kind) (Value r))
-next_keeps_places f t r (Enter o a) l = written_thread_keeps_places f t _ l (length_of_held_after_ask f.code (thread_of f t) (Enter o a) Go)
-next_keeps_places f t zero (Try o) l = written_thread_keeps_places f t _ l (length_of_held_after_ask f.code (thread_of f t) (Try o) (Value 0))
-next_keeps_places f t (suc zero) (Try o) l = written_thread_keeps_places f t _ l (length_of_held_after_ask f.code (thread_of f t) (Try o) (Value 1))
-next_keeps_places f t (suc (suc r)) (Try o) l = written_thread_keeps_places f t _ l (length_of_held_after_ask f.code (thread_of f t) (Try o) (Value (suc (suc r))))
-next_keeps_places f t r (Leave o a) l = written_thread_keeps_places f t _ l (length_of_held_after_ask f.code (thread_of f t) (Leave o a) Go)
-next_keeps_places f t r (Get o i) l = written_thread_keeps_places f t _ l (length_of_held_after_ask f.code (thread_of f t) (Get o i) (Value (slice_index (cell_of f o).words i)))
-next_keeps_places f t r (Put o i w) l = written_thread_keeps_places f t _ l (length_of_held_after_ask f.code (thread_of f t) (Put o i w) Go)
-next_keeps_places f t r Print l = written_thread_keeps_places f t _ l (length_of_held_after_ask f.code (thread_of f t) Print Go)
-next_keeps_places f t r (End e) l = written_thread_keeps_places f t _ l (length_of_held_after_ask f.code (thread_of f t) (End e) Go)
-next_keeps_places f t r Done l = written_thread_keeps_places f t _ l (length_of_held_after_ask f.code (thread_of f t) Done Go)
+held_length_is_unchanged_by_next f t r Private l = held_length_is_unchanged_by_written_thread f t _ l (length_of_held_after_ask f.code (thread_of f t) Private Go)
+held_length_is_unchanged_by_next f t r (Env kind) l = held_length_is_unchanged_by_written_thread f t _ l (length_of_held_after_ask f.code (thread_of f t) (Env kind) (Value r))
+held_length_is_unchanged_by_next f t r (Enter o a) l = held_length_is_unchanged_by_written_thread f t _ l (length_of_held_after_ask f.code (thread_of f t) (Enter o a) Go)
+held_length_is_unchanged_by_next f t zero (Try o) l = held_length_is_unchanged_by_written_thread f t _ l (length_of_held_after_ask f.code (thread_of f t) (Try o) (Value 0))
+held_length_is_unchanged_by_next f t (suc zero) (Try o) l = held_length_is_unchanged_by_written_thread f t _ l (length_of_held_after_ask f.code (thread_of f t) (Try o) (Value 1))
+held_length_is_unchanged_by_next f t (suc (suc r)) (Try o) l = held_length_is_unchanged_by_written_thread f t _ l (length_of_held_after_ask f.code (thread_of f t) (Try o) (Value (suc (suc r))))
+held_length_is_unchanged_by_next f t r (Leave o a) l = held_length_is_unchanged_by_written_thread f t _ l (length_of_held_after_ask f.code (thread_of f t) (Leave o a) Go)
+held_length_is_unchanged_by_next f t r (Get o i) l = held_length_is_unchanged_by_written_thread f t _ l (length_of_held_after_ask f.code (thread_of f t) (Get o i) (Value (slice_index (cell_of f o).words i)))
+held_length_is_unchanged_by_next f t r (Put o i w) l = held_length_is_unchanged_by_written_thread f t _ l (length_of_held_after_ask f.code (thread_of f t) (Put o i w) Go)
+held_length_is_unchanged_by_next f t r Print l = held_length_is_unchanged_by_written_thread f t _ l (length_of_held_after_ask f.code (thread_of f t) Print Go)
+held_length_is_unchanged_by_next f t r (End e) l = held_length_is_unchanged_by_written_thread f t _ l (length_of_held_after_ask f.code (thread_of f t) (End e) Go)
+held_length_is_unchanged_by_next f t r Done l = held_length_is_unchanged_by_written_thread f t _ l (length_of_held_after_ask f.code (thread_of f t) Done Go)
 
 pub next_is_flat : (f : Flat) (t r : ℕ) (q : Ask) → q ≡ ask_of f.code (thread_of f t) → IsFlat f → t < length f.threads → MayStep f r q
     → IsFlat (next f t r q)
 next_is_flat f t r q is flat l may =
     let p : Permits (thread_of f t) q = subst (Permits (thread_of f t)) (sym is) (ask_of_permitted f.code (thread_of f t)) in
-    let can : Can (machine f) (tables f) (t, r) = (may_step_is_can f t r flat l).0 (subst (MayStep f r) is may) in
+    let can : Can (machine f) (tables f) (t, r) = (may_step_iff_can f t r flat l).0 (subst (MayStep f r) is may) in
     let n : length (next f t r q).threads ≡ length f.threads = next_keeps_thread_count f t r q in
     let m : length (next f t r q).objects ≡ length f.objects = next_keeps_object_count f t r q in
     record {
       few_threads = omega (arith, n, flat.few_threads);
       few_objects = omega (arith, m, flat.few_objects);
-      places = λ u h. next_keeps_places f t r q l u ∙ flat.places u (omega (arith, n, h)) ∙ sym m;
+      places = λ u h. held_length_is_unchanged_by_next f t r q l u ∙ flat.places u (omega (arith, n, h)) ∙ sym m;
       objects = λ i h. shared_after_next f t r q flat l p may i (omega (arith, m, h));
       kept = subst (λ k. IsKept k (tables (next f t r q))) (sym n)
           (subst (IsKept (length f.threads)) (sym (tables_of_permitted_next_are_after f t r q (sym is) flat l p may))
@@ -246,9 +246,9 @@ next_is_flat f t r q is flat l may =
 
 -- what is known where the step is taken
 -- the object that is entered is one of the guest's
-pub entered_object_is_of_state : (f : Flat) (t o : ℕ) (a : Access) → IsFlat f → t < length f.threads → ask_of f.code (thread_of f t) ≡ Enter o a
+pub entered_object_below_object_count : (f : Flat) (t o : ℕ) (a : Access) → IsFlat f → t < length f.threads → ask_of f.code (thread_of f t) ≡ Enter o a
     → o < length f.objects
-entered_object_is_of_state f t o a flat l is = let p = subst (Permits (thread_of f t)) is (ask_of_permitted f.code (thread_of f t)) in
+entered_object_below_object_count f t o a flat l is = let p = subst (Permits (thread_of f t)) is (ask_of_permitted f.code (thread_of f t)) in
     omega (arith, p.2, flat.places t l)
 
 pub entry_ask_fields_fit : (f : Flat) (t : ℕ) (q : Ask) (o : ℕ) (a : Access) → IsFlat f → t < length f.threads → Permits (thread_of f t) q
@@ -257,8 +257,8 @@ entry_ask_fields_fit f t q o a flat l permits is = let p = subst (Permits (threa
     entered_fields_fit f o a flat (omega (arith, p.2, flat.places t l))
 
 -- so it is where thread t tries to enter
-pub tried_object_is_of_state : (f : Flat) (t o : ℕ) → IsFlat f → t < length f.threads → ask_of f.code (thread_of f t) ≡ Try o → o < length f.objects
-tried_object_is_of_state f t o flat l is = let p = subst (Permits (thread_of f t)) is (ask_of_permitted f.code (thread_of f t)) in
+pub tried_object_below_object_count : (f : Flat) (t o : ℕ) → IsFlat f → t < length f.threads → ask_of f.code (thread_of f t) ≡ Try o → o < length f.objects
+tried_object_below_object_count f t o flat l is = let p = subst (Permits (thread_of f t)) is (ask_of_permitted f.code (thread_of f t)) in
     omega (arith, p.2, flat.places t l)
 
 pub try_ask_fields_fit : (f : Flat) (t o : ℕ) → IsFlat f → t < length f.threads → Permits (thread_of f t) (Try o)
@@ -266,10 +266,10 @@ pub try_ask_fields_fit : (f : Flat) (t o : ℕ) → IsFlat f → t < length f.th
 try_ask_fields_fit f t o flat l permits = entered_fields_fit f o Writing flat (omega (arith, permits.2, flat.places t l))
 
 -- a try that isn't answered 1 is answered 0
-pub next_try_not_one_is_refused : (f : Flat) (t o r : ℕ) → MayTry (cell_of f o).fields r → r ≢ 1 → answered f t (Try o) (Value 0) ≡ next_try f t o r
-next_try_not_one_is_refused f t o zero may ne = refl
-next_try_not_one_is_refused f t o (suc zero) may ne = absurd (ne refl)
-next_try_not_one_is_refused f t o (suc (suc r)) may ne = absurd may
+pub next_try_is_answered_zero_unless_one : (f : Flat) (t o r : ℕ) → MayTry (cell_of f o).fields r → r ≢ 1 → answered f t (Try o) (Value 0) ≡ next_try f t o r
+next_try_is_answered_zero_unless_one f t o zero may ne = refl
+next_try_is_answered_zero_unless_one f t o (suc zero) may ne = absurd (ne refl)
+next_try_is_answered_zero_unless_one f t o (suc (suc r)) may ne = absurd may
 
 pub leave_ask_fields_fit : (f : Flat) (t : ℕ) (q : Ask) (o : ℕ) (a : Access) → IsFlat f → t < length f.threads → Permits (thread_of f t) q
     → q ≡ Leave o a → IsFields (left_by a (cell_of f o).fields)
@@ -281,9 +281,9 @@ pub leave_ask_can_leave : (f : Flat) (t : ℕ) (q : Ask) (o : ℕ) (a : Access) 
 leave_ask_can_leave f t q o a flat l permits is = let p = subst (Permits (thread_of f t)) is permits in
     flat_inside_thread_can_leave f t o a flat l (omega (arith, p.1, flat.places t l)) p.2
 
-pub may_step_is_can_for_ask : (f : Flat) (t r : ℕ) (q : Ask) → IsFlat f → t < length f.threads → q ≡ ask_of f.code (thread_of f t)
+pub may_step_iff_can_for_ask : (f : Flat) (t r : ℕ) (q : Ask) → IsFlat f → t < length f.threads → q ≡ ask_of f.code (thread_of f t)
     → MayStep f r q ↔ Can (machine f) (tables f) (t, r)
-may_step_is_can_for_ask f t r q flat l is = subst (λ z. MayStep f r z ↔ Can (machine f) (tables f) (t, r)) (sym is) (may_step_is_can f t r flat l)
+may_step_iff_can_for_ask f t r q flat l is = subst (λ z. MayStep f r z ↔ Can (machine f) (tables f) (t, r)) (sym is) (may_step_iff_can f t r flat l)
 
 pub tables_of_next_are_after : (f : Flat) (t r : ℕ) (q : Ask) → IsFlat f → t < length f.threads → q ≡ ask_of f.code (thread_of f t) → MayStep f r q
     → tables (next f t r q) ≡ after (machine f) (tables f) (t, r)
@@ -291,15 +291,15 @@ tables_of_next_are_after f t r q flat l is may = tables_of_permitted_next_are_af
     (subst (Permits (thread_of f t)) (sym is) (ask_of_permitted f.code (thread_of f t))) may
 
 -- the same, of the value that the code's parts are
-pub test_is_can_of_value : (p f : Flat) (t r : ℕ) (q : Ask) (b : Bool) → p ≡ f → t < length f.threads → IsFlat p → q ≡ ask_of p.code (thread_of p t)
+pub step_test_iff_can : (p f : Flat) (t r : ℕ) (q : Ask) (b : Bool) → p ≡ f → t < length f.threads → IsFlat p → q ≡ ask_of p.code (thread_of p t)
     → IsTrue b ↔ MayStep p r q → IsTrue b ↔ Can (machine f) (tables f) (t, r)
-test_is_can_of_value p f t r q b same l flat is may = subst (λ z. IsTrue b ↔ Can (machine z) (tables z) (t, r)) same
-    (let can = may_step_is_can_for_ask p t r q flat (subst (λ z. t < length z.threads) (sym same) l) is in
+step_test_iff_can p f t r q b same l flat is may = subst (λ z. IsTrue b ↔ Can (machine z) (tables z) (t, r)) same
+    (let can = may_step_iff_can_for_ask p t r q flat (subst (λ z. t < length z.threads) (sym same) l) is in
     ((λ h. can.0 (may.0 h)), λ h. may.1 (can.1 h)))
 
 pub failed_test_cannot_step : (p f : Flat) (t r : ℕ) (q : Ask) (b : Bool) → p ≡ f → t < length f.threads → IsFlat p → q ≡ ask_of p.code (thread_of p t)
     → IsTrue b ↔ MayStep p r q → b ≡ false → Can (machine f) (tables f) (t, r) → ⊥
-failed_test_cannot_step p f t r q b same l flat is may no' can = let h : IsTrue b = (test_is_can_of_value p f t r q b same l flat is may).1 can in cc (no', h)
+failed_test_cannot_step p f t r q b same l flat is may no' can = let h : IsTrue b = (step_test_iff_can p f t r q b same l flat is may).1 can in cc (no', h)
 
 pub flat_after_tested_step : (p f new : Flat) (t r : ℕ) (q : Ask) (b : Bool) → p ≡ f → t < length f.threads → IsFlat p
     → q ≡ ask_of p.code (thread_of p t) → IsTrue b ↔ MayStep p r q → b ≡ true → new ≡ next p t r q → IsFlat new

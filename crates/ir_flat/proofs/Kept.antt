@@ -11,11 +11,11 @@ use Rattle.ir_thread.specs.declared.ask.Ask.{Ask}
 use Rattle.ir_thread.specs.declared.ask.Ask.TheVariants.{Private, Env, Enter, Try, Leave, Get, Put, Print, End, Done}
 use Rattle.ir_thread.specs.declared.ask.Reply.{Reply}
 use Rattle.ir_thread.specs.declared.ask.Reply.TheVariants.{Go, Value}
-use Rattle.ir_thread.proofs.CallerLemmas.{ask_of_permitted, thread_machine_is_lawful, nothing_held_above_highest, held_after_other_try_answer}
+use Rattle.ir_thread.proofs.CallerLemmas.{ask_of_permitted, thread_machine_is_lawful, nothing_held_above_highest, held_is_unchanged_by_other_try_answer}
 use Rattle.ir_object.specs.Cell.{has_writer, one_if_reading, is_writing}
 use Rattle.ir_object.specs.Word.{bit_of}
-use Rattle.ir_runs.proofs.CallerLemmas.{upd_at_own_place, upd_at_other_place, upd_by_cases, StateInvariant, state_invariant_after_step}
-use Rattle.ir_object.proofs.CallerLemmas.{readers_after_change, no_writer_if_nobody_writes, has_writer_if_writer, has_writer_after_equal_change}
+use Rattle.ir_runs.proofs.CallerLemmas.{upd_at_own_place, upd_at_other_place, property_of_upd_by_cases, StateInvariant, state_invariant_after_step}
+use Rattle.ir_object.proofs.CallerLemmas.{readers_after_change_by_old_and_new_access, no_writer_if_nobody_writes, has_writer_if_writer, has_writer_is_unchanged_if_writing_is_equal}
 use Rattle.ir_flat.specs.Flat.{IsKept, events_below}
 use Rattle.ir_flat.specs.Room.{entries_seen}
 use Rattle.ir_runs.specs.Run.{State, Step, act, Can, after}
@@ -54,7 +54,7 @@ events_within_most_after_ask x Done p h = omega arith
 length_of_held_after_try : (held : List (Option Access)) (o v : ℕ) → length (held_after_try (Value v) o held) ≡ length held
 length_of_held_after_try held o zero = refl
 length_of_held_after_try held o (suc zero) = length-set held o (Some Writing)
-length_of_held_after_try held o (suc (suc v)) = ap (λ (h : List (Option Access)). length h) (held_after_other_try_answer held o v)
+length_of_held_after_try held o (suc (suc v)) = ap (λ (h : List (Option Access)). length h) (held_is_unchanged_by_other_try_answer held o v)
 
 pub length_of_held_after_ask : (code : List ℕ) (x : thread.ThreadState) (q : Ask) (r : Reply) → length (after_ask code x q r).held ≡ length x.held
 length_of_held_after_ask code x Private r = refl
@@ -76,10 +76,10 @@ events_below_ignores_later_thread (suc n) now t y l =
     let rest = events_below_ignores_later_thread n now t y (omega arith) in
     omega (arith, here, rest)
 
-pub events_below_after_upd : (n : ℕ) (now : ℕ → thread.ThreadState) (t : ℕ) (y : thread.ThreadState) → t < n
+pub events_below_after_upd_by_old_and_new : (n : ℕ) (now : ℕ → thread.ThreadState) (t : ℕ) (y : thread.ThreadState) → t < n
     → events_below n (upd now t y) + (now t).events ≡ events_below n now + y.events
-events_below_after_upd zero now t y l = absurd (omega arith)
-events_below_after_upd (suc n) now t y l = elim (cases_eq n t) [
+events_below_after_upd_by_old_and_new zero now t y l = absurd (omega arith)
+events_below_after_upd_by_old_and_new (suc n) now t y l = elim (cases_eq n t) [
   | inl e ↦
       let here : (upd now t y n).events ≡ y.events = ap (λ z. z.events) (ap (upd now t y) e ∙ upd_at_own_place now t y) in
       let was : (now n).events ≡ (now t).events = ap (λ z. (now z).events) e in
@@ -87,7 +87,7 @@ events_below_after_upd (suc n) now t y l = elim (cases_eq n t) [
       omega (arith, here, was, rest)
   | inr ne ↦
       let here : (upd now t y n).events ≡ (now n).events = ap (λ z. z.events) (upd_at_other_place now t n y ne) in
-      let rest = events_below_after_upd n now t y (omega (arith, ne, l)) in
+      let rest = events_below_after_upd_by_old_and_new n now t y (omega (arith, ne, l)) in
       omega (arith, here, rest)
 ]
 
@@ -100,7 +100,7 @@ events_below_within_limit (suc n) now h = let rest = events_below_within_limit n
 entries_seen_after_writer_entry : (n : ℕ) (b : Object) (t : ℕ) → t < n → b.inside t ≡ None
     → entries_seen n (record b { inside = upd b.inside t (Some Writing) }) ≤ entries_seen n b + 1
 entries_seen_after_writer_entry n b t l none =
-    let sums = readers_after_change n b.inside t (Some Writing) l in
+    let sums = readers_after_change_by_old_and_new_access n b.inside t (Some Writing) l in
     let was : one_if_reading (b.inside t) ≡ 0 = ap one_if_reading none in
     let now : bit_of (has_writer n (upd b.inside t (Some Writing))) ≡ 1 =
     ap bit_of (has_writer_if_writer n (upd b.inside t (Some Writing)) t l (upd_at_own_place b.inside t (Some Writing))) in
@@ -121,10 +121,10 @@ entries_seen_grow_as_logged code n x r b t (End e) l p link ex can = omega arith
 entries_seen_grow_as_logged code n x r b t Done l p link ex can = absurd can
 entries_seen_grow_as_logged code n x r b t (Enter object Reading) l p link ex can =
     let none : b.inside t ≡ None = link ∙ nothing_held_above_highest x.held object p.3 object (le_refl object) in
-    let sums = readers_after_change n b.inside t (Some Reading) l in
+    let sums = readers_after_change_by_old_and_new_access n b.inside t (Some Reading) l in
     let was : one_if_reading (b.inside t) ≡ 0 = ap one_if_reading none in
     let same : bit_of (has_writer n (upd b.inside t (Some Reading))) ≡ bit_of (has_writer n b.inside) =
-    ap bit_of (has_writer_after_equal_change n b.inside t (Some Reading) (sym (ap is_writing none))) in
+    ap bit_of (has_writer_is_unchanged_if_writing_is_equal n b.inside t (Some Reading) (sym (ap is_writing none))) in
     omega (arith, sums, was, same)
 entries_seen_grow_as_logged code n x r b t (Enter object Writing) l p link ex can =
     entries_seen_after_writer_entry n b t l (link ∙ nothing_held_above_highest x.held object p.3 object (le_refl object))
@@ -134,14 +134,14 @@ entries_seen_grow_as_logged code n x (suc zero) b t (Try object) l p link ex can
 entries_seen_grow_as_logged code n x (suc (suc r)) b t (Try object) l p link ex can = absurd can
 entries_seen_grow_as_logged code n x r b t (Leave object Reading) l p link ex can =
     let is : b.inside t ≡ Some Reading = link ∙ p.2 in
-    let sums = readers_after_change n b.inside t None l in
+    let sums = readers_after_change_by_old_and_new_access n b.inside t None l in
     let was : one_if_reading (b.inside t) ≡ 1 = ap one_if_reading is in
     let same : bit_of (has_writer n (upd b.inside t None)) ≡ bit_of (has_writer n b.inside) =
-    ap bit_of (has_writer_after_equal_change n b.inside t None (sym (ap is_writing is))) in
+    ap bit_of (has_writer_is_unchanged_if_writing_is_equal n b.inside t None (sym (ap is_writing is))) in
     omega (arith, sums, was, same)
 entries_seen_grow_as_logged code n x r b t (Leave object Writing) l p link ex can =
     let is : b.inside t ≡ Some Writing = link ∙ p.2 in
-    let sums = readers_after_change n b.inside t None l in
+    let sums = readers_after_change_by_old_and_new_access n b.inside t None l in
     let was : one_if_reading (b.inside t) ≡ 0 = ap one_if_reading is in
     let had : bit_of (has_writer n b.inside) ≡ 1 = ap bit_of (has_writer_if_writer n b.inside t l is) in
     let has : bit_of (has_writer n (upd b.inside t None)) ≡ 0 =
@@ -149,7 +149,7 @@ entries_seen_grow_as_logged code n x r b t (Leave object Writing) l p link ex ca
     omega (arith, sums, was, had, has)
   where
     nobody : b.inside t ≡ Some Writing → (u : ℕ) → upd b.inside t None u ≡ None
-    nobody is u = upd_by_cases b.inside t None u (λ y. y ≡ None) (λ _. refl) (λ ne. ex t u (λ e. ne (sym e)) is)
+    nobody is u = property_of_upd_by_cases b.inside t None u (λ y. y ≡ None) (λ _. refl) (λ ne. ex t u (λ e. ne (sym e)) is)
 
 pub kept_state_has_state_invariant : (code : List ℕ) (n : ℕ) (s : State thread.ThreadState) → IsKept n s → StateInvariant (thread_machine code) s
 kept_state_has_state_invariant code n s k = record { linked = k.linked; exclusive = k.exclusive }
@@ -167,7 +167,7 @@ kept_after_step code n s e l k can =
     let y : thread.ThreadState = after_ask code x q (reply_of q (reply (act m s e) b)) in
     let good = state_invariant_after_step m (thread_machine_is_lawful code) s (kept_state_has_state_invariant code n s k) e can in
     let one : y.events ≡ x.events + events_added_by q = events_after_ask code x q (reply_of q (reply (act m s e) b)) in
-    let sums : events_below n (upd s.now t y) + x.events ≡ events_below n s.now + y.events = events_below_after_upd n s.now t y l in
+    let sums : events_below n (upd s.now t y) + x.events ≡ events_below n s.now + y.events = events_below_after_upd_by_old_and_new n s.now t y l in
     let seen : entries_seen n (acted (act m s e) t b) ≤ entries_seen n b + events_added_by q =
     entries_seen_grow_as_logged code n x e.1 b t q l (ask_of_permitted code x) (k.linked t o) (k.exclusive o) can in
     let more : events_below n (upd s.now t y) ≡ events_below n s.now + events_added_by q = omega (arith, one, sums) in
@@ -176,10 +176,10 @@ kept_after_step code n s e l k can =
       exclusive = good.exclusive;
       others = λ u i h. good.linked u i ∙ ap (λ z. held_at z.held i) (upd_at_other_place s.now t u y (λ p. omega (arith, p, h, l)))
           ∙ sym (k.linked u i) ∙ k.others u i h;
-      logged = λ i. upd_by_cases s.objects o (acted (act m s e) t b) i (λ z. entries_seen n z ≤ events_below n (upd s.now t y))
+      logged = λ i. property_of_upd_by_cases s.objects o (acted (act m s e) t b) i (λ z. entries_seen n z ≤ events_below n (upd s.now t y))
           (λ _. let was = k.logged o in omega (arith, seen, was, more))
           (λ _. let was = k.logged i in omega (arith, was, more));
-      events = λ u h. upd_by_cases s.now t y u (λ z. z.events ≤ most_events)
+      events = λ u h. property_of_upd_by_cases s.now t y u (λ z. z.events ≤ most_events)
           (λ _. let room = events_within_most_after_ask x q (ask_of_permitted code x) (k.events t l) in omega (arith, one, room))
           (λ _. k.events u h);
     }

@@ -15,15 +15,15 @@ use Rattle.ir_thread.specs.declared.ask.Ask.TheVariants.{Private, Env, Enter, Tr
 use Rattle.ir_thread.specs.declared.ask.Reply.TheVariants.{Go, Value}
 use Rattle.ir_object.specs.Cell.{Cell}
 use Rattle.ir_object.specs.Word.{entered, left_by}
-use Rattle.ir_runs.proofs.CallerLemmas.{upd_at_own_place, upd_at_other_place, upd_by_cases, upd_with_old_value}
+use Rattle.ir_runs.proofs.CallerLemmas.{upd_at_own_place, upd_at_other_place, property_of_upd_by_cases, upd_with_old_value}
 use Rattle.ir_flat.specs.Flat.{Flat, idle, thread_of, cell_of, inside_of, tables, machine, IsFlat}
 use Rattle.ir_flat.specs.Room.{empty, object_with}
 use Rattle.ir_flat.specs.Next.{with_thread, with_object, next, MayStep}
 use Rattle.ir_runs.specs.Run.{State, after}
 
 -- a write to a list is a change of its table
-pub list_set_is_upd : {A : Type 0} (xs : List A) (i : ℕ) (v d : A) → i < length xs → (λ j. get_or (set xs i v) j d) ≡ upd (λ j. get_or xs j d) i v
-list_set_is_upd xs i v d l = fun_ext (λ j. elim (cases_eq j i) [
+pub get_or_of_set_is_upd : {A : Type 0} (xs : List A) (i : ℕ) (v d : A) → i < length xs → (λ j. get_or (set xs i v) j d) ≡ upd (λ j. get_or xs j d) i v
+get_or_of_set_is_upd xs i v d l = fun_ext (λ j. elim (cases_eq j i) [
   | inl e ↦ ap (λ z. get_or (set xs i v) z d) e ∙ get_or-set_same xs i v d l ∙ sym (upd_at_own_place (λ j. get_or xs j d) i v)
       ∙ ap (upd (λ j. get_or xs j d) i v) (sym e)
   | inr ne ↦ get_or-set_other xs i j v d ne ∙ sym (upd_at_other_place (λ j. get_or xs j d) i j v ne)
@@ -33,8 +33,8 @@ list_set_is_upd xs i v d l = fun_ext (λ j. elim (cases_eq j i) [
 pub inside_of_with_thread : (f : Flat) (t : ℕ) (y : thread.ThreadState) (o : ℕ) → t < length f.threads
     → inside_of (with_thread f t y) o ≡ upd (inside_of f o) t (held_at y.held o)
 inside_of_with_thread f t y o l =
-    ap (λ now u. held_at (now u).held o) (list_set_is_upd f.threads t y idle l) ∙ fun_ext (λ u.
-    upd_by_cases (thread_of f) t y u (λ z. held_at z.held o ≡ upd (inside_of f o) t (held_at y.held o) u)
+    ap (λ now u. held_at (now u).held o) (get_or_of_set_is_upd f.threads t y idle l) ∙ fun_ext (λ u.
+    property_of_upd_by_cases (thread_of f) t y u (λ z. held_at z.held o ≡ upd (inside_of f o) t (held_at y.held o) u)
     (λ e. sym (ap (upd (inside_of f o) t (held_at y.held o)) e ∙ upd_at_own_place (inside_of f o) t (held_at y.held o)))
     (λ ne. sym (upd_at_other_place (inside_of f o) t u (held_at y.held o) ne)))
 
@@ -46,7 +46,7 @@ states_equal_if_parts_equal a b p q = λ i. record { now = p i; objects = q i }
 pub tables_of_with_thread : (f : Flat) (t : ℕ) (y : thread.ThreadState) → t < length f.threads → y.held ≡ (thread_of f t).held
     → tables (with_thread f t y) ≡ record { now = upd (thread_of f) t y; objects = (tables f).objects }
 tables_of_with_thread f t y l same = states_equal_if_parts_equal (tables (with_thread f t y)) (record { now = upd (thread_of f) t y; objects = (tables f).objects })
-    (list_set_is_upd f.threads t y idle l)
+    (get_or_of_set_is_upd f.threads t y idle l)
     (fun_ext (λ o. ap (object_with (cell_of f o))
     (inside_of_with_thread f t y o l ∙ upd_with_old_value (inside_of f o) t (held_at y.held o) (ap (λ h. held_at h o) (sym same)))))
 
@@ -57,12 +57,12 @@ pub tables_of_with_object : (f : Flat) (t : ℕ) (y : thread.ThreadState) (o : �
     record { now = upd (thread_of f) t y; objects = upd (tables f).objects o (object_with c (upd (inside_of f o) t (held_at y.held o))) }
 tables_of_with_object f t y o c l k same = states_equal_if_parts_equal (tables (with_object (with_thread f t y) o c))
     (record { now = upd (thread_of f) t y; objects = upd (tables f).objects o (object_with c (upd (inside_of f o) t (held_at y.held o))) })
-    (list_set_is_upd f.threads t y idle l)
+    (get_or_of_set_is_upd f.threads t y idle l)
     (fun_ext (λ i.
     let b : ℕ → Cell = λ j. cell_of f j in
-    ap (λ z. object_with z (inside_of (with_thread f t y) i)) (ap (λ table. table i) (list_set_is_upd f.objects o c empty k))
+    ap (λ z. object_with z (inside_of (with_thread f t y) i)) (ap (λ table. table i) (get_or_of_set_is_upd f.objects o c empty k))
     ∙ ap (object_with (upd b o c i)) (inside_of_with_thread f t y i l)
-    ∙ upd_by_cases (tables f).objects o (object_with c (upd (inside_of f o) t (held_at y.held o))) i
+    ∙ property_of_upd_by_cases (tables f).objects o (object_with c (upd (inside_of f o) t (held_at y.held o))) i
     (λ z. object_with (upd b o c i) (upd (inside_of f i) t (held_at y.held i)) ≡ z)
     (λ e. subst (λ j. object_with (upd b o c j) (upd (inside_of f j) t (held_at y.held j)) ≡ object_with c
     (upd (inside_of f o) t (held_at y.held o))) (sym e)
@@ -90,33 +90,33 @@ objects_equal_if_parts_equal : (b c : Object) → b.version ≡ c.version → b.
 objects_equal_if_parts_equal b c p q g h = λ i. record { version = p i; left = q i; inside = g i; words = h i }
 
 -- what doesn't touch an object
-tables_with_object_untouched : (f : Flat) (t : ℕ) (y : thread.ThreadState) (o : ℕ) → t < length f.threads → y.held ≡ (thread_of f t).held
+tables_of_with_thread_as_trivial_object_upd : (f : Flat) (t : ℕ) (y : thread.ThreadState) (o : ℕ) → t < length f.threads → y.held ≡ (thread_of f t).held
     → tables (with_thread f t y) ≡ record { now = upd (thread_of f) t y; objects = upd (tables f).objects o ((tables f).objects o) }
-tables_with_object_untouched f t y o l same = tables_of_with_thread f t y l same ∙ ap (λ z. record { now = upd (thread_of f) t y; objects = z })
+tables_of_with_thread_as_trivial_object_upd f t y o l same = tables_of_with_thread f t y l same ∙ ap (λ z. record { now = upd (thread_of f) t y; objects = z })
     (sym (upd_with_old_value (tables f).objects o ((tables f).objects o) refl))
 
 pub held_at_other_place_after_set : (held : List (Option Access)) (o : ℕ) (x : Option Access) (i : ℕ) → i ≢ o → held_at (set held o x) i ≡ held_at held i
 held_at_other_place_after_set held o x i ne = get_or-set_other held o i x None ne
 
-cell_has_all_words : (f : Flat) (o : ℕ) → IsFlat f → o < length f.objects → length (cell_of f o).words ≡ most_object_words
-cell_has_all_words f o flat l = (flat.objects o l).words
+length_of_cell_words_is_most_object_words : (f : Flat) (o : ℕ) → IsFlat f → o < length f.objects → length (cell_of f o).words ≡ most_object_words
+length_of_cell_words_is_most_object_words f o flat l = (flat.objects o l).words
 
 -- an object that thread t has entered
-object_with_entered_fields : (a : Access) (c : Cell) (g : ℕ → Option Access) (t : ℕ) {h : Option Access} → h ≡ Some a
+object_with_entered_fields_has_thread_inside : (a : Access) (c : Cell) (g : ℕ → Option Access) (t : ℕ) {h : Option Access} → h ≡ Some a
     → object_with (record c { fields = entered a c.fields }) (upd g t h) ≡ record (object_with c g) { inside = upd g t (Some a) }
-object_with_entered_fields Reading c g t e = ap (λ z. object_with c (upd g t z)) e
-object_with_entered_fields Writing c g t e = ap (λ z. object_with c (upd g t z)) e
+object_with_entered_fields_has_thread_inside Reading c g t e = ap (λ z. object_with c (upd g t z)) e
+object_with_entered_fields_has_thread_inside Writing c g t e = ap (λ z. object_with c (upd g t z)) e
 
 -- the lists after a step are the tables after it
 pub tables_of_next_are_moved_by : (f : Flat) (t r : ℕ) (q : Ask) → IsFlat f → t < length f.threads → Permits (thread_of f t) q → MayStep f r q
     → tables (next f t r q) ≡ moved_by f t r q
-tables_of_next_are_moved_by f t r Private flat l p may = tables_with_object_untouched f t _ 0 l refl
-tables_of_next_are_moved_by f t r (Env kind) flat l p may = tables_with_object_untouched f t _ 0 l refl
-tables_of_next_are_moved_by f t r Print flat l p may = tables_with_object_untouched f t _ 0 l refl
-tables_of_next_are_moved_by f t r (End e) flat l p may = tables_with_object_untouched f t _ 0 l refl
+tables_of_next_are_moved_by f t r Private flat l p may = tables_of_with_thread_as_trivial_object_upd f t _ 0 l refl
+tables_of_next_are_moved_by f t r (Env kind) flat l p may = tables_of_with_thread_as_trivial_object_upd f t _ 0 l refl
+tables_of_next_are_moved_by f t r Print flat l p may = tables_of_with_thread_as_trivial_object_upd f t _ 0 l refl
+tables_of_next_are_moved_by f t r (End e) flat l p may = tables_of_with_thread_as_trivial_object_upd f t _ 0 l refl
 tables_of_next_are_moved_by f t r Done flat l p may = absurd may
-tables_of_next_are_moved_by f t r (Get o i) flat l p may = tables_with_object_untouched f t _ o l refl
-tables_of_next_are_moved_by f t zero (Try o) flat l p may = tables_with_object_untouched f t _ 0 l refl
+tables_of_next_are_moved_by f t r (Get o i) flat l p may = tables_of_with_thread_as_trivial_object_upd f t _ o l refl
+tables_of_next_are_moved_by f t zero (Try o) flat l p may = tables_of_with_thread_as_trivial_object_upd f t _ 0 l refl
 tables_of_next_are_moved_by f t (suc (suc r)) (Try o) flat l p may = absurd may
 tables_of_next_are_moved_by f t r (Enter o a) flat l p may =
     let k : o < length f.objects = omega (arith, p.2, flat.places t l) in
@@ -126,7 +126,7 @@ tables_of_next_are_moved_by f t r (Enter o a) flat l p may =
       objects =
           upd (tables f).objects o z;
     })
-    (object_with_entered_fields a (cell_of f o) (inside_of f o) t (get_or-set_same (thread_of f t).held o (Some a) None p.2))
+    (object_with_entered_fields_has_thread_inside a (cell_of f o) (inside_of f o) t (get_or-set_same (thread_of f t).held o (Some a) None p.2))
 tables_of_next_are_moved_by f t (suc zero) (Try o) flat l p may =
     let k : o < length f.objects = omega (arith, p.2, flat.places t l) in
     tables_of_with_object f t _ o _ l k (held_at_other_place_after_set (thread_of f t).held o (Some Writing))
@@ -135,7 +135,7 @@ tables_of_next_are_moved_by f t (suc zero) (Try o) flat l p may =
       objects =
           upd (tables f).objects o z;
     })
-    (object_with_entered_fields Writing (cell_of f o) (inside_of f o) t (get_or-set_same (thread_of f t).held o (Some Writing) None p.2))
+    (object_with_entered_fields_has_thread_inside Writing (cell_of f o) (inside_of f o) t (get_or-set_same (thread_of f t).held o (Some Writing) None p.2))
 tables_of_next_are_moved_by f t r (Leave o a) flat l p may =
     let k : o < length f.objects = omega (arith, p.1, flat.places t l) in
     tables_of_with_object f t _ o _ l k (held_at_other_place_after_set (thread_of f t).held o None)
@@ -154,12 +154,12 @@ tables_of_next_are_moved_by f t r (Leave o a) flat l p may =
         (acted (Exit o Writing) t (object_with c g)) (omega arith) refl (ap (upd g t) e) refl
 tables_of_next_are_moved_by f t r (Put o i w) flat l p may =
     let k : o < length f.objects = omega (arith, p.1, flat.places t l) in
-    let count : i < length (cell_of f o).words = omega (arith, p.2, cell_has_all_words f o flat k) in
+    let count : i < length (cell_of f o).words = omega (arith, p.2, length_of_cell_words_is_most_object_words f o flat k) in
     tables_of_with_object f t _ o _ l k (λ j ne. refl) ∙ ap (λ z.
     record { now = upd (thread_of f) t (after_ask f.code (thread_of f t) (Put o i w) Go); objects = upd (tables f).objects o z })
     (objects_equal_if_parts_equal (object_with (record (cell_of f o) { words = slice_set (cell_of f o).words i w })
     (upd (inside_of f o) t (inside_of f o t))) (acted (Store o i w) t (object_with (cell_of f o) (inside_of f o))) refl refl
-    (upd_with_old_value (inside_of f o) t (inside_of f o t) refl) (list_set_is_upd (cell_of f o).words i w 0 count))
+    (upd_with_old_value (inside_of f o) t (inside_of f o t) refl) (get_or_of_set_is_upd (cell_of f o).words i w 0 count))
 
 -- the list's step is the step
 pub tables_of_permitted_next_are_after : (f : Flat) (t r : ℕ) (q : Ask) → ask_of f.code (thread_of f t) ≡ q → IsFlat f → t < length f.threads

@@ -9,8 +9,8 @@ use Rattle.ir_thread.specs.State.{start_state}
 use Rattle.ir_flat.specs.Flat.{start_flat, tables, machine, MayReply}
 use Rattle.ir_flat.specs.Trails.{alone_label, labels_left, alone_trail}
 use Rattle.ir_flat.specs.Replies.{replied, shared_labels, StepsAlone, EachAlone}
-use Rattle.ir_flat.proofs.Bounded.{start_thread_at_place}
-use Rattle.ir_flat.proofs.Splice.{unshared_act_emits_alone_label, shared_act_emits_first_label}
+use Rattle.ir_flat.proofs.Bounded.{get_or_of_start_threads_is_start_state}
+use Rattle.ir_flat.proofs.Splice.{unshared_act_emits_alone_label, alone_label_of_shared_act_is_first_label}
 
 -- a step that is admitted, with what it is answered as its result, does the same, and this may be answered to the thread alone
 admitted_step_may_reply : {T : Type 0} (m : Machine T) (q : Ask) (r : ℕ) (b : Object) → Admits m (act_of q r) b
@@ -29,14 +29,14 @@ admitted_step_may_reply m Done r b can = absurd can
 -- what a step emits is what it emits alone, and the labels that are left are those of the steps after it
 emitted_is_alone_label : {T : Type 0} (m : Machine T) (q : Act) (v : ℕ) (b : Object) (ks : List Label) → MayReply m q v → (is : Bool) → is_shared q ≡ is
     → (emitted q b ≡ alone_label q (join_if is (emitted q b) ks)) × (ks ≡ labels_left (is_shared q) (join_if is (emitted q b) ks))
-emitted_is_alone_label m q v b ks may true p = (sym (shared_act_emits_first_label q (emitted q b) ks p), ap (λ z. labels_left z (emitted q b ∷ ks)) (sym p))
+emitted_is_alone_label m q v b ks may true p = (sym (alone_label_of_shared_act_is_first_label q (emitted q b) ks p), ap (λ z. labels_left z (emitted q b ∷ ks)) (sym p))
 emitted_is_alone_label m q v b ks may false p = (unshared_act_emits_alone_label m q v b ks p may, ap (λ z. labels_left z ks) (sym p))
 
 -- a thread alone with one step before its others
-steps_alone_with_step_before : {T : Type 0} (m : Machine T) (x y : T) (v : ℕ) (q : Act) (b : Object) (vs : List ℕ) (ks : List Label) (steps : List (T × Label))
+steps_alone_of_cons : {T : Type 0} (m : Machine T) (x y : T) (v : ℕ) (q : Act) (b : Object) (vs : List ℕ) (ks : List Label) (steps : List (T × Label))
     → act_of (m.ask x) v ≡ q → MayReply m q v → StepsAlone m (m.take x v) y vs ks steps
     → StepsAlone m x y (v ∷ vs) (join_if (is_shared q) (emitted q b) ks) ((x, emitted q b) ∷ steps)
-steps_alone_with_step_before m x y v q b vs ks steps is may rest =
+steps_alone_of_cons m x y v q b vs ks steps is may rest =
     let l = emitted_is_alone_label m q v b ks may (is_shared q) refl in
     let ls : List Label = join_if (is_shared q) (emitted q b) ks in
     record {
@@ -69,7 +69,7 @@ run_trail_is_steps_alone {T} m s (e ∷ run) t ok =
           ∙ upd_at_own_place s.now e.0 (m.take (s.now e.0) (reply q b)) ∙ ap (λ z. m.take (s.now z) (reply q b)) (sym same) in
           subst (λ z. StepsAlone m (s.now t) y (join_if z (reply q b) vs) (join_if (z && is_shared q) (label m s e) ks)
           (join_if z (s.now t, label m s e) more)) (sym (eq-eqb t e.0 same))
-          (steps_alone_with_step_before m (s.now t) y (reply q b) q b vs ks more (ap (λ z. act_of (m.ask (s.now z)) (reply q b)) same ∙ r.0) r.1
+          (steps_alone_of_cons m (s.now t) y (reply q b) q b vs ks more (ap (λ z. act_of (m.ask (s.now z)) (reply q b)) same ∙ r.0) r.1
           (subst (λ z. StepsAlone m z y vs ks more) here rest)))
       | inr other ↦ subst (λ z. StepsAlone m (s.now t) y (join_if z (reply q b) vs) (join_if (z && is_shared q) (label m s e) ks)
           (join_if z (s.now t, label m s e) more)) (sym (ne_eqb t e.0 other))
@@ -77,10 +77,10 @@ run_trail_is_steps_alone {T} m s (e ∷ run) t ok =
     ]
 
 -- the threads of a guest
-pub each_is_alone : EachAlone
-each_is_alone guest budget profile run t ok l =
+pub each_thread_of_run_steps_as_if_alone : EachAlone
+each_thread_of_run_steps_as_if_alone guest budget profile run t ok l =
     let f = start_flat guest budget profile in
     subst (λ x. StepsAlone (machine f) x ((end (machine f) (tables f) run).now t) (replied (machine f) (tables f) run t)
     (shared_labels (machine f) (tables f) run t) (trail (machine f) (tables f) run t))
-    (start_thread_at_place guest budget profile 0 (length guest.entries) t l
+    (get_or_of_start_threads_is_start_state guest budget profile 0 (length guest.entries) t l
     ∙ ap (λ k. start_state guest k budget profile) (let e : 0 + t ≡ t = omega arith in e)) (run_trail_is_steps_alone (machine f) (tables f) run t ok)

@@ -15,14 +15,14 @@ use Rattle.ir_thread.specs.declared.ask.Ask.TheVariants.{Private, Env, Enter, Tr
 use Rattle.ir_runs.specs.declared.env_kind.EnvKind.{EnvKind}
 use Rattle.ir_runs.specs.declared.env_kind.EnvKind.TheVariants.{Clock, Random, Input}
 use Rattle.ir_thread.proofs.CallerLemmas.{ask_of_permitted, thread_machine_is_lawful}
-use Rattle.ir_runs.proofs.CallerLemmas.{upd_by_cases, idle_after_run, idle_after_step, some_thread_can_step}
+use Rattle.ir_runs.proofs.CallerLemmas.{property_of_upd_by_cases, idle_after_run, idle_after_step, some_thread_can_step}
 use Rattle.ir_flat.specs.Flat.{idle, thread_of, tables, start_threads, start_flat, IsKept}
 use Rattle.ir_flat.specs.Laws.{NothingStuck, WritersAlone, HeldInside, CountsFit}
 use Rattle.ir_runs.specs.Run.{State, Step, act, Can, after, IsRun, end}
 use Rattle.ir_runs.specs.Bounds.{IsIdle, IsBounded}
 use Rattle.ir_flat.proofs.Kept.{length_of_held_after_ask, kept_after_step, events_below_within_limit, kept_state_has_state_invariant}
 use Rattle.ir_flat.proofs.Keeps.{readers_at_most_threads}
-use Rattle.ir_flat.proofs.Fresh.{start_is_kept, length_of_start_threads, start_thread_has_place_for_objects}
+use Rattle.ir_flat.proofs.Fresh.{start_is_kept, length_of_start_threads, length_of_start_thread_held_is_object_count}
 
 -- who steps is one of the threads
 stepping_thread_is_below_idle : (code : List ℕ) (n : ℕ) (s : State thread.ThreadState) (e : Step) → IsIdle (thread_machine code) s n → Can (thread_machine code) s e
@@ -51,7 +51,7 @@ has_places_after_step code count s e h t =
     let x : thread.ThreadState = s.now e.0 in
     let q : Ask = ask_of code x in
     let v : ℕ = reply (act (thread_machine code) s e) (s.objects (target (act (thread_machine code) s e))) in
-    upd_by_cases s.now e.0 (after_ask code x q (reply_of q v)) t (λ z. length z.held ≤ count)
+    property_of_upd_by_cases s.now e.0 (after_ask code x q (reply_of q v)) t (λ z. length z.held ≤ count)
     (λ _. let same = length_of_held_after_ask code x q (reply_of q v) in let was = h e.0 in omega (arith, same, was))
     (λ _. h t)
 
@@ -88,7 +88,7 @@ guest_start_is_idle g budget profile t l =
 
 start_has_places : (g : Guest) (budget : ℕ) (profile : Profile) → HasPlaces (object_count g) (tables (start_flat g budget profile))
 start_has_places g budget profile t = elim (cases_lt t (length g.entries)) [
-  | inl l ↦ let same = start_thread_has_place_for_objects g budget profile 0 (length g.entries) t l in omega (arith, same)
+  | inl l ↦ let same = length_of_start_thread_held_is_object_count g budget profile 0 (length g.entries) t l in omega (arith, same)
   | inr past ↦
       let none : length (thread_of (start_flat g budget profile) t).held ≡ 0 =
       ap (λ x. length x.held) (get_or_past (start_threads g budget profile 0 (length g.entries)) t idle
@@ -101,8 +101,8 @@ pub kept_at_run_end : (g : Guest) (budget : ℕ) (profile : Profile) (run : List
 kept_at_run_end g budget profile run ok = kept_after_run g.code (length g.entries) (tables (start_flat g budget profile)) run (guest_start_is_idle g budget profile)
     (start_is_kept g budget profile) ok
 
-pub nothing_is_stuck : NothingStuck
-nothing_is_stuck g budget profile run ok t ne =
+pub guest_run_can_step_unless_done : NothingStuck
+guest_run_can_step_unless_done g budget profile run ok t ne =
     let s : State thread.ThreadState = end (thread_machine g.code) (tables (start_flat g budget profile)) run in
     some_thread_can_step (thread_machine g.code) (thread_machine_is_lawful g.code) s (kept_state_has_state_invariant g.code (length g.entries) s (kept_at_run_end g budget profile run ok))
     (length g.entries) (object_count g)
@@ -113,11 +113,11 @@ nothing_is_stuck g budget profile run ok t ne =
 pub writers_are_alone : WritersAlone
 writers_are_alone g budget profile run ok o t u ne h = (kept_at_run_end g budget profile run ok).exclusive o t u ne h
 
-pub held_is_inside : HeldInside
-held_is_inside g budget profile run ok o t = (kept_at_run_end g budget profile run ok).linked t o
+pub inside_is_held_after_guest_run : HeldInside
+inside_is_held_after_guest_run g budget profile run ok o t = (kept_at_run_end g budget profile run ok).linked t o
 
-pub counts_all_fit : CountsFit
-counts_all_fit g budget profile run few ok o =
+pub object_counts_fit_after_guest_run : CountsFit
+object_counts_fit_after_guest_run g budget profile run few ok o =
     let k = kept_at_run_end g budget profile run ok in
     let seen = k.logged o in
     let most = events_below_within_limit (length g.entries) (end (thread_machine g.code) (tables (start_flat g budget profile)) run).now k.events in

@@ -2,10 +2,10 @@
 use Rattle.std.proofs.Common.{◌≡◌, ◌≢◌, ℕ, suc, zero, ◌<◌, ◌≤◌, Bool, true, false, cond, eqb, ltb, List, [], ◌∷◌, ◌++◌, map, refl, sym, ap, ◌∙◌, subst, arith, inl, inr, eq-eqb, ne_eqb, append-nil}
 use Rattle.std.proofs.Math.Path.{fun_ext}
 use Rattle.std.proofs.lemmas.Bool.{cases_eq, cases_lt, lt-ltb, le-ltb, eqb-true}
-use Rattle.ir_lemmas.proofs.CallerLemmas.{text_is_put_if_nothing_left}
+use Rattle.ir_lemmas.proofs.CallerLemmas.{prefix_is_whole_if_rest_is_empty}
 use Rattle.ir_runs.specs.Machine.{Ask, Private, Env, Enter, Try, Leave, Get, Put, Done, Act, act_of, Silent, Result, Entry, Refusal, Exit, Load, Store, Never, Machine, upd, Object, target, Admits, acted, reply, emitted, Label}
 use Rattle.ir_runs.specs.Shared.{is_shared}
-use Rattle.ir_object.specs.Order.{Shared, keep_if, of_thread, IsAllowed, objects_after, order_labels}
+use Rattle.ir_object.specs.Order.{Shared, of_thread, IsAllowed, objects_after, order_labels}
 use Rattle.ir_runs.proofs.CallerLemmas.{upd_at_own_place, upd_at_other_place, upd_with_old_value, append_of_runs_is_run, trail_append, end_append}
 use Rattle.ir_runs.specs.Run.{State, Step, after_act, Can, after, IsRun, end, trail, join_if, label}
 use Rattle.ir_flat.specs.Splice.{shared_steps, lead, led, remain, tail_of, last_steps, splice}
@@ -87,12 +87,12 @@ unshared_act_emits_alone_label m Never v b ks p h = absurd h
 heads_equal_of_equal_lists : (v r : ℕ) (vs rs : List ℕ) → (v ∷ vs) ≡ (r ∷ rs) → v ≡ r
 heads_equal_of_equal_lists v r vs rs e = cc e
 
-led_to_object_step_after_step : {T : Type 0} (m : Machine T) (now : ℕ → T) (t : ℕ) (x : T) (f : ℕ → Object) (v : ℕ) (vs : List ℕ) → MayRun m x (v ∷ vs)
+led_to_object_step_of_cons_replies : {T : Type 0} (m : Machine T) (now : ℕ → T) (t : ℕ) (x : T) (f : ℕ → Object) (v : ℕ) (vs : List ℕ) → MayRun m x (v ∷ vs)
     → (b : Bool) → is_shared (act_of (m.ask x) v) ≡ b
     → LedToObjectStep m now t (m.take x v) f vs (lead m (m.take x v) vs) (led m (m.take x v) vs) (remain m (m.take x v) vs)
     → LedToObjectStep m now t x f (v ∷ vs) (cond b [] (v ∷ lead m (m.take x v) vs)) (cond b x (led m (m.take x v) vs))
     (cond b (v ∷ vs) (remain m (m.take x v) vs))
-led_to_object_step_after_step m now t x f v vs h true p k = record {
+led_to_object_step_of_cons_replies m now t x f v vs h true p k = record {
   ok = tt;
   there = refl;
   alone = h;
@@ -105,14 +105,14 @@ led_to_object_step_after_step m now t x f v vs h true p k = record {
       λ ks. refl;
   others = λ u ne. refl;
 }
-led_to_object_step_after_step m now t x f v vs h false p k =
+led_to_object_step_of_cons_replies m now t x f v vs h false p k =
     let z = unshared_act_changes_nothing m (m.ask x) v t f p h.0 in
     let g = step_from_state_with_thread m now t x v f f (act_of (m.ask x) v) refl z.0 z.1 z.2 in
     record {
       ok = (g.0, subst (λ y. IsRun m y (map (λ r. (t, r)) (lead m (m.take x v) vs))) (sym g.1) k.ok);
       there = ap (λ y. end m y (map (λ r. (t, r)) (lead m (m.take x v) vs))) g.1 ∙ k.there;
       alone = k.alone;
-      same_steps = subst (λ b. shared_steps m (led m (m.take x v) vs) (remain m (m.take x v) vs) ≡ keep_if b (act_of (m.ask x) v, v)
+      same_steps = subst (λ b. shared_steps m (led m (m.take x v) vs) (remain m (m.take x v) vs) ≡ join_if b (act_of (m.ask x) v, v)
           (shared_steps m (m.take x v) vs)) (sym p) k.same_steps;
       next = k.next;
       parts = ap (λ y. v ∷ y) k.parts;
@@ -148,7 +148,7 @@ led_to_object_step m now t x f [] h = record {
   trails = λ ks. refl;
   others = λ u ne. refl;
 }
-led_to_object_step m now t x f (v ∷ vs) h = led_to_object_step_after_step m now t x f v vs h (is_shared (act_of (m.ask x) v)) refl (led_to_object_step m now t (m.take x v) f vs h.1)
+led_to_object_step m now t x f (v ∷ vs) h = led_to_object_step_of_cons_replies m now t x f v vs h (is_shared (act_of (m.ask x) v)) refl (led_to_object_step m now t (m.take x v) f vs h.1)
 
 -- a run with these steps of the threads, after which they and the objects are these
 pub record RunWithTrails {T : Type 0} (m : Machine T) (s : State T) (run : List Step) (W : ℕ → List (T × Label)) (E : ℕ → T) (O : ℕ → Object) :
@@ -159,10 +159,10 @@ pub record RunWithTrails {T : Type 0} (m : Machine T) (s : State T) (run : List 
   pub objects : (end m s run).objects ≡ O
 
 -- a run, and what completes it
-run_with_trails_after_run : {T : Type 0} (m : Machine T) (s s' : State T) (run more : List Step) (W W' : ℕ → List (T × Label)) (E E' : ℕ → T)
+run_with_trails_of_append_of_runs : {T : Type 0} (m : Machine T) (s s' : State T) (run more : List Step) (W W' : ℕ → List (T × Label)) (E E' : ℕ → T)
     (O : ℕ → Object) → IsRun m s run → end m s run ≡ s' → RunWithTrails m s' more W E O
     → ((u : ℕ) → trail m s run u ++ W u ≡ W' u) → ((u : ℕ) → E u ≡ E' u) → RunWithTrails m s (run ++ more) W' E' O
-run_with_trails_after_run {T} m s s' run more W W' E E' O ok e c joins ends = record {
+run_with_trails_of_append_of_runs {T} m s s' run more W W' E E' O ok e c joins ends = record {
   ok = append_of_runs_is_run m s run more ok (subst (λ z. IsRun m z more) (sym e) c.ok);
   trails = λ u. trail_append m s run more u ∙ ap (λ z. trail m s run u ++ trail m z more u) e ∙ ap (λ z. trail m s run u ++ z) (c.trails u)
       ∙ joins u;
@@ -181,7 +181,7 @@ no_replies_if_no_shared_steps : {T : Type 0} (m : Machine T) (y : T) (ws : List 
     → ((r : ℕ) (rs : List ℕ) → ws ≡ r ∷ rs → is_shared (act_of (m.ask y) r) ≡ true) → shared_steps m y ws ≡ [] → ws ≡ []
 no_replies_if_no_shared_steps m y [] next e = refl
 no_replies_if_no_shared_steps m y (v ∷ vs) next e = absurd (cc
-    (subst (λ b. keep_if b (act_of (m.ask y) v, v) (shared_steps m (m.take y v) vs) ≡ []) (next v vs refl) e))
+    (subst (λ b. join_if b (act_of (m.ask y) v, v) (shared_steps m (m.take y v) vs) ≡ []) (next v vs refl) e))
 
 -- the trails where the threads below n are still to go
 abbrev pub TrailsLeft : {T : Type 0} → Machine T → (ℕ → T) → (ℕ → List ℕ) → ℕ → ℕ → List (T × Label)
@@ -206,14 +206,14 @@ last_steps_run_with_trails m now f rs (suc n) h =
     led_to_object_step m now n (now n) f (rs n) a.0 in
     let none : remain m (now n) (rs n) ≡ [] = no_replies_if_no_shared_steps m (led m (now n) (rs n)) (remain m (now n) (rs n)) k.next
     (k.same_steps ∙ a.1) in
-    let all : lead m (now n) (rs n) ≡ rs n = text_is_put_if_nothing_left (lead m (now n) (rs n)) (remain m (now n) (rs n)) (rs n) k.parts none in
+    let all : lead m (now n) (rs n) ≡ rs n = prefix_is_whole_if_rest_is_empty (lead m (now n) (rs n)) (remain m (now n) (rs n)) (rs n) k.parts none in
     let y = led m (now n) (rs n) in
     let there : y ≡ alone_after m (now n) (rs n) = ap (alone_after m y) (sym none) ∙ k.rest in
     let start = state_of now f in
     let same : (u : ℕ) → trail m start (map (λ r. (n, r)) (rs n)) u ≡ trail m (StateWith now n (now n) f)
     (map (λ r. (n, r)) (lead m (now n) (rs n))) u = λ u. ap (λ z. trail m z (map (λ r. (n, r)) (rs n)) u) (sym (state_with_own_thread now n f))
     ∙ ap (λ z. trail m (StateWith now n (now n) f) (map (λ r. (n, r)) z) u) (sym all) in
-    run_with_trails_after_run m start (StateWith now n y f) (map (λ r. (n, r)) (rs n)) (last_steps rs n) (TrailsLeft m (upd now n y) rs n) (TrailsLeft m now rs (suc n))
+    run_with_trails_of_append_of_runs m start (StateWith now n y f) (map (λ r. (n, r)) (rs n)) (last_steps rs n) (TrailsLeft m (upd now n y) rs n) (TrailsLeft m now rs (suc n))
     (ThreadsAfterLast m (upd now n y) rs n) (ThreadsAfterLast m now rs (suc n)) f
     (subst (λ z. IsRun m z (map (λ r. (n, r)) (rs n))) (state_with_own_thread now n f)
     (subst (λ z. IsRun m (StateWith now n (now n) f) (map (λ r. (n, r)) z)) all k.ok))
@@ -257,15 +257,15 @@ pub record StartsWithObjectStep {T : Type 0} (m : Machine T) (y : T) (ws : List 
   pub rest : alone_after m (m.take y v) (tail_of ws) ≡ alone_after m y ws
   pub trails : (k : Label) (ks : List Label) → alone_trail m y ws (k ∷ ks) ≡ (y, k) ∷ alone_trail m (m.take y v) (tail_of ws) ks
 
-pub shared_act_emits_first_label : (q : Act) (k : Label) (ks : List Label) → is_shared q ≡ true → alone_label q (k ∷ ks) ≡ k
-shared_act_emits_first_label Silent k ks p = absurd (cc p)
-shared_act_emits_first_label (Refusal _) k ks p = absurd (cc p)
-shared_act_emits_first_label (Result i res) k ks p = absurd (cc p)
-shared_act_emits_first_label (Entry o a ans) k ks p = refl
-shared_act_emits_first_label (Exit o a) k ks p = refl
-shared_act_emits_first_label (Load o i) k ks p = refl
-shared_act_emits_first_label (Store o i w) k ks p = refl
-shared_act_emits_first_label Never k ks p = absurd (cc p)
+pub alone_label_of_shared_act_is_first_label : (q : Act) (k : Label) (ks : List Label) → is_shared q ≡ true → alone_label q (k ∷ ks) ≡ k
+alone_label_of_shared_act_is_first_label Silent k ks p = absurd (cc p)
+alone_label_of_shared_act_is_first_label (Refusal _) k ks p = absurd (cc p)
+alone_label_of_shared_act_is_first_label (Result i res) k ks p = absurd (cc p)
+alone_label_of_shared_act_is_first_label (Entry o a ans) k ks p = refl
+alone_label_of_shared_act_is_first_label (Exit o a) k ks p = refl
+alone_label_of_shared_act_is_first_label (Load o i) k ks p = refl
+alone_label_of_shared_act_is_first_label (Store o i w) k ks p = refl
+alone_label_of_shared_act_is_first_label Never k ks p = absurd (cc p)
 
 replies_start_with_object_step : {T : Type 0} (m : Machine T) (y : T) (ws : List ℕ) (q : Act) (v : ℕ) (more : List Shared) → MayRun m y ws
     → ((r : ℕ) (rs : List ℕ) → ws ≡ r ∷ rs → is_shared (act_of (m.ask y) r) ≡ true) → shared_steps m y ws ≡ (q, v) ∷ more
@@ -274,7 +274,7 @@ replies_start_with_object_step m y [] q v more h next e = absurd (cc e)
 replies_start_with_object_step m y (r ∷ rs) q v more h next e =
     let is : is_shared (act_of (m.ask y) r) ≡ true = next r rs refl in
     let g : (act_of (m.ask y) r, r) ∷ shared_steps m (m.take y r) rs ≡ (q, v) ∷ more =
-    subst (λ b. keep_if b (act_of (m.ask y) r, r) (shared_steps m (m.take y r) rs) ≡ (q, v) ∷ more) is e in
+    subst (λ b. join_if b (act_of (m.ask y) r, r) (shared_steps m (m.take y r) rs) ≡ (q, v) ∷ more) is e in
     let pair : ◌≡◌ {A = Shared} (act_of (m.ask y) r, r) (q, v) = cc g in
     let same : r ≡ v = ap (λ z. z.1) pair in
     let does : act_of (m.ask y) r ≡ q = ap (λ z. z.0) pair in
@@ -284,24 +284,24 @@ replies_start_with_object_step m y (r ∷ rs) q v more h next e =
       steps = subst (λ z. shared_steps m (m.take y z) rs ≡ more) same (cc g);
       rest = ap (λ z. alone_after m (m.take y z) rs) (sym same);
       trails = λ k ks. ap (λ z. (y, z) ∷ alone_trail m (m.take y r) rs (labels_left (is_shared (act_of (m.ask y) r)) (k ∷ ks)))
-          (shared_act_emits_first_label (act_of (m.ask y) r) k ks is)
+          (alone_label_of_shared_act_is_first_label (act_of (m.ask y) r) k ks is)
           ∙ ap (λ b. (y, k) ∷ alone_trail m (m.take y r) rs (labels_left b (k ∷ ks))) is
           ∙ ap (λ z. (y, k) ∷ alone_trail m (m.take y z) rs ks) same;
     }
 
 -- two tables that changed at one place
-two_upds_by_cases : {A B : Type 0} (f : ℕ → A) (g : ℕ → B) (t : ℕ) (a : A) (b : B) (u : ℕ) (P : ℕ → A → B → Type 0) → P t a b → (u ≢ t → P u (f u) (g u))
+property_of_two_upds_by_cases : {A B : Type 0} (f : ℕ → A) (g : ℕ → B) (t : ℕ) (a : A) (b : B) (u : ℕ) (P : ℕ → A → B → Type 0) → P t a b → (u ≢ t → P u (f u) (g u))
     → P u (upd f t a u) (upd g t b u)
-two_upds_by_cases f g t a b u P here other = elim (cases_eq u t) [
+property_of_two_upds_by_cases f g t a b u P here other = elim (cases_eq u t) [
   | inl e ↦ subst (λ w. P w (upd f t a w) (upd g t b w)) (sym e)
       (subst (λ z. P t z (upd g t b t)) (sym (upd_at_own_place f t a)) (subst (λ z. P t a z) (sym (upd_at_own_place g t b)) here))
   | inr ne ↦ subst (λ z. P u z (upd g t b u)) (sym (upd_at_other_place f t u a ne))
       (subst (λ z. P u (f u) z) (sym (upd_at_other_place g t u b ne)) (other ne))
 ]
 
-two_upds_at_other_place : {A B : Type 0} (f : ℕ → A) (g : ℕ → B) (t : ℕ) (a : A) (b : B) (u : ℕ) (P : A → B → Type 0) → u ≢ t → P (f u) (g u)
+property_of_two_upds_at_other_place : {A B : Type 0} (f : ℕ → A) (g : ℕ → B) (t : ℕ) (a : A) (b : B) (u : ℕ) (P : A → B → Type 0) → u ≢ t → P (f u) (g u)
     → P (upd f t a u) (upd g t b u)
-two_upds_at_other_place f g t a b u P ne h = subst (λ z. P z (upd g t b u)) (sym (upd_at_other_place f t u a ne))
+property_of_two_upds_at_other_place f g t a b u P ne h = subst (λ z. P z (upd g t b u)) (sym (upd_at_other_place f t u a ne))
     (subst (λ z. P (f u) z) (sym (upd_at_other_place g t u b ne)) h)
 
 -- where the object steps of each thread alone are those in the order, the splice is a run, and each thread's steps are its own
@@ -331,7 +331,7 @@ splice_is_run_with_trails {T} m now f rs n (x ∷ xs) idle alone steps allowed =
     let f' : ℕ → Object = upd f (target q) (acted q t (f (target q))) in
     let k : LedToObjectStep m now t (now t) f (rs t) (lead m (now t) (rs t)) y ws = led_to_object_step m now t (now t) f (rs t) (alone t) in
     let here : shared_steps m (now t) (rs t) ≡ (q, v) ∷ of_thread t xs = steps t
-    ∙ ap (λ b. keep_if b x.1 (of_thread t xs)) (eq-eqb t t refl) in
+    ∙ ap (λ b. join_if b x.1 (of_thread t xs)) (eq-eqb t t refl) in
     let c : StartsWithObjectStep m y ws q v (of_thread t xs) = replies_start_with_object_step m y ws q v (of_thread t xs) k.alone k.next (k.same_steps ∙ here) in
     let g = step_from_state_with_thread m now t y v f f' q c.does allowed.0 allowed.1 refl in
     let low : (u : ℕ) → n ≤ u → u ≢ t = λ u l e. cc
@@ -342,9 +342,9 @@ splice_is_run_with_trails {T} m now f rs n (x ∷ xs) idle alone steps allowed =
     let ih : RunWithTrails m (state_of (upd now t (m.take y v)) f') more W E (objects_after f' xs) =
     splice_is_run_with_trails m (upd now t (m.take y v)) f' (upd rs t (tail_of ws)) n xs
     (λ u l. upd_at_other_place rs t u (tail_of ws) (low u l) ∙ idle u l)
-    (λ u. two_upds_by_cases now rs t (m.take y v) (tail_of ws) u (λ w a b. MayRun m a b) c.alone (λ ne. alone u))
-    (λ u. two_upds_by_cases now rs t (m.take y v) (tail_of ws) u (λ w a b. shared_steps m a b ≡ of_thread w xs) c.steps
-    (λ ne. steps u ∙ ap (λ b. keep_if b x.1 (of_thread u xs)) (ne_eqb u t ne)))
+    (λ u. property_of_two_upds_by_cases now rs t (m.take y v) (tail_of ws) u (λ w a b. MayRun m a b) c.alone (λ ne. alone u))
+    (λ u. property_of_two_upds_by_cases now rs t (m.take y v) (tail_of ws) u (λ w a b. shared_steps m a b ≡ of_thread w xs) c.steps
+    (λ ne. steps u ∙ ap (λ b. join_if b x.1 (of_thread u xs)) (ne_eqb u t ne)))
     allowed.2 in
     let k0 : Label = emitted q (f (target q)) in
     let marked : label m (StateWith now t y f) (t, v) ≡ k0 =
@@ -352,7 +352,7 @@ splice_is_run_with_trails {T} m now f rs n (x ∷ xs) idle alone steps allowed =
     let same : (u : ℕ) → trail m (state_of now f) (map (λ r. (t, r)) (lead m (now t) (rs t))) u ≡ trail m (StateWith now t (now t) f)
     (map (λ r. (t, r)) (lead m (now t) (rs t))) u =
     λ u. ap (λ w. trail m w (map (λ r. (t, r)) (lead m (now t) (rs t))) u) (sym (state_with_own_thread now t f)) in
-    run_with_trails_after_run m (state_of now f) (StateWith now t y f) (map (λ r. (t, r)) (lead m (now t) (rs t))) ((t, v) ∷ more)
+    run_with_trails_of_append_of_runs m (state_of now f) (StateWith now t y f) (map (λ r. (t, r)) (lead m (now t) (rs t))) ((t, v) ∷ more)
     (λ u. join_if (eqb u t) (y, k0) (W u)) (λ u. alone_trail m (now u) (rs u) (of_thread u (order_labels f (x ∷ xs)))) E
     (λ u. alone_after m (now u) (rs u)) (objects_after f' xs)
     (subst (λ w. IsRun m w (map (λ r. (t, r)) (lead m (now t) (rs t)))) (state_with_own_thread now t f) k.ok)
@@ -372,21 +372,21 @@ splice_is_run_with_trails {T} m now f rs n (x ∷ xs) idle alone steps allowed =
           (ap (λ b. trail m (state_of now f) (map (λ r. (t, r)) (lead m (now t) (rs t))) t ++ join_if b (y, k0) (W t)) (eq-eqb t t refl)
           ∙ ap (λ w. w ++ (y, k0) ∷ W t) (same t)
           ∙ ap (λ w. trail m (StateWith now t (now t) f) (map (λ r. (t, r)) (lead m (now t) (rs t))) t ++ (y, k0) ∷ w)
-          (two_upds_by_cases now rs t (m.take y v) (tail_of ws) t
+          (property_of_two_upds_by_cases now rs t (m.take y v) (tail_of ws) t
           (λ w a b. alone_trail m a b (of_thread t (order_labels f' xs)) ≡ alone_trail m (m.take y v) (tail_of ws)
           (of_thread t (order_labels f' xs))) refl (λ ne. absurd (ne refl)))
           ∙ ap (λ w. trail m (StateWith now t (now t) f) (map (λ r. (t, r)) (lead m (now t) (rs t))) t ++ w)
           (sym (c.trails k0 (of_thread t (order_labels f' xs))))
           ∙ k.trails (k0 ∷ of_thread t (order_labels f' xs))
-          ∙ ap (λ b. alone_trail m (now t) (rs t) (keep_if b k0 (of_thread t (order_labels f' xs)))) (sym (eq-eqb t t refl)))
+          ∙ ap (λ b. alone_trail m (now t) (rs t) (join_if b k0 (of_thread t (order_labels f' xs)))) (sym (eq-eqb t t refl)))
       | inr ne ↦ ap (λ b. trail m (state_of now f) (map (λ r. (t, r)) (lead m (now t) (rs t))) u ++ join_if b (y, k0) (W u)) (ne_eqb u t ne)
           ∙ ap (λ w. w ++ W u) (same u ∙ k.others u ne)
-          ∙ two_upds_at_other_place now rs t (m.take y v) (tail_of ws) u
+          ∙ property_of_two_upds_at_other_place now rs t (m.take y v) (tail_of ws) u
           (λ a b. alone_trail m a b (of_thread u (order_labels f' xs)) ≡ alone_trail m (now u) (rs u) (of_thread u (order_labels f' xs))) ne
           refl
-          ∙ ap (λ b. alone_trail m (now u) (rs u) (keep_if b k0 (of_thread u (order_labels f' xs)))) (sym (ne_eqb u t ne))
+          ∙ ap (λ b. alone_trail m (now u) (rs u) (join_if b k0 (of_thread u (order_labels f' xs)))) (sym (ne_eqb u t ne))
     ])
-    (λ u. two_upds_by_cases now rs t (m.take y v) (tail_of ws) u (λ w a b. alone_after m a b ≡ alone_after m (now w) (rs w)) (c.rest ∙ k.rest)
+    (λ u. property_of_two_upds_by_cases now rs t (m.take y v) (tail_of ws) u (λ w a b. alone_after m a b ≡ alone_after m (now w) (rs w)) (c.rest ∙ k.rest)
     (λ ne. refl))
   where
     head_of : (u : ℕ) (b : Bool) → eqb u x.0 ≡ b → (y : T) (now : ℕ → T) (t : ℕ) (k : Label) (xs : List (T × Label))

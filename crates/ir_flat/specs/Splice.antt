@@ -6,15 +6,15 @@ use Rattle.ir_thread.specs.State as thread
 use Rattle.ir_thread.specs.declared.ask.Reply.{Reply}
 use Rattle.ir_runs.specs.Machine.{act_of, Done, Machine, upd}
 use Rattle.ir_runs.specs.Shared.{is_shared}
-use Rattle.ir_object.specs.Order.{Shared, keep_if, of_thread, IsAllowed, objects_after, order_labels}
-use Rattle.ir_runs.specs.Run.{State, Step, IsRun, IsDone, end, trail}
+use Rattle.ir_object.specs.Order.{Shared, of_thread, IsAllowed, objects_after, order_labels}
+use Rattle.ir_runs.specs.Run.{State, Step, IsRun, IsDone, end, trail, join_if}
 use Rattle.ir_flat.specs.Flat.{MayRun, alone_after}
 use Rattle.ir_flat.specs.Trails.{alone_trail}
 
 -- the object steps of a thread alone
 abbrev pub shared_steps : {T : Type 0} → Machine T → T → List ℕ → List Shared
 shared_steps m x [] = []
-shared_steps m x (v ∷ vs) = keep_if (is_shared (act_of (m.ask x) v)) (act_of (m.ask x) v, v) (shared_steps m (m.take x v) vs)
+shared_steps m x (v ∷ vs) = join_if (is_shared (act_of (m.ask x) v)) (act_of (m.ask x) v, v) (shared_steps m (m.take x v) vs)
 
 -- the replies before the next object step; the thread there; the replies from there on
 abbrev pub lead : {T : Type 0} → Machine T → T → List ℕ → List ℕ

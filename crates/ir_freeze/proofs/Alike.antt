@@ -17,8 +17,8 @@ use Rattle.ir_thread.specs.declared.end.End.TheVariants as end
 use Rattle.ir_seen.specs.Seen.{Same, view}
 use Rattle.ir_freeze.specs.Frozen.{word, held_byte, end_bytes, changes, is_over, fixed_bytes, going_bytes, frozen}
 use Rattle.ir_freeze.specs.Twins.{AreTwins, IsBounded}
-use Rattle.ir_freeze.proofs.Apart.{parts_equal_if_appends_equal, word_bytes_injective, flat_words_injective, flat_words_length_equal, held_bytes_injective, changes_injective}
-use Rattle.ir_freeze.proofs.Back.{length_of_end_bytes, length_of_held_bytes, length_of_fixed_bytes}
+use Rattle.ir_freeze.proofs.Apart.{append_parts_equal_if_first_lengths_equal, word_bytes_injective, flat_map_word_is_injective_on_equal_lengths, flat_map_word_lengths_equal_if_lengths_equal, held_bytes_injective, changes_injective}
+use Rattle.ir_freeze.proofs.Back.{length_of_end_bytes_is_five, length_of_held_bytes, length_of_fixed_bytes_is_132_plus_held_and_mark}
 
 -- the ends that aren't exits
 abbrev ends_but_exits : ℕ → List End
@@ -94,14 +94,14 @@ over_if_shared_ask_done code s h =
     let p = subst (Permits s) (ask_done_if_shared_ask_done (ask_of code s) h) (ask_of_permitted code s) in
     over_if_ended_and_holds_none s.ended (highest s.held) p.0 p.1
 
-shared_ask_done_if_over_parts : (code : List ℕ) (s : ThreadState) (e : Option End) (h : Option (ℕ × Access)) → highest s.held ≡ h → is_some e && is_none h ≡ true
+shared_ask_done_if_end_is_some_and_nothing_held : (code : List ℕ) (s : ThreadState) (e : Option End) (h : Option (ℕ × Access)) → highest s.held ≡ h → is_some e && is_none h ≡ true
     → shared_ask (ask_by code e s) ≡ machine.Done
-shared_ask_done_if_over_parts code s None h is over = absurd (cc over)
-shared_ask_done_if_over_parts code s (Some e) None is over = ap (λ z. shared_ask (release_ask z)) is
-shared_ask_done_if_over_parts code s (Some e) (Some top) is over = absurd (cc over)
+shared_ask_done_if_end_is_some_and_nothing_held code s None h is over = absurd (cc over)
+shared_ask_done_if_end_is_some_and_nothing_held code s (Some e) None is over = ap (λ z. shared_ask (release_ask z)) is
+shared_ask_done_if_end_is_some_and_nothing_held code s (Some e) (Some top) is over = absurd (cc over)
 
 pub shared_ask_done_if_over : (code : List ℕ) (s : ThreadState) → is_over s ≡ true → shared_ask (ask_of code s) ≡ machine.Done
-shared_ask_done_if_over code s over = shared_ask_done_if_over_parts code s s.ended (highest s.held) refl over
+shared_ask_done_if_over code s over = shared_ask_done_if_end_is_some_and_nothing_held code s s.ended (highest s.held) refl over
 
 -- ---- the bytes of a thread that goes on
 
@@ -118,22 +118,22 @@ parts_equal_if_fixed_bytes_equal : (x y : ThreadState) → AreTwins x y → IsBo
     → fixed_bytes x m ≡ fixed_bytes y n → EqualParts x y m n
 parts_equal_if_fixed_bytes_equal x y twins bx by m n lm e =
     let rx : length (flat_map word x.core.registers) ≡ length (flat_map word y.core.registers) =
-    flat_words_length_equal x.core.registers y.core.registers (bx.core.register_count ∙ sym by.core.register_count) in
+    flat_map_word_lengths_equal_if_lengths_equal x.core.registers y.core.registers (bx.core.register_count ∙ sym by.core.register_count) in
     let hx : length (map held_byte x.held) ≡ length (map held_byte y.held) = length_of_held_bytes x.held ∙ twins.objects ∙ sym (length_of_held_bytes y.held) in
     let l3 : length ((word x.core.pc ++ flat_map word x.core.registers) ++ map held_byte x.held)
     ≡ length ((word y.core.pc ++ flat_map word y.core.registers) ++ map held_byte y.held) =
     three (word x.core.pc) (flat_map word x.core.registers) (map held_byte x.held) (word y.core.pc) (flat_map word y.core.registers)
     (map held_byte y.held) refl rx hx in
-    let s1 = parts_equal_if_appends_equal ((word x.core.pc ++ flat_map word x.core.registers) ++ map held_byte x.held)
+    let s1 = append_parts_equal_if_first_lengths_equal ((word x.core.pc ++ flat_map word x.core.registers) ++ map held_byte x.held)
     ((word y.core.pc ++ flat_map word y.core.registers) ++ map held_byte y.held) m n l3 e in
     let l2 : length (word x.core.pc ++ flat_map word x.core.registers) ≡ length (word y.core.pc ++ flat_map word y.core.registers) =
     two (word x.core.pc) (flat_map word x.core.registers) (word y.core.pc) (flat_map word y.core.registers) refl rx in
-    let s2 = parts_equal_if_appends_equal (word x.core.pc ++ flat_map word x.core.registers) (word y.core.pc ++ flat_map word y.core.registers)
+    let s2 = append_parts_equal_if_first_lengths_equal (word x.core.pc ++ flat_map word x.core.registers) (word y.core.pc ++ flat_map word y.core.registers)
     (map held_byte x.held) (map held_byte y.held) l2 s1.0 in
-    let s3 = parts_equal_if_appends_equal (word x.core.pc) (word y.core.pc) (flat_map word x.core.registers) (flat_map word y.core.registers) refl s2.0 in
+    let s3 = append_parts_equal_if_first_lengths_equal (word x.core.pc) (word y.core.pc) (flat_map word x.core.registers) (flat_map word y.core.registers) refl s2.0 in
     record {
       pc = word_bytes_injective x.core.pc y.core.pc bx.core.pc_fits by.core.pc_fits s3.0;
-      registers = flat_words_injective x.core.registers y.core.registers (bx.core.register_count ∙ sym by.core.register_count)
+      registers = flat_map_word_is_injective_on_equal_lengths x.core.registers y.core.registers (bx.core.register_count ∙ sym by.core.register_count)
           bx.core.registers_fit by.core.registers_fit s3.1;
       held = held_bytes_injective x.held y.held s2.1;
       mark = s1.1;
@@ -146,25 +146,25 @@ parts_equal_if_fixed_bytes_equal x y twins bx by m n lm e =
         → length ((a ++ b) ++ c) ≡ length ((d ++ e) ++ f)
     three a b c d e f p q r = two (a ++ b) c (d ++ e) f (two a b d e p q) r
 
-view_equal_if_going_bytes_equal : (start : List ℕ) → length start ≡ memory_size → (x y : ThreadState) → AreTwins x y → IsBounded x → IsBounded y
+views_and_marks_equal_if_going_bytes_equal : (start : List ℕ) → length start ≡ memory_size → (x y : ThreadState) → AreTwins x y → IsBounded x → IsBounded y
     → (m n : List ℕ) → length m ≡ length n → x.ended ≡ y.ended → going_bytes start x m ≡ going_bytes start y n
     → ◌≡◌ {A = ThreadState × List ℕ} (view x, m) (view y, n)
-view_equal_if_going_bytes_equal start size x y twins bx by m n lm ends e =
+views_and_marks_equal_if_going_bytes_equal start size x y twins bx by m n lm ends e =
     let cx : List ℕ = changes 0 start x.core.memory in
     let cy : List ℕ = changes 0 start y.core.memory in
     let apart : fixed_bytes x m ++ (word (length x.output) ++ (x.output ++ cx)) ≡ fixed_bytes y n ++ (word (length y.output) ++ (y.output ++ cy)) =
     sym (append_of_four_nested (fixed_bytes x m) (word (length x.output)) x.output cx) ∙ e ∙ append_of_four_nested (fixed_bytes y n) (word (length y.output)) y.output cy in
     let objects = twins.objects in
     let lf : length (fixed_bytes x m) ≡ length (fixed_bytes y n) =
-    length_of_fixed_bytes x m bx.core.register_count ∙ omega (arith, objects, lm) ∙ sym (length_of_fixed_bytes y n by.core.register_count) in
-    let s1 = parts_equal_if_appends_equal (fixed_bytes x m) (fixed_bytes y n) (word (length x.output) ++ (x.output ++ cx)) (word (length y.output) ++ (y.output ++ cy))
+    length_of_fixed_bytes_is_132_plus_held_and_mark x m bx.core.register_count ∙ omega (arith, objects, lm) ∙ sym (length_of_fixed_bytes_is_132_plus_held_and_mark y n by.core.register_count) in
+    let s1 = append_parts_equal_if_first_lengths_equal (fixed_bytes x m) (fixed_bytes y n) (word (length x.output) ++ (x.output ++ cx)) (word (length y.output) ++ (y.output ++ cy))
     lf apart in
     let p = parts_equal_if_fixed_bytes_equal x y twins bx by m n lm s1.0 in
-    let s2 = parts_equal_if_appends_equal (word (length x.output)) (word (length y.output)) (x.output ++ cx) (y.output ++ cy) refl s1.1 in
+    let s2 = append_parts_equal_if_first_lengths_equal (word (length x.output)) (word (length y.output)) (x.output ++ cx) (y.output ++ cy) refl s1.1 in
     let ox = bx.output in
     let oy = by.output in
     let lo = word_bytes_injective (length x.output) (length y.output) (omega (arith, ox)) (omega (arith, oy)) s2.0 in
-    let s3 = parts_equal_if_appends_equal x.output y.output cx cy lo s2.1 in
+    let s3 = append_parts_equal_if_first_lengths_equal x.output y.output cx cy lo s2.1 in
     let memory = changes_injective 0 start x.core.memory y.core.memory (bx.core.memory_length ∙ sym size) (by.core.memory_length ∙ sym size)
     (omega (arith, size)) s3.1 in
     λ i. (
@@ -194,23 +194,23 @@ same_looks_if_flagged_bytes_equal code start size x y twins bx by m n lm ends tr
 same_looks_if_flagged_bytes_equal code start size x y twins bx by m n lm ends false true ox oy e =
     absurd (let h = same_head 0 1 (going_bytes start x m) y.output e in omega (arith, h))
 same_looks_if_flagged_bytes_equal code start size x y twins bx by m n lm ends false false ox oy e =
-    inl (view_equal_if_going_bytes_equal start size x y twins bx by m n lm ends (same_tail 0 0 (going_bytes start x m) (going_bytes start y n) e))
+    inl (views_and_marks_equal_if_going_bytes_equal start size x y twins bx by m n lm ends (same_tail 0 0 (going_bytes start x m) (going_bytes start y n) e))
 
-frozen_bytes_of_over_thread : (start : List ℕ) (s : ThreadState) (m : List ℕ) → is_over s ≡ true → frozen start s m ≡ end_bytes s.ended ++ 1 ∷ s.output
-frozen_bytes_of_over_thread start s m over = ap (λ b. end_bytes s.ended ++ cond b (1 ∷ s.output) (0 ∷ going_bytes start s m)) over
+frozen_bytes_of_over_thread_are_end_and_output : (start : List ℕ) (s : ThreadState) (m : List ℕ) → is_over s ≡ true → frozen start s m ≡ end_bytes s.ended ++ 1 ∷ s.output
+frozen_bytes_of_over_thread_are_end_and_output start s m over = ap (λ b. end_bytes s.ended ++ cond b (1 ∷ s.output) (0 ∷ going_bytes start s m)) over
 
 pub frozen_bytes_equal_iff_same_looks : (code start : List ℕ) → length start ≡ memory_size → (x y : ThreadState) → AreTwins x y → IsBounded x → IsBounded y
     → (m n : List ℕ) → length m ≡ length n
     → (frozen start x m ≡ frozen start y n) ↔ Same code (view x, m) (view y, n)
 frozen_bytes_equal_iff_same_looks code start size x y twins bx by m n lm = (
   λ e.
-      let s = parts_equal_if_appends_equal (end_bytes x.ended) (end_bytes y.ended) (cond (is_over x) (1 ∷ x.output) (0 ∷ going_bytes start x m))
-      (cond (is_over y) (1 ∷ y.output) (0 ∷ going_bytes start y n)) (length_of_end_bytes x.ended ∙ sym (length_of_end_bytes y.ended)) e in
+      let s = append_parts_equal_if_first_lengths_equal (end_bytes x.ended) (end_bytes y.ended) (cond (is_over x) (1 ∷ x.output) (0 ∷ going_bytes start x m))
+      (cond (is_over y) (1 ∷ y.output) (0 ∷ going_bytes start y n)) (length_of_end_bytes_is_five x.ended ∙ sym (length_of_end_bytes_is_five y.ended)) e in
       same_looks_if_flagged_bytes_equal code start size x y twins bx by m n lm (end_bytes_injective x.ended y.ended bx.code by.code s.0) (is_over x) (is_over y) refl refl s.1,
   λ h. elim h [
     | inl e ↦ ap (λ z. frozen start z.0 z.1) e
     | inr d ↦
-        frozen_bytes_of_over_thread start x m (over_if_shared_ask_done code (view x) d.0) ∙ (λ i. end_bytes (d.2 i) ++ 1 ∷ d.3 i)
-        ∙ sym (frozen_bytes_of_over_thread start y n (over_if_shared_ask_done code (view y) d.1))
+        frozen_bytes_of_over_thread_are_end_and_output start x m (over_if_shared_ask_done code (view x) d.0) ∙ (λ i. end_bytes (d.2 i) ++ 1 ∷ d.3 i)
+        ∙ sym (frozen_bytes_of_over_thread_are_end_and_output start y n (over_if_shared_ask_done code (view y) d.1))
   ],
 )

@@ -9,32 +9,32 @@ use Rattle.ir_runs.specs.declared.access.Access.TheVariants.{Reading, Writing}
 use Rattle.ir_freeze.specs.Frozen.{word, held_byte, change, changes}
 
 -- lists that begin with as many bytes are equal in two parts
-pub parts_equal_if_appends_equal : (a b c d : List ℕ) → length a ≡ length b → a ++ c ≡ b ++ d → (a ≡ b) × (c ≡ d)
-parts_equal_if_appends_equal [] [] c d l e = (refl, e)
-parts_equal_if_appends_equal [] (y ∷ b) c d l e = absurd (cc l)
-parts_equal_if_appends_equal (x ∷ a) [] c d l e = absurd (cc l)
-parts_equal_if_appends_equal (x ∷ a) (y ∷ b) c d l e =
-    let r = parts_equal_if_appends_equal a b c d (omega (arith, l)) (same_tail x y (a ++ c) (b ++ d) e) in
+pub append_parts_equal_if_first_lengths_equal : (a b c d : List ℕ) → length a ≡ length b → a ++ c ≡ b ++ d → (a ≡ b) × (c ≡ d)
+append_parts_equal_if_first_lengths_equal [] [] c d l e = (refl, e)
+append_parts_equal_if_first_lengths_equal [] (y ∷ b) c d l e = absurd (cc l)
+append_parts_equal_if_first_lengths_equal (x ∷ a) [] c d l e = absurd (cc l)
+append_parts_equal_if_first_lengths_equal (x ∷ a) (y ∷ b) c d l e =
+    let r = append_parts_equal_if_first_lengths_equal a b c d (omega (arith, l)) (same_tail x y (a ++ c) (b ++ d) e) in
     ((λ i. same_head x y (a ++ c) (b ++ d) e i ∷ r.0 i), r.1)
 
 pub word_bytes_injective : (x y : ℕ) → x < 2 ^ 32 → y < 2 ^ 32 → word x ≡ word y → x ≡ y
 word_bytes_injective x y a b e = sym (from_le_bytes-to_le_bytes_4 x a) ∙ ap (from_le_bytes w32) e ∙ from_le_bytes-to_le_bytes_4 y b
 
-pub flat_words_injective : (xs ys : List ℕ) → length xs ≡ length ys → ((i : ℕ) → get_or xs i 0 < 2 ^ 32) → ((i : ℕ) → get_or ys i 0 < 2 ^ 32)
+pub flat_map_word_is_injective_on_equal_lengths : (xs ys : List ℕ) → length xs ≡ length ys → ((i : ℕ) → get_or xs i 0 < 2 ^ 32) → ((i : ℕ) → get_or ys i 0 < 2 ^ 32)
     → flat_map word xs ≡ flat_map word ys → xs ≡ ys
-flat_words_injective [] [] l a b e = refl
-flat_words_injective [] (y ∷ ys) l a b e = absurd (cc l)
-flat_words_injective (x ∷ xs) [] l a b e = absurd (cc l)
-flat_words_injective (x ∷ xs) (y ∷ ys) l a b e =
-    let s = parts_equal_if_appends_equal (word x) (word y) (flat_map word xs) (flat_map word ys) refl e in
-    let r = flat_words_injective xs ys (omega (arith, l)) (λ i. a (suc i)) (λ i. b (suc i)) s.1 in
+flat_map_word_is_injective_on_equal_lengths [] [] l a b e = refl
+flat_map_word_is_injective_on_equal_lengths [] (y ∷ ys) l a b e = absurd (cc l)
+flat_map_word_is_injective_on_equal_lengths (x ∷ xs) [] l a b e = absurd (cc l)
+flat_map_word_is_injective_on_equal_lengths (x ∷ xs) (y ∷ ys) l a b e =
+    let s = append_parts_equal_if_first_lengths_equal (word x) (word y) (flat_map word xs) (flat_map word ys) refl e in
+    let r = flat_map_word_is_injective_on_equal_lengths xs ys (omega (arith, l)) (λ i. a (suc i)) (λ i. b (suc i)) s.1 in
     (λ i. word_bytes_injective x y (a 0) (b 0) s.0 i ∷ r i)
 
-pub flat_words_length_equal : (xs ys : List ℕ) → length xs ≡ length ys → length (flat_map word xs) ≡ length (flat_map word ys)
-flat_words_length_equal [] [] l = refl
-flat_words_length_equal [] (y ∷ ys) l = absurd (cc l)
-flat_words_length_equal (x ∷ xs) [] l = absurd (cc l)
-flat_words_length_equal (x ∷ xs) (y ∷ ys) l = ap (λ n. suc (suc (suc (suc n)))) (flat_words_length_equal xs ys (omega (arith, l)))
+pub flat_map_word_lengths_equal_if_lengths_equal : (xs ys : List ℕ) → length xs ≡ length ys → length (flat_map word xs) ≡ length (flat_map word ys)
+flat_map_word_lengths_equal_if_lengths_equal [] [] l = refl
+flat_map_word_lengths_equal_if_lengths_equal [] (y ∷ ys) l = absurd (cc l)
+flat_map_word_lengths_equal_if_lengths_equal (x ∷ xs) [] l = absurd (cc l)
+flat_map_word_lengths_equal_if_lengths_equal (x ∷ xs) (y ∷ ys) l = ap (λ n. suc (suc (suc (suc n)))) (flat_map_word_lengths_equal_if_lengths_equal xs ys (omega (arith, l)))
 
 held_byte_injective : (x y : Option Access) → held_byte x ≡ held_byte y → x ≡ y
 held_byte_injective None None e = refl
@@ -67,17 +67,17 @@ change_is_empty_or_written place old new = elim (cases_eq new old) [
 ]
 
 -- the first change is at no earlier place
-changed_place_is_no_earlier : (place p : ℕ) (start memory : List ℕ) (new : ℕ) (rest : List ℕ) → place + length start ≤ 2 ^ 16 → p < 2 ^ 16
+first_changed_place_is_at_least_start_place : (place p : ℕ) (start memory : List ℕ) (new : ℕ) (rest : List ℕ) → place + length start ≤ 2 ^ 16 → p < 2 ^ 16
     → changes place start memory ≡ to_le_bytes w16 p ++ new ∷ rest → place ≤ p
-changed_place_is_no_earlier place p [] memory new rest room fits e = absurd (cc e)
-changed_place_is_no_earlier place p (x ∷ start) [] new rest room fits e = absurd (cc e)
-changed_place_is_no_earlier place p (x ∷ start) (y ∷ memory) new rest room fits e = elim (change_is_empty_or_written place x y) [
+first_changed_place_is_at_least_start_place place p [] memory new rest room fits e = absurd (cc e)
+first_changed_place_is_at_least_start_place place p (x ∷ start) [] new rest room fits e = absurd (cc e)
+first_changed_place_is_at_least_start_place place p (x ∷ start) (y ∷ memory) new rest room fits e = elim (change_is_empty_or_written place x y) [
   | inl same ↦
-      let n = changed_place_is_no_earlier (suc place) p start memory new rest (omega (arith, room)) fits
+      let n = first_changed_place_is_at_least_start_place (suc place) p start memory new rest (omega (arith, room)) fits
       (sym (ap (λ l. l ++ changes (suc place) start memory) same.1) ∙ e) in
       omega (arith, n)
   | inr other ↦
-      let s = parts_equal_if_appends_equal (to_le_bytes w16 place) (to_le_bytes w16 p) (y ∷ changes (suc place) start memory) (new ∷ rest) refl
+      let s = append_parts_equal_if_first_lengths_equal (to_le_bytes w16 place) (to_le_bytes w16 p) (y ∷ changes (suc place) start memory) (new ∷ rest) refl
       (sym (ap (λ l. l ++ changes (suc place) start memory) other) ∙ e) in
       let q = place_bytes_injective place p (omega (arith, room)) fits s.0 in
       omega (arith, q)
@@ -86,7 +86,7 @@ changed_place_is_no_earlier place p (x ∷ start) (y ∷ memory) new rest room f
 changes_never_begin_before_place : (place : ℕ) (start memory : List ℕ) (new : ℕ) (rest : List ℕ) → suc place + length start ≤ 2 ^ 16
     → changes (suc place) start memory ≡ to_le_bytes w16 place ++ new ∷ rest → ⊥
 changes_never_begin_before_place place start memory new rest room e =
-    let n = changed_place_is_no_earlier (suc place) place start memory new rest room (omega (arith, room)) e in omega (arith, n)
+    let n = first_changed_place_is_at_least_start_place (suc place) place start memory new rest room (omega (arith, room)) e in omega (arith, n)
 
 pub changes_injective : (place : ℕ) (start a b : List ℕ) → length a ≡ length start → length b ≡ length start → place + length start ≤ 2 ^ 16
     → changes place start a ≡ changes place start b → a ≡ b
@@ -110,7 +110,7 @@ changes_injective place (o ∷ start) (x ∷ a) (y ∷ b) la lb room e =
         | inl q ↦ absurd (changes_never_begin_before_place place start b x (changes (suc place) start a) more
             (sym (ap (λ l. l ++ changes (suc place) start b) q.1) ∙ sym e ∙ ap (λ l. l ++ changes (suc place) start a) p))
         | inr q ↦
-            let s = parts_equal_if_appends_equal (to_le_bytes w16 place) (to_le_bytes w16 place) (x ∷ changes (suc place) start a) (y ∷ changes (suc place) start b) refl
+            let s = append_parts_equal_if_first_lengths_equal (to_le_bytes w16 place) (to_le_bytes w16 place) (x ∷ changes (suc place) start a) (y ∷ changes (suc place) start b) refl
             (sym (ap (λ l. l ++ changes (suc place) start a) p) ∙ e ∙ ap (λ l. l ++ changes (suc place) start b) q) in
             let r = changes_injective (suc place) start a b (omega (arith, la)) (omega (arith, lb)) more
             (same_tail x y (changes (suc place) start a) (changes (suc place) start b) s.1) in

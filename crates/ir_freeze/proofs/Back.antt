@@ -23,14 +23,14 @@ too_few_bytes_change_nothing memory (a ∷ b ∷ []) few = refl
 too_few_bytes_change_nothing memory (a ∷ b ∷ c ∷ bytes) few = absurd (omega (arith, few))
 
 -- one change more
-pub changed_step : (memory bytes : List ℕ) (k place : ℕ) (whole : List ℕ) → k < length bytes / 3
+pub changed_of_rest_is_unchanged_by_applying_next_change : (memory bytes : List ℕ) (k place : ℕ) (whole : List ℕ) → k < length bytes / 3
     → place ≡ from_le_bytes w16 (get_or bytes (3 * k) 0 ∷ get_or bytes (3 * k + 1) 0 ∷ [])
     → length memory ≡ memory_size → changed memory (drop (3 * k) bytes) ≡ whole
     → record {
       size : length (set memory place (get_or bytes (3 * k + 2) 0)) ≡ memory_size;
       same : changed (set memory place (get_or bytes (3 * k + 2) 0)) (drop (3 * (k + 1)) bytes) ≡ whole;
     }
-changed_step memory bytes k place whole below is size before =
+changed_of_rest_is_unchanged_by_applying_next_change memory bytes k place whole below is size before =
     let a : 3 * k < length bytes = omega (arith, below) in
     let b : 3 * k + 1 < length bytes = omega (arith, below) in
     let c : 3 * k + 2 < length bytes = omega (arith, below) in
@@ -54,17 +54,17 @@ memory_is_whole_after_last_change memory bytes k whole past before =
     sym (too_few_bytes_change_nothing memory (drop (3 * k) bytes) few) ∙ before
 
 -- one page more
-pub equal_pages_prefix_step : {X : Type 0} (g : X → List ℕ) (pages : List X) (x : X) (memory : List ℕ) (i : ℕ) → length pages ≡ 16 → i < 16
+pub mapped_pages_prefix_equal_step_after_page_set : {X : Type 0} (g : X → List ℕ) (pages : List X) (x : X) (memory : List ℕ) (i : ℕ) → length pages ≡ 16 → i < 16
     → g x ≡ page_of memory i → map g (take i pages) ≡ take i (pages_of memory)
     → map g (take (i + 1) (set pages i x)) ≡ take (i + 1) (pages_of memory)
-equal_pages_prefix_step g pages x memory i many lt is before =
+mapped_pages_prefix_equal_step_after_page_set g pages x memory i many lt is before =
     ap (map g) (take_more_set pages i x (omega (arith, many, lt))) ∙ map_push g (take i pages) x
     ∙ (λ j. before j ++ (is ∙ ap (page_of memory) (omega arith) ∙ sym (page_at_place_of_pages_from memory 0 memory_pages i [] lt)) j ∷ [])
     ∙ sym (take_more (pages_of memory) i [] lt)
 
-pub pages_complete_at_sixteen : {X : Type 0} (g : X → List ℕ) (pages : List X) (memory : List ℕ) (i : ℕ) → length pages ≡ 16 → 16 ≤ i
+pub mapped_pages_equal_if_prefixes_of_sixteen_are : {X : Type 0} (g : X → List ℕ) (pages : List X) (memory : List ℕ) (i : ℕ) → length pages ≡ 16 → 16 ≤ i
     → map g (take i pages) ≡ take i (pages_of memory) → map g pages ≡ pages_of memory
-pages_complete_at_sixteen g pages memory i many past e =
+mapped_pages_equal_if_prefixes_of_sixteen_are g pages memory i many past e =
     ap (map g) (sym (take_all i pages (omega (arith, many, past)))) ∙ e ∙ take_all i (pages_of memory) past
 
 -- a place's byte is written behind what is before it
@@ -72,8 +72,8 @@ set_at_prefix_length : (before rest : List ℕ) (old new : ℕ) → set (before 
 set_at_prefix_length [] rest old new = refl
 set_at_prefix_length (x ∷ before) rest old new = ap (λ l. x ∷ l) (set_at_prefix_length before rest old new)
 
-element_joined_to_prefix : (before rest : List ℕ) (x : ℕ) → before ++ x ∷ rest ≡ (before ++ x ∷ []) ++ rest
-element_joined_to_prefix before rest x = sym (append_assoc before (x ∷ []) rest)
+append_of_cons_regroups : (before rest : List ℕ) (x : ℕ) → before ++ x ∷ rest ≡ (before ++ x ∷ []) ++ rest
+append_of_cons_regroups before rest x = sym (append_assoc before (x ∷ []) rest)
 
 -- the changes give the memory, from the place on before which all is as it is there
 changed_by_changes_gives_memory : (before start memory : List ℕ) → length memory ≡ length start → length before + length start ≤ 2 ^ 16
@@ -86,76 +86,76 @@ changed_by_changes_gives_memory before (x ∷ start) (y ∷ memory) same room =
     let less : length (before ++ y ∷ []) + length start ≤ 2 ^ 16 = omega (arith, place, room) in
     let next : changed ((before ++ y ∷ []) ++ start) (changes (suc (length before)) start memory) ≡ before ++ y ∷ memory =
     ap (λ p. changed ((before ++ y ∷ []) ++ start) (changes p start memory)) (sym place)
-    ∙ changed_by_changes_gives_memory (before ++ y ∷ []) start memory (omega (arith, same)) less ∙ sym (element_joined_to_prefix before memory y) in
+    ∙ changed_by_changes_gives_memory (before ++ y ∷ []) start memory (omega (arith, same)) less ∙ sym (append_of_cons_regroups before memory y) in
     elim (change_is_empty_or_written (length before) x y) [
       | inl p ↦
           ap (λ l. changed (before ++ x ∷ start) (l ++ changes (suc (length before)) start memory)) p.1
           ∙ ap (λ z. changed (before ++ z ∷ start) (changes (suc (length before)) start memory)) (sym p.0)
-          ∙ ap (λ l. changed l (changes (suc (length before)) start memory)) (element_joined_to_prefix before start y)
+          ∙ ap (λ l. changed l (changes (suc (length before)) start memory)) (append_of_cons_regroups before start y)
           ∙ next
       | inr p ↦
           ap (λ l. changed (before ++ x ∷ start) (l ++ changes (suc (length before)) start memory)) p
           ∙ ap (λ q. changed (set (before ++ x ∷ start) q y) (changes (suc (length before)) start memory))
           (from_le_bytes-to_le_bytes_2 (length before) (omega (arith, room)))
-          ∙ ap (λ l. changed l (changes (suc (length before)) start memory)) (set_at_prefix_length before start x y ∙ element_joined_to_prefix before start y)
+          ∙ ap (λ l. changed l (changes (suc (length before)) start memory)) (set_at_prefix_length before start x y ∙ append_of_cons_regroups before start y)
           ∙ next
     ]
 
 -- what is behind the bytes of a fixed length, the output's length, and the output
-pub length_of_flat_words : (xs : List ℕ) → length (flat_map word xs) ≡ 4 * length xs
-length_of_flat_words [] = refl
-length_of_flat_words (x ∷ xs) = ap (λ n. suc (suc (suc (suc n)))) (length_of_flat_words xs) ∙ omega arith
+pub length_of_flat_words_is_four_times_length : (xs : List ℕ) → length (flat_map word xs) ≡ 4 * length xs
+length_of_flat_words_is_four_times_length [] = refl
+length_of_flat_words_is_four_times_length (x ∷ xs) = ap (λ n. suc (suc (suc (suc n)))) (length_of_flat_words_is_four_times_length xs) ∙ omega arith
 
 pub length_of_held_bytes : (xs : List (Option Access)) → length (map held_byte xs) ≡ length xs
 length_of_held_bytes [] = refl
 length_of_held_bytes (x ∷ xs) = ap suc (length_of_held_bytes xs)
 
-pub length_of_end_bytes : (e : Option End) → length (end_bytes e) ≡ 5
-length_of_end_bytes None = refl
-length_of_end_bytes (Some e) = refl
+pub length_of_end_bytes_is_five : (e : Option End) → length (end_bytes e) ≡ 5
+length_of_end_bytes_is_five None = refl
+length_of_end_bytes_is_five (Some e) = refl
 
-frozen_bytes_of_going_thread : (start : List ℕ) (s : ThreadState) (mark : List ℕ) → is_over s ≡ false
+frozen_bytes_of_going_thread_are_end_fixed_output_changes : (start : List ℕ) (s : ThreadState) (mark : List ℕ) → is_over s ≡ false
     → frozen start s mark ≡ (end_bytes s.ended ++ 0 ∷ ((fixed_bytes s mark ++ word (length s.output)) ++ s.output)) ++ changes 0 start s.core.memory
-frozen_bytes_of_going_thread start s mark goes =
+frozen_bytes_of_going_thread_are_end_fixed_output_changes start s mark goes =
     let front : List ℕ = (fixed_bytes s mark ++ word (length s.output)) ++ s.output in
     let rest : List ℕ = changes 0 start s.core.memory in
     ap (λ b. end_bytes s.ended ++ cond b (1 ∷ s.output) (0 ∷ going_bytes start s mark)) goes
     ∙ sym (append_assoc (end_bytes s.ended) (0 ∷ front) rest)
 
-pub length_of_four_parts : (a b c d : List ℕ) → length (((a ++ b) ++ c) ++ d) ≡ length a + length b + length c + length d
-length_of_four_parts a b c d =
+pub length_of_append_of_four_is_sum : (a b c d : List ℕ) → length (((a ++ b) ++ c) ++ d) ≡ length a + length b + length c + length d
+length_of_append_of_four_is_sum a b c d =
     let p = length-append ((a ++ b) ++ c) d in let q = length-append (a ++ b) c in let r = length-append a b in omega (arith, p, q, r)
 
-length_of_flagged_parts : (e a b c : List ℕ) → length (e ++ 0 ∷ ((a ++ b) ++ c)) ≡ length e + 1 + length a + length b + length c
-length_of_flagged_parts e a b c =
+length_of_append_with_flag_is_sum_plus_one : (e a b c : List ℕ) → length (e ++ 0 ∷ ((a ++ b) ++ c)) ≡ length e + 1 + length a + length b + length c
+length_of_append_with_flag_is_sum_plus_one e a b c =
     let p = length-append e (0 ∷ ((a ++ b) ++ c)) in let q = length-append (a ++ b) c in let r = length-append a b in omega (arith, p, q, r)
 
-pub length_of_fixed_bytes : (s : ThreadState) (mark : List ℕ) → length s.core.registers ≡ 32 → length (fixed_bytes s mark) ≡ 132 + length s.held + length mark
-length_of_fixed_bytes s mark many =
-    length_of_four_parts (word s.core.pc) (flat_map word s.core.registers) (map held_byte s.held) mark
-    ∙ (let r = length_of_flat_words s.core.registers in let h = length_of_held_bytes s.held in omega (arith, r, h, many))
+pub length_of_fixed_bytes_is_132_plus_held_and_mark : (s : ThreadState) (mark : List ℕ) → length s.core.registers ≡ 32 → length (fixed_bytes s mark) ≡ 132 + length s.held + length mark
+length_of_fixed_bytes_is_132_plus_held_and_mark s mark many =
+    length_of_append_of_four_is_sum (word s.core.pc) (flat_map word s.core.registers) (map held_byte s.held) mark
+    ∙ (let r = length_of_flat_words_is_four_times_length s.core.registers in let h = length_of_held_bytes s.held in omega (arith, r, h, many))
 
 length_of_bytes_before_changes : (s : ThreadState) (mark : List ℕ) → length s.core.registers ≡ 32
     → length (end_bytes s.ended ++ 0 ∷ ((fixed_bytes s mark ++ word (length s.output)) ++ s.output)) ≡ before_changes s (length mark)
 length_of_bytes_before_changes s mark many =
-    length_of_flagged_parts (end_bytes s.ended) (fixed_bytes s mark) (word (length s.output)) s.output
-    ∙ (let e = length_of_end_bytes s.ended in let f = length_of_fixed_bytes s mark many in omega (arith, e, f))
+    length_of_append_with_flag_is_sum_plus_one (end_bytes s.ended) (fixed_bytes s mark) (word (length s.output)) s.output
+    ∙ (let e = length_of_end_bytes_is_five s.ended in let f = length_of_fixed_bytes_is_132_plus_held_and_mark s mark many in omega (arith, e, f))
 
-pub thawed_of_frozen_thread : (start : List ℕ) → length start ≡ memory_size → (s : ThreadState) → IsBounded s → (mark : List ℕ) → is_over s ≡ false
+pub thawed_of_frozen_is_thread_unless_over : (start : List ℕ) → length start ≡ memory_size → (s : ThreadState) → IsBounded s → (mark : List ℕ) → is_over s ≡ false
     → thawed start (frame_of s) (before_changes s (length mark)) (frozen start s mark) ≡ s
-thawed_of_frozen_thread start size s bounded mark goes =
+thawed_of_frozen_is_thread_unless_over start size s bounded mark goes =
     let front : List ℕ = end_bytes s.ended ++ 0 ∷ ((fixed_bytes s mark ++ word (length s.output)) ++ s.output) in
     let rest : List ℕ = changes 0 start s.core.memory in
     let tail : drop (before_changes s (length mark)) (frozen start s mark) ≡ rest =
-    ap (drop (before_changes s (length mark))) (frozen_bytes_of_going_thread start s mark goes)
+    ap (drop (before_changes s (length mark))) (frozen_bytes_of_going_thread_are_end_fixed_output_changes start s mark goes)
     ∙ drop_at front rest (before_changes s (length mark)) (length_of_bytes_before_changes s mark bounded.core.register_count) in
     ap (λ l. thread_of (frame_of s) (pages_of (changed start l))) tail
     ∙ ap (λ l. thread_of (frame_of s) (pages_of l))
     (changed_by_changes_gives_memory [] start s.core.memory (bounded.core.memory_length ∙ sym size) (omega (arith, size)))
     ∙ ap (λ c. record s { core = c }) (core_of_own_pages s.core bounded.core.memory_length)
 
-pub thawed_of_changes : (start : List ℕ) → length start ≡ memory_size → (s : ThreadState) → length s.core.memory ≡ memory_size
+pub thawed_of_changes_is_thread : (start : List ℕ) → length start ≡ memory_size → (s : ThreadState) → length s.core.memory ≡ memory_size
     → thawed start (frame_of s) 0 (changes 0 start s.core.memory) ≡ s
-thawed_of_changes start size s same =
+thawed_of_changes_is_thread start size s same =
     ap (λ l. thread_of (frame_of s) (pages_of l)) (changed_by_changes_gives_memory [] start s.core.memory (same ∙ sym size) (omega (arith, size)))
     ∙ ap (λ c. record s { core = c }) (core_of_own_pages s.core same)

@@ -27,11 +27,11 @@ changes_append place (x ∷ a) b (y ∷ c) d same =
     ∙ sym (append_assoc (change place x y) (changes (suc place) a c) (changes (place + length (x ∷ a)) b d))
 
 -- one byte more
-pub changes_byte_step : (first i : ℕ) (old new out more whole : List ℕ) → i < length old → i < length new
+pub written_and_remaining_changes_step_by_byte : (first i : ℕ) (old new out more whole : List ℕ) → i < length old → i < length new
     → more ≡ out ++ change (first + i) (get_or old i 0) (get_or new i 0)
     → out ++ changes (first + i) (drop i old) (drop i new) ≡ whole
     → more ++ changes (first + (i + 1)) (drop (i + 1) old) (drop (i + 1) new) ≡ whole
-changes_byte_step first i old new out more whole here there e before =
+written_and_remaining_changes_step_by_byte first i old new out more whole here there e before =
     let next : first + (i + 1) ≡ suc (first + i) = omega arith in
     let rest : List ℕ = changes (suc (first + i)) (drop (i + 1) old) (drop (i + 1) new) in
     ap (λ p. more ++ changes p (drop (i + 1) old) (drop (i + 1) new)) next
@@ -54,22 +54,22 @@ highest_exists_if_object_held (Some access) (Some top) e = refl
 pub changes_of_equal_lists_are_empty : (place : ℕ) (old new : List ℕ) → old ≡ new → changes place old new ≡ []
 changes_of_equal_lists_are_empty place old new e = ap (λ l. changes place l new) e ∙ changes_of_itself_are_empty place new
 
-pub append_of_empty : (out more : List ℕ) → more ≡ [] → out ≡ out ++ more
-append_of_empty out more e = sym (append-nil out) ∙ ap (λ l. out ++ l) (sym e)
+pub append_is_unchanged_if_second_is_empty : (out more : List ℕ) → more ≡ [] → out ≡ out ++ more
+append_is_unchanged_if_second_is_empty out more e = sym (append-nil out) ∙ ap (λ l. out ++ l) (sym e)
 
 -- a page, and what is behind it
-page_before_remaining_memory : (memory : List ℕ) (i : ℕ) → page_of memory i ++ drop (4096 * (i + 1)) memory ≡ drop (4096 * i) memory
-page_before_remaining_memory memory i =
+page_append_rest_is_drop_at_page : (memory : List ℕ) (i : ℕ) → page_of memory i ++ drop (4096 * (i + 1)) memory ≡ drop (4096 * i) memory
+page_append_rest_is_drop_at_page memory i =
     ap (λ n. page_of memory i ++ drop n memory) (omega arith)
     ∙ ap (λ l. page_of memory i ++ l) (sym (drop-drop page_size (4096 * i) memory))
     ∙ take-append-drop page_size (drop (4096 * i) memory)
 
 -- one page more
-pub changes_page_step : (i : ℕ) (start memory out more old new whole : List ℕ) → old ≡ page_of start i → new ≡ page_of memory i
+pub written_and_remaining_changes_step_by_page : (i : ℕ) (start memory out more old new whole : List ℕ) → old ≡ page_of start i → new ≡ page_of memory i
     → length old ≡ page_size → length new ≡ page_size → more ≡ out ++ changes (4096 * i) old new
     → out ++ changes (4096 * i) (drop (4096 * i) start) (drop (4096 * i) memory) ≡ whole
     → more ++ changes (4096 * (i + 1)) (drop (4096 * (i + 1)) start) (drop (4096 * (i + 1)) memory) ≡ whole
-changes_page_step i start memory out more old new whole is is' size size' e before =
+written_and_remaining_changes_step_by_page i start memory out more old new whole is is' size size' e before =
     let rest : List ℕ = changes (4096 * (i + 1)) (drop (4096 * (i + 1)) start) (drop (4096 * (i + 1)) memory) in
     let next : 4096 * (i + 1) ≡ 4096 * i + length old = omega (arith, size) in
     ap (λ l. l ++ rest) e
@@ -78,6 +78,6 @@ changes_page_step i start memory out more old new whole is is' size size' e befo
     ∙ ap (λ l. out ++ l)
     (sym (changes_append (4096 * i) old (drop (4096 * (i + 1)) start) new (drop (4096 * (i + 1)) memory) (size ∙ sym size')))
     ∙ ap (λ l. out ++ changes (4096 * i) l (new ++ drop (4096 * (i + 1)) memory))
-    (ap (λ l. l ++ drop (4096 * (i + 1)) start) is ∙ page_before_remaining_memory start i)
-    ∙ ap (λ l. out ++ changes (4096 * i) (drop (4096 * i) start) l) (ap (λ l. l ++ drop (4096 * (i + 1)) memory) is' ∙ page_before_remaining_memory memory i)
+    (ap (λ l. l ++ drop (4096 * (i + 1)) start) is ∙ page_append_rest_is_drop_at_page start i)
+    ∙ ap (λ l. out ++ changes (4096 * i) (drop (4096 * i) start) l) (ap (λ l. l ++ drop (4096 * (i + 1)) memory) is' ∙ page_append_rest_is_drop_at_page memory i)
     ∙ before

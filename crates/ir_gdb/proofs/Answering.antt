@@ -4,7 +4,7 @@ use Rattle.std.specs.Prelude.{⊤}
 use Rattle.std.specs.Io.KnownBytes.{Appends}
 use Rattle.std.proofs.KnownBytes.{Appends-nil, Appends-trans}
 use Rattle.ir_stream.specs.Answers.{AppendsPrefix}
-use Rattle.ir_stream.proofs.CallerLemmas.{prefix_after_whole_text, prefix_of_longer_text}
+use Rattle.ir_stream.proofs.CallerLemmas.{appends_prefix_of_append_if_first_appended, appends_prefix_of_longer_text}
 use Rattle.ir_cut.specs.Positions.{EachRun}
 use Rattle.ir_packet.specs.Packets.{packet_of}
 use Rattle.ir_packet.specs.Replies.{reply_text}
@@ -24,9 +24,9 @@ pub on_err_of_implied : {X E : Type 0} (r : Result X E) (P Q : Type 0) → (P �
 on_err_of_implied (Ok x) P Q go p = tt
 on_err_of_implied (Err e) P Q go p = go p
 
-pub on_err_from_fact : {X E : Type 0} (r : Result X E) (P : Type 0) → P → OnErr r P
-on_err_from_fact (Ok x) P p = tt
-on_err_from_fact (Err e) P p = p
+pub on_err_if_holds : {X E : Type 0} (r : Result X E) (P : Type 0) → P → OnErr r P
+on_err_if_holds (Ok x) P p = tt
+on_err_if_holds (Err e) P p = p
 
 -- ---- requests
 
@@ -39,16 +39,16 @@ replies_if_carried_out s asked next old new r none =
 pub replies_no_memory_if_lacks : (s : Stub) (asked : Request) (next : Stub) → Lacks s asked next → Replies s asked (reply_text reply.NoMemory) next
 replies_no_memory_if_lacks s asked next lacks = inr (lacks, refl)
 
-answers_by_reply_packet : (l : Link) (asked : Request) (s : Stub) (payload : List ℕ) (mid next : Link) → Replies l.stub asked payload s
+request_is_answered_by_reply_packet : (l : Link) (asked : Request) (s : Stub) (payload : List ℕ) (mid next : Link) → Replies l.stub asked payload s
     → mid ≡ record l { stub = s } → next ≡ sent mid mid.stub → AnswersBy l asked (packet_of payload) next
-answers_by_reply_packet l asked s payload mid next replies is after = (payload, s, replies, refl, after ∙ ap (λ (m : Link). sent m m.stub) is)
+request_is_answered_by_reply_packet l asked s payload mid next replies is after = (payload, s, replies, refl, after ∙ ap (λ (m : Link). sent m m.stub) is)
 
 pub sent_reply_packet : (l : Link) (asked : Request) (s : Stub) (payload : List ℕ) (mid next : Link) (w w' : Option (List ℕ))
     → Replies l.stub asked payload s → mid ≡ record l { stub = s } → next ≡ sent mid mid.stub → Appends w w' (packet_of payload)
     → Sent (AnswersBy l asked) next w w'
 sent_reply_packet l asked s payload mid next w w' replies is after grown = record {
   text = packet_of payload;
-  is = answers_by_reply_packet l asked s payload mid next replies is after;
+  is = request_is_answered_by_reply_packet l asked s payload mid next replies is after;
   grown = grown;
 }
 
@@ -57,16 +57,16 @@ pub sent_part_of_reply_packet : (l : Link) (asked : Request) (s : Stub) (payload
     → SentInPart (AnswersBy l asked) [] w w'
 sent_part_of_reply_packet l asked s payload mid next w w' replies is after grown = record {
   text = packet_of payload;
-  is = inl (next, answers_by_reply_packet l asked s payload mid next replies is after);
+  is = inl (next, request_is_answered_by_reply_packet l asked s payload mid next replies is after);
   grown = grown;
 }
 
 -- ---- a session's line
 
-answers_line_by_response : (b : Bool) (l : Link) (line : List ℕ) (s : Stub) (answer : List ℕ) → b ≡ false → Responds l.stub line s (λ text. answer ≡ text)
+line_is_answered_by_response_and_done : (b : Bool) (l : Link) (line : List ℕ) (s : Stub) (answer : List ℕ) → b ≡ false → Responds l.stub line s (λ text. answer ≡ text)
     → AnswersLine b l line (answer_text answer ++ packet_of (reply_text reply.Done)) (sent l s)
-answers_line_by_response true l line s answer goes r = absurd cc
-answers_line_by_response false l line s answer goes r = inl (
+line_is_answered_by_response_and_done true l line s answer goes r = absurd cc
+line_is_answered_by_response_and_done false l line s answer goes r = inl (
   s,
   (
     r.0,
@@ -90,7 +90,7 @@ pub sent_answer_to_line : (b : Bool) (l : Link) (line : List ℕ) (s : Stub) (an
 sent_answer_to_line b l line s answer mid answered next w w1 w2 goes r is same after first rest = record {
   text = answer_text answer ++ packet_of (reply_text reply.Done);
   is = subst (AnswersLine b l line (answer_text answer ++ packet_of (reply_text reply.Done)))
-      (sym (link_after_answer_is_sent_of_old_link l s mid answered next is same after)) (answers_line_by_response b l line s answer goes r);
+      (sym (link_after_answer_is_sent_of_old_link l s mid answered next is same after)) (line_is_answered_by_response_and_done b l line s answer goes r);
   grown = Appends-trans w w1 w2 (answer_text answer) (packet_of (reply_text reply.Done)) first rest;
 }
 
@@ -99,8 +99,8 @@ pub sent_part_of_done_packet_after_answer : (b : Bool) (l : Link) (line : List �
     → AppendsPrefix w1 w2 (packet_of (reply_text reply.Done)) → SentInPart (AnswersLine b l line) [] w w2
 sent_part_of_done_packet_after_answer b l line s answer w w1 w2 goes r first rest = record {
   text = answer_text answer ++ packet_of (reply_text reply.Done);
-  is = inl (sent l s, answers_line_by_response b l line s answer goes r);
-  grown = prefix_after_whole_text w w1 w2 (answer_text answer) (packet_of (reply_text reply.Done)) first rest;
+  is = inl (sent l s, line_is_answered_by_response_and_done b l line s answer goes r);
+  grown = appends_prefix_of_append_if_first_appended w w1 w2 (answer_text answer) (packet_of (reply_text reply.Done)) first rest;
 }
 
 pub sent_part_of_answer_to_line : (b : Bool) (l : Link) (line : List ℕ) (s : Stub) (answer : List ℕ) (w w1 : Option (List ℕ))
@@ -108,19 +108,19 @@ pub sent_part_of_answer_to_line : (b : Bool) (l : Link) (line : List ℕ) (s : S
     → SentInPart (AnswersLine b l line) [] w w1
 sent_part_of_answer_to_line b l line s answer w w1 goes r first = record {
   text = answer_text answer ++ packet_of (reply_text reply.Done);
-  is = inl (sent l s, answers_line_by_response b l line s answer goes r);
-  grown = prefix_of_longer_text w w1 (answer_text answer) (packet_of (reply_text reply.Done)) first;
+  is = inl (sent l s, line_is_answered_by_response_and_done b l line s answer goes r);
+  grown = appends_prefix_of_longer_text w w1 (answer_text answer) (packet_of (reply_text reply.Done)) first;
 }
 
-answers_quitting_line_not_permitted : (b : Bool) (l : Link) (line : List ℕ) → b ≡ true → AnswersLine b l line (packet_of (reply_text reply.NotPermitted)) (sent l l.stub)
-answers_quitting_line_not_permitted true l line quits = (refl, refl)
-answers_quitting_line_not_permitted false l line quits = absurd cc
+quitting_line_is_answered_not_permitted : (b : Bool) (l : Link) (line : List ℕ) → b ≡ true → AnswersLine b l line (packet_of (reply_text reply.NotPermitted)) (sent l l.stub)
+quitting_line_is_answered_not_permitted true l line quits = (refl, refl)
+quitting_line_is_answered_not_permitted false l line quits = absurd cc
 
 pub sent_part_of_answer_to_quitting_line : (b : Bool) (l : Link) (line : List ℕ) (w w' : Option (List ℕ)) → b ≡ true
     → AppendsPrefix w w' (packet_of (reply_text reply.NotPermitted)) → SentInPart (AnswersLine b l line) [] w w'
 sent_part_of_answer_to_quitting_line b l line w w' quits grown = record {
   text = packet_of (reply_text reply.NotPermitted);
-  is = inl (sent l l.stub, answers_quitting_line_not_permitted b l line quits);
+  is = inl (sent l l.stub, quitting_line_is_answered_not_permitted b l line quits);
   grown = grown;
 }
 
@@ -129,23 +129,23 @@ pub sent_answer_to_quitting_line : (b : Bool) (l : Link) (line : List ℕ) (mid 
 sent_answer_to_quitting_line b l line mid next w w' quits same after grown = record {
   text = packet_of (reply_text reply.NotPermitted);
   is = subst (AnswersLine b l line (packet_of (reply_text reply.NotPermitted))) (sym (after ∙ ap (λ (m : Link). sent m m.stub) same))
-      (answers_quitting_line_not_permitted b l line quits);
+      (quitting_line_is_answered_not_permitted b l line quits);
   grown = grown;
 }
 
-answers_line_no_memory : (b : Bool) (l : Link) (line : List ℕ) (mid next : Link) → b ≡ false
+line_is_answered_no_memory_if_it_lacks : (b : Bool) (l : Link) (line : List ℕ) (mid next : Link) → b ≡ false
     → ((mid ≡ l) ⊎ ((s : Stub) × Responds l.stub line s (λ text. ⊤) × (mid ≡ record l { stub = s }))) → next ≡ sent mid mid.stub
     → AnswersLine b l line (packet_of (reply_text reply.NoMemory)) next
-answers_line_no_memory true l line mid next goes r after = absurd cc
-answers_line_no_memory false l line mid next goes (inl same) after = inr (inl (after ∙ ap (λ (m : Link). sent m m.stub) same), refl)
-answers_line_no_memory false l line mid next goes (inr (s, r, is)) after = inr (inr (s, r, after ∙ ap (λ (m : Link). sent m m.stub) is), refl)
+line_is_answered_no_memory_if_it_lacks true l line mid next goes r after = absurd cc
+line_is_answered_no_memory_if_it_lacks false l line mid next goes (inl same) after = inr (inl (after ∙ ap (λ (m : Link). sent m m.stub) same), refl)
+line_is_answered_no_memory_if_it_lacks false l line mid next goes (inr (s, r, is)) after = inr (inr (s, r, after ∙ ap (λ (m : Link). sent m m.stub) is), refl)
 
 pub sent_no_memory_reply : (b : Bool) (l : Link) (line : List ℕ) (mid next : Link) (w w' : Option (List ℕ)) → b ≡ false
     → ((mid ≡ l) ⊎ ((s : Stub) × Responds l.stub line s (λ text. ⊤) × (mid ≡ record l { stub = s }))) → next ≡ sent mid mid.stub
     → Appends w w' (packet_of (reply_text reply.NoMemory)) → Sent (AnswersLine b l line) next w w'
 sent_no_memory_reply b l line mid next w w' goes r after grown = record {
   text = packet_of (reply_text reply.NoMemory);
-  is = answers_line_no_memory b l line mid next goes r after;
+  is = line_is_answered_no_memory_if_it_lacks b l line mid next goes r after;
   grown = grown;
 }
 
@@ -154,7 +154,7 @@ pub sent_part_of_no_memory_reply : (b : Bool) (l : Link) (line : List ℕ) (mid 
     → AppendsPrefix w w' (packet_of (reply_text reply.NoMemory)) → SentInPart (AnswersLine b l line) [] w w'
 sent_part_of_no_memory_reply b l line mid w w' goes r grown = record {
   text = packet_of (reply_text reply.NoMemory);
-  is = inl (sent mid mid.stub, answers_line_no_memory b l line mid (sent mid mid.stub) goes r refl);
+  is = inl (sent mid mid.stub, line_is_answered_no_memory_if_it_lacks b l line mid (sent mid mid.stub) goes r refl);
   grown = grown;
 }
 
@@ -178,21 +178,21 @@ pub sent_part_of_answer_to_packet : (l : Link) (payload : List ℕ) (w w1 w2 : O
 sent_part_of_answer_to_packet l payload w w1 w2 first rest = record {
   text = sign l (codes "+") ++ rest.text;
   is = signed_text_answers_packet_if_text_answers_request l payload rest.text rest.is;
-  grown = prefix_after_whole_text w w1 w2 (sign l (codes "+")) rest.text first rest.grown;
+  grown = appends_prefix_of_append_if_first_appended w w1 w2 (sign l (codes "+")) rest.text first rest.grown;
 }
 
 text_of_no_reply_is_empty : reply_text reply.Nothing ≡ []
 unfolding reply_text
 text_of_no_reply_is_empty = refl
 
-answers_too_long_by_empty_packet : (l next : Link) → next ≡ sent l l.stub → AnswersNew l TooLong (sign l (codes "+") ++ packet_of (reply_text reply.Nothing)) next
-answers_too_long_by_empty_packet l next after = (ap (λ (x : List ℕ). sign l (codes "+") ++ packet_of x) text_of_no_reply_is_empty, after)
+too_long_packet_is_answered_by_empty_packet : (l next : Link) → next ≡ sent l l.stub → AnswersNew l TooLong (sign l (codes "+") ++ packet_of (reply_text reply.Nothing)) next
+too_long_packet_is_answered_by_empty_packet l next after = (ap (λ (x : List ℕ). sign l (codes "+") ++ packet_of x) text_of_no_reply_is_empty, after)
 
 pub sent_answer_to_too_long_packet : (l next : Link) (w w1 w2 : Option (List ℕ)) → next ≡ sent l l.stub → Appends w w1 (sign l (codes "+"))
     → Appends w1 w2 (packet_of (reply_text reply.Nothing)) → Sent (AnswersNew l TooLong) next w w2
 sent_answer_to_too_long_packet l next w w1 w2 after first rest = record {
   text = sign l (codes "+") ++ packet_of (reply_text reply.Nothing);
-  is = answers_too_long_by_empty_packet l next after;
+  is = too_long_packet_is_answered_by_empty_packet l next after;
   grown = Appends-trans w w1 w2 (sign l (codes "+")) (packet_of (reply_text reply.Nothing)) first rest;
 }
 
@@ -200,13 +200,13 @@ pub sent_part_of_answer_to_too_long_packet : (l : Link) (w w1 w2 : Option (List 
     → AppendsPrefix w1 w2 (packet_of (reply_text reply.Nothing)) → SentInPart (AnswersNew l TooLong) [] w w2
 sent_part_of_answer_to_too_long_packet l w w1 w2 first rest = record {
   text = sign l (codes "+") ++ packet_of (reply_text reply.Nothing);
-  is = inl (sent l l.stub, answers_too_long_by_empty_packet l (sent l l.stub) refl);
-  grown = prefix_after_whole_text w w1 w2 (sign l (codes "+")) (packet_of (reply_text reply.Nothing)) first rest;
+  is = inl (sent l l.stub, too_long_packet_is_answered_by_empty_packet l (sent l l.stub) refl);
+  grown = appends_prefix_of_append_if_first_appended w w1 w2 (sign l (codes "+")) (packet_of (reply_text reply.Nothing)) first rest;
 }
 
 pub sent_part_of_sign_to_too_long_packet : (l : Link) (w w1 : Option (List ℕ)) → AppendsPrefix w w1 (sign l (codes "+")) → SentInPart (AnswersNew l TooLong) [] w w1
 sent_part_of_sign_to_too_long_packet l w w1 first = record {
   text = sign l (codes "+") ++ packet_of (reply_text reply.Nothing);
-  is = inl (sent l l.stub, answers_too_long_by_empty_packet l (sent l l.stub) refl);
-  grown = prefix_of_longer_text w w1 (sign l (codes "+")) (packet_of (reply_text reply.Nothing)) first;
+  is = inl (sent l l.stub, too_long_packet_is_answered_by_empty_packet l (sent l l.stub) refl);
+  grown = appends_prefix_of_longer_text w w1 (sign l (codes "+")) (packet_of (reply_text reply.Nothing)) first;
 }

@@ -183,12 +183,12 @@ module _ (l : Link) (payload : List ℕ) (f : Found) (next : Link) (w : Option (
   refused_answered is same = subst (λ (x : Found). Sent (AnswersNew l (item_found x payload)) next w w) (sym is)
       (record { text = []; is = (refl, same); grown = Appends-nil w })
 
-pub flow_after_packet_by_request : {E : Type 0} (r : Result Flow E) (payload : List ℕ) (f : Found) → f ≡ found.Packet
+pub ok_flow_of_request_is_flow_of_found_packet : {E : Type 0} (r : Result Flow E) (payload : List ℕ) (f : Found) → f ≡ found.Packet
     → IfOk r (λ x. x ≡ flow_after (ends_request (request_of payload))) → IfOk r (λ x. x ≡ flow_after (ends_by (item_found f payload)))
-flow_after_packet_by_request r payload f is p = subst (λ (y : Found). IfOk r (λ x. x ≡ flow_after (ends_by (item_found y payload)))) (sym is) p
+ok_flow_of_request_is_flow_of_found_packet r payload f is p = subst (λ (y : Found). IfOk r (λ x. x ≡ flow_after (ends_by (item_found y payload)))) (sym is) p
 
-pub flow_is_by_end_test_if_test_is_false : {E : Type 0} (r : Result Flow E) (b : Bool) → b ≡ false → IfOk r (λ x. x ≡ flow_after false) → IfOk r (λ x. x ≡ flow_after b)
-flow_is_by_end_test_if_test_is_false r b is p = subst (λ (c : Bool). IfOk r (λ x. x ≡ flow_after c)) (sym is) p
+pub ok_flow_of_false_is_flow_of_test_if_test_is_false : {E : Type 0} (r : Result Flow E) (b : Bool) → b ≡ false → IfOk r (λ x. x ≡ flow_after false) → IfOk r (λ x. x ≡ flow_after b)
+ok_flow_of_false_is_flow_of_test_if_test_is_false r b is p = subst (λ (c : Bool). IfOk r (λ x. x ≡ flow_after c)) (sym is) p
 
 -- ---- copies
 
@@ -217,8 +217,8 @@ module _ (l : Link) (item : Item) where
       → SentInPart (AnswersItem l item) before w w'
   new_part before w w' new s = record { text = s.text; is = part_is s.text before new s.is; grown = s.grown }
 
-pub copy_ends_no_connection : (l : Link) (item : Item) → (is_copy l && is_packet item) ≡ true → ends l item ≡ false
-copy_ends_no_connection l item both = by_copy (is_copy l) both
+pub copied_packet_ends_no_connection : (l : Link) (item : Item) → (is_copy l && is_packet item) ≡ true → ends l item ≡ false
+copied_packet_ends_no_connection l item both = by_copy (is_copy l) both
   where
     by_copy : (b : Bool) → (b && is_packet item) ≡ true → (not b && ends_by item) ≡ false
     by_copy true e = refl
@@ -232,13 +232,13 @@ item_without_packet_ends_nothing stream.Interrupt e = refl
 item_without_packet_ends_nothing stream.Acknowledged e = refl
 item_without_packet_ends_nothing stream.Refused e = refl
 
-ends_of_new_item_is_ends_by : (b : Bool) (item : Item) → (b && is_packet item) ≡ false → (not b && ends_by item) ≡ ends_by item
-ends_of_new_item_is_ends_by true item new = sym (item_without_packet_ends_nothing item new)
-ends_of_new_item_is_ends_by false item new = refl
+not_copy_and_ends_by_is_ends_by_unless_copied_packet : (b : Bool) (item : Item) → (b && is_packet item) ≡ false → (not b && ends_by item) ≡ ends_by item
+not_copy_and_ends_by_is_ends_by_unless_copied_packet true item new = sym (item_without_packet_ends_nothing item new)
+not_copy_and_ends_by_is_ends_by_unless_copied_packet false item new = refl
 
-pub flow_after_new_item : {E : Type 0} (r : Result Flow E) (l : Link) (item : Item) → (is_copy l && is_packet item) ≡ false
+pub ok_flow_of_ends_by_is_flow_of_ends_unless_copy : {E : Type 0} (r : Result Flow E) (l : Link) (item : Item) → (is_copy l && is_packet item) ≡ false
     → IfOk r (λ x. x ≡ flow_after (ends_by item)) → IfOk r (λ x. x ≡ flow_after (ends l item))
-flow_after_new_item r l item new p = subst (λ (b : Bool). IfOk r (λ x. x ≡ flow_after b)) (sym (ends_of_new_item_is_ends_by (is_copy l) item new)) p
+ok_flow_of_ends_by_is_flow_of_ends_unless_copy r l item new p = subst (λ (b : Bool). IfOk r (λ x. x ≡ flow_after b)) (sym (not_copy_and_ends_by_is_ends_by_unless_copied_packet (is_copy l) item new)) p
 
 -- ---- packets, whose request is read first
 

@@ -41,8 +41,8 @@ packet_payload_within_limit raw a b payload false true l i e =
     omega (arith, most, few, len)
 packet_payload_within_limit raw a b payload false false l i e = absurd cc
 
-head_of_equal_lists : (x y : Item) (xs ys : List Item) → x ∷ xs ≡ y ∷ ys → x ≡ y
-head_of_equal_lists x y xs ys e = cc
+heads_of_equal_lists_are_equal : (x y : Item) (xs ys : List Item) → x ∷ xs ≡ y ∷ ys → x ≡ y
+heads_of_equal_lists_are_equal x y xs ys e = cc
 
 single_byte_item_is_no_packet : (b : ℕ) (payload : List ℕ) (one two three : Bool) → Packet payload ∷ [] ≡ (if one then stream.Interrupt ∷ [] else if two then stream.Acknowledged ∷ []
     else if three then stream.Refused ∷ [] else []) → ⊥
@@ -56,7 +56,7 @@ ended_payload_within_limit Between b payload e = absurd (single_byte_item_is_no_
 ended_payload_within_limit (Inside raw) b payload e = absurd cc
 ended_payload_within_limit (Summing raw) b payload e = absurd cc
 ended_payload_within_limit (Digit raw a) b payload e = packet_payload_within_limit raw a b payload (ltb 4096 (length raw)) (is_number (two_digits a b) (checksum raw)) refl refl
-    (sym (head_of_equal_lists (Packet payload) (packet_item raw a b) [] [] e))
+    (sym (heads_of_equal_lists_are_equal (Packet payload) (packet_item raw a b) [] [] e))
 
 -- a payload that a reader has found is no longer than the most bytes of a packet
 pub found_payload_within_limit : (f : Found) (p : Place) (b : ℕ) (payload : List ℕ) → items_found (Some f) payload ≡ stream.ends p b → f ≡ found.Packet
@@ -74,13 +74,13 @@ answers_to_no_items : (l : Link) → Answers l [] false [] l
 unfolding Answers
 answers_to_no_items l = (refl, refl, refl)
 
-rest_of_appended_items : (b : Bool) (more after : Bool → List ℕ → Link → Type 0) (next : Link) (ended : Bool) (text text' : List ℕ) (mid last : Link)
+rest_of_appended_items_if_not_ended : (b : Bool) (more after : Bool → List ℕ → Link → Type 0) (next : Link) (ended : Bool) (text text' : List ℕ) (mid last : Link)
     → ((more false text mid) → after ended (text ++ text') last) → Rest b more next false text mid → Rest b after next ended (text ++ text') last
-rest_of_appended_items true more after next ended text text' mid last go p = absurd (true-not-false p.0)
+rest_of_appended_items_if_not_ended true more after next ended text text' mid last go p = absurd (true-not-false p.0)
   where
     true-not-false : false ≡ true → ⊥
     true-not-false e = absurd cc
-rest_of_appended_items false more after next ended text text' mid last go p = go p
+rest_of_appended_items_if_not_ended false more after next ended text text' mid last go p = go p
 
 -- none of the first ends the connection
 answers_to_appended_items : (l : Link) (xs ys : List Item) (ended : Bool) (text text' : List ℕ) (mid last : Link) → Answers l xs false text mid
@@ -94,26 +94,26 @@ answers_to_appended_items l (x ∷ xs) ys ended text text' mid last (first, next
   next,
   rest ++ text',
   answers,
-  rest_of_appended_items (ends l x) (Answers next xs) (Answers next (xs ++ ys)) next ended rest text' mid last
+  rest_of_appended_items_if_not_ended (ends l x) (Answers next xs) (Answers next (xs ++ ys)) next ended rest text' mid last
       (λ p. answers_to_appended_items next xs ys ended rest text' mid last p b) more,
   ap (λ (t : List ℕ). t ++ text') is ∙ append_assoc first rest text',
 )
 
-rest_past_ending_item : (b : Bool) (more after : Bool → List ℕ → Link → Type 0) (next : Link) (text : List ℕ) (last : Link)
+rest_of_other_items_if_ended : (b : Bool) (more after : Bool → List ℕ → Link → Type 0) (next : Link) (text : List ℕ) (last : Link)
     → (more true text last → after true text last) → Rest b more next true text last → Rest b after next true text last
-rest_past_ending_item true more after next text last go p = p
-rest_past_ending_item false more after next text last go p = go p
+rest_of_other_items_if_ended true more after next text last go p = p
+rest_of_other_items_if_ended false more after next text last go p = go p
 
 -- behind one that ends the connection nothing counts
-answers_past_ending_item : (l : Link) (xs ys : List Item) (text : List ℕ) (last : Link) → Answers l xs true text last → Answers l (xs ++ ys) true text last
+answers_ignore_items_past_ending_item : (l : Link) (xs ys : List Item) (text : List ℕ) (last : Link) → Answers l xs true text last → Answers l (xs ++ ys) true text last
 unfolding Answers
-answers_past_ending_item l [] ys text last a = absurd cc
-answers_past_ending_item l (x ∷ xs) ys text last (first, next, rest, answers, more, is) = (
+answers_ignore_items_past_ending_item l [] ys text last a = absurd cc
+answers_ignore_items_past_ending_item l (x ∷ xs) ys text last (first, next, rest, answers, more, is) = (
   first,
   next,
   rest,
   answers,
-  rest_past_ending_item (ends l x) (Answers next xs) (Answers next (xs ++ ys)) next rest last (λ p. answers_past_ending_item next xs ys rest last p) more,
+  rest_of_other_items_if_ended (ends l x) (Answers next xs) (Answers next (xs ++ ys)) next rest last (λ p. answers_ignore_items_past_ending_item next xs ys rest last p) more,
   is,
 )
 
@@ -140,9 +140,9 @@ pub record AfterBytes (l0 : Link) (input w0 left written : Option (List ℕ)) (l
   pub grown : Appends w0 written text
   pub stands : place ≡ kept (place_after Between bytes)
 
-pub after_no_bytes : (l : Link) (input w0 : Option (List ℕ)) (place : Place) → place ≡ Between → AfterBytes l input w0 input w0 l place 0
+pub after_bytes_at_start : (l : Link) (input w0 : Option (List ℕ)) (place : Place) → place ≡ Between → AfterBytes l input w0 input w0 l place 0
 unfolding items_from place_after
-after_no_bytes l input w0 place begins = record {
+after_bytes_at_start l input w0 place begins = record {
   bytes = [];
   count = refl;
   parts = Consumes-nil input;
@@ -156,22 +156,22 @@ items_from_single_byte_are_ends : (p : Place) (b : ℕ) → items_from p (b ∷ 
 unfolding items_from
 items_from_single_byte_are_ends p b = append-nil (stream.ends p b)
 
-place_after_pushed_byte : (p : Place) (bytes : List ℕ) (b : ℕ) → place_after p (bytes ++ b ∷ []) ≡ step (place_after p bytes) b
+place_after_pushed_byte_is_step_of_place : (p : Place) (bytes : List ℕ) (b : ℕ) → place_after p (bytes ++ b ∷ []) ≡ step (place_after p bytes) b
 unfolding place_after
-place_after_pushed_byte p [] b = refl
-place_after_pushed_byte p (x ∷ bytes) b = place_after_pushed_byte (step p x) bytes b
+place_after_pushed_byte_is_step_of_place p [] b = refl
+place_after_pushed_byte_is_step_of_place p (x ∷ bytes) b = place_after_pushed_byte_is_step_of_place (step p x) bytes b
 
 -- what a byte ends is found, whatever of the packet is kept
-items_of_pushed_byte : (bytes : List ℕ) (b : ℕ) (place : Place) (ended : List Item) → place ≡ kept (place_after Between bytes) → ended ≡ stream.ends place b
+items_after_pushed_byte_add_its_ended_items : (bytes : List ℕ) (b : ℕ) (place : Place) (ended : List Item) → place ≡ kept (place_after Between bytes) → ended ≡ stream.ends place b
     → items (bytes ++ b ∷ []) ≡ items bytes ++ ended
-items_of_pushed_byte bytes b place ended is finds = items_from_of_append Between bytes (b ∷ [])
+items_after_pushed_byte_add_its_ended_items bytes b place ended is finds = items_from_of_append Between bytes (b ∷ [])
     ∙ ap (λ (xs : List Item). items bytes ++ xs) (items_from_single_byte_are_ends (place_after Between bytes) b ∙ sym (ends_ignores_kept (place_after Between bytes) b)
     ∙ ap (λ (p : Place). stream.ends p b) (sym is) ∙ sym finds)
 
-kept_place_after_pushed_byte : (bytes : List ℕ) (b : ℕ) (place next : Place) → place ≡ kept (place_after Between bytes) → next ≡ kept (step place b)
+kept_step_of_kept_place_is_kept_place_after_pushed_byte : (bytes : List ℕ) (b : ℕ) (place next : Place) → place ≡ kept (place_after Between bytes) → next ≡ kept (step place b)
     → next ≡ kept (place_after Between (bytes ++ b ∷ []))
-kept_place_after_pushed_byte bytes b place next is steps = steps ∙ ap (λ (p : Place). kept (step p b)) is ∙ kept_step_ignores_kept (place_after Between bytes) b
-    ∙ ap kept (sym (place_after_pushed_byte Between bytes b))
+kept_step_of_kept_place_is_kept_place_after_pushed_byte bytes b place next is steps = steps ∙ ap (λ (p : Place). kept (step p b)) is ∙ kept_step_ignores_kept (place_after Between bytes) b
+    ∙ ap kept (sym (place_after_pushed_byte_is_step_of_place Between bytes b))
 
 take_of_append_is_first_part : (xs rest : List ℕ) (n : ℕ) → length xs ≡ n → take n (xs ++ rest) ≡ xs
 take_of_append_is_first_part [] rest n e = ap (λ (k : ℕ). take k rest) (sym e)
@@ -209,15 +209,15 @@ module _ (l0 : Link) (input w0 left left' written : Option (List ℕ)) (l : Link
     parts = Consumes-trans input left left' at.bytes (b ∷ []) at.parts took;
     text = at.text;
     answers = subst (λ (xs : List Item). Answers l0 xs false at.text l)
-        (sym (items_of_pushed_byte at.bytes b place [] at.stands finds ∙ append-nil (items at.bytes))) at.answers;
+        (sym (items_after_pushed_byte_add_its_ended_items at.bytes b place [] at.stands finds ∙ append-nil (items at.bytes))) at.answers;
     grown = at.grown;
-    stands = kept_place_after_pushed_byte at.bytes b place next at.stands steps;
+    stands = kept_step_of_kept_place_is_kept_place_after_pushed_byte at.bytes b place next at.stands steps;
   }
 
   module _ (b : ℕ) (f : Found) (payload : List ℕ) (took : Consumes left left' (b ∷ []))
       (finds : items_found (Some f) payload ≡ stream.ends place b) where
     all_items : items (at.bytes ++ b ∷ []) ≡ items at.bytes ++ item_found f payload ∷ []
-    all_items = items_of_pushed_byte at.bytes b place (item_found f payload ∷ []) at.stands finds
+    all_items = items_after_pushed_byte_add_its_ended_items at.bytes b place (item_found f payload ∷ []) at.stands finds
 
     all_taken : Consumes input left' (at.bytes ++ b ∷ [])
     all_taken = Consumes-trans input left left' at.bytes (b ∷ []) at.parts took
@@ -242,7 +242,7 @@ module _ (l0 : Link) (input w0 left left' written : Option (List ℕ)) (l : Link
       text = at.text ++ s.text;
       answers = all_answers next written' false goes s;
       grown = Appends-trans w0 written written' at.text s.text at.grown s.grown;
-      stands = kept_place_after_pushed_byte at.bytes b place place' at.stands steps;
+      stands = kept_step_of_kept_place_is_kept_place_after_pushed_byte at.bytes b place place' at.stands steps;
     }
 
     module _ (limit : ℕ) (below : n < limit) where
@@ -262,7 +262,7 @@ module _ (l0 : Link) (input w0 left left' written : Option (List ℕ)) (l : Link
           answers = subst (λ (bytes : List ℕ). Answers l0 (items bytes) true (at.text ++ s.text) next) (sym (within_limit rest))
               (subst (λ (xs : List Item). Answers l0 xs true (at.text ++ s.text) next)
               (sym (items_from_of_append Between (at.bytes ++ b ∷ []) (take (limit - length (at.bytes ++ b ∷ [])) rest)))
-              (answers_past_ending_item l0 (items (at.bytes ++ b ∷ [])) _ (at.text ++ s.text) next (all_answers next written' true quits s)));
+              (answers_ignore_items_past_ending_item l0 (items (at.bytes ++ b ∷ [])) _ (at.text ++ s.text) next (all_answers next written' true quits s)));
           grown = Appends-trans w0 written written' at.text s.text at.grown s.grown;
         };
       }

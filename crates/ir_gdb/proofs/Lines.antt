@@ -27,10 +27,10 @@ responds_by_session_answer asked line s next old new answer P is same after a t 
         (subst (λ (text : List ℕ). RepliesBy asked run old.desk text new.desk) (sym (t.1 run at)) (a.answers run of)))
 
 -- a line without words has no answer
-pub responds_nothing_without_words : (asked : Result (Option Command) Refusal) (line : List ℕ) (s : Stub) (P : List ℕ → Type 0) → asked ≡ command_of line
+pub responds_nothing_to_line_without_command : (asked : Result (Option Command) Refusal) (line : List ℕ) (s : Stub) (P : List ℕ → Type 0) → asked ≡ command_of line
     → asked ≡ Ok None → P [] → Responds s line s P
 unfolding Replies
-responds_nothing_without_words asked line s P is none p = ([], s.desk, replies, refl, p)
+responds_nothing_to_line_without_command asked line s P is none p = ([], s.desk, replies, refl, p)
   where
     replies : Replies s.desk line [] s.desk
     replies = λ run of. subst (λ (x : Result (Option Command) Refusal). RepliesBy x run s.desk [] s.desk) (sym none ∙ is) (refl, refl)
@@ -40,8 +40,8 @@ responds_nothing_without_words asked line s P is none p = ([], s.desk, replies, 
 pub line_quits_if_text_quits : (line text : List ℕ) (b : Bool) → b ≡ quits text → text ≡ line → b ≡ true → quits line ≡ true
 line_quits_if_text_quits line text b is same q = sym (ap quits same) ∙ sym is ∙ q
 
-pub line_goes_on_if_text_does : (line text : List ℕ) (b : Bool) → b ≡ quits text → text ≡ line → b ≡ false → quits line ≡ false
-line_goes_on_if_text_does line text b is same q = sym (ap quits same) ∙ sym is ∙ q
+pub line_does_not_quit_if_text_does_not : (line text : List ℕ) (b : Bool) → b ≡ quits text → text ≡ line → b ≡ false → quits line ≡ false
+line_does_not_quit_if_text_does_not line text b is same q = sym (ap quits same) ∙ sym is ∙ q
 
 -- what a session answers, kept from nothing on
 pub responds_kept_text_if_kept_from_empty : (s s0 : Stub) (text line : List ℕ) (next : Stub) (old new : List ℕ) → s ≡ s0 → text ≡ line → old ≡ []

@@ -22,17 +22,17 @@ use Rattle.ir_gdb.proofs.Together.{below_next_cases, holds_below_next_number_exc
 
 -- ---- of a stub that has spoken
 
-goes_to_ignores_spoken : (d : Direction) (run : List Step) (s : Stub) (t : ℕ) (w : Bool) (to : Stopped) → GoesTo d run (spoken s) t w to → GoesTo d run s t w to
-goes_to_ignores_spoken Forwards run s t true to goes = goes
-goes_to_ignores_spoken Forwards run s t false to goes = goes
-goes_to_ignores_spoken Backwards run s t true to goes = goes
-goes_to_ignores_spoken Backwards run s t false to goes = goes
+goes_to_if_goes_to_of_spoken : (d : Direction) (run : List Step) (s : Stub) (t : ℕ) (w : Bool) (to : Stopped) → GoesTo d run (spoken s) t w to → GoesTo d run s t w to
+goes_to_if_goes_to_of_spoken Forwards run s t true to goes = goes
+goes_to_if_goes_to_of_spoken Forwards run s t false to goes = goes
+goes_to_if_goes_to_of_spoken Backwards run s t true to goes = goes
+goes_to_if_goes_to_of_spoken Backwards run s t false to goes = goes
 
-are_stops_ignores_spoken : (run : List Step) (s : Stub) (d : Direction) (mover : ℕ) (each : List Stopped) → AreStops run (spoken s) d mover each
+are_stops_if_are_stops_of_spoken : (run : List Step) (s : Stub) (d : Direction) (mover : ℕ) (each : List Stopped) → AreStops run (spoken s) d mover each
     → AreStops run s d mover each
-are_stops_ignores_spoken run s d mover each stops = record {
+are_stops_if_are_stops_of_spoken run s d mover each stops = record {
   count = stops.count;
-  own = λ u below. goes_to_ignores_spoken d run s u (u == mover) (stop_among each u) (stops.own u below);
+  own = λ u below. goes_to_if_goes_to_of_spoken d run s u (u == mover) (stop_among each u) (stops.own u below);
 }
 
 is_free_ignores_spoken : (s : Stub) (d : Direction) (each : List Stopped) (cut : List ℕ) (t n : ℕ)
@@ -46,48 +46,48 @@ unfolding moves_other
 moves_other_ignores_spoken s cut t zero = refl
 moves_other_ignores_spoken s cut t (suc n) = ap (λ (b : Bool). b || moves s cut t n) (moves_other_ignores_spoken s cut t n)
 
-is_met_ignores_spoken : (run : List Step) (s : Stub) (d : Direction) (each : List Stopped) (cut : List ℕ) (u : ℕ) (own : List ℕ)
+is_met_if_is_met_of_spoken : (run : List Step) (s : Stub) (d : Direction) (each : List Stopped) (cut : List ℕ) (u : ℕ) (own : List ℕ)
     → IsMet run (spoken s) d each cut u own → IsMet run s d each cut u own
-is_met_ignores_spoken run s d each cut u own met = record {
+is_met_if_is_met_of_spoken run s d each cut u own met = record {
   meets = met.meets;
   comes = met.comes;
   free = sym (is_free_ignores_spoken s d each own u (threads_of s.desk.fitted)) ∙ met.free;
 }
 
-is_not_met_ignores_spoken : (run : List Step) (s : Stub) (d : Direction) (each : List Stopped) (cut : List ℕ) (u : ℕ)
+is_not_met_if_is_not_met_of_spoken : (run : List Step) (s : Stub) (d : Direction) (each : List Stopped) (cut : List ℕ) (u : ℕ)
     → IsNotMet run (spoken s) d each cut u → IsNotMet run s d each cut u
-is_not_met_ignores_spoken run s d each cut u (inl none) = inl none
-is_not_met_ignores_spoken run s d each cut u (inr (own, comes, free)) =
+is_not_met_if_is_not_met_of_spoken run s d each cut u (inl none) = inl none
+is_not_met_if_is_not_met_of_spoken run s d each cut u (inr (own, comes, free)) =
     inr (own, comes, sym (is_free_ignores_spoken s d each own u (threads_of s.desk.fitted)) ∙ free)
 
-first_met_ignores_spoken : (run : List Step) (s : Stub) (d : Direction) (each : List Stopped) (cut : List ℕ) (t : ℕ) (met : Option Halt)
+first_met_if_first_met_of_spoken : (run : List Step) (s : Stub) (d : Direction) (each : List Stopped) (cut : List ℕ) (t : ℕ) (met : Option Halt)
     → FirstMet run (spoken s) d each cut t met → FirstMet run s d each cut t met
-first_met_ignores_spoken run s d each cut t None none = λ u below other. is_not_met_ignores_spoken run s d each cut u (none u below other)
-first_met_ignores_spoken run s d each cut t (Some h) first =
-    (first.0, first.1, is_met_ignores_spoken run s d each cut h.thread h.cut first.2, first.3, λ u below other. is_not_met_ignores_spoken run s d each cut u (first.4 u below other))
+first_met_if_first_met_of_spoken run s d each cut t None none = λ u below other. is_not_met_if_is_not_met_of_spoken run s d each cut u (none u below other)
+first_met_if_first_met_of_spoken run s d each cut t (Some h) first =
+    (first.0, first.1, is_met_if_is_met_of_spoken run s d each cut h.thread h.cut first.2, first.3, λ u below other. is_not_met_if_is_not_met_of_spoken run s d each cut u (first.4 u below other))
 
-met_by_ignores_spoken : (run : List Step) (s : Stub) (d : Direction) (cut : List ℕ) (own h : Halt) → MetBy true run (spoken s) d cut own h
+met_by_if_met_by_of_spoken : (run : List Step) (s : Stub) (d : Direction) (cut : List ℕ) (own h : Halt) → MetBy true run (spoken s) d cut own h
     → MetBy true run s d cut own h
-met_by_ignores_spoken run s d cut own h (each, stops, (met, first, is)) =
-    (each, are_stops_ignores_spoken run s d own.thread each stops, (met, first_met_ignores_spoken run s d each cut own.thread met first, is))
+met_by_if_met_by_of_spoken run s d cut own h (each, stops, (met, first, is)) =
+    (each, are_stops_if_are_stops_of_spoken run s d own.thread each stops, (met, first_met_if_first_met_of_spoken run s d each cut own.thread met first, is))
 
-stops_among_ignores_spoken : (run : List Step) (s : Stub) (d : Direction) (each : List Stopped) (t : ℕ) (h : Option Halt)
+stops_among_if_stops_among_of_spoken : (run : List Step) (s : Stub) (d : Direction) (each : List Stopped) (t : ℕ) (h : Option Halt)
     → StopsAmong run (spoken s) d each t h → StopsAmong run s d each t h
-stops_among_ignores_spoken run s d each t h (cut, comes, (met, first, is)) = (cut, comes, (met, first_met_ignores_spoken run s d each cut t met first, is))
+stops_among_if_stops_among_of_spoken run s d each t h (cut, comes, (met, first, is)) = (cut, comes, (met, first_met_if_first_met_of_spoken run s d each cut t met first, is))
 
-first_stop_ignores_spoken : (run : List Step) (s : Stub) (d : Direction) (each : List Stopped) (t : ℕ) (stop : Option Halt)
+first_stop_if_first_stop_of_spoken : (run : List Step) (s : Stub) (d : Direction) (each : List Stopped) (t : ℕ) (stop : Option Halt)
     → FirstStop run (spoken s) d each t stop → FirstStop run s d each t stop
-first_stop_ignores_spoken run s d each t None (none, others) =
-    (stops_among_ignores_spoken run s d each t None none, λ u below other. stops_among_ignores_spoken run s d each u None (others u below other))
-first_stop_ignores_spoken run s d each t (Some h) (inl first) = inl (stops_among_ignores_spoken run s d each t (Some h) first)
-first_stop_ignores_spoken run s d each t (Some h) (inr (none, (u, below, other, others, stops))) = inr (
-  stops_among_ignores_spoken run s d each t None none,
+first_stop_if_first_stop_of_spoken run s d each t None (none, others) =
+    (stops_among_if_stops_among_of_spoken run s d each t None none, λ u below other. stops_among_if_stops_among_of_spoken run s d each u None (others u below other))
+first_stop_if_first_stop_of_spoken run s d each t (Some h) (inl first) = inl (stops_among_if_stops_among_of_spoken run s d each t (Some h) first)
+first_stop_if_first_stop_of_spoken run s d each t (Some h) (inr (none, (u, below, other, others, stops))) = inr (
+  stops_among_if_stops_among_of_spoken run s d each t None none,
   (
     u,
     below,
     other,
-    λ v less differs. stops_among_ignores_spoken run s d each v None (others v less differs),
-    stops_among_ignores_spoken run s d each u (Some h) stops,
+    λ v less differs. stops_among_if_stops_among_of_spoken run s d each v None (others v less differs),
+    stops_among_if_stops_among_of_spoken run s d each u (Some h) stops,
   ),
 )
 
@@ -97,9 +97,9 @@ furthest_ignores_spoken s Backwards = refl
 
 -- ---- the stops of all
 
-holds_of_stops_after_push : (P : ℕ → Stopped → Type 0) (xs new : List Stopped) (x : Stopped) (n : ℕ) → length xs ≡ n → new ≡ xs ++ x ∷ []
+each_stop_has_property_after_push : (P : ℕ → Stopped → Type 0) (xs new : List Stopped) (x : Stopped) (n : ℕ) → length xs ≡ n → new ≡ xs ++ x ∷ []
     → ((u : ℕ) → u < n → P u (stop_among xs u)) → P n x → (u : ℕ) → u < n + 1 → P u (stop_among new u)
-holds_of_stops_after_push P xs new x n len is all next u below =
+each_stop_has_property_after_push P xs new x n len is all next u below =
     subst (λ (ys : List Stopped). P u (stop_among ys u)) (sym is) (by (below_next_cases u n below))
   where
     by : (u < n) ⊎ (u ≡ n) → P u (stop_among (xs ++ x ∷ []) u)
@@ -111,19 +111,19 @@ holds_of_stops_after_push P xs new x n len is all next u below =
         subst (λ (k : ℕ). stop_among (xs ++ x ∷ []) k ≡ x) len (get_or-append_seam xs x [] (stopped 0 reason.End)) in
         subst (λ (k : ℕ). P k (stop_among (xs ++ x ∷ []) k)) (sym same) (subst (P n) (sym at) next)
 
-pub own_stops_after_push : (s u : Stub) (d : Direction) (mover n : ℕ) (w : Bool) (xs new : List Stopped) (x : Stopped) → u ≡ spoken s → length xs ≡ n
+pub stops_are_own_stops_after_push : (s u : Stub) (d : Direction) (mover n : ℕ) (w : Bool) (xs new : List Stopped) (x : Stopped) → u ≡ spoken s → length xs ≡ n
     → w ≡ (n == mover) → new ≡ xs ++ x ∷ [] → EachRun u.desk.fitted (λ run. GoesTo d run u n w x)
     → EachRun s.desk.fitted (λ run. (k : ℕ) → k < n → OwnStop run s d mover k (stop_among xs k))
     → EachRun s.desk.fitted (λ run. (k : ℕ) → k < n + 1 → OwnStop run s d mover k (stop_among new k))
-own_stops_after_push s u d mover n w xs new x same len watched is goes all run whole =
-    let next = goes_to_ignores_spoken d run s n w x (subst (λ (y : Stub). EachRun y.desk.fitted (λ r. GoesTo d r y n w x)) same goes run whole) in
-    holds_of_stops_after_push (OwnStop run s d mover) xs new x n len is (all run whole) (subst (λ (b : Bool). GoesTo d run s n b x) watched next)
+stops_are_own_stops_after_push s u d mover n w xs new x same len watched is goes all run whole =
+    let next = goes_to_if_goes_to_of_spoken d run s n w x (subst (λ (y : Stub). EachRun y.desk.fitted (λ r. GoesTo d r y n w x)) same goes run whole) in
+    each_stop_has_property_after_push (OwnStop run s d mover) xs new x n len is (all run whole) (subst (λ (b : Bool). GoesTo d run s n b x) watched next)
 
 pub stops_within_last_after_push : (s u : Stub) (n : ℕ) (xs new : List Stopped) (x : Stopped) → u ≡ spoken s → length xs ≡ n → new ≡ xs ++ x ∷ []
     → x.position ≤ last_of u.desk.fitted n → ((k : ℕ) → k < n → (stop_among xs k).position ≤ last_of s.desk.fitted k)
     → (k : ℕ) → k < n + 1 → (stop_among new k).position ≤ last_of s.desk.fitted k
 stops_within_last_after_push s u n xs new x same len is next all =
-    holds_of_stops_after_push (λ k y. y.position ≤ last_of s.desk.fitted k) xs new x n len is all
+    each_stop_has_property_after_push (λ k y. y.position ≤ last_of s.desk.fitted k) xs new x n len is all
     (subst (λ (y : Stub). x.position ≤ last_of y.desk.fitted n) same next)
 
 -- ---- moves
@@ -132,10 +132,10 @@ stops_within_last_after_push s u n xs new x same len is next all =
 settled_ignores_spoken : (s u v : Stub) (h : Halt) → u ≡ spoken s → v ≡ settled u h → v ≡ settled s h
 settled_ignores_spoken s u v h same is = is ∙ ap (λ (x : Stub). settled x h) same
 
-comes_ignores_spoken : (s u : Stub) (t : ℕ) (m : Motion) (d : Direction) (to : Stopped) (cut : List ℕ) → u ≡ spoken s → d ≡ direction_of m
+comes_in_each_run_if_comes_of_spoken : (s u : Stub) (t : ℕ) (m : Motion) (d : Direction) (to : Stopped) (cut : List ℕ) → u ≡ spoken s → d ≡ direction_of m
     → EachRun u.desk.fitted (λ run. Comes run u d t to.position cut)
     → EachRun s.desk.fitted (λ run. Comes run s (direction_of m) t to.position cut)
-comes_ignores_spoken s u t m d to cut same way comes =
+comes_in_each_run_if_comes_of_spoken s u t m d to cut same way comes =
     let said = subst (λ (x : Stub). EachRun x.desk.fitted (λ run. Comes run x d t to.position cut)) same comes in
     subst (λ (e : Direction). EachRun s.desk.fitted (λ run. Comes run s e t to.position cut)) way said
 
@@ -143,7 +143,7 @@ pub moves_alone_and_settles : (s u v : Stub) (t : ℕ) (m : Motion) (d : Directi
     → EachRun s.desk.fitted (λ run. MovesTo run s t m to) → EachRun u.desk.fitted (λ run. Comes run u d t to.position cut)
     → v ≡ settled u (halt t cut to.reason) → (h : Halt) × EachRun s.desk.fitted (λ run. MovesAlone run s t m h) × (v ≡ settled s h)
 moves_alone_and_settles s u v t m d to cut same way moves comes is =
-    let said = comes_ignores_spoken s u t m d to cut same way comes in
+    let said = comes_in_each_run_if_comes_of_spoken s u t m d to cut same way comes in
     (halt t cut to.reason, λ run whole. (to, moves run whole, said run whole, refl), settled_ignores_spoken s u v (halt t cut to.reason) same is)
 
 pub met_by_first_and_settles : (s u v : Stub) (d : Direction) (t : ℕ) (cut : List ℕ) (why : Reason) (each : List Stopped) (met : Option (ℕ × List ℕ)) (h : Halt)
@@ -153,7 +153,7 @@ pub met_by_first_and_settles : (s u v : Stub) (d : Direction) (t : ℕ) (cut : L
 met_by_first_and_settles s u v d t cut why each met h same stops first is settles =
     let said = subst (λ (x : Stub). EachRun x.desk.fitted (λ run. FirstMet run x d each cut t (first_met each met))) same first in (
       h,
-      λ run whole. (each, stops run whole, (first_met each met, first_met_ignores_spoken run s d each cut t (first_met each met) (said run whole), is)),
+      λ run whole. (each, stops run whole, (first_met each met, first_met_if_first_met_of_spoken run s d each cut t (first_met each met) (said run whole), is)),
       settled_ignores_spoken s u v h same settles,
     )
 
@@ -167,7 +167,7 @@ pub steps_among_if_others_move : (s u v : Stub) (t : ℕ) (m : Motion) (d : Dire
     → ((h : Halt) × EachRun u.desk.fitted (λ run. MetBy true run u d cut (halt t cut to.reason) h) × (v ≡ settled u h))
     → (h : Halt) × EachRun s.desk.fitted (λ run. StepsAmong run s t m h) × (v ≡ settled s h)
 steps_among_if_others_move s u v t m d to cut same way moves comes other (h, met, settles) =
-    let said = comes_ignores_spoken s u t m d to cut same way comes in
+    let said = comes_in_each_run_if_comes_of_spoken s u t m d to cut same way comes in
     let found = subst (λ (x : Stub). EachRun x.desk.fitted (λ run. MetBy true run x d cut (halt t cut to.reason) h)) same met in
     let mets = subst (λ (e : Direction). EachRun s.desk.fitted (λ run. MetBy true run (spoken s) e cut (halt t cut to.reason) h)) way found in
     let one = moves_other_is_test_on_spoken_stub s t cut true (subst (λ (x : Stub). true ≡ moves_other x cut t (threads_of x.desk.fitted)) same other) in (
@@ -179,7 +179,7 @@ steps_among_if_others_move s u v t m d to cut same way moves comes other (h, met
           cut,
           said run whole,
           subst (λ (b : Bool). MetBy b run s (direction_of m) cut (halt t cut to.reason) h) (sym one)
-              (met_by_ignores_spoken run s (direction_of m) cut (halt t cut to.reason) h (mets run whole)),
+              (met_by_if_met_by_of_spoken run s (direction_of m) cut (halt t cut to.reason) h (mets run whole)),
         ),
       ),
       settled_ignores_spoken s u v h same settles,
@@ -190,7 +190,7 @@ pub steps_among_if_no_other_moves : (s u v : Stub) (t : ℕ) (m : Motion) (d : D
     → false ≡ moves_other u cut t (threads_of u.desk.fitted) → v ≡ settled u (halt t cut to.reason)
     → (h : Halt) × EachRun s.desk.fitted (λ run. StepsAmong run s t m h) × (v ≡ settled s h)
 steps_among_if_no_other_moves s u v t m d to cut same way moves comes none settles =
-    let said = comes_ignores_spoken s u t m d to cut same way comes in
+    let said = comes_in_each_run_if_comes_of_spoken s u t m d to cut same way comes in
     let no = moves_other_is_test_on_spoken_stub s t cut false (subst (λ (x : Stub). false ≡ moves_other x cut t (threads_of x.desk.fitted)) same none) in (
       halt t cut to.reason,
       λ run whole. (
@@ -210,7 +210,7 @@ continues_among_and_settles s u v t d each stop h same stops first is settles =
     let far = ap (λ (x : Stub). furthest x d) same ∙ furthest_ignores_spoken s d in
     let ends = is ∙ ap (λ (cut : List ℕ). or_else (first_met each stop) (halt t cut (end_of d))) far in (
       h,
-      λ run whole. (each, stops run whole, (first_met each stop, first_stop_ignores_spoken run s d each t (first_met each stop) (said run whole), ends)),
+      λ run whole. (each, stops run whole, (first_met each stop, first_stop_if_first_stop_of_spoken run s d each t (first_met each stop) (said run whole), ends)),
       settled_ignores_spoken s u v h same settles,
     )
 
@@ -223,12 +223,12 @@ none_stops_step s d each t n stop is at none run whole =
     holds_below_next_number_except_one (λ u. StopsAmong run s d each u None) t n (none run whole)
     (λ other. subst (λ (x : Option (ℕ × List ℕ)). StopsAmong run s d each n (first_met each x)) is (at run whole))
 
-pub first_stop_of_other_thread : (s : Stub) (d : Direction) (each : List Stopped) (t n : ℕ) (own stop : Option (ℕ × List ℕ)) (m : ℕ × List ℕ) → own ≡ None
+pub first_stop_is_at_other_thread_if_none_before_stops : (s : Stub) (d : Direction) (each : List Stopped) (t n : ℕ) (own stop : Option (ℕ × List ℕ)) (m : ℕ × List ℕ) → own ≡ None
     → EachRun s.desk.fitted (λ run. StopsAmong run s d each t (first_met each own)) → n ≢ t → n < threads_of s.desk.fitted
     → EachRun s.desk.fitted (λ run. NoneStops run s d each t n) → stop ≡ Some m
     → EachRun s.desk.fitted (λ run. StopsAmong run s d each n (first_met each stop))
     → EachRun s.desk.fitted (λ run. FirstStop run s d each t (first_met each (Some m)))
-first_stop_of_other_thread s d each t n own stop m lacks mine other below none is at run whole = inr (
+first_stop_is_at_other_thread_if_none_before_stops s d each t n own stop m lacks mine other below none is at run whole = inr (
   subst (λ (x : Option (ℕ × List ℕ)). StopsAmong run s d each t (first_met each x)) lacks (mine run whole),
   (
     n,
@@ -263,10 +263,10 @@ stop_of_met_thread_ignores_default s u each ys stop other cut x same are all is 
 
 -- ---- replies
 
-pub moves_as_interrupted : (s v : Stub) (who : Moving) (m : Motion) (old new : List ℕ) → s.interrupted ≡ true
+pub moves_by_interruption_if_stub_is_interrupted : (s v : Stub) (who : Moving) (m : Motion) (old new : List ℕ) → s.interrupted ≡ true
     → v ≡ after_told (spoken s) (interrupted_at who.thread) → EachRun v.desk.fitted (λ run. new ≡ old ++ told_text run v)
     → (x : Stub) × EachRun s.desk.fitted (λ run. Moves run s who m x × (new ≡ old ++ told_text run x)) × (v ≡ spoken x)
-moves_as_interrupted s v who m old new stopped is told =
+moves_by_interruption_if_stub_is_interrupted s v who m old new stopped is told =
     let after = after_told (spoken s) (interrupted_at who.thread) in
     let said = subst (λ (x : Stub). EachRun x.desk.fitted (λ run. new ≡ old ++ told_text run x)) is told in
     (after, λ run whole. (subst (λ (b : Bool). MovesBy b run s who m after) (sym stopped) refl, said run whole), is)

@@ -30,10 +30,10 @@ cut_position_within_last f cut t has is l = subst (λ (n : ℕ). cut_of cut t �
 pub own_position_at_most_target : (to p t : ℕ) (here at : List ℕ) → p < to → here ≡ at → p ≡ cut_of at t → cut_of here t ≤ to
 own_position_at_most_target to p t here at far is from = let same = ap (λ (x : List ℕ). cut_of x t) is in omega (arith, far, same, from)
 
-has_hit_by_hit_on_way : (run : List Step) (s : Stub) (pc u : ℕ) (cut : List ℕ) (hit : Option Hit) → OnWay run s pc cut u hit
+has_hit_is_whether_hit_on_way_is_some : (run : List Step) (s : Stub) (pc u : ℕ) (cut : List ℕ) (hit : Option Hit) → OnWay run s pc cut u hit
     → HasHit (is_some hit) run s pc cut u
-has_hit_by_hit_on_way run s pc u cut None way = way
-has_hit_by_hit_on_way run s pc u cut (Some h) way = (h, way)
+has_hit_is_whether_hit_on_way_is_some run s pc u cut None way = way
+has_hit_is_whether_hit_on_way_is_some run s pc u cut (Some h) way = (h, way)
 
 pub search_points_are_points_over : (s v : Stub) (pc u : ℕ) (points : List Numbered) (ws : List Watched) (bs : List Breakpoint) (own : List Numbered) → v ≡ spoken s
     → points ≡ with_point (points_upwards u ws bs own) u pc → ws ≡ [] → bs ≡ v.breaks → own ≡ v.desk.points → points ≡ points_over s pc u
@@ -42,27 +42,27 @@ search_points_are_points_over s v pc u points ws bs own same is watches breaks m
     ∙ ap (λ (x : List Breakpoint). with_point (points_upwards u [] x own) u pc) (breaks ∙ ap (λ (x : Stub). x.breaks) same)
     ∙ ap (λ (x : List Numbered). with_point (points_upwards u [] s.breaks x) u pc) (mine ∙ ap (λ (x : Stub). x.desk.points) same)
 
-pub has_hit_by_search_on_way : (s : Stub) (f : FittedTrace) (pc u to : ℕ) (cut here : List ℕ) (points : List Numbered) (hit : Option Hit) (is : Bool)
+pub has_hit_is_whether_found_hit_is_some : (s : Stub) (f : FittedTrace) (pc u to : ℕ) (cut here : List ℕ) (points : List Numbered) (hit : Option Hit) (is : Bool)
     → f ≡ s.desk.fitted → here ≡ s.desk.at → to ≡ cut_of cut u → points ≡ points_over s pc u
     → EachRun f (λ run. IsNextHit f run points u (cut_of here u) to hit) → is ≡ is_some hit
     → EachRun s.desk.fitted (λ run. HasHit is run s pc cut u)
-has_hit_by_search_on_way s f pc u to cut here points hit is same at ends are finds found run whole =
+has_hit_is_whether_found_hit_is_some s f pc u to cut here points hit is same at ends are finds found run whole =
     let one = subst (λ (g : FittedTrace). EachRun g (λ r. IsNextHit g r points u (cut_of here u) to hit)) same finds run whole in
     let by_points = subst (λ (ps : List Numbered). IsNextHit s.desk.fitted run ps u (cut_of here u) to hit) are one in
     let by_here = subst (λ (xs : List ℕ). IsNextHit s.desk.fitted run (points_over s pc u) u (cut_of xs u) to hit) at by_points in
     let by_end = subst (λ (n : ℕ). IsNextHit s.desk.fitted run (points_over s pc u) u (position_of s u) n hit) ends by_here in
-    subst (λ (b : Bool). HasHit b run s pc cut u) (sym found) (has_hit_by_hit_on_way run s pc u cut hit by_end)
+    subst (λ (b : Bool). HasHit b run s pc cut u) (sym found) (has_hit_is_whether_hit_on_way_is_some run s pc u cut hit by_end)
 
 -- ---- hits of the others
 
-has_hit_ignores_spoken : (is : Bool) (run : List Step) (s : Stub) (pc u : ℕ) (cut : List ℕ) → HasHit is run (spoken s) pc cut u → HasHit is run s pc cut u
-has_hit_ignores_spoken true run s pc u cut has = has
-has_hit_ignores_spoken false run s pc u cut has = has
+has_hit_if_has_hit_of_spoken : (is : Bool) (run : List Step) (s : Stub) (pc u : ℕ) (cut : List ℕ) → HasHit is run (spoken s) pc cut u → HasHit is run s pc cut u
+has_hit_if_has_hit_of_spoken true run s pc u cut has = has
+has_hit_if_has_hit_of_spoken false run s pc u cut has = has
 
-has_hit_in_each_run_ignores_spoken : (s v : Stub) (is : Bool) (pc u : ℕ) (cut : List ℕ) → v ≡ spoken s → EachRun v.desk.fitted (λ run. HasHit is run v pc cut u)
+has_hit_in_each_run_if_has_hit_of_spoken : (s v : Stub) (is : Bool) (pc u : ℕ) (cut : List ℕ) → v ≡ spoken s → EachRun v.desk.fitted (λ run. HasHit is run v pc cut u)
     → EachRun s.desk.fitted (λ run. HasHit is run s pc cut u)
-has_hit_in_each_run_ignores_spoken s v is pc u cut same has run whole =
-    has_hit_ignores_spoken is run s pc u cut (subst (λ (x : Stub). EachRun x.desk.fitted (λ r. HasHit is r x pc cut u)) same has run whole)
+has_hit_in_each_run_if_has_hit_of_spoken s v is pc u cut same has run whole =
+    has_hit_if_has_hit_of_spoken is run s pc u cut (subst (λ (x : Stub). EachRun x.desk.fitted (λ r. HasHit is r x pc cut u)) same has run whole)
 
 pub none_has_hit_at_start : (s : Stub) (pc t : ℕ) (cut : List ℕ) → EachRun s.desk.fitted (λ run. NoneHasHit run s pc cut t 0)
 none_has_hit_at_start s pc t cut run whole = λ u below other. absurd (omega (arith, below))
@@ -78,7 +78,7 @@ pub none_has_hit_step : (s v : Stub) (is : Bool) (pc t n : ℕ) (cut : List ℕ)
     → EachRun s.desk.fitted (λ run. NoneHasHit run s pc cut t (n + 1))
 none_has_hit_step s v is pc t n cut same lacks has none run whole =
     holds_below_next_number_except_one (λ u. HasHit false run s pc cut u) t n (none run whole)
-    (λ other. subst (λ (b : Bool). HasHit b run s pc cut n) lacks (has_hit_in_each_run_ignores_spoken s v is pc n cut same has run whole))
+    (λ other. subst (λ (b : Bool). HasHit b run s pc cut n) lacks (has_hit_in_each_run_if_has_hit_of_spoken s v is pc n cut same has run whole))
 
 pub pc_is_pc_of_at_own_position : (s : Stub) (t p pc : ℕ) → p ≡ position_of s t → EachRun s.desk.fitted (λ run. pc ≡ (thread_at s.desk.fitted run t p).core.pc)
     → EachRun s.desk.fitted (λ run. pc ≡ pc_of run s t)
@@ -88,7 +88,7 @@ pub other_has_hit_if_found : (s v : Stub) (is : Bool) (pc t n : ℕ) (cut : List
     → EachRun s.desk.fitted (λ run. pc ≡ pc_of run s t) → EachRun v.desk.fitted (λ run. HasHit is run v pc cut n)
     → EachRun s.desk.fitted (λ run. OtherHasHit true run s (pc_of run s t) cut t)
 other_has_hit_if_found s v is pc t n cut same hits other below at has run whole =
-    let said = subst (λ (b : Bool). HasHit b run s pc cut n) hits (has_hit_in_each_run_ignores_spoken s v is pc n cut same has run whole) in
+    let said = subst (λ (b : Bool). HasHit b run s pc cut n) hits (has_hit_in_each_run_if_has_hit_of_spoken s v is pc n cut same has run whole) in
     (n, below, other, subst (λ (a : ℕ). HasHit true run s a cut n) (at run whole) said)
 
 pub no_other_hit_if_none_found : (s : Stub) (pc t n : ℕ) (cut : List ℕ) → threads_of s.desk.fitted ≤ n → EachRun s.desk.fitted (λ run. pc ≡ pc_of run s t)
@@ -106,10 +106,10 @@ passes_hit_as_other_has_hit_if_together s is t cut so has run whole = subst (λ 
 pub passes_no_hit_unless_together : (s : Stub) (t : ℕ) (cut : List ℕ) → s.together ≡ false → EachRun s.desk.fitted (λ run. PassesHit s.together false run s cut t)
 passes_no_hit_unless_together s t cut so run whole = subst (λ (b : Bool). PassesHit b false run s cut t) (sym so) refl
 
-passes_hit_ignores_spoken : (b is : Bool) (run : List Step) (s : Stub) (t : ℕ) (cut : List ℕ) → PassesHit b is run (spoken s) cut t → PassesHit b is run s cut t
-passes_hit_ignores_spoken true true run s t cut passes = passes
-passes_hit_ignores_spoken true false run s t cut passes = passes
-passes_hit_ignores_spoken false is run s t cut passes = passes
+passes_hit_if_passes_hit_of_spoken : (b is : Bool) (run : List Step) (s : Stub) (t : ℕ) (cut : List ℕ) → PassesHit b is run (spoken s) cut t → PassesHit b is run s cut t
+passes_hit_if_passes_hit_of_spoken true true run s t cut passes = passes
+passes_hit_if_passes_hit_of_spoken true false run s t cut passes = passes
+passes_hit_if_passes_hit_of_spoken false is run s t cut passes = passes
 
 -- ---- the step
 
@@ -122,7 +122,7 @@ steps_over_and_settles s u v w t to cut is h same again moves comes passes ends 
     let pass = subst (λ (x : Stub). EachRun x.desk.fitted (λ run. PassesHit x.together is run x cut t)) same passes in
     let said : v ≡ spoken s = again ∙ ap (λ (x : Stub). spoken x) same in (
       h,
-      λ run whole. (to, moves run whole, (cut, come run whole, (is, passes_hit_ignores_spoken s.together is run s t cut (pass run whole), ends))),
+      λ run whole. (to, moves run whole, (cut, come run whole, (is, passes_hit_if_passes_hit_of_spoken s.together is run s t cut (pass run whole), ends))),
       settles ∙ ap (λ (x : Stub). settled x h) said,
     )
 

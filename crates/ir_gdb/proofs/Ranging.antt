@@ -17,24 +17,24 @@ position_of_after_range_is_end_of_range : (last : ℕ) (left : Option ℕ) → (
 position_of_after_range_is_end_of_range last None = refl
 position_of_after_range_is_end_of_range last (Some k) = refl
 
-end_of_range_within_thread : (s : Stub) (t low high : ℕ) (left : Option ℕ) → HasRun s.desk.fitted → position_of s t ≤ last_of s.desk.fitted t
+end_of_range_between_own_and_last_position : (s : Stub) (t low high : ℕ) (left : Option ℕ) → HasRun s.desk.fitted → position_of s t ≤ last_of s.desk.fitted t
     → EachRun s.desk.fitted (λ run. Leaves run s t low high left)
     → (position_of s t ≤ end_of_range (last_of s.desk.fitted t) left) × (end_of_range (last_of s.desk.fitted t) left ≤ last_of s.desk.fitted t)
-end_of_range_within_thread s t low high None has le leaves = (le, omega arith)
-end_of_range_within_thread s t low high (Some k) has le leaves = let all = leaves has.run has.whole in (omega (arith, all.0), all.1)
+end_of_range_between_own_and_last_position s t low high None has le leaves = (le, omega arith)
+end_of_range_between_own_and_last_position s t low high (Some k) has le leaves = let all = leaves has.run has.whole in (omega (arith, all.0), all.1)
 
 pub after_range_ignores_spoken : (s u : Stub) (t last : ℕ) (left : Option ℕ) (e : Stopped) → u ≡ spoken s → last ≡ last_of u.desk.fitted t → e ≡ after_range last left
     → e ≡ after_range (last_of s.desk.fitted t) left
 after_range_ignores_spoken s u t last left e same at is =
     is ∙ ap (λ (n : ℕ). after_range n left) (at ∙ ap (λ (x : Stub). last_of x.desk.fitted t) same)
 
-pub range_end_between_own_and_last : (s u : Stub) (t low high : ℕ) (left : Option ℕ) (here : List ℕ) (e : Stopped) → u ≡ spoken s → HasRun u.desk.fitted
+pub after_range_position_between_own_and_last : (s u : Stub) (t low high : ℕ) (left : Option ℕ) (here : List ℕ) (e : Stopped) → u ≡ spoken s → HasRun u.desk.fitted
     → position_of u t ≤ last_of u.desk.fitted t → EachRun s.desk.fitted (λ run. Leaves run s t low high left) → here ≡ u.desk.at
     → e ≡ after_range (last_of s.desk.fitted t) left → (cut_of here t ≤ e.position) × (e.position ≤ last_of u.desk.fitted t)
-range_end_between_own_and_last s u t low high left here e same has le leaves at is =
+after_range_position_between_own_and_last s u t low high left here e same has le leaves at is =
     let has_run = subst (λ (x : Stub). HasRun x.desk.fitted) same has in
     let low_end = subst (λ (x : Stub). position_of x t ≤ last_of x.desk.fitted t) same le in
-    let both = end_of_range_within_thread s t low high left has_run low_end leaves in
+    let both = end_of_range_between_own_and_last_position s t low high left has_run low_end leaves in
     let ends = ap (λ (x : Stopped). x.position) is ∙ position_of_after_range_is_end_of_range (last_of s.desk.fitted t) left in
     let first = ap (λ (x : List ℕ). cut_of x t) at ∙ ap (λ (x : Stub). position_of x t) same in
     let last = ap (λ (x : Stub). last_of x.desk.fitted t) same in

@@ -11,8 +11,8 @@ use Rattle.ir_gdb.specs.Serving.{Serving, IsThere}
 use Rattle.ir_gdb.specs.Reads.{object_size, object_byte, word_byte, objects_start, byte_seen, current_of, bytes_there}
 use Rattle.ir_gdb.proofs.Bytes.{bytes_there_end_at_missing_byte}
 
-pub object_is_in_hand : (s : Serving) (n : ℕ) → IsThere s → n < object_count s.stub.desk.fitted.guest → n < length s.state.objects
-object_is_in_hand s n there below = let count = there.at.objects in omega (arith, count, below)
+pub guest_object_is_below_number_of_objects_in_hand : (s : Serving) (n : ℕ) → IsThere s → n < object_count s.stub.desk.fitted.guest → n < length s.state.objects
+guest_object_is_below_number_of_objects_in_hand s n there below = let count = there.at.objects in omega (arith, count, below)
 
 -- the words of an object in hand are those at the cut
 words_of_object_in_hand_are_those_at_cut : (s : Serving) (run : List Step) (o : ℕ) → IsThere s → EachRun s.stub.desk.fitted (λ run. slice_index (slice_index_or s.state.objects o empty).words

@@ -20,7 +20,7 @@ use Rattle.ir_debug.specs.declared.ended.Ended.TheVariants as ended
 use Rattle.ir_debug.specs.declared.ended.SessionErr.{SessionErr}
 use Rattle.ir_debug.specs.declared.ended.SessionErr.TheVariants as err
 use Rattle.ir_debug.proofs.CallerLemmas.{if_some_of_implied, if_served_by_implied_end}
-pub use Rattle.ir_debug.proofs.CallerLemmas.{reads_of_implied, ready_debugger_opens, read_fault_if_ended_by_read, write_fault_if_ended_by_write}
+pub use Rattle.ir_debug.proofs.CallerLemmas.{reads_up_to_of_implied, opens_ready_desk_if_opening_is_ready, read_fault_if_ended_by_read, write_fault_if_ended_by_write}
 use Rattle.ir_gdb.specs.Stub.{Stub, stub_of}
 use Rattle.ir_gdb.specs.Connection.{Link, link_of, LeadsTo}
 use Rattle.ir_gdb.specs.Session.{first_link, Serves, Refuses, Connects, Connected, Announced, IfNotRefused}
@@ -43,7 +43,7 @@ pub serves_by_read_input : (d : Desk) (l : Link) (result : Result Ended SessionE
     → IfServed result (ReadsUpTo most_input a b (Serves d result w w'))
 serves_by_read_input d l result r a b w w' ended is p =
     subst (λ (x : Result Ended SessionErr). IfServed x (ReadsUpTo most_input a b (Serves d x w w'))) (sym ended)
-    (if_served_by_implied_end r _ _ (reads_of_implied most_input a b _ _ (λ input leads. serves_if_leads_to d l r w w' input is leads)) p)
+    (if_served_by_implied_end r _ _ (reads_up_to_of_implied most_input a b _ _ (λ input leads. serves_if_leads_to d l r w w' input is leads)) p)
 
 pub serves_by_known_input : (d : Desk) (l : Link) (result : Result Ended SessionErr) (r : Result Served Fault) (a w w' : Option (List ℕ))
     → result ≡ ended_by r → l ≡ first_link d → IfEnded r (IfSome a (LeadsTo l most_input r w w'))
@@ -85,7 +85,7 @@ if_served_of_implied (Err err.TooLong) P Q go p = go p
 pub connected_by_read_input_if_ready : (image trace : List ℕ) (d : Desk) (result : Result Ended SessionErr) (a b w w' : Option (List ℕ))
     → Opens image trace (opening.Ready d) → IfServed result (ReadsUpTo most_input a b (Serves d result w w'))
     → IfServed result (ReadsUpTo most_input a b (Connected image trace result w w'))
-connected_by_read_input_if_ready image trace d result a b w w' opens p = if_served_of_implied result _ _ (reads_of_implied most_input a b _ _
+connected_by_read_input_if_ready image trace d result a b w w' opens p = if_served_of_implied result _ _ (reads_up_to_of_implied most_input a b _ _
     (λ input serves_if_leads_to. record { opening = opening.Ready d; opens = opens; connects = serves_if_leads_to })) p
 
 pub connected_by_known_input_if_ready : (image trace : List ℕ) (d : Desk) (result : Result Ended SessionErr) (a w w' : Option (List ℕ))
@@ -94,16 +94,13 @@ pub connected_by_known_input_if_ready : (image trace : List ℕ) (d : Desk) (res
 connected_by_known_input_if_ready image trace d result a w w' opens p = if_served_of_implied result _ _ (if_some_of_implied a _ _
     (λ input serves_if_leads_to. record { opening = opening.Ready d; opens = opens; connects = serves_if_leads_to })) p
 
-if_refused_from_absurd : (result : Result Ended SessionErr) (P : Type 0) → IfRefused result ⊥ → IfRefused result P
-if_refused_from_absurd (Ok ended.Quit) P p = tt
-if_refused_from_absurd (Ok ended.InputEnd) P p = tt
-if_refused_from_absurd (Ok ended.ImageRefused) P p = absurd p
-if_refused_from_absurd (Ok ended.TraceRefused) P p = absurd p
-if_refused_from_absurd (Ok ended.NotFit) P p = absurd p
-if_refused_from_absurd (Err e) P p = tt
-
-pub if_refused_holds_if_never : (result : Result Ended SessionErr) (P : Type 0) → IfRefused result ⊥ → IfRefused result P
-if_refused_holds_if_never result P p = if_refused_from_absurd result P p
+pub if_refused_holds_vacuously_if_never_refused : (result : Result Ended SessionErr) (P : Type 0) → IfRefused result ⊥ → IfRefused result P
+if_refused_holds_vacuously_if_never_refused (Ok ended.Quit) P p = tt
+if_refused_holds_vacuously_if_never_refused (Ok ended.InputEnd) P p = tt
+if_refused_holds_vacuously_if_never_refused (Ok ended.ImageRefused) P p = absurd p
+if_refused_holds_vacuously_if_never_refused (Ok ended.TraceRefused) P p = absurd p
+if_refused_holds_vacuously_if_never_refused (Ok ended.NotFit) P p = absurd p
+if_refused_holds_vacuously_if_never_refused (Err e) P p = tt
 
 -- ---- nothing was opened
 
@@ -139,28 +136,28 @@ announced_if_refused image trace o ended.ImageRefused P opens is p = record { op
 announced_if_refused image trace o ended.TraceRefused P opens is p = record { opening = o; opens = opens; ended = ended.TraceRefused; refuses = is; ending = refl; text = p }
 announced_if_refused image trace o ended.NotFit P opens is p = record { opening = o; opens = opens; ended = ended.NotFit; refuses = is; ending = refl; text = p }
 
-pub if_not_refused_holds_if_refused : (o : Opening) (e : Ended) (P : Type 0) → Refuses o e → IfNotRefused (Ok e) P
-if_not_refused_holds_if_refused (opening.ImageRefused x) e P is = subst (λ (y : Ended). IfNotRefused (Ok y) P) (sym is) tt
-if_not_refused_holds_if_refused (opening.TraceRefused x) e P is = subst (λ (y : Ended). IfNotRefused (Ok y) P) (sym is) tt
-if_not_refused_holds_if_refused (opening.Unfit v) e P is = subst (λ (y : Ended). IfNotRefused (Ok y) P) (sym is) tt
-if_not_refused_holds_if_refused (opening.Ready d) e P is = absurd is
+pub if_not_refused_holds_vacuously_if_refused : (o : Opening) (e : Ended) (P : Type 0) → Refuses o e → IfNotRefused (Ok e) P
+if_not_refused_holds_vacuously_if_refused (opening.ImageRefused x) e P is = subst (λ (y : Ended). IfNotRefused (Ok y) P) (sym is) tt
+if_not_refused_holds_vacuously_if_refused (opening.TraceRefused x) e P is = subst (λ (y : Ended). IfNotRefused (Ok y) P) (sym is) tt
+if_not_refused_holds_vacuously_if_refused (opening.Unfit v) e P is = subst (λ (y : Ended). IfNotRefused (Ok y) P) (sym is) tt
+if_not_refused_holds_vacuously_if_refused (opening.Ready d) e P is = absurd is
 
-pub if_not_refused_from_fact : (result : Result Ended SessionErr) (P : Type 0) → P → IfNotRefused result P
-if_not_refused_from_fact (Ok ended.Quit) P p = p
-if_not_refused_from_fact (Ok ended.InputEnd) P p = p
-if_not_refused_from_fact (Ok ended.ImageRefused) P p = tt
-if_not_refused_from_fact (Ok ended.TraceRefused) P p = tt
-if_not_refused_from_fact (Ok ended.NotFit) P p = tt
-if_not_refused_from_fact (Err e) P p = p
+pub if_not_refused_if_holds : (result : Result Ended SessionErr) (P : Type 0) → P → IfNotRefused result P
+if_not_refused_if_holds (Ok ended.Quit) P p = p
+if_not_refused_if_holds (Ok ended.InputEnd) P p = p
+if_not_refused_if_holds (Ok ended.ImageRefused) P p = tt
+if_not_refused_if_holds (Ok ended.TraceRefused) P p = tt
+if_not_refused_if_holds (Ok ended.NotFit) P p = tt
+if_not_refused_if_holds (Err e) P p = p
 
 -- what a writer took of a text
-pub text_is_appended_unless_broken : {X E : Type 0} (r : Result X E) (w w' : Option (List ℕ)) (broken : Bool) (text : List ℕ) → OnOk r (Appends w w' text)
+pub prefix_is_appended_and_whole_text_unless_broken : {X E : Type 0} (r : Result X E) (w w' : Option (List ℕ)) (broken : Bool) (text : List ℕ) → OnOk r (Appends w w' text)
     → OnErr r (AppendsPrefix w w' text) → OnErr r (broken ≡ true) → AppendsPrefix w w' text × (broken ≡ false → Appends w w' text)
-text_is_appended_unless_broken (Ok x) w w' broken text ok prefix err = (
+prefix_is_appended_and_whole_text_unless_broken (Ok x) w w' broken text ok prefix err = (
   record { part = text; more = []; splits = sym (append-nil text); grown = ok },
   λ e. ok,
 )
-text_is_appended_unless_broken (Err x) w w' broken text ok prefix err = (prefix, λ e. absurd (both broken err e))
+prefix_is_appended_and_whole_text_unless_broken (Err x) w w' broken text ok prefix err = (prefix, λ e. absurd (both broken err e))
   where
     both : (b : Bool) → b ≡ true → b ≡ false → ⊥
     both b is isnt = cc

@@ -4,7 +4,7 @@ use Rattle.std.specs.Prelude.{◌&&◌}
 use Rattle.std.specs.List.{filter, AllByRecursion}
 use Rattle.ir_lemmas.proofs.CallerLemmas.{all_by_recursion_after_push, length_of_append_item}
 use Rattle.ir_mach.specs.Core.{memory_start, memory_size}
-use Rattle.ir_debug.proofs.CallerLemmas.{all_of_filter, filter_is_not_longer}
+use Rattle.ir_debug.proofs.CallerLemmas.{filter_keeps_property_of_all, filter_is_not_longer}
 use Rattle.ir_gdb.specs.declared.point.Breakpoint.{Breakpoint}
 use Rattle.ir_gdb.specs.declared.point.Watched.{Watched}
 use Rattle.ir_gdb.specs.Stub.{Stub, IsStub, IsWatched, most_points, most_watched}
@@ -12,9 +12,9 @@ use Rattle.ir_gdb.specs.Setting.{can_watch, is_same_break, is_same_watch, breaks
 
 -- ---- a point more
 
-pub stub_with_break_is_stub : (s : Stub) (b : Breakpoint) → IsStub s → length s.breaks + length s.watches < most_points
+pub stub_with_break_is_stub_if_points_have_room : (s : Stub) (b : Breakpoint) → IsStub s → length s.breaks + length s.watches < most_points
     → IsStub (record s { breaks = s.breaks ++ b ∷ [] })
-stub_with_break_is_stub s b is room = record {
+stub_with_break_is_stub_if_points_have_room s b is room = record {
   general = is.general;
   chosen = is.chosen;
   current = is.current;
@@ -40,9 +40,9 @@ watched_if_can_watch w can =
       high = leb-true (w.address + w.size) (memory_start + memory_size) each.3;
     }
 
-pub stub_with_watch_is_stub : (s : Stub) (w : Watched) → IsStub s → can_watch w ≡ true → length s.breaks + length s.watches < most_points
+pub stub_with_watch_is_stub_if_room_and_can_watch : (s : Stub) (w : Watched) → IsStub s → can_watch w ≡ true → length s.breaks + length s.watches < most_points
     → IsStub (record s { watches = s.watches ++ w ∷ [] })
-stub_with_watch_is_stub s w is can room = record {
+stub_with_watch_is_stub_if_room_and_can_watch s w is can room = record {
   general = is.general;
   chosen = is.chosen;
   current = is.current;
@@ -69,6 +69,6 @@ stub_without_watch_is_stub s w is = record {
   chosen = is.chosen;
   current = is.current;
   told = is.told;
-  watches = all_of_filter IsWatched (λ x. not (is_same_watch x w)) s.watches is.watches;
+  watches = filter_keeps_property_of_all IsWatched (λ x. not (is_same_watch x w)) s.watches is.watches;
   few = let less = filter_is_not_longer (λ x. not (is_same_watch x w)) s.watches in let all = is.few in omega (arith, less, all);
 }

@@ -33,8 +33,8 @@ no_done_text_before_last_position : (b : Bool) (p last : ℕ) → eqb p last ≡
 no_done_text_before_last_position true p last test going = absurd (going (eqb-true p last test))
 no_done_text_before_last_position false p last test going = refl
 
-append_of_seven_texts : (a b c d e f more : List ℕ) → (((a ++ b) ++ (c ++ d)) ++ (e ++ f)) ++ more ≡ a ++ b ++ c ++ d ++ e ++ f ++ more
-append_of_seven_texts a b c d e f more = simp append_assoc
+append_of_seven_texts_reassociated : (a b c d e f more : List ℕ) → (((a ++ b) ++ (c ++ d)) ++ (e ++ f)) ++ more ≡ a ++ b ++ c ++ d ++ e ++ f ++ more
+append_of_seven_texts_reassociated a b c d e f more = simp append_assoc
 
 -- the text with the name and the positions, and then whether the thread is done
 module _ (s : Stub) (t p last : ℕ) (at : p ≡ position_of s t) (end : last ≡ last_of s.desk.fitted t) (t0 t1 t2 t3 : List ℕ) (none : t0 ≡ [])
@@ -47,7 +47,7 @@ module _ (s : Stub) (t p last : ℕ) (at : p ≡ position_of s t) (end : last �
       (name ∙ ap (λ (xs : List ℕ). xs ++ (codes "\" name=\"thread " ++ decimal t)) none)))
       ∙ ap (λ (n : ℕ). (((codes "\" name=\"thread " ++ decimal t) ++ (codes "\">at " ++ decimal n)) ++ (codes " of " ++ decimal last)) ++ more) at
       ∙ ap (λ (n : ℕ). (((codes "\" name=\"thread " ++ decimal t) ++ (codes "\">at " ++ decimal (position_of s t))) ++ (codes " of " ++ decimal n)) ++ more) end
-      ∙ append_of_seven_texts (codes "\" name=\"thread ") (decimal t) (codes "\">at ") (decimal (position_of s t)) (codes " of ")
+      ∙ append_of_seven_texts_reassociated (codes "\" name=\"thread ") (decimal t) (codes "\">at ") (decimal (position_of s t)) (codes " of ")
       (decimal (last_of s.desk.fitted t)) more
 
   pub place_done : (text out new : List ℕ) → p ≡ last → text ≡ t3 ++ codes " done" → new ≡ out ++ text → new ≡ out ++ place_text s t
@@ -64,13 +64,13 @@ module _ (s : Stub) (t p last : ℕ) (at : p ≡ position_of s t) (end : last �
       ∙ ap (λ (n : ℕ). t3 ++ (if eqb (position_of s t) n then codes " done" else [])) end
       ∙ before_done (if eqb (position_of s t) (last_of s.desk.fitted t) then codes " done" else []))
 
-append_of_five_texts : (o a b c d : List ℕ) → (((o ++ a) ++ b) ++ c) ++ d ≡ o ++ (a ++ b ++ c ++ d)
-append_of_five_texts o a b c d = simp append_assoc
+append_of_five_texts_reassociated : (o a b c d : List ℕ) → (((o ++ a) ++ b) ++ c) ++ d ≡ o ++ (a ++ b ++ c ++ d)
+append_of_five_texts_reassociated o a b c d = simp append_assoc
 
 pub thread_text_put_by_parts : (s : Stub) (t n : ℕ) (o0 o1 o2 o3 o4 : List ℕ) → n ≡ t + 1 → o1 ≡ o0 ++ codes "<thread id=\"" → o2 ≡ o1 ++ number_text n
     → o3 ≡ o2 ++ place_text s t → o4 ≡ o3 ++ codes "</thread>" → o4 ≡ o0 ++ thread_text s t
 thread_text_put_by_parts s t n o0 o1 o2 o3 o4 id e1 e2 e3 e4 = e4
     ∙ ap (λ (xs : List ℕ). xs ++ codes "</thread>") (e3 ∙ ap (λ (xs : List ℕ). xs ++ place_text s t) (e2
     ∙ ap (λ (xs : List ℕ). xs ++ number_text n) e1))
-    ∙ append_of_five_texts o0 (codes "<thread id=\"") (number_text n) (place_text s t) (codes "</thread>")
+    ∙ append_of_five_texts_reassociated o0 (codes "<thread id=\"") (number_text n) (place_text s t) (codes "</thread>")
     ∙ ap (λ (k : ℕ). o0 ++ (codes "<thread id=\"" ++ number_text k ++ place_text s t ++ codes "</thread>")) id

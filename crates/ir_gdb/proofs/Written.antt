@@ -6,9 +6,9 @@ use Rattle.ir_packet.specs.declared.reply.Reply.{Reply}
 use Rattle.ir_packet.specs.declared.reply.Reply.TheVariants as reply
 use Rattle.ir_gdb.specs.Connection.{most_piece, answer_packets, answer_text}
 
-pub answer_text_of_no_bytes : (bytes : List ℕ) → length bytes ≡ 0 → answer_text bytes ≡ []
+pub answer_text_of_no_bytes_is_empty : (bytes : List ℕ) → length bytes ≡ 0 → answer_text bytes ≡ []
 unfolding answer_packets
-answer_text_of_no_bytes bytes e =
+answer_text_of_no_bytes_is_empty bytes e =
     let none : (length bytes + 499) / most_piece ≡ 0 = omega (arith, e) in ap (λ (n : ℕ). answer_packets n bytes) none
 
 answer_text_is_first_packet_and_rest : (bytes : List ℕ) → 0 < length bytes

@@ -215,7 +215,7 @@ impl Remote {
     }
 
     // A thread in hand, where all are at a cut.
-    #[tactic(auto, using(crate::proofs::There::thread_in_hand_is_at_cut, crate::proofs::There::thread_is_in_hand))]
+    #[tactic(auto, using(crate::proofs::There::thread_in_hand_is_at_cut, crate::proofs::There::guest_thread_is_below_number_of_threads_in_hand))]
     fn visited(&self, cut: &Cut, thread: u32) -> &Thread
         requires there { StandsAt self.now.stub.desk.fitted (cut_of cut.now) self.now.state }
         requires thread { thread < threads_of self.now.stub.desk.fitted }

@@ -14,10 +14,10 @@ use Rattle.ir_store.specs.Table.{no_source}
 use Rattle.ir_graph.specs.Nodes.{LookAlike}
 use Rattle.ir_graph.specs.Plain.{IsLike}
 
-pub index_past_length_is_default : {A : Type 0} (xs : List A) (t : ℕ) (d : A) → length xs ≤ t → slice_index_or xs t d ≡ d
-index_past_length_is_default [] t d l = refl
-index_past_length_is_default (x ∷ xs) zero d l = absurd (omega (arith, l))
-index_past_length_is_default (x ∷ xs) (suc t) d l = index_past_length_is_default xs t d (omega (arith, l))
+pub slice_index_or_past_length_is_default : {A : Type 0} (xs : List A) (t : ℕ) (d : A) → length xs ≤ t → slice_index_or xs t d ≡ d
+slice_index_or_past_length_is_default [] t d l = refl
+slice_index_or_past_length_is_default (x ∷ xs) zero d l = absurd (omega (arith, l))
+slice_index_or_past_length_is_default (x ∷ xs) (suc t) d l = slice_index_or_past_length_is_default xs t d (omega (arith, l))
 
 pub look_alike_by_threads_and_words : (s u : SourcedFlat) → IsLike s.flat u.flat → length s.sources ≡ length s.flat.threads
     → length u.sources ≡ length u.flat.threads
@@ -28,12 +28,12 @@ look_alike_by_threads_and_words s u like many many' threads words =
     λ t. elim (cases_lt t (length s.flat.threads)) [
       | inl l ↦ threads t l
       | inr l ↦
-          let one : thread_of s.flat t ≡ idle = index_past_length_is_default s.flat.threads t idle l in
+          let one : thread_of s.flat t ≡ idle = slice_index_or_past_length_is_default s.flat.threads t idle l in
           let other : thread_of u.flat t ≡ idle =
-          index_past_length_is_default u.flat.threads t idle (let e = like.threads in omega (arith, e, l)) in
-          let source : source_of s t ≡ no_source = index_past_length_is_default s.sources t no_source (omega (arith, many, l)) in
+          slice_index_or_past_length_is_default u.flat.threads t idle (let e = like.threads in omega (arith, e, l)) in
+          let source : source_of s t ≡ no_source = slice_index_or_past_length_is_default s.sources t no_source (omega (arith, many, l)) in
           let source' : source_of u t ≡ no_source =
-          index_past_length_is_default u.sources t no_source (let e = like.threads in omega (arith, many', e, l)) in
+          slice_index_or_past_length_is_default u.sources t no_source (let e = like.threads in omega (arith, many', e, l)) in
           inl (λ i. (view ((one ∙ sym other) i), (source ∙ sym source') i))
     ] in record {
       threads = each;
@@ -44,4 +44,4 @@ look_alike_by_threads_and_words s u like many many' threads words =
 pub words_past_objects_equal : (xs ys : List Cell) (o : ℕ) → length ys ≡ length xs → length xs ≤ o
     → (slice_index_or xs o empty).words ≡ (slice_index_or ys o empty).words
 words_past_objects_equal xs ys o same l =
-    ap (λ c. c.words) (index_past_length_is_default xs o empty l) ∙ sym (ap (λ c. c.words) (index_past_length_is_default ys o empty (omega (arith, same, l))))
+    ap (λ c. c.words) (slice_index_or_past_length_is_default xs o empty l) ∙ sym (ap (λ c. c.words) (slice_index_or_past_length_is_default ys o empty (omega (arith, same, l))))

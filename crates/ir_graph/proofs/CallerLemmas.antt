@@ -2,12 +2,12 @@
 -- threads beside their sources, and runs of them
 pub use Rattle.ir_graph.proofs.Full.{tables_at_end_if_full_state_at_end, answered_run_append, end_of_live_run_seen}
 -- runs of steps that concern no other thread
-pub use Rattle.ir_graph.proofs.Plain.{TakesStep, goes_plain_reflexive, goes_plain_transitive, goes_plain_by_fair_step, goes_plain_by_private_steps, takes_step_at_rest, resting_thread_is_live, like_reflexive, like_transitive, like_symmetric, like_after_plain_steps, like_after_step}
+pub use Rattle.ir_graph.proofs.Plain.{TakesStep, goes_plain_reflexive, goes_plain_transitive, goes_plain_by_fair_step, goes_plain_by_private_steps, takes_step_at_rest_if_tables_step, resting_thread_is_live, like_reflexive, like_transitive, like_symmetric, flat_after_plain_steps_is_like_flat_before, flat_after_step_is_like_flat_before}
 -- where threads lead
 pub use Rattle.ir_graph.proofs.Leads.{seen_state_is_at_rest_if_all_rest, no_seen_step_if_no_step, no_seen_step_if_done, way_leads_to_alike_node, begins_by_plain_steps}
 -- a thread that goes on alone
-pub use Rattle.ir_graph.proofs.Turn.{ways_taken-append, threads_of_ways_taken, goes_alone_no_steps, goes_alone_append, goes_alone_by_entry, like_after_going_alone, alone_run_in_turns, goes_alone_in_turns, plain_in_turns_if_sourced_in_turns}
+pub use Rattle.ir_graph.proofs.Turn.{ways_taken-append, threads_of_ways_taken_are_entering_threads, goes_alone_no_steps, goes_alone_append, goes_alone_by_entry, flat_after_going_alone_is_like_flat_before, alone_run_is_in_turns_of_its_thread, run_of_going_alone_is_in_turns_of_its_thread, plain_in_turns_if_sourced_in_turns}
 -- runs of a guest from its start
-pub use Rattle.ir_graph.proofs.Reached.{answered_run_is_run, done_answered_run_is_counted, tables_of_reached}
+pub use Rattle.ir_graph.proofs.Reached.{answered_run_is_run, done_answered_run_is_counted, tables_of_reached_state_are_end_of_its_run}
 -- hangs
 pub use Rattle.ir_graph.proofs.Hangs.{answered_run_is_counting, hang_never_completes, can_end_if_answered_run_can}

@@ -9,9 +9,9 @@ use Rattle.ir_runs.specs.Run.{IsDone}
 use Rattle.ir_flat.specs.Flat.{machine, tables}
 use Rattle.ir_store.specs.Nodes.{SourcedFlat}
 
-slice_get_of_pushed : (xs : List Bool) (x : Bool) → slice_get (xs ++ x ∷ []) (length xs) ≡ Some x
-slice_get_of_pushed [] x = refl
-slice_get_of_pushed (y ∷ xs) x = slice_get_of_pushed xs x
+slice_get_of_push_at_old_length : (xs : List Bool) (x : Bool) → slice_get (xs ++ x ∷ []) (length xs) ≡ Some x
+slice_get_of_push_at_old_length [] x = refl
+slice_get_of_push_at_old_length (y ∷ xs) x = slice_get_of_push_at_old_length xs x
 
 -- of the states below `until` it is known
 pub record AreEnded (flats : List SourcedFlat) (until : ℕ) (done : List Bool) : Type 0 where
@@ -48,5 +48,5 @@ are_ended_step flats until done f is a at when never = record {
   where
     last : (b : Bool) → (b ≡ true → IsDone (machine f.flat) (tables f.flat)) → (b ≡ false → IsDone (machine f.flat) (tables f.flat) → ⊥)
         → IsDone (machine f.flat) (tables f.flat) → IsOpen (done ++ b ∷ []) (length done)
-    last true when never ends = slice_get_of_pushed done true
+    last true when never ends = slice_get_of_push_at_old_length done true
     last false when never ends = absurd (never refl ends)

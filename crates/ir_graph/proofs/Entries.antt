@@ -10,27 +10,27 @@ use Rattle.ir_graph.specs.Notes.{noted_in}
 abbrev pub NotedLead : Type 0
 NotedLead = Option (Option ℕ)
 
-index_of_replicated_none_is_none : (n v : ℕ) → slice_index_or {A = NotedLead} (replicate n None) v None ≡ None
-index_of_replicated_none_is_none zero v = refl
-index_of_replicated_none_is_none (suc n) zero = refl
-index_of_replicated_none_is_none (suc n) (suc v) = index_of_replicated_none_is_none n v
+slice_index_or_of_replicated_none_is_none : (n v : ℕ) → slice_index_or {A = NotedLead} (replicate n None) v None ≡ None
+slice_index_or_of_replicated_none_is_none zero v = refl
+slice_index_or_of_replicated_none_is_none (suc n) zero = refl
+slice_index_or_of_replicated_none_is_none (suc n) (suc v) = slice_index_or_of_replicated_none_is_none n v
 
-pub index_ignores_appended_nones : (xs : List NotedLead) (n v : ℕ) → slice_index_or (xs ++ replicate n None) v None ≡ slice_index_or xs v None
-index_ignores_appended_nones [] n v = index_of_replicated_none_is_none n v
-index_ignores_appended_nones (x ∷ xs) n zero = refl
-index_ignores_appended_nones (x ∷ xs) n (suc v) = index_ignores_appended_nones xs n v
+pub slice_index_or_ignores_appended_nones : (xs : List NotedLead) (n v : ℕ) → slice_index_or (xs ++ replicate n None) v None ≡ slice_index_or xs v None
+slice_index_or_ignores_appended_nones [] n v = slice_index_or_of_replicated_none_is_none n v
+slice_index_or_ignores_appended_nones (x ∷ xs) n zero = refl
+slice_index_or_ignores_appended_nones (x ∷ xs) n (suc v) = slice_index_or_ignores_appended_nones xs n v
 
-pub index_of_set_at_own_place : (xs : List NotedLead) (i : ℕ) (x : NotedLead) → i < length xs → slice_index_or (slice_set xs i x) i None ≡ x
-index_of_set_at_own_place [] i x l = absurd (omega (arith, l))
-index_of_set_at_own_place (y ∷ xs) zero x l = refl
-index_of_set_at_own_place (y ∷ xs) (suc i) x l = index_of_set_at_own_place xs i x (omega (arith, l))
+pub slice_index_or_of_slice_set_at_same_index : (xs : List NotedLead) (i : ℕ) (x : NotedLead) → i < length xs → slice_index_or (slice_set xs i x) i None ≡ x
+slice_index_or_of_slice_set_at_same_index [] i x l = absurd (omega (arith, l))
+slice_index_or_of_slice_set_at_same_index (y ∷ xs) zero x l = refl
+slice_index_or_of_slice_set_at_same_index (y ∷ xs) (suc i) x l = slice_index_or_of_slice_set_at_same_index xs i x (omega (arith, l))
 
-pub index_of_set_at_other_place : (xs : List NotedLead) (i v : ℕ) (x : NotedLead) → (v ≡ i → ⊥) → slice_index_or (slice_set xs i x) v None ≡ slice_index_or xs v None
-index_of_set_at_other_place [] i v x other = refl
-index_of_set_at_other_place (y ∷ xs) zero zero x other = absurd (other refl)
-index_of_set_at_other_place (y ∷ xs) zero (suc v) x other = refl
-index_of_set_at_other_place (y ∷ xs) (suc i) zero x other = refl
-index_of_set_at_other_place (y ∷ xs) (suc i) (suc v) x other = index_of_set_at_other_place xs i v x (λ e. other (ap suc e))
+pub slice_index_or_of_slice_set_at_other_index : (xs : List NotedLead) (i v : ℕ) (x : NotedLead) → (v ≡ i → ⊥) → slice_index_or (slice_set xs i x) v None ≡ slice_index_or xs v None
+slice_index_or_of_slice_set_at_other_index [] i v x other = refl
+slice_index_or_of_slice_set_at_other_index (y ∷ xs) zero zero x other = absurd (other refl)
+slice_index_or_of_slice_set_at_other_index (y ∷ xs) zero (suc v) x other = refl
+slice_index_or_of_slice_set_at_other_index (y ∷ xs) (suc i) zero x other = refl
+slice_index_or_of_slice_set_at_other_index (y ∷ xs) (suc i) (suc v) x other = slice_index_or_of_slice_set_at_other_index xs i v x (λ e. other (ap suc e))
 
 pub noted_in_is_row_element : (rows : List (Vec NotedLead)) (t v : ℕ) (d : Vec NotedLead) → t < length rows
     → noted_in rows t v ≡ slice_index_or (slice_index_or rows t d).items v None
@@ -38,14 +38,14 @@ noted_in_is_row_element [] t v d l = absurd (omega (arith, l))
 noted_in_is_row_element (row ∷ rows) zero v d l = refl
 noted_in_is_row_element (row ∷ rows) (suc t) v d l = noted_in_is_row_element rows t v d (omega (arith, l))
 
-pub noted_in_after_row_set : (rows : List (Vec NotedLead)) (i : ℕ) (w : Vec NotedLead) → i < length rows → (t v : ℕ)
+pub noted_in_after_row_set_cases : (rows : List (Vec NotedLead)) (i : ℕ) (w : Vec NotedLead) → i < length rows → (t v : ℕ)
     → ((t ≡ i) × (noted_in (slice_set rows i w) t v ≡ slice_index_or w.items v None))
     ⊎ ((t ≡ i → ⊥) × (noted_in (slice_set rows i w) t v ≡ noted_in rows t v))
-noted_in_after_row_set [] i w l t v = absurd (omega (arith, l))
-noted_in_after_row_set (row ∷ rows) zero w l zero v = inl (refl, refl)
-noted_in_after_row_set (row ∷ rows) zero w l (suc t) v = inr ((λ e. let n : suc t ≡ zero = e in omega (arith, n)), refl)
-noted_in_after_row_set (row ∷ rows) (suc i) w l zero v = inr ((λ e. let n : zero ≡ suc i = e in omega (arith, n)), refl)
-noted_in_after_row_set (row ∷ rows) (suc i) w l (suc t) v = elim (noted_in_after_row_set rows i w (omega (arith, l)) t v) [
+noted_in_after_row_set_cases [] i w l t v = absurd (omega (arith, l))
+noted_in_after_row_set_cases (row ∷ rows) zero w l zero v = inl (refl, refl)
+noted_in_after_row_set_cases (row ∷ rows) zero w l (suc t) v = inr ((λ e. let n : suc t ≡ zero = e in omega (arith, n)), refl)
+noted_in_after_row_set_cases (row ∷ rows) (suc i) w l zero v = inr ((λ e. let n : zero ≡ suc i = e in omega (arith, n)), refl)
+noted_in_after_row_set_cases (row ∷ rows) (suc i) w l (suc t) v = elim (noted_in_after_row_set_cases rows i w (omega (arith, l)) t v) [
   | inl p ↦ inl (ap suc p.0, p.1)
   | inr n ↦ inr ((λ e. n.0 (let q : suc t ≡ suc i = e in omega (arith, q))), n.1)
 ]
@@ -55,7 +55,7 @@ pub noted_in_after_place_set_cases : (rows : List (Vec NotedLead)) (i : ℕ) (w 
     → ((v : ℕ) → (v ≡ node → ⊥) → slice_index_or w.items v None ≡ slice_index_or (slice_index_or rows i d).items v None)
     → (slice_index_or w.items node None ≡ Some next) ⊎ (w.items ≡ (slice_index_or rows i d).items) → (t v : ℕ)
     → (noted_in (slice_set rows i w) t v ≡ noted_in rows t v) ⊎ ((t ≡ i) × (v ≡ node) × (noted_in (slice_set rows i w) t v ≡ Some next))
-noted_in_after_place_set_cases rows i w d node next l others here t v = elim (noted_in_after_row_set rows i w l t v) [
+noted_in_after_place_set_cases rows i w d node next l others here t v = elim (noted_in_after_row_set_cases rows i w l t v) [
   | inl p ↦
       let was : noted_in rows t v ≡ slice_index_or (slice_index_or rows i d).items v None =
       ap (λ z. noted_in rows z v) p.0 ∙ noted_in_is_row_element rows i v d l in
@@ -78,14 +78,14 @@ notes_kept_if_place_free old new i node next fresh only t v to is = elim (only t
 ]
 
 -- an element within does not hang on what stands for one that isn't
-pub index_within_ignores_default : (xs : List NotedLead) (i : ℕ) (d d' : NotedLead) → i < length xs → slice_index_or xs i d ≡ slice_index_or xs i d'
-index_within_ignores_default [] i d d' l = absurd (omega (arith, l))
-index_within_ignores_default (x ∷ xs) zero d d' l = refl
-index_within_ignores_default (x ∷ xs) (suc i) d d' l = index_within_ignores_default xs i d d' (omega (arith, l))
+pub slice_index_or_below_length_ignores_default : (xs : List NotedLead) (i : ℕ) (d d' : NotedLead) → i < length xs → slice_index_or xs i d ≡ slice_index_or xs i d'
+slice_index_or_below_length_ignores_default [] i d d' l = absurd (omega (arith, l))
+slice_index_or_below_length_ignores_default (x ∷ xs) zero d d' l = refl
+slice_index_or_below_length_ignores_default (x ∷ xs) (suc i) d d' l = slice_index_or_below_length_ignores_default xs i d d' (omega (arith, l))
 
 pub noted_in_set_row_is_its_element : (rows : List (Vec NotedLead)) (i : ℕ) (w : Vec NotedLead) (node : ℕ) (x : NotedLead) → i < length rows
     → slice_index_or w.items node None ≡ x → noted_in (slice_set rows i w) i node ≡ x
-noted_in_set_row_is_its_element rows i w node x l is = elim (noted_in_after_row_set rows i w l i node) [ inl p ↦ p.1 ∙ is | inr n ↦ absurd (n.0 refl) ]
+noted_in_set_row_is_its_element rows i w node x l is = elim (noted_in_after_row_set_cases rows i w l i node) [ inl p ↦ p.1 ∙ is | inr n ↦ absurd (n.0 refl) ]
 
 noted_in_earlier_row : (rows : List (Vec NotedLead)) (w : Vec NotedLead) (t v : ℕ) → t < length rows → noted_in (rows ++ w ∷ []) t v ≡ noted_in rows t v
 noted_in_earlier_row [] w t v l = absurd (omega (arith, l))

@@ -1,7 +1,7 @@
 -- The form of the image that threads are of.
 use Rattle.std.proofs.Common.{◌≡◌, ◌<◌, ◌+◌, ℕ, zero, suc, List, [], ◌∷◌, length, get_or, refl, sym, ap, ◌∙◌, subst, arith}
 use Rattle.std.specs.List.{AllByRecursion, range_with_len}
-use Rattle.ir_lemmas.proofs.CallerLemmas.{element_of_all_by_recursion, length_of_map}
+use Rattle.ir_lemmas.proofs.CallerLemmas.{get_or_element_satisfies_all_by_recursion, length_of_map}
 use Rattle.ir_image.specs.Guest.{Guest}
 use Rattle.ir_image.specs.declared.form.ImageForm.{ImageForm}
 use Rattle.ir_thread.specs.State.{ThreadState, most_budget}
@@ -21,19 +21,19 @@ all_by_recursion_of_elements P (x ∷ xs) d each = (each zero (omega arith), all
 pub have_form_of_like_moment : (form : ImageForm) (f g : Flat) → IsLike f g → HaveForm form f.threads → HaveForm form g.threads
 have_form_of_like_moment form f g like all = all_by_recursion_of_elements (λ (s : ThreadState). s.form ≡ form) g.threads idle (λ n lt.
     sym (like.twins n).form
-    ∙ element_of_all_by_recursion (λ (s : ThreadState). s.form ≡ form) f.threads n idle all (subst (λ k. n < k) like.threads lt))
+    ∙ get_or_element_satisfies_all_by_recursion (λ (s : ThreadState). s.form ≡ form) f.threads n idle all (subst (λ k. n < k) like.threads lt))
 
 pub start_threads_have_form : (guest : Guest) (budget : ℕ) (profile : Profile) (from n : ℕ) → HaveForm guest.form (start_threads guest budget profile from n)
 start_threads_have_form guest budget profile from zero = tt
 start_threads_have_form guest budget profile from (suc n) = (refl, start_threads_have_form guest budget profile (suc from) n)
 
-length_of_range : (a n : ℕ) → length (range_with_len a n) ≡ n
-length_of_range a zero = refl
-length_of_range a (suc n) = ap suc (length_of_range (a + 1) n)
+length_of_range_with_len : (a n : ℕ) → length (range_with_len a n) ≡ n
+length_of_range_with_len a zero = refl
+length_of_range_with_len a (suc n) = ap suc (length_of_range_with_len (a + 1) n)
 
 -- at the start each thread has a source
 pub start_has_source_for_each_thread : (x : Setup) → length (start_of x).sources ≡ length (start_of x).flat.threads
 start_has_source_for_each_thread x =
     length_of_map (λ t. source (seed_of x.random t) x.input) (range_with_len 0 (length x.guest.entries))
-    ∙ length_of_range 0 (length x.guest.entries)
+    ∙ length_of_range_with_len 0 (length x.guest.entries)
     ∙ sym (length_of_start_threads x.guest most_budget x.profile 0 (length x.guest.entries))

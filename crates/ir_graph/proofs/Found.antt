@@ -3,7 +3,7 @@ use Rattle.std.proofs.Common.{◌≡◌, ℕ, ◌<◌, Bool, true, Some, None, L
 use Rattle.std.specs.Prelude.{slice_get}
 use Rattle.std.proofs.lemmas.Bool.{cases_eq}
 use Rattle.std.proofs.lemmas.Option.{same_Some}
-use Rattle.ir_explore.proofs.CallerLemmas.{slice_get_after_push_cases, place_of_element_is_below_length}
+use Rattle.ir_explore.proofs.CallerLemmas.{slice_get_after_push_cases, index_of_element_is_below_length}
 use Rattle.ir_runs.specs.Run.{Step, Can}
 use Rattle.ir_states.specs.Nodes.{LeadsTo}
 use Rattle.ir_thread.specs.State.{ask_of}
@@ -12,7 +12,7 @@ use Rattle.ir_store.specs.Nodes.{SourcedFlat}
 use Rattle.ir_graph.specs.Nodes.{Alike, seen_by, answered_by, seen_of, LookAlike, AllRest, AreNodes, Stay, LeadsFrom, IsStepBy, HasStepBy}
 use Rattle.ir_graph.specs.Plain.{GoesPlain, IsLike, MayGo, OthersStay, Rests, result_by}
 use Rattle.ir_graph.proofs.Leads.{look_alike_reflexive, no_seen_step_if_no_step, no_seen_refusal_unless_try, way_leads_to_alike_node}
-use Rattle.ir_graph.proofs.Plain.{TakesStep, like_reflexive, like_transitive, like_symmetric, like_after_plain_steps, like_after_step, others_stay_after_step}
+use Rattle.ir_graph.proofs.Plain.{TakesStep, like_reflexive, like_transitive, like_symmetric, flat_after_plain_steps_is_like_flat_before, flat_after_step_is_like_flat_before, others_stay_after_step}
 
 pub are_nodes_after_node_added : (states : List SourcedFlat) (new : SourcedFlat) → AreNodes states → length new.sources ≡ length new.flat.threads
     → ((v : ℕ) (s : SourcedFlat) → slice_get states v ≡ Some s → IsLike new.flat s.flat) → AllRest new.flat → AreNodes (states ++ new ∷ [])
@@ -38,10 +38,10 @@ are_nodes_after_node_added states new nodes each like rest = record {
   ];
 }
 
-pub new_node_looks_alike : (states : List SourcedFlat) (new s : SourcedFlat) (w : ℕ) → w ≡ length states → slice_get (states ++ new ∷ []) w ≡ Some s
+pub state_looks_alike_to_node_pushed_for_it : (states : List SourcedFlat) (new s : SourcedFlat) (w : ℕ) → w ≡ length states → slice_get (states ++ new ∷ []) w ≡ Some s
     → LookAlike new s
-new_node_looks_alike states new s w here is = elim (slice_get_after_push_cases states new w s is) [
-  | inl old ↦ absurd (let l = place_of_element_is_below_length states w s old in omega (arith, l, here))
+state_looks_alike_to_node_pushed_for_it states new s w here is = elim (slice_get_after_push_cases states new w s is) [
+  | inl old ↦ absurd (let l = index_of_element_is_below_length states w s old in omega (arith, l, here))
   | inr p ↦ subst (LookAlike new) p.1 (look_alike_reflexive new)
 ]
 
@@ -66,7 +66,7 @@ module _ (states : List SourcedFlat) (s u w : SourcedFlat) (t r v : ℕ) (nodes 
   pub reached_like : (p : ℕ) (k : SourcedFlat) → slice_get states p ≡ Some k → IsLike w.flat k.flat
   reached_like p k there =
       like_transitive w.flat s.flat k.flat
-      (like_symmetric s.flat w.flat (like_transitive s.flat u.flat w.flat (like_after_step s u t r step) (like_after_plain_steps u w goes)))
+      (like_symmetric s.flat w.flat (like_transitive s.flat u.flat w.flat (flat_after_step_is_like_flat_before s u t r step) (flat_after_plain_steps_is_like_flat_before u w goes)))
       (nodes.like v p s k at there)
 
   pub reached_each : length w.sources ≡ length w.flat.threads

@@ -8,7 +8,7 @@ use Rattle.ir_runs.proofs.CallerLemmas.{upd_at_own_place, upd_at_other_place, up
 use Rattle.ir_states.specs.Counting.{Counts, is_own, GoesAhead, entering}
 use Rattle.ir_states.specs.Sources.{Giving, answer_of, left_of, sourced, plain}
 use Rattle.ir_states.specs.Views.{IsView, viewed, IsLiveRun, beside}
-use Rattle.ir_states.proofs.CallerLemmas.{goes_ahead_counts, counts_append, goes_ahead_append, plain_end, sourced_view_is_view, viewed_end, viewed_entering, viewed_counts}
+use Rattle.ir_states.proofs.CallerLemmas.{run_that_goes_ahead_counts, counts_append, goes_ahead_append, plain_end, sourced_view_is_view, viewed_end, viewed_entering, viewed_counts}
 use Rattle.ir_thread.specs.State.{ThreadState, thread_machine}
 use Rattle.ir_sources.specs.Sources.{Source, given}
 use Rattle.ir_seen.specs.Seen.{view, seen_machine, IsLive}
@@ -22,9 +22,9 @@ use Rattle.ir_graph.specs.Plain.{full_by, sources_by, full_of, AreLive, IsAnswer
 abbrev pub paired : {T S : Type 0} → (ℕ → T) → (ℕ → S) → ℕ → T × S
 paired now sources u = (now u, sources u)
 
-update_of_paired_tables : {T S : Type 0} (now : ℕ → T) (sources : ℕ → S) (t : ℕ) (x : T) (a : S)
+upd_of_paired_tables_is_pair_of_upds : {T S : Type 0} (now : ℕ → T) (sources : ℕ → S) (t : ℕ) (x : T) (a : S)
     → upd {A = T × S} (paired now sources) t (x, a) ≡ paired (upd now t x) (upd sources t a)
-update_of_paired_tables {T} {S} now sources t x a = λ i u. at u i
+upd_of_paired_tables_is_pair_of_upds {T} {S} now sources t x a = λ i u. at u i
   where
     at : (u : ℕ) → upd {A = T × S} (paired now sources) t (x, a) u ≡ paired (upd now t x) (upd sources t a) u
     at u = elim (cases_eq u t) [
@@ -35,20 +35,20 @@ update_of_paired_tables {T} {S} now sources t x a = λ i u. at u i
     ]
 
 -- a step of a thread beside its source
-pub after_step_beside_sources : {T S : Type 0} (m : Machine T) (giving : Giving S) (s : State T) (sources : ℕ → S) (e : Step)
+pub sourced_step_is_step_beside_updated_sources : {T S : Type 0} (m : Machine T) (giving : Giving S) (s : State T) (sources : ℕ → S) (e : Step)
     → after (sourced m giving) (beside s sources) e ≡ beside (after m s e) (upd sources e.0 (left_of giving (asked m s e.0) (sources e.0)))
 unfolding after
-after_step_beside_sources m giving s sources e = λ i. record {
-  now = update_of_paired_tables s.now sources e.0 (m.take (s.now e.0) (reply (act m s e) (s.objects (target (act m s e)))))
+sourced_step_is_step_beside_updated_sources m giving s sources e = λ i. record {
+  now = upd_of_paired_tables_is_pair_of_upds s.now sources e.0 (m.take (s.now e.0) (reply (act m s e) (s.objects (target (act m s e)))))
       (left_of giving (asked m s e.0) (sources e.0)) i;
   objects = upd s.objects (target (act m s e)) (acted (act m s e) e.0 (s.objects (target (act m s e))));
 }
 
 -- so it is where the step leaves its thread's source
-pub after_step_beside_same_sources : {T S : Type 0} (m : Machine T) (giving : Giving S) (s : State T) (sources : ℕ → S) (e : Step)
+pub sourced_step_is_step_beside_same_sources : {T S : Type 0} (m : Machine T) (giving : Giving S) (s : State T) (sources : ℕ → S) (e : Step)
     → left_of giving (asked m s e.0) (sources e.0) ≡ sources e.0 → after (sourced m giving) (beside s sources) e ≡ beside (after m s e) sources
-after_step_beside_same_sources m giving s sources e same =
-    after_step_beside_sources m giving s sources e
+sourced_step_is_step_beside_same_sources m giving s sources e same =
+    sourced_step_is_step_beside_updated_sources m giving s sources e
     ∙ ap (beside (after m s e)) (upd_with_old_value sources e.0 (left_of giving (asked m s e.0) (sources e.0)) (sym same))
 
 -- the sources, once one of them is another
@@ -128,7 +128,7 @@ module _ (code : List ℕ) where
 
   -- steps that concern no other thread are answered
   pub plain_run_is_answered : (s : State (ThreadState × Source)) (run : List Step) → IsPlainRun code s run → IsAnsweredRun code s run
-  plain_run_is_answered s run plain = (goes_ahead_counts (full_by code) (sources_by code) s run plain.0, plain.1)
+  plain_run_is_answered s run plain = (run_that_goes_ahead_counts (full_by code) (sources_by code) s run plain.0, plain.1)
 
   -- the threads alone are live too
   pub live_run_of_threads : (s : State (ThreadState × Source)) (run : List Step) → AreLive code s run

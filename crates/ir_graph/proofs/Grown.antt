@@ -112,13 +112,13 @@ is_graph_after_nodes_added x flats new noted threads g stay nodes reached more =
 }
 
 -- one more was noted, at most
-pub is_graph_after_note : (x : Setup) (flats : List SourcedFlat) (old new : ℕ → BothWays) (threads thread : ℕ) (way : Bool)
+pub is_graph_after_one_note_added : (x : Setup) (flats : List SourcedFlat) (old new : ℕ → BothWays) (threads thread : ℕ) (way : Bool)
     (node : ℕ) (to : Option ℕ) → IsGraph x flats old threads
     → ((t : ℕ) (refused : Bool) (v : ℕ) → (new t refused v ≡ old t refused v)
     ⊎ ((t ≡ thread) × (refused ≡ way) × (v ≡ node) × (new t refused v ≡ Some to)))
     → old thread way node ≡ None → node < length flats → ((w : ℕ) → to ≡ Some w → w < length flats) → LeadsFrom flats thread way node to
     → IsGraph x flats new threads
-is_graph_after_note x flats old new threads thread way node to g only fresh inside within leads = record {
+is_graph_after_one_note_added x flats old new threads thread way node to g only fresh inside within leads = record {
   nodes = g.nodes;
   some = g.some;
   number = g.number;
@@ -155,23 +155,23 @@ is_graph_after_note x flats old new threads thread way node to g only fresh insi
     was t refused v a b c = (λ i. old (a i) (b i) (c i)) ∙ fresh
 
 -- so is a graph that has grown, once more is noted of the rows of its ways
-pub is_graph_after_way_noted : (x : Setup) (old flats : List SourcedFlat) (rows refused_rows new tries : List (Vec (Option (Option ℕ))))
+pub is_graph_after_nodes_and_one_note_added : (x : Setup) (old flats : List SourcedFlat) (rows refused_rows new tries : List (Vec (Option (Option ℕ))))
     (thread : ℕ) (way : Bool) (node : ℕ) (to : Option ℕ) → IsGraph x old (noted_by rows refused_rows) (length rows) → Stay old flats
     → AreNodes flats → AllReached x flats → length old ≤ length flats
     → ((t : ℕ) (refused : Bool) (v : ℕ) → (noted_by new tries t refused v ≡ noted_by rows refused_rows t refused v)
     ⊎ ((t ≡ thread) × (refused ≡ way) × (v ≡ node) × (noted_by new tries t refused v ≡ Some to)))
     → length new ≡ length rows → noted_by rows refused_rows thread way node ≡ None → node < length old → ((w : ℕ) → to ≡ Some w → w < length flats)
     → LeadsFrom flats thread way node to → IsGraph x flats (noted_by new tries) (length new)
-is_graph_after_way_noted x old flats rows refused_rows new tries thread way node to g stay nodes reached grown only same fresh inside within leads =
+is_graph_after_nodes_and_one_note_added x old flats rows refused_rows new tries thread way node to g stay nodes reached grown only same fresh inside within leads =
     subst (IsGraph x flats (noted_by new tries)) (sym same)
-    (is_graph_after_note x flats (noted_by rows refused_rows) (noted_by new tries) (length rows) thread way node to
+    (is_graph_after_one_note_added x flats (noted_by rows refused_rows) (noted_by new tries) (length rows) thread way node to
     (is_graph_after_nodes_added x old flats (noted_by rows refused_rows) (length rows) g stay nodes reached grown) only fresh
     (omega (arith, inside, grown)) within leads)
 
 -- each node has all threads
-pub thread_count_of_node : (x : Setup) (flats : List SourcedFlat) (noted : ℕ → BothWays) (threads v : ℕ) (f : SourcedFlat)
+pub thread_count_of_node_is_that_of_graph : (x : Setup) (flats : List SourcedFlat) (noted : ℕ → BothWays) (threads v : ℕ) (f : SourcedFlat)
     → IsGraph x flats noted threads → slice_get flats v ≡ Some f → length f.flat.threads ≡ threads
-thread_count_of_node x flats noted threads v f g is =
+thread_count_of_node_is_that_of_graph x flats noted threads v f g is =
     let first = element_below_length_exists flats 0 g.some in
     (g.nodes.like 0 v first.0 f first.1 is).threads ∙ g.many first.0 first.1
 
@@ -179,7 +179,7 @@ thread_count_of_node x flats noted threads v f g is =
 pub thread_exists_if_nothing_is_noted : (x : Setup) (flats : List SourcedFlat) (noted : ℕ → BothWays) (threads t : ℕ) (refused : Bool)
     (v w : ℕ) (f : SourcedFlat) → IsGraph x flats noted threads → noted t refused v ≡ None → slice_get flats w ≡ Some f → t < length f.flat.threads
 thread_exists_if_nothing_is_noted x flats noted threads t refused v w f g free is = elim (cases_lt t threads) [
-  | inl l ↦ subst (λ n. t < n) (sym (thread_count_of_node x flats noted threads w f g is)) l
+  | inl l ↦ subst (λ n. t < n) (sym (thread_count_of_node_is_that_of_graph x flats noted threads w f g is)) l
   | inr l ↦ absurd (cc (sym free ∙ g.past t refused v l))
 ]
 
@@ -192,9 +192,9 @@ is_graph_of_equal_rows x flats new tries {rows} {refused_rows} same also g =
     (subst (λ z. IsGraph x flats (noted_by new z) (length new)) (sym also) g)
 
 -- each node has the guest's code
-pub code_of_node : (x : Setup) (flats : List SourcedFlat) (noted : ℕ → BothWays) (threads v : ℕ) (f : SourcedFlat)
+pub code_of_node_is_guest_code : (x : Setup) (flats : List SourcedFlat) (noted : ℕ → BothWays) (threads v : ℕ) (f : SourcedFlat)
     → IsGraph x flats noted threads → slice_get flats v ≡ Some f → f.flat.code ≡ x.guest.code
-code_of_node x flats noted threads v f g is =
+code_of_node_is_guest_code x flats noted threads v f g is =
     let first = element_below_length_exists flats 0 g.some in
     (g.nodes.like 0 v first.0 f first.1 is).code ∙ g.code first.0 first.1
 

@@ -9,7 +9,7 @@ use Rattle.ir_explore.specs.Following.{BothWays, IsOpen}
 use Rattle.ir_explore.specs.Levels.{AreAsked, AreGoneOver}
 use Rattle.ir_explore.specs.Meaning.{Steps}
 use Rattle.ir_explore.specs.Origins.{first_origin, AreReached}
-use Rattle.ir_explore.proofs.CallerLemmas.{asked_finished, marked_way, way_to_marked, place_of_element_is_below_length}
+use Rattle.ir_explore.proofs.CallerLemmas.{asked_finished, marked_way, way_to_marked, index_of_element_is_below_length}
 use Rattle.ir_runs.specs.Machine.{Machine}
 use Rattle.ir_runs.specs.Lawful.{IsLawful}
 use Rattle.ir_runs.specs.Run.{State, Step, asked, after, end, IsDone}
@@ -18,12 +18,12 @@ use Rattle.ir_states.specs.Counting.{Answers, IsAnswered, Counts, entering}
 use Rattle.ir_states.specs.Nodes.{TellsNothing, Path}
 use Rattle.ir_states.specs.Outcomes.{switches, IsFinished, HasWay}
 use Rattle.ir_states.specs.Views.{beside}
-use Rattle.ir_states.proofs.CallerLemmas.{Completes, back, finds, found, is_done_from_alike_state, unspoilt_run_is_live, unspoilt_after_live_run, looks_alike, real_seen, seen_good, sourced_counts, sourced_entering, sourced_machine_is_lawful, sourced_live}
+use Rattle.ir_states.proofs.CallerLemmas.{Completes, back, finds, found, is_done_from_alike_state, run_is_live_if_its_end_is_unspoilt, state_stays_unspoilt_after_live_run, looks_alike, real_seen, seen_good, sourced_counts, sourced_entering, sourced_machine_is_lawful, sourced_live}
 use Rattle.ir_thread.specs.State.{most_budget, thread_machine}
 use Rattle.ir_thread.specs.State as thread
 use Rattle.ir_sources.specs.Sources.{Source, given}
 use Rattle.ir_seen.specs.Seen.{view, seen_machine, IsLive, IsSpoilt, seen_start, Same}
-use Rattle.ir_seen.proofs.CallerLemmas.{seen_machine_is_lawful, seen_machine_is_view, thread_machine_spoils, look_same, start_view_ignores_budget, state_invariant_at_start, start_unspoilt}
+use Rattle.ir_seen.proofs.CallerLemmas.{seen_machine_is_lawful, seen_machine_is_view, thread_is_live_or_next_step_spoils_it, look_same, start_view_ignores_budget, state_invariant_at_start, start_state_is_unspoilt}
 use Rattle.ir_flat.specs.Flat.{tables, start_flat}
 use Rattle.ir_store.specs.Nodes.{SourcedFlat}
 use Rattle.ir_graph.specs.Setup.{Setup, start_of, first_source, IsCountedOf}
@@ -38,16 +38,16 @@ use Rattle.ir_graph.proofs.Listed.{flat_of, state_of, at, code_at, seen_done, re
 use Rattle.ir_graph.proofs.Reached.{answered_run_is_run}
 
 -- runs that count go on alike from alike states
-counting_run_from_alike_state : {T : Type 0} (m : Machine T) (answers : Answers T) (Alike : State T → State T → Type 0) → TellsNothing m answers Alike
+counts_from_alike_state_to_alike_end : {T : Type 0} (m : Machine T) (answers : Answers T) (Alike : State T → State T → Type 0) → TellsNothing m answers Alike
     → (s v : State T) → Alike s v → (run : List Step) → Counts m answers s run → Counts m answers v run × Alike (end m s run) (end m v run)
-counting_run_from_alike_state m answers Alike seen_threads_tell_nothing s v alike [] counts = (tt, alike)
-counting_run_from_alike_state m answers Alike seen_threads_tell_nothing s v alike (e ∷ run) counts =
-    let more = counting_run_from_alike_state m answers Alike seen_threads_tell_nothing (after m s e) (after m v e) (seen_threads_tell_nothing.steps s v alike e counts.0.0) run counts.1 in (
+counts_from_alike_state_to_alike_end m answers Alike tells s v alike [] counts = (tt, alike)
+counts_from_alike_state_to_alike_end m answers Alike tells s v alike (e ∷ run) counts =
+    let more = counts_from_alike_state_to_alike_end m answers Alike tells (after m s e) (after m v e) (tells.steps s v alike e counts.0.0) run counts.1 in (
       (
         (
-          seen_threads_tell_nothing.can s v alike e counts.0.0,
-          subst (λ a. IsAnswered (asked m v e.0) a e.1) (seen_threads_tell_nothing.answered s v alike e.0)
-              (subst (λ q. IsAnswered q (answers e.0 (s.now e.0)) e.1) (seen_threads_tell_nothing.asks s v alike e.0) counts.0.1),
+          tells.can s v alike e counts.0.0,
+          subst (λ a. IsAnswered (asked m v e.0) a e.1) (tells.answered s v alike e.0)
+              (subst (λ q. IsAnswered q (answers e.0 (s.now e.0)) e.1) (tells.asks s v alike e.0) counts.0.1),
         ),
         more.0,
       ),
@@ -56,22 +56,22 @@ counting_run_from_alike_state m answers Alike seen_threads_tell_nothing s v alik
 
 completes_from_alike_state : {T : Type 0} (m : Machine T) (answers : Answers T) (Alike : State T → State T → Type 0) → TellsNothing m answers Alike
     → (s v : State T) → Alike s v → Completes m answers s → Completes m answers v
-completes_from_alike_state m answers Alike seen_threads_tell_nothing s v alike (more, counts, done) =
-    let k = counting_run_from_alike_state m answers Alike seen_threads_tell_nothing s v alike more counts in
-    (more, k.0, is_done_from_alike_state m answers Alike seen_threads_tell_nothing (end m s more) (end m v more) k.1 done)
+completes_from_alike_state m answers Alike tells s v alike (more, counts, done) =
+    let k = counts_from_alike_state_to_alike_end m answers Alike tells s v alike more counts in
+    (more, k.0, is_done_from_alike_state m answers Alike tells (end m s more) (end m v more) k.1 done)
 
-counts_after_prefix : {T : Type 0} (m : Machine T) (answers : Answers T) (s : State T) (run more : List Step) → Counts m answers s (run ++ more)
+suffix_counts_from_end_of_prefix_if_append_counts : {T : Type 0} (m : Machine T) (answers : Answers T) (s : State T) (run more : List Step) → Counts m answers s (run ++ more)
     → Counts m answers (end m s run) more
-counts_after_prefix m answers s [] more counts = counts
-counts_after_prefix m answers s (e ∷ run) more counts = counts_after_prefix m answers (after m s e) run more counts.1
+suffix_counts_from_end_of_prefix_if_append_counts m answers s [] more counts = counts
+suffix_counts_from_end_of_prefix_if_append_counts m answers s (e ∷ run) more counts = suffix_counts_from_end_of_prefix_if_append_counts m answers (after m s e) run more counts.1
 
 -- an answered run counts
 pub answered_run_is_counting : (x : Setup) (steps : List Step) → IsAnsweredRun x.guest.code (beginning x) steps → IsCounting x most_budget steps
 answered_run_is_counting x steps a = record {
   runs = answered_run_is_run x.guest.code (beginning x) steps a;
   answered = ((sourced_counts (thread_machine x.guest.code) given (beginning x) steps).0 a.0).1;
-  unspoilt = unspoilt_after_live_run (thread_machine x.guest.code) (IsLive x.guest.code) (IsSpoilt x.guest.code) (thread_machine_spoils x.guest.code)
-      (tables (start_of x).flat) steps (live_run_of_threads x.guest.code (beginning x) steps a.1) (start_unspoilt x.guest most_budget x.profile);
+  unspoilt = state_stays_unspoilt_after_live_run (thread_machine x.guest.code) (IsLive x.guest.code) (IsSpoilt x.guest.code) (thread_is_live_or_next_step_spoils_it x.guest.code)
+      (tables (start_of x).flat) steps (live_run_of_threads x.guest.code (beginning x) steps a.1) (start_state_is_unspoilt x.guest most_budget x.profile);
 }
 
 -- a run that counts is one of the guest as a search sees it, with the same entries
@@ -84,7 +84,7 @@ counting_run_counts_as_seen x budget steps c =
     let s : State thread.ThreadState = tables (start_flat x.guest budget x.profile) in
     let full : State (thread.ThreadState × Source) = beside (tables (start_flat x.guest budget x.profile)) (first_source x) in
     let live = sourced_live m given (IsLive x.guest.code) full steps
-    (unspoilt_run_is_live m (IsLive x.guest.code) (IsSpoilt x.guest.code) (thread_machine_spoils x.guest.code) s steps c.unspoilt) in
+    (run_is_live_if_its_end_is_unspoilt m (IsLive x.guest.code) (IsSpoilt x.guest.code) (thread_is_live_or_next_step_spoils_it x.guest.code) s steps c.unspoilt) in
     let one = sourced_counts m given full steps in
     let two = counts_of_live_run_seen x.guest.code full steps live (one.1 (c.runs, c.answered)) in
     let order = entering_of_live_run_seen x.guest.code full steps live ∙ sourced_entering m given full steps in (
@@ -101,7 +101,7 @@ hang_never_completes x budget steps h most more c =
     let start : State (thread.ThreadState × Source) = seen_start x.guest x.profile (first_source x) in
     let s : State thread.ThreadState = tables (start_flat x.guest most x.profile) in
     let r = real_seen (thread_machine x.guest.code) (seen_machine x.guest.code) view (IsLive x.guest.code) (IsSpoilt x.guest.code)
-    (seen_machine_is_view x.guest.code) (thread_machine_spoils x.guest.code) given s (first_source x) (steps ++ more) c.complete.0 c.answered
+    (seen_machine_is_view x.guest.code) (thread_is_live_or_next_step_spoils_it x.guest.code) given s (first_source x) (steps ++ more) c.complete.0 c.answered
     c.complete.1 c.unspoilt in
     let counts : Counts (seen_by x.guest.code) (answered_by x.guest.code) (seen_start x.guest x.profile (first_source x)) (steps ++ more) =
     subst (λ z. Counts (seen_by x.guest.code) (answered_by x.guest.code) (beside z (first_source x)) (steps ++ more))
@@ -111,12 +111,12 @@ hang_never_completes x budget steps h most more c =
     (start_view_ignores_budget x.guest most 1 x.profile) r.1 in
     h.1 (
       more,
-      counts_after_prefix m (answered_by x.guest.code) start steps more counts,
+      suffix_counts_from_end_of_prefix_if_append_counts m (answered_by x.guest.code) start steps more counts,
       subst (IsDone (seen_by x.guest.code)) (end_append m start steps more) done,
     )
 
-seen_threads_tell_nothing : (code : List ℕ) → TellsNothing (seen_by code) (answered_by code) (Alike code)
-seen_threads_tell_nothing code = looks_alike (seen_by code) (answered_by code) (Same code) (look_same code given)
+tells_nothing_of_alike_seen_threads : (code : List ℕ) → TellsNothing (seen_by code) (answered_by code) (Alike code)
+tells_nothing_of_alike_seen_threads code = looks_alike (seen_by code) (answered_by code) (Same code) (look_same code given)
 
 -- where an answered run stands at what looks the same as a state, it can be brought to an end only where the state can
 pub can_end_if_answered_run_can : (x : Setup) (steps : List Step) (s u : SourcedFlat) → IsAnsweredRun x.guest.code (beginning x) steps
@@ -129,7 +129,7 @@ can_end_if_answered_run_can x steps s u answered ends code same looks can =
     let here : Completes (seen_by x.guest.code) (answered_by x.guest.code) (seen_of u) =
     subst (Completes (seen_by x.guest.code) (answered_by x.guest.code)) stands can in
     let there : Completes (seen_by x.guest.code) (answered_by x.guest.code) (seen_of s) =
-    completes_from_alike_state (seen_by x.guest.code) (answered_by x.guest.code) (Alike x.guest.code) (seen_threads_tell_nothing x.guest.code) (seen_of u) (seen_of s)
+    completes_from_alike_state (seen_by x.guest.code) (answered_by x.guest.code) (Alike x.guest.code) (tells_nothing_of_alike_seen_threads x.guest.code) (seen_of u) (seen_of s)
     (subst (λ z. Alike z (seen_of u) (seen_of s)) code looks) here in
     subst (λ z. Completes (seen_by z) (answered_by z) (seen_of s)) (sym (same ∙ code)) there
 
@@ -157,7 +157,7 @@ module _ (x : Setup) (flats : List SourcedFlat) (noted : ℕ → BothWays) (thre
 
   good : StateInvariant m start
   good = seen_good (thread_machine x.guest.code) (seen_machine x.guest.code) view (IsLive x.guest.code) (IsSpoilt x.guest.code) (seen_machine_is_view x.guest.code)
-      (thread_machine_spoils x.guest.code) given (λ y o. refl) (tables (start_flat x.guest 1 x.profile)) (first_source x) (state_invariant_at_start x.guest 1 x.profile)
+      (thread_is_live_or_next_step_spoils_it x.guest.code) given (λ y o. refl) (tables (start_flat x.guest 1 x.profile)) (first_source x) (state_invariant_at_start x.guest 1 x.profile)
 
   lawful : IsLawful m
   lawful = sourced_machine_is_lawful (seen_machine x.guest.code) given (seen_machine_is_lawful x.guest.code)
@@ -166,13 +166,13 @@ module _ (x : Setup) (flats : List SourcedFlat) (noted : ℕ → BothWays) (thre
   state_way : (v : ℕ) → v < length flats → Completes m answers_here (state v) ↔ HasWay m state (Steps m state noted (length flats)) v
   state_way v l =
       let r = finished.reached v l in
-      let k = found m lawful answers_here (Alike x.guest.code) (seen_threads_tell_nothing x.guest.code) start good state Node (Steps m state noted (length flats)) 0
+      let k = found m lawful answers_here (Alike x.guest.code) (tells_nothing_of_alike_seen_threads x.guest.code) start good state Node (Steps m state noted (length flats)) 0
       finished v r.0 r.1 in
-      let b = back m lawful answers_here (Alike x.guest.code) (seen_threads_tell_nothing x.guest.code) start good state Node (Steps m state noted (length flats)) 0
+      let b = back m lawful answers_here (Alike x.guest.code) (tells_nothing_of_alike_seen_threads x.guest.code) start good state Node (Steps m state noted (length flats)) 0
       finished k.run k.counts [] tt v l k.alike in (
-        λ c. b.0 (completes_from_alike_state m answers_here (Alike x.guest.code) (seen_threads_tell_nothing x.guest.code) (state v) (end m start k.run)
-            ((seen_threads_tell_nothing x.guest.code).backwards (end m start k.run) (state v) k.alike) c),
-        λ h. completes_from_alike_state m answers_here (Alike x.guest.code) (seen_threads_tell_nothing x.guest.code) (end m start k.run) (state v) k.alike (b.1 h),
+        λ c. b.0 (completes_from_alike_state m answers_here (Alike x.guest.code) (tells_nothing_of_alike_seen_threads x.guest.code) (state v) (end m start k.run)
+            ((tells_nothing_of_alike_seen_threads x.guest.code).backwards (end m start k.run) (state v) k.alike) c),
+        λ h. completes_from_alike_state m answers_here (Alike x.guest.code) (tells_nothing_of_alike_seen_threads x.guest.code) (end m start k.run) (state v) k.alike (b.1 h),
       )
 
   -- a run that counts stands at a node
@@ -180,9 +180,9 @@ module _ (x : Setup) (flats : List SourcedFlat) (noted : ℕ → BothWays) (thre
       → (v : ℕ) × (v < length flats) × Path (Steps m state noted (length flats)) 0 (entering m start steps) v
       × (CanEnd x steps ↔ Completes m answers_here (state v))
   run_way steps ok =
-      let a = finds m lawful answers_here (Alike x.guest.code) (seen_threads_tell_nothing x.guest.code) start good state Node (Steps m state noted (length flats)) 0
+      let a = finds m lawful answers_here (Alike x.guest.code) (tells_nothing_of_alike_seen_threads x.guest.code) start good state Node (Steps m state noted (length flats)) 0
       finished steps ok in
-      let b = back m lawful answers_here (Alike x.guest.code) (seen_threads_tell_nothing x.guest.code) start good state Node (Steps m state noted (length flats)) 0
+      let b = back m lawful answers_here (Alike x.guest.code) (tells_nothing_of_alike_seen_threads x.guest.code) start good state Node (Steps m state noted (length flats)) 0
       finished steps ok a.left a.goes a.node a.is a.alike in
       let w = state_way a.node a.is in
       (a.node, a.is, a.path, (λ c. w.1 (b.0 c), λ c. b.1 (w.0 c)))
@@ -195,7 +195,7 @@ module _ (x : Setup) (flats : List SourcedFlat) (noted : ℕ → BothWays) (thre
       let way = state_way v l in (
         λ is. way.1 (marked_way m answers_here (Alike x.guest.code) start state noted threads (length flats) means w.done w.nodes
             (λ p here.
-            let less : p < length flats = (let a = place_of_element_is_below_length w.done p true here in let b = w.nodes in omega (arith, a, b)) in
+            let less : p < length flats = (let a = index_of_element_is_below_length w.done p true here in let b = w.nodes in omega (arith, a, b)) in
             seen_done x flats noted threads g p less
             (w.done_marked p (flat_of x flats noted threads g p) (at x flats noted threads g p less) here))
             v ((w.exact v).0 is)),
@@ -209,7 +209,7 @@ module _ (x : Setup) (flats : List SourcedFlat) (noted : ℕ → BothWays) (thre
   -- what is so of a node's state is so of what the list has there
   state_here : (v : ℕ) (f : SourcedFlat) → slice_get flats v ≡ Some f → Completes m answers_here (state v) ↔ CanEndFrom f
   state_here v f is =
-      let l : v < length flats = place_of_element_is_below_length flats v f is in
+      let l : v < length flats = index_of_element_is_below_length flats v f is in
       let one : flat_of x flats noted threads g v ≡ f =
       same_Some (flat_of x flats noted threads g v) f (sym (at x flats noted threads g v l) ∙ is) in
       let code = code_at x flats noted threads g v l in (
@@ -220,7 +220,7 @@ module _ (x : Setup) (flats : List SourcedFlat) (noted : ℕ → BothWays) (thre
   pub marked_ends : (marks : List Bool) → AreWays noted threads flats marks → (v : ℕ) (f : SourcedFlat) → slice_get flats v ≡ Some f
       → IsOpen marks v ↔ CanEndFrom f
   marked_ends marks w v f is =
-      let one = node_marked marks w v (place_of_element_is_below_length flats v f is) in
+      let one = node_marked marks w v (index_of_element_is_below_length flats v f is) in
       let two = state_here v f is in (λ h. two.0 (one.0 h), λ h. one.1 (two.1 h))
 
   pub counting_stands : (levels : ℕ) → AreGoneOver noted threads origins levels

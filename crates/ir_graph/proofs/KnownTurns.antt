@@ -8,7 +8,7 @@ use Rattle.ir_thread.specs.State.{ThreadState, ask_of}
 use Rattle.ir_flat.specs.Flat.{cell_of}
 use Rattle.ir_store.specs.Table.{idle_beside, Keeps}
 use Rattle.ir_store.specs.Nodes.{Shared, SourcedFlat, sourced_thread, cell_in, Grows}
-use Rattle.ir_store.proofs.CallerLemmas.{all_by_recursion_weaker, found_element_of_all_by_recursion, all_by_recursion_after_push, kept_element_is_equal, place_below_length_kept}
+use Rattle.ir_store.proofs.CallerLemmas.{all_by_recursion_weaker, slice_get_element_satisfies_all_by_recursion, all_by_recursion_after_push, kept_element_is_equal, index_below_length_kept_if_elements_kept}
 use Rattle.ir_graph.specs.declared.known.Turn.{Turn}
 use Rattle.ir_graph.specs.Ahead.{IsTurn, AreTurns, IsTurnOf}
 use Rattle.ir_graph.specs.Lone.{TakesTurn}
@@ -24,10 +24,10 @@ module _ (code : List ℕ) (old new : Shared) (grows : Grows old new) where
       let after : cell_in new.words turn.after ≡ cell_in old.words turn.after =
       λ i. record { fields = (cell_in old.words turn.after).fields; words = kept_element_is_equal old.words new.words [] grows.words turn.after.words is.after i } in
       record {
-        from = place_below_length_kept old.threads new.threads idle_beside grows.threads turn.from is.from;
-        to = place_below_length_kept old.threads new.threads idle_beside grows.threads turn.to is.to;
-        spot = place_below_length_kept old.words new.words [] grows.words turn.spot.words is.spot;
-        after = place_below_length_kept old.words new.words [] grows.words turn.after.words is.after;
+        from = index_below_length_kept_if_elements_kept old.threads new.threads idle_beside grows.threads turn.from is.from;
+        to = index_below_length_kept_if_elements_kept old.threads new.threads idle_beside grows.threads turn.to is.to;
+        spot = index_below_length_kept_if_elements_kept old.words new.words [] grows.words turn.spot.words is.spot;
+        after = index_below_length_kept_if_elements_kept old.words new.words [] grows.words turn.after.words is.after;
         tries = λ no. subst (λ z. MayGo true (ask_of code z) → ⊥) (ap (λ (x : ThreadState × Source). x.0) (sym from)) (is.tries no);
         takes =
             subst (λ z. TakesTurn code turn.object turn.refused z (cell_in new.words turn.spot) (slice_index_or new.threads turn.to idle_beside)
@@ -45,11 +45,11 @@ module _ (code : List ℕ) (old new : Shared) (grows : Grows old new) where
 
 pub listed_turn_is_turn : (code : List ℕ) (shared : Shared) (turns : List Turn) (i : ℕ) (turn : Turn) → AreTurns code shared turns
     → slice_get turns i ≡ Some turn → IsTurn code shared turn
-listed_turn_is_turn code shared turns i turn all at = found_element_of_all_by_recursion (IsTurn code shared) turns i turn all at
+listed_turn_is_turn code shared turns i turn all at = slice_get_element_satisfies_all_by_recursion (IsTurn code shared) turns i turn all at
 
-pub are_turns_after_turn_added : (code : List ℕ) (shared : Shared) (turns new : List Turn) (turn : Turn) → AreTurns code shared turns
+pub are_turns_if_unchanged_or_turn_pushed : (code : List ℕ) (shared : Shared) (turns new : List Turn) (turn : Turn) → AreTurns code shared turns
     → IsTurn code shared turn → (new ≡ turns) ⊎ (new ≡ turns ++ turn ∷ []) → AreTurns code shared new
-are_turns_after_turn_added code shared turns new turn all is either = elim either [
+are_turns_if_unchanged_or_turn_pushed code shared turns new turn all is either = elim either [
   | inl e ↦ subst (AreTurns code shared) (sym e) all
   | inr e ↦ subst (AreTurns code shared) (sym e) (all_by_recursion_after_push (IsTurn code shared) turns turn all is)
 ]
@@ -83,9 +83,9 @@ found_turn_is_turn_of_thread code old mid new first more f t refused turn way x 
     λ i. record { fields = (cell_in old.words turn.spot).fields; words = kept_element_is_equal old.words new.words [] words turn.spot.words spot i } in
     record {
       is = record {
-        from = place_below_length_kept old.threads new.threads idle_beside threads turn.from from;
-        to = place_below_length_kept mid.threads new.threads idle_beside more.threads turn.to to;
-        spot = place_below_length_kept old.words new.words [] words turn.spot.words spot;
+        from = index_below_length_kept_if_elements_kept old.threads new.threads idle_beside threads turn.from from;
+        to = index_below_length_kept_if_elements_kept mid.threads new.threads idle_beside more.threads turn.to to;
+        spot = index_below_length_kept_if_elements_kept old.words new.words [] words turn.spot.words spot;
         after = after;
         tries = λ no. subst (λ z. MayGo true (ask_of code z) → ⊥) (ap (λ (x : ThreadState × Source). x.0) (x_is ∙ sym from_is)) (tries no);
         takes =

@@ -19,9 +19,9 @@ use Rattle.ir_flat.specs.Flat.{Flat, tables, machine, thread_of, idle}
 use Rattle.ir_store.specs.Nodes.{SourcedFlat, source_of}
 use Rattle.ir_graph.specs.Nodes.{seen_by, answered_by, Alike, seen_of, LookAlike, AllRest, IsStepBy, HasStepBy}
 use Rattle.ir_graph.specs.Plain.{full_of, GoesPlain, MayGo, Rests, result_by}
-use Rattle.ir_graph.proofs.Alike.{index_past_length_is_default}
+use Rattle.ir_graph.proofs.Alike.{slice_index_or_past_length_is_default}
 use Rattle.ir_graph.proofs.Full.{seen_state, end_of_live_run_seen, counts_of_live_run_seen, counts_if_seen, plain_run_seen}
-use Rattle.ir_graph.proofs.Plain.{TakesStep, resting_thread_is_live, rest_ask_is_not_own, rest_ask_is_answered, step_at_rest_is_answered_run}
+use Rattle.ir_graph.proofs.Plain.{TakesStep, resting_thread_is_live, rest_ask_is_not_own, rest_ask_is_answered_by_any_result, step_at_rest_is_answered_run}
 
 -- a thread that rests does one thing by one way
 act_at_rest_depends_on_way_alone : (q : Ask) (r : ℕ) (refused : Bool) → Rests q → is_refusal (act_of (shared_ask q) r) ≡ refused
@@ -70,7 +70,7 @@ no_refusal_unless_try ask.Done r h by = absurd (cc by)
 
 -- a number that is no thread's asks nothing
 pub ask_past_threads_is_done : (f : Flat) (t : ℕ) → length f.threads ≤ t → ask_of f.code (thread_of f t) ≡ ask.Done
-ask_past_threads_is_done f t l = ap (ask_of f.code) (index_past_length_is_default f.threads t idle l)
+ask_past_threads_is_done f t l = ap (ask_of f.code) (slice_index_or_past_length_is_default f.threads t idle l)
 
 pub every_number_rests_if_all_rest : (f : Flat) → AllRest f → (t : ℕ) → Rests (ask_of f.code (thread_of f t))
 every_number_rests_if_all_rest f all t = elim (cases_lt t (length f.threads)) [
@@ -98,7 +98,7 @@ can_step_at_rest_if_seen_step_can s t r rests can =
     let live = resting_thread_is_live s.flat.code (thread_of s.flat t) rests in
     let answered = subst (λ z. IsAnswered z (answer_of given z (source_of s t)) r)
     (sym ((seen_machine_is_view s.flat.code).asks (thread_of s.flat t) live))
-    (rest_ask_is_answered q (answer_of given (shared_ask q) (source_of s t)) r rests) in
+    (rest_ask_is_answered_by_any_result q (answer_of given (shared_ask q) (source_of s t)) r rests) in
     (counts_if_seen s.flat.code (full_of s) ((t, r) ∷ []) (live, tt) ((can, answered), tt)).0.0
 
 act_is_not_never_if_step_can_be_taken : (f : Flat) (t r : ℕ) → Can (machine f) (tables f) (t, r) → act_of (shared_ask (ask_of f.code (thread_of f t))) r ≡ Never → ⊥

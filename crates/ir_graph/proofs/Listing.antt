@@ -4,7 +4,7 @@ use Rattle.std.specs.Prelude.{slice_get}
 use Rattle.std.proofs.lemmas.Bool.{cases_lt}
 use Rattle.std.specs.List.{slice_index_or}
 use Rattle.std.proofs.lemmas.Option.{same_Some, slice_get-get_or}
-use Rattle.ir_explore.proofs.CallerLemmas.{slice_get_after_push_cases, slice_get_kept_by_append, place_of_element_is_below_length}
+use Rattle.ir_explore.proofs.CallerLemmas.{slice_get_after_push_cases, slice_get_kept_by_append, index_of_element_is_below_length}
 use Rattle.ir_runs.specs.Run.{IsDone}
 use Rattle.ir_flat.specs.Flat.{machine, tables}
 use Rattle.ir_store.specs.Nodes.{SourcedFlat}
@@ -96,7 +96,7 @@ module _ (flats : List SourcedFlat) (until : ℕ) (listed : List ℕ) (f : Sourc
     rising = λ i j v w is too before. elim (slice_get_after_push_cases listed until j w too) [
       | inl old_too ↦ elim (slice_get_after_push_cases listed until i v is) [
         | inl old ↦ o.rising i j v w old old_too before
-        | inr p ↦ absurd (let a = place_of_element_is_below_length listed j w old_too in let b = p.0 in omega (arith, a, b, before))
+        | inr p ↦ absurd (let a = index_of_element_is_below_length listed j w old_too in let b = p.0 in omega (arith, a, b, before))
       ]
       | inr q ↦ elim (slice_get_after_push_cases listed until i v is) [
         | inl old ↦ let a = (o.done i v old).0 in let b = q.1 in omega (arith, a, b)
@@ -144,11 +144,11 @@ module _ (flats : List SourcedFlat) (until : ℕ) (listed : List ℕ) (f : Sourc
       }
 
 -- the state of a listed node, as it is read
-pub state_of_listed_node : (flats : List SourcedFlat) (listed : List ℕ) (i d : ℕ) (e : SourcedFlat)
+pub looked_up_state_is_state_of_listed_node : (flats : List SourcedFlat) (listed : List ℕ) (i d : ℕ) (e : SourcedFlat)
     → ((i v : ℕ) → slice_get listed i ≡ Some v → v < length flats) → i < length listed
     → e ≡ slice_index_or flats (slice_index_or listed i d) e
     → (v : ℕ) × (slice_get listed i ≡ Some v) × (slice_get flats v ≡ Some e)
-state_of_listed_node flats listed i d e within less is =
+looked_up_state_is_state_of_listed_node flats listed i d e within less is =
     let at : slice_get listed i ≡ Some (slice_index_or listed i d) = slice_get-get_or listed i d less in (
       slice_index_or listed i d,
       at,

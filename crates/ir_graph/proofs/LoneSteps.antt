@@ -20,7 +20,7 @@ use Rattle.ir_sources.specs.Sources.{Source, given}
 use Rattle.ir_flat.specs.Flat.{Flat, IsFlat, thread_of, cell_of, tables, machine, idle}
 use Rattle.ir_flat.specs.Room.{empty}
 use Rattle.ir_flat.specs.Next.{with_thread, with_object, next, MayStep, MayTry}
-use Rattle.ir_flat.proofs.CallerLemmas.{next_is_flat, tables_of_next_are_after, may_step_is_can_for_ask, entered_fields_fit, left_fields_fit, flat_inside_thread_can_leave}
+use Rattle.ir_flat.proofs.CallerLemmas.{next_is_flat, tables_of_next_are_after, may_step_iff_can_for_ask, entered_fields_fit, left_fields_fit, flat_inside_thread_can_leave}
 use Rattle.ir_thread.proofs.CallerLemmas.{ask_of_permitted}
 use Rattle.ir_runs.specs.declared.access.Access.{Access}
 use Rattle.ir_runs.specs.declared.access.Access.TheVariants.{Writing}
@@ -28,42 +28,42 @@ use Rattle.ir_store.specs.Nodes.{SourcedFlat, source_of, sourced_thread, with_tu
 use Rattle.ir_store.specs.Table.{no_source}
 use Rattle.ir_graph.specs.Lone.{IsAbout, IsGiven, answer_from, cell_after, lone_thread, lone_cell, GoesLone, MayBegin, TakesTurn, AreBeside, MayTake}
 use Rattle.ir_graph.specs.Plain.{full_by, full_of, IsFair, GoesPlain, MayGo, OthersStay, Rests, result_by, result_of}
-use Rattle.ir_graph.proofs.Full.{after_step_beside_sources, lookup_after_source_set_is_upd}
-use Rattle.ir_graph.proofs.Plain.{goes_plain_reflexive, goes_plain_transitive, goes_plain_by_fair_step, others_stay_after_step, others_stay_transitive, twins_after_ask}
+use Rattle.ir_graph.proofs.Full.{sourced_step_is_step_beside_updated_sources, lookup_after_source_set_is_upd}
+use Rattle.ir_graph.proofs.Plain.{goes_plain_reflexive, goes_plain_transitive, goes_plain_by_fair_step, others_stay_after_step, others_stay_transitive, thread_after_ask_is_twin_of_thread_before}
 
 -- the flat with another thread and another object
 abbrev pub with_thread_and_object : Flat → ℕ → ThreadState → ℕ → Cell → Flat
 with_thread_and_object f t y o d = with_object (with_thread f t y) o d
 
-with_thread_keeps_object : (f : Flat) (t o : ℕ) (y : ThreadState) → with_thread f t y ≡ with_thread_and_object f t y o (cell_of f o)
-with_thread_keeps_object f t o y i = record { code = f.code; threads = set f.threads t y; objects = sym (set-get_or f.objects o empty) i }
+with_thread_is_with_thread_and_same_object : (f : Flat) (t o : ℕ) (y : ThreadState) → with_thread f t y ≡ with_thread_and_object f t y o (cell_of f o)
+with_thread_is_with_thread_and_same_object f t o y i = record { code = f.code; threads = set f.threads t y; objects = sym (set-get_or f.objects o empty) i }
 
 -- a step that is about one object changes the thread and that object alone
-pub next_changes_thread_and_object : (f : Flat) (t o : ℕ) (refused : Bool) (source : Source) (q : Ask) → IsAbout o q
+pub next_is_with_thread_and_object_if_ask_is_about_it : (f : Flat) (t o : ℕ) (refused : Bool) (source : Source) (q : Ask) → IsAbout o q
     → next f t (result_of refused q source) q
     ≡ with_thread_and_object f t (after_ask f.code (thread_of f t) q (answer_from refused (cell_of f o) source q)) o (cell_after refused (cell_of f o) q)
-next_changes_thread_and_object f t o refused source ask.Private h = with_thread_keeps_object f t o (after_ask f.code (thread_of f t) ask.Private Go)
-next_changes_thread_and_object f t o refused source (ask.Env kind) h =
-    with_thread_keeps_object f t o (after_ask f.code (thread_of f t) (ask.Env kind) (Value (given kind source).0))
-next_changes_thread_and_object f t o refused source (ask.Enter p access) h =
+next_is_with_thread_and_object_if_ask_is_about_it f t o refused source ask.Private h = with_thread_is_with_thread_and_same_object f t o (after_ask f.code (thread_of f t) ask.Private Go)
+next_is_with_thread_and_object_if_ask_is_about_it f t o refused source (ask.Env kind) h =
+    with_thread_is_with_thread_and_same_object f t o (after_ask f.code (thread_of f t) (ask.Env kind) (Value (given kind source).0))
+next_is_with_thread_and_object_if_ask_is_about_it f t o refused source (ask.Enter p access) h =
     ap (λ z. with_thread_and_object f t (after_ask f.code (thread_of f t) (ask.Enter p access) Go) z
     (record (cell_of f z) { fields = entered access (cell_of f z).fields })) h
-next_changes_thread_and_object f t o true source (ask.Try p) h = with_thread_keeps_object f t o (after_ask f.code (thread_of f t) (ask.Try p) (Value 0))
-next_changes_thread_and_object f t o false source (ask.Try p) h =
+next_is_with_thread_and_object_if_ask_is_about_it f t o true source (ask.Try p) h = with_thread_is_with_thread_and_same_object f t o (after_ask f.code (thread_of f t) (ask.Try p) (Value 0))
+next_is_with_thread_and_object_if_ask_is_about_it f t o false source (ask.Try p) h =
     ap (λ z. with_thread_and_object f t (after_ask f.code (thread_of f t) (ask.Try p) (Value 1)) z
     (record (cell_of f z) { fields = entered Writing (cell_of f z).fields })) h
-next_changes_thread_and_object f t o refused source (ask.Leave p access) h =
+next_is_with_thread_and_object_if_ask_is_about_it f t o refused source (ask.Leave p access) h =
     ap (λ z. with_thread_and_object f t (after_ask f.code (thread_of f t) (ask.Leave p access) Go) z
     (record (cell_of f z) { fields = left_by access (cell_of f z).fields })) h
-next_changes_thread_and_object f t o refused source (ask.Get p index) h =
+next_is_with_thread_and_object_if_ask_is_about_it f t o refused source (ask.Get p index) h =
     ap (λ z. with_thread f t (after_ask f.code (thread_of f t) (ask.Get p index) (answer_from refused (cell_of f z) source (ask.Get p index)))) h
-    ∙ with_thread_keeps_object f t o (after_ask f.code (thread_of f t) (ask.Get p index) (answer_from refused (cell_of f o) source (ask.Get p index)))
-next_changes_thread_and_object f t o refused source (ask.Put p index value) h =
+    ∙ with_thread_is_with_thread_and_same_object f t o (after_ask f.code (thread_of f t) (ask.Get p index) (answer_from refused (cell_of f o) source (ask.Get p index)))
+next_is_with_thread_and_object_if_ask_is_about_it f t o refused source (ask.Put p index value) h =
     ap (λ z. with_thread_and_object f t (after_ask f.code (thread_of f t) (ask.Put p index value) Go) z
     (record (cell_of f z) { words = slice_set (cell_of f z).words index value })) h
-next_changes_thread_and_object f t o refused source ask.Print h = with_thread_keeps_object f t o (after_ask f.code (thread_of f t) ask.Print Go)
-next_changes_thread_and_object f t o refused source (ask.End e) h = with_thread_keeps_object f t o (after_ask f.code (thread_of f t) (ask.End e) Go)
-next_changes_thread_and_object f t o refused source ask.Done h = absurd h
+next_is_with_thread_and_object_if_ask_is_about_it f t o refused source ask.Print h = with_thread_is_with_thread_and_same_object f t o (after_ask f.code (thread_of f t) ask.Print Go)
+next_is_with_thread_and_object_if_ask_is_about_it f t o refused source (ask.End e) h = with_thread_is_with_thread_and_same_object f t o (after_ask f.code (thread_of f t) (ask.End e) Go)
+next_is_with_thread_and_object_if_ask_is_about_it f t o refused source ask.Done h = absurd h
 
 with_own_turn_changes_nothing : (s : SourcedFlat) (t o : ℕ) → with_turn s t (sourced_thread s t) o (cell_of s.flat o) ≡ s
 with_own_turn_changes_nothing s t o i = record {
@@ -86,7 +86,7 @@ full_after_step_if_source_is_set s u t r less flat sources =
     let source : Source = left_of given (shared_ask (ask_of s.flat.code (thread_of s.flat t))) (source_of s t) in
     (λ i. beside (flat i) (λ v. get_or (sources i) v no_source))
     ∙ (λ i. beside (after (machine s.flat) (tables s.flat) (t, r)) (lookup_after_source_set_is_upd s.sources t source less i))
-    ∙ sym (after_step_beside_sources (thread_machine s.flat.code) given (tables s.flat) (source_of s) (t, r))
+    ∙ sym (sourced_step_is_step_beside_updated_sources (thread_machine s.flat.code) given (tables s.flat) (source_of s) (t, r))
 
 -- ---- one step
 
@@ -143,7 +143,7 @@ module _ (s : SourcedFlat) (t o : ℕ) (refused : Bool) (state : IsSourced s) (l
       let f = s.flat in
       let q = ask_of f.code (thread_of f t) in
       let r = result_of refused q (source_of s t) in
-      let made : next f t r q ≡ after_lone_step.flat = next_changes_thread_and_object f t o refused (source_of s t) q about in
+      let made : next f t r q ≡ after_lone_step.flat = next_is_with_thread_and_object_if_ask_is_about_it f t o refused (source_of s t) q about in
       let each : t < length s.sources = (let a = state.each in omega (arith, a, less)) in
       record {
         state = record {
@@ -151,7 +151,7 @@ module _ (s : SourcedFlat) (t o : ℕ) (refused : Bool) (state : IsSourced s) (l
           each = length-set s.sources t (left_of given (shared_ask q) (source_of s t)) ∙ state.each
               ∙ sym (length-set f.threads t (after_ask f.code (thread_of f t) q (answer_from refused (cell_of f o) (source_of s t) q)));
         };
-        can = (may_step_is_can_for_ask f t r q state.flat less refl).0 may;
+        can = (may_step_iff_can_for_ask f t r q state.flat less refl).0 may;
         is = full_after_step_if_source_is_set s after_lone_step t r each (ap tables (sym made) ∙ tables_of_next_are_after f t r q state.flat less refl may) refl;
         code = refl;
         threads = length-set f.threads t (after_ask f.code (thread_of f t) q (answer_from refused (cell_of f o) (source_of s t) q));
@@ -355,7 +355,7 @@ are_beside_after_ask code o refused x source c asks b is about may =
     record {
       flat = g;
       thread = t;
-      is = subst IsFlat (next_changes_thread_and_object f t o refused source q (subst (IsAbout o) (sym same) about))
+      is = subst IsFlat (next_is_with_thread_and_object_if_ask_is_about_it f t o refused source q (subst (IsAbout o) (sym same) about))
           (next_is_flat f t (result_of refused q source) q refl b.is b.has_thread
           (subst (λ z. MayStep f (result_of refused z source) z) (sym same) (may f b.there)));
       runs = b.runs;
@@ -472,11 +472,11 @@ are_beside_after_turn_begins code o refused x z source c e q b asks begins is to
 form_kept_by_lone_run : (code : List ℕ) (o k : ℕ) (x y : ThreadState × Source) (c d : Cell) → GoesLone code o k x c y d → x.0.form ≡ y.0.form
 form_kept_by_lone_run code o zero x y c d (same, too) = ap (λ (s : ThreadState × Source). s.0.form) same
 form_kept_by_lone_run code o (suc k) x y c d (fair, about, suits, more) =
-    (twins_after_ask code x.0 (ask_of code x.0) (answer_from false c x.1 (ask_of code x.0))).form
+    (thread_after_ask_is_twin_of_thread_before code x.0 (ask_of code x.0) (answer_from false c x.1 (ask_of code x.0))).form
     ∙ form_kept_by_lone_run code o k (lone_thread code false x c) y (lone_cell code false x c) d more
 
 pub form_kept_by_turn : (code : List ℕ) (o : ℕ) (refused : Bool) (x y : ThreadState × Source) (c d : Cell) → TakesTurn code o refused x c y d
     → x.0.form ≡ y.0.form
 form_kept_by_turn code o refused x y c d turn =
-    (twins_after_ask code x.0 (ask_of code x.0) (answer_from refused c x.1 (ask_of code x.0))).form
+    (thread_after_ask_is_twin_of_thread_before code x.0 (ask_of code x.0) (answer_from refused c x.1 (ask_of code x.0))).form
     ∙ form_kept_by_lone_run code o turn.steps (lone_thread code refused x c) y (lone_cell code refused x c) d turn.goes

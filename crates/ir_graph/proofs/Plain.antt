@@ -4,7 +4,7 @@ use Rattle.std.specs.Prelude.{◌==◌, replicate}
 use Rattle.ir_runs.specs.Machine as machine
 use Rattle.ir_runs.specs.Machine.{target, reply, upd}
 use Rattle.ir_runs.specs.Run.{State, Step, act, Can, after, end, IsRun}
-use Rattle.ir_runs.proofs.CallerLemmas.{upd_by_cases, upd_with_old_value, thread_after_step_of_other, end_append}
+use Rattle.ir_runs.proofs.CallerLemmas.{property_of_upd_by_cases, upd_with_old_value, thread_after_step_of_other, end_append}
 use Rattle.ir_states.specs.Counting.{IsAnswered, is_own}
 use Rattle.ir_states.specs.Sources.{answer_of, left_of}
 use Rattle.ir_states.specs.Views.{beside}
@@ -23,7 +23,7 @@ use Rattle.ir_flat.specs.Alone.{WentAlone}
 use Rattle.ir_flat.specs.Flat.{Flat, tables, machine, thread_of}
 use Rattle.ir_store.specs.Nodes.{SourcedFlat, source_of}
 use Rattle.ir_graph.specs.Plain.{full_by, full_of, sourced_flat, IsAnsweredRun, IsPlainRun, GoesPlain, OthersStay, IsLike, Rests, IsFair}
-use Rattle.ir_graph.proofs.Full.{after_step_beside_sources, after_step_beside_same_sources, lookup_after_source_set_is_upd, tables_at_end_if_full_state_at_end, plain_run_append}
+use Rattle.ir_graph.proofs.Full.{sourced_step_is_step_beside_updated_sources, sourced_step_is_step_beside_same_sources, lookup_after_source_set_is_upd, tables_at_end_if_full_state_at_end, plain_run_append}
 
 -- what a step of a thread makes of a guest's state
 pub record TakesStep (s u : SourcedFlat) (t r : ℕ) : Type 0 where
@@ -35,13 +35,13 @@ pub record TakesStep (s u : SourcedFlat) (t r : ℕ) : Type 0 where
   pub sources : length u.sources ≡ length s.sources
 
 -- the state after it, each thread beside its source
-pub full_after_step : (s u : SourcedFlat) (t r : ℕ) → tables u.flat ≡ after (machine s.flat) (tables s.flat) (t, r)
+pub full_of_is_after_step_if_tables_and_sources_are : (s u : SourcedFlat) (t r : ℕ) → tables u.flat ≡ after (machine s.flat) (tables s.flat) (t, r)
     → source_of u ≡ upd (source_of s) t (left_of given (shared_ask (ask_of s.flat.code (thread_of s.flat t))) (source_of s t))
     → full_of u ≡ after (full_by s.flat.code) (full_of s) (t, r)
-full_after_step s u t r is left =
+full_of_is_after_step_if_tables_and_sources_are s u t r is left =
     ap (λ z. beside z (source_of u)) is
     ∙ ap (beside (after (machine s.flat) (tables s.flat) (t, r))) left
-    ∙ sym (after_step_beside_sources (machine s.flat) given (tables s.flat) (source_of s) (t, r))
+    ∙ sym (sourced_step_is_step_beside_updated_sources (machine s.flat) given (tables s.flat) (source_of s) (t, r))
 
 -- ---- what threads ask
 
@@ -109,27 +109,27 @@ rest_ask_keeps_source ask.Print source h = absurd h
 rest_ask_keeps_source (ask.End e) source h = absurd h
 rest_ask_keeps_source ask.Done source h = refl
 
-pub rest_ask_is_answered : (q : Ask) (answer r : ℕ) → Rests q → IsAnswered (shared_ask q) answer r
-rest_ask_is_answered ask.Private answer r h = absurd h
-rest_ask_is_answered (ask.Env k) answer r h = absurd h
-rest_ask_is_answered (ask.Enter o a) answer r h = tt
-rest_ask_is_answered (ask.Try o) answer r h = tt
-rest_ask_is_answered (ask.Leave o a) answer r h = absurd h
-rest_ask_is_answered (ask.Get o i) answer r h = absurd h
-rest_ask_is_answered (ask.Put o i v) answer r h = absurd h
-rest_ask_is_answered ask.Print answer r h = absurd h
-rest_ask_is_answered (ask.End e) answer r h = absurd h
-rest_ask_is_answered ask.Done answer r h = tt
+pub rest_ask_is_answered_by_any_result : (q : Ask) (answer r : ℕ) → Rests q → IsAnswered (shared_ask q) answer r
+rest_ask_is_answered_by_any_result ask.Private answer r h = absurd h
+rest_ask_is_answered_by_any_result (ask.Env k) answer r h = absurd h
+rest_ask_is_answered_by_any_result (ask.Enter o a) answer r h = tt
+rest_ask_is_answered_by_any_result (ask.Try o) answer r h = tt
+rest_ask_is_answered_by_any_result (ask.Leave o a) answer r h = absurd h
+rest_ask_is_answered_by_any_result (ask.Get o i) answer r h = absurd h
+rest_ask_is_answered_by_any_result (ask.Put o i v) answer r h = absurd h
+rest_ask_is_answered_by_any_result ask.Print answer r h = absurd h
+rest_ask_is_answered_by_any_result (ask.End e) answer r h = absurd h
+rest_ask_is_answered_by_any_result ask.Done answer r h = tt
 
 -- ---- steps of a guest's state
 
 -- a thread that rests takes a step, which leaves the sources
-pub takes_step_at_rest : (f g : Flat) (sources : List Source) (t r : ℕ) → Rests (ask_of f.code (thread_of f t)) → Can (machine f) (tables f) (t, r)
+pub takes_step_at_rest_if_tables_step : (f g : Flat) (sources : List Source) (t r : ℕ) → Rests (ask_of f.code (thread_of f t)) → Can (machine f) (tables f) (t, r)
     → tables g ≡ after (machine f) (tables f) (t, r) → g.code ≡ f.code → length g.threads ≡ length f.threads
     → length g.objects ≡ length f.objects → TakesStep (sourced_flat f sources) (sourced_flat g sources) t r
-takes_step_at_rest f g sources t r rests can is code threads objects = record {
+takes_step_at_rest_if_tables_step f g sources t r rests can is code threads objects = record {
   can = can;
-  is = full_after_step (sourced_flat f sources) (sourced_flat g sources) t r is
+  is = full_of_is_after_step_if_tables_and_sources_are (sourced_flat f sources) (sourced_flat g sources) t r is
       (sym (upd_with_old_value (source_of (sourced_flat f sources)) t
       (left_of given (shared_ask (ask_of f.code (thread_of f t))) (source_of (sourced_flat f sources) t))
       (sym (rest_ask_keeps_source (ask_of f.code (thread_of f t)) (source_of (sourced_flat f sources) t) rests))));
@@ -140,14 +140,14 @@ takes_step_at_rest f g sources t r rests can is code threads objects = record {
 }
 
 -- a thread takes a step, which leaves this of its source
-pub takes_step_beside_source : (f g : Flat) (sources : List Source) (a : Source) (t r : ℕ) → t < length sources → Can (machine f) (tables f) (t, r)
+pub takes_step_beside_source_if_tables_step : (f g : Flat) (sources : List Source) (a : Source) (t r : ℕ) → t < length sources → Can (machine f) (tables f) (t, r)
     → tables g ≡ after (machine f) (tables f) (t, r)
     → a ≡ left_of given (shared_ask (ask_of f.code (thread_of f t))) (source_of (sourced_flat f sources) t)
     → g.code ≡ f.code → length g.threads ≡ length f.threads → length g.objects ≡ length f.objects
     → TakesStep (sourced_flat f sources) (sourced_flat g (set sources t a)) t r
-takes_step_beside_source f g sources a t r less can is left code threads objects = record {
+takes_step_beside_source_if_tables_step f g sources a t r less can is left code threads objects = record {
   can = can;
-  is = full_after_step (sourced_flat f sources) (sourced_flat g (set sources t a)) t r is
+  is = full_of_is_after_step_if_tables_and_sources_are (sourced_flat f sources) (sourced_flat g (set sources t a)) t r is
       (lookup_after_source_set_is_upd sources t a less ∙ ap (upd (source_of (sourced_flat f sources)) t) left);
   code = code;
   threads = threads;
@@ -159,7 +159,7 @@ takes_step_beside_source f g sources a t r less can is left code threads objects
 pub step_at_rest_is_answered_run : (s u : SourcedFlat) (t r : ℕ) → Rests (ask_of s.flat.code (thread_of s.flat t)) → TakesStep s u t r
     → IsAnsweredRun s.flat.code (full_of s) ((t, r) ∷ [])
 step_at_rest_is_answered_run s u t r rests step = (
-  ((step.can, rest_ask_is_answered (ask_of s.flat.code (thread_of s.flat t)) _ r rests), tt),
+  ((step.can, rest_ask_is_answered_by_any_result (ask_of s.flat.code (thread_of s.flat t)) _ r rests), tt),
   (resting_thread_is_live s.flat.code (thread_of s.flat t) rests, tt),
 )
 
@@ -222,7 +222,7 @@ private_steps_are_plain_run code s sources t (suc n) run each =
     subst (λ q. IsAnswered (shared_ask q) (answer_of given (shared_ask q) (sources t)) 0) (sym first) tt in
     let left : left_of given (shared_ask (ask_of code (s.now t))) (sources t) ≡ sources t = ap (λ q. left_of given (shared_ask q) (sources t)) first in
     let one : after (full_by code) (beside s sources) (t, 0) ≡ beside (after (thread_machine code) s (t, 0)) sources =
-    after_step_beside_same_sources (thread_machine code) given s sources (t, 0) left in
+    sourced_step_is_step_beside_same_sources (thread_machine code) given s sources (t, 0) left in
     let more = private_steps_are_plain_run code (after (thread_machine code) s (t, 0)) sources t n run.1 (λ k l. each (suc k) (omega (arith, l))) in
     let rest = subst (λ z. IsPlainRun code z (replicate n (t, 0))) (sym one) more.0 in (
       (
@@ -278,12 +278,12 @@ others_stay_transitive s u w t a b = record {
 }
 
 -- a step leaves what never changes of a thread
-pub twins_after_ask : (code : List ℕ) (s : thread.ThreadState) (q : Ask) (r : Reply) → AreTwins s (after_ask code s q r)
-twins_after_ask code s ask.Private r = record { number = refl; profile = refl; form = refl; objects = refl }
-twins_after_ask code s (ask.Env kind) r = record { number = refl; profile = refl; form = refl; objects = refl }
-twins_after_ask code s (ask.Enter object access) r =
+pub thread_after_ask_is_twin_of_thread_before : (code : List ℕ) (s : thread.ThreadState) (q : Ask) (r : Reply) → AreTwins s (after_ask code s q r)
+thread_after_ask_is_twin_of_thread_before code s ask.Private r = record { number = refl; profile = refl; form = refl; objects = refl }
+thread_after_ask_is_twin_of_thread_before code s (ask.Env kind) r = record { number = refl; profile = refl; form = refl; objects = refl }
+thread_after_ask_is_twin_of_thread_before code s (ask.Enter object access) r =
     record { number = refl; profile = refl; form = refl; objects = sym (length-set s.held object (Some access)) }
-twins_after_ask code s (ask.Try object) r = record { number = refl; profile = refl; form = refl; objects = by r }
+thread_after_ask_is_twin_of_thread_before code s (ask.Try object) r = record { number = refl; profile = refl; form = refl; objects = by r }
   where
     by : (r : Reply) → length s.held ≡ length (held_after_try r object s.held)
     by Go = refl
@@ -292,13 +292,13 @@ twins_after_ask code s (ask.Try object) r = record { number = refl; profile = re
         by_test : (b : Bool) → length s.held ≡ length (cond b (set s.held object (Some Writing)) s.held)
         by_test true = sym (length-set s.held object (Some Writing))
         by_test false = refl
-twins_after_ask code s (ask.Leave object access) r =
+thread_after_ask_is_twin_of_thread_before code s (ask.Leave object access) r =
     record { number = refl; profile = refl; form = refl; objects = sym (length-set s.held object None) }
-twins_after_ask code s (ask.Get object index) r = record { number = refl; profile = refl; form = refl; objects = refl }
-twins_after_ask code s (ask.Put object index value) r = record { number = refl; profile = refl; form = refl; objects = refl }
-twins_after_ask code s ask.Print r = record { number = refl; profile = refl; form = refl; objects = refl }
-twins_after_ask code s (ask.End e) r = record { number = refl; profile = refl; form = refl; objects = refl }
-twins_after_ask code s ask.Done r = record { number = refl; profile = refl; form = refl; objects = refl }
+thread_after_ask_is_twin_of_thread_before code s (ask.Get object index) r = record { number = refl; profile = refl; form = refl; objects = refl }
+thread_after_ask_is_twin_of_thread_before code s (ask.Put object index value) r = record { number = refl; profile = refl; form = refl; objects = refl }
+thread_after_ask_is_twin_of_thread_before code s ask.Print r = record { number = refl; profile = refl; form = refl; objects = refl }
+thread_after_ask_is_twin_of_thread_before code s (ask.End e) r = record { number = refl; profile = refl; form = refl; objects = refl }
+thread_after_ask_is_twin_of_thread_before code s ask.Done r = record { number = refl; profile = refl; form = refl; objects = refl }
 
 pub twins_reflexive : (s : thread.ThreadState) → AreTwins s s
 twins_reflexive s = record { number = refl; profile = refl; form = refl; objects = refl }
@@ -314,37 +314,37 @@ twins_transitive x y z a b = record {
 pub twins_symmetric : (x y : thread.ThreadState) → AreTwins x y → AreTwins y x
 twins_symmetric x y a = record { number = sym a.number; profile = sym a.profile; form = sym a.form; objects = sym a.objects }
 
-twins_after_step : (code : List ℕ) (s : State thread.ThreadState) (e : Step) (u : ℕ) → AreTwins (s.now u) ((after (thread_machine code) s e).now u)
+thread_after_step_is_twin_of_thread_before : (code : List ℕ) (s : State thread.ThreadState) (e : Step) (u : ℕ) → AreTwins (s.now u) ((after (thread_machine code) s e).now u)
 unfolding after after_reply
-twins_after_step code s e u =
-    upd_by_cases s.now e.0 _ u (λ x. AreTwins (s.now u) x)
+thread_after_step_is_twin_of_thread_before code s e u =
+    property_of_upd_by_cases s.now e.0 _ u (λ x. AreTwins (s.now u) x)
     (λ same. subst (λ z. AreTwins (s.now z) (after_reply code (s.now e.0) (reply_of (ask_of code (s.now e.0))
     (reply (act (thread_machine code) s e) (s.objects (target (act (thread_machine code) s e))))))) (sym same)
-    (twins_after_ask code (s.now e.0) (ask_of code (s.now e.0)) _))
+    (thread_after_ask_is_twin_of_thread_before code (s.now e.0) (ask_of code (s.now e.0)) _))
     (λ other. twins_reflexive (s.now u))
 
-pub twins_after_run : (code : List ℕ) (s : State thread.ThreadState) (run : List Step) (u : ℕ) → AreTwins (s.now u) ((end (thread_machine code) s run).now u)
-twins_after_run code s [] u = twins_reflexive (s.now u)
-twins_after_run code s (e ∷ run) u =
+pub thread_after_run_is_twin_of_thread_before : (code : List ℕ) (s : State thread.ThreadState) (run : List Step) (u : ℕ) → AreTwins (s.now u) ((end (thread_machine code) s run).now u)
+thread_after_run_is_twin_of_thread_before code s [] u = twins_reflexive (s.now u)
+thread_after_run_is_twin_of_thread_before code s (e ∷ run) u =
     twins_transitive (s.now u) ((after (thread_machine code) s e).now u) ((end (thread_machine code) (after (thread_machine code) s e) run).now u)
-    (twins_after_step code s e u) (twins_after_run code (after (thread_machine code) s e) run u)
+    (thread_after_step_is_twin_of_thread_before code s e u) (thread_after_run_is_twin_of_thread_before code (after (thread_machine code) s e) run u)
 
 -- a run leaves what never changes
-pub like_after_run : (s u : SourcedFlat) (run : List Step) → full_of u ≡ end (full_by s.flat.code) (full_of s) run → u.flat.code ≡ s.flat.code
+pub flat_after_run_is_like_flat_before : (s u : SourcedFlat) (run : List Step) → full_of u ≡ end (full_by s.flat.code) (full_of s) run → u.flat.code ≡ s.flat.code
     → length u.flat.threads ≡ length s.flat.threads → length u.flat.objects ≡ length s.flat.objects → IsLike s.flat u.flat
-like_after_run s u run ends code threads objects = record {
+flat_after_run_is_like_flat_before s u run ends code threads objects = record {
   code = code;
   threads = threads;
   objects = objects;
   twins = λ v. subst (AreTwins (thread_of s.flat v)) (ap (λ z. z.now v) (sym (tables_at_end_if_full_state_at_end s u run ends)))
-      (twins_after_run s.flat.code (tables s.flat) run v);
+      (thread_after_run_is_twin_of_thread_before s.flat.code (tables s.flat) run v);
 }
 
-pub like_after_step : (s u : SourcedFlat) (t r : ℕ) → TakesStep s u t r → IsLike s.flat u.flat
-like_after_step s u t r step = like_after_run s u ((t, r) ∷ []) step.is step.code step.threads step.objects
+pub flat_after_step_is_like_flat_before : (s u : SourcedFlat) (t r : ℕ) → TakesStep s u t r → IsLike s.flat u.flat
+flat_after_step_is_like_flat_before s u t r step = flat_after_run_is_like_flat_before s u ((t, r) ∷ []) step.is step.code step.threads step.objects
 
-pub like_after_plain_steps : (s u : SourcedFlat) → GoesPlain s u → IsLike s.flat u.flat
-like_after_plain_steps s u p = like_after_run s u p.ahead p.ends p.code p.threads p.objects
+pub flat_after_plain_steps_is_like_flat_before : (s u : SourcedFlat) → GoesPlain s u → IsLike s.flat u.flat
+flat_after_plain_steps_is_like_flat_before s u p = flat_after_run_is_like_flat_before s u p.ahead p.ends p.code p.threads p.objects
 
 pub like_transitive : (f g h : Flat) → IsLike f g → IsLike g h → IsLike f h
 like_transitive f g h a b = record {

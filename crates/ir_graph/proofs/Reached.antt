@@ -4,18 +4,18 @@ use Rattle.ir_explore.proofs.CallerLemmas.{slice_get_after_push_cases}
 use Rattle.ir_runs.specs.Run.{State, Step, end, IsRun, IsDone}
 use Rattle.ir_runs.proofs.CallerLemmas.{end_append}
 use Rattle.ir_states.specs.Sources.{plain}
-use Rattle.ir_states.proofs.CallerLemmas.{sourced_counts, unspoilt_after_live_run}
+use Rattle.ir_states.proofs.CallerLemmas.{sourced_counts, state_stays_unspoilt_after_live_run}
 use Rattle.ir_thread.specs.State.{ThreadState, ask_of, most_budget, thread_machine}
 use Rattle.ir_sources.specs.Sources.{Source, given}
 use Rattle.ir_seen.specs.Seen.{IsLive, IsSpoilt}
-use Rattle.ir_seen.proofs.CallerLemmas.{thread_machine_spoils, start_unspoilt}
+use Rattle.ir_seen.proofs.CallerLemmas.{thread_is_live_or_next_step_spoils_it, start_state_is_unspoilt}
 use Rattle.ir_flat.specs.Flat.{tables, thread_of}
 use Rattle.ir_store.specs.Nodes.{SourcedFlat}
 use Rattle.ir_graph.specs.Setup.{Setup, start_of, IsCountedOf}
 use Rattle.ir_graph.specs.Plain.{full_by, full_of, IsAnsweredRun, GoesPlain, Rests}
 use Rattle.ir_graph.specs.Reached.{beginning, IsReached, AllReached}
 use Rattle.ir_graph.proofs.Full.{tables_at_end_if_full_state_at_end, answered_run_append, plain_run_is_answered, live_run_of_threads}
-use Rattle.ir_graph.proofs.Plain.{TakesStep, step_at_rest_is_answered_run, like_transitive, like_after_plain_steps, like_after_step}
+use Rattle.ir_graph.proofs.Plain.{TakesStep, step_at_rest_is_answered_run, like_transitive, flat_after_plain_steps_is_like_flat_before, flat_after_step_is_like_flat_before}
 
 pub answered_run_is_run : (code : List ℕ) (s : State (ThreadState × Source)) (run : List Step) → IsAnsweredRun code s run
     → IsRun (thread_machine code) (plain s) run
@@ -27,19 +27,19 @@ pub done_answered_run_is_counted : (x : Setup) (steps : List Step) → IsAnswere
 done_answered_run_is_counted x steps a done = record {
   complete = (answered_run_is_run x.guest.code (beginning x) steps a, done);
   answered = ((sourced_counts (thread_machine x.guest.code) given (beginning x) steps).0 a.0).1;
-  unspoilt = unspoilt_after_live_run (thread_machine x.guest.code) (IsLive x.guest.code) (IsSpoilt x.guest.code) (thread_machine_spoils x.guest.code)
-      (tables (start_of x).flat) steps (live_run_of_threads x.guest.code (beginning x) steps a.1) (start_unspoilt x.guest most_budget x.profile);
+  unspoilt = state_stays_unspoilt_after_live_run (thread_machine x.guest.code) (IsLive x.guest.code) (IsSpoilt x.guest.code) (thread_is_live_or_next_step_spoils_it x.guest.code)
+      (tables (start_of x).flat) steps (live_run_of_threads x.guest.code (beginning x) steps a.1) (start_state_is_unspoilt x.guest most_budget x.profile);
 }
 
 -- the threads and objects alone, where a run leads
-pub tables_of_reached : (x : Setup) (s : SourcedFlat) → (r : IsReached x s)
+pub tables_of_reached_state_are_end_of_its_run : (x : Setup) (s : SourcedFlat) → (r : IsReached x s)
     → tables s.flat ≡ end (thread_machine x.guest.code) (tables (start_of x).flat) r.steps
-tables_of_reached x s r = tables_at_end_if_full_state_at_end (start_of x) s r.steps r.ends
+tables_of_reached_state_are_end_of_its_run x s r = tables_at_end_if_full_state_at_end (start_of x) s r.steps r.ends
 
 -- the start, once the threads went on alone
 pub plain_start_is_reached : (x : Setup) (s : SourcedFlat) → GoesPlain (start_of x) s → IsReached x s
 plain_start_is_reached x s goes = record {
-  like = like_after_plain_steps (start_of x) s goes;
+  like = flat_after_plain_steps_is_like_flat_before (start_of x) s goes;
   steps = goes.ahead;
   answered = plain_run_is_answered x.guest.code (beginning x) goes.ahead goes.plain;
   ends = goes.ends;
@@ -60,7 +60,7 @@ step_of_reached_is_reached x s u w t r reached rests step goes =
     let ended : full_of w ≡ end (full_by s.flat.code) (full_of s) ((t, r) ∷ goes.ahead) =
     goes.ends ∙ ap (λ z. end (full_by z) (full_of u) goes.ahead) step.code ∙ ap (λ z. end (full_by s.flat.code) z goes.ahead) step.is in record {
       like = like_transitive (start_of x).flat s.flat w.flat reached.like
-          (like_transitive s.flat u.flat w.flat (like_after_step s u t r step) (like_after_plain_steps u w goes));
+          (like_transitive s.flat u.flat w.flat (flat_after_step_is_like_flat_before s u t r step) (flat_after_plain_steps_is_like_flat_before u w goes));
       steps = reached.steps ++ (t, r) ∷ goes.ahead;
       answered = answered_run_append x.guest.code (beginning x) reached.steps ((t, r) ∷ goes.ahead) reached.answered late;
       ends = ended ∙ ap (λ z. end (full_by z) (full_of s) ((t, r) ∷ goes.ahead)) reached.like.code

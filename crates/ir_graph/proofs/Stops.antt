@@ -39,9 +39,9 @@ pub may_stop_by_nodes : (x : Setup) (flats : List SourcedFlat) (nodes limit : �
 may_stop_by_nodes x flats nodes limit stop is full = subst (MayStop x flats nodes limit) (sym is) full
 
 -- a thread that goes on from the start, after others
-pub is_stop_after_start : (x : Setup) (limit t : ℕ) (stop : Stop) (s u w : SourcedFlat) → s ≡ start_of x → GoesPlain s u → GoesPlain u w
+pub is_stop_if_stops_after_plain_steps_from_start : (x : Setup) (limit t : ℕ) (stop : Stop) (s u w : SourcedFlat) → s ≡ start_of x → GoesPlain s u → GoesPlain u w
     → StopsAt u w t limit stop → IsStop x limit stop
-is_stop_after_start x limit t stop s u w is goes more stops =
+is_stop_if_stops_after_plain_steps_from_start x limit t stop s u w is goes more stops =
     let first : GoesPlain (start_of x) u = subst (λ z. GoesPlain z u) is goes in record {
       from = u;
       at = w;
@@ -52,9 +52,9 @@ is_stop_after_start x limit t stop s u w is goes more stops =
     }
 
 -- a thread that goes on after its entry
-pub is_stop_after_entry : (x : Setup) (limit : ℕ) (stop : Stop) (s u w : SourcedFlat) (t r : ℕ) → IsReached x s
+pub is_stop_if_stops_after_entry_from_reached_state : (x : Setup) (limit : ℕ) (stop : Stop) (s u w : SourcedFlat) (t r : ℕ) → IsReached x s
     → Rests (ask_of s.flat.code (thread_of s.flat t)) → TakesStep s u t r → GoesPlain u w → StopsAt u w t limit stop → IsStop x limit stop
-is_stop_after_entry x limit stop s u w t r reached rests step goes stops = record {
+is_stop_if_stops_after_entry_from_reached_state x limit stop s u w t r reached rests step goes stops = record {
   from = u;
   at = w;
   thread = t;

@@ -21,7 +21,7 @@ use Rattle.ir_graph.specs.Plain.{full_by, sources_by, full_of, sourced_flat, IsA
 use Rattle.ir_graph.specs.Turn.{EachTries, GoesAlone, ways_taken}
 use Rattle.ir_graph.proofs.Full.{answered_run_append, plain_run_is_answered}
 use Rattle.ir_graph.proofs.Leads.{is_refusal_of_act_equals_its_way}
-use Rattle.ir_graph.proofs.Plain.{takes_step_at_rest, step_at_rest_is_answered_run, rest_ask_is_not_own, TakesStep, fair_step_is_plain_run, private_steps_are_plain_run, like_after_run}
+use Rattle.ir_graph.proofs.Plain.{takes_step_at_rest_if_tables_step, step_at_rest_is_answered_run, rest_ask_is_not_own, TakesStep, fair_step_is_plain_run, private_steps_are_plain_run, flat_after_run_is_like_flat_before}
 
 replicate_of_sum : {A : Type 0} (x : A) (n k : ℕ) → replicate (n + k) x ≡ replicate n x ++ replicate k x
 replicate_of_sum x zero k = let e : zero + k ≡ k = omega arith in ap (λ z. replicate z x) e
@@ -33,10 +33,10 @@ alone_append : (t : ℕ) (run more : List Step) → IsAlone t run → IsAlone t 
 alone_append t [] more a b = b
 alone_append t (e ∷ run) more a b = (a.0, alone_append t run more a.1 b)
 
-tries_append : {T : Type 0} (m : Machine T) (refused : Bool) (s : State T) (run more : List Step) → EachTries m refused s run
+each_tries_append : {T : Type 0} (m : Machine T) (refused : Bool) (s : State T) (run more : List Step) → EachTries m refused s run
     → EachTries m refused (end m s run) more → EachTries m refused s (run ++ more)
-tries_append m refused s [] more a b = b
-tries_append m refused s (e ∷ run) more a b = (a.0, tries_append m refused (after m s e) run more a.1 b)
+each_tries_append m refused s [] more a b = b
+each_tries_append m refused s (e ∷ run) more a b = (a.0, each_tries_append m refused (after m s e) run more a.1 b)
 
 -- ---- the ways of a run
 
@@ -64,10 +64,10 @@ ways_taken_is_empty_if_goes_ahead m answers s (e ∷ run) ok =
     ∙ ways_taken_is_empty_if_goes_ahead m answers (after m s e) run ok.2
 
 -- their threads are those that enter
-pub threads_of_ways_taken : {T : Type 0} (m : Machine T) (s : State T) (run : List Step)
+pub threads_of_ways_taken_are_entering_threads : {T : Type 0} (m : Machine T) (s : State T) (run : List Step)
     → map (λ (w : ℕ × Bool). w.0) (ways_taken m s run) ≡ entering m s run
-threads_of_ways_taken m s [] = refl
-threads_of_ways_taken m s (e ∷ run) = by (is_own (asked m s e.0)) (threads_of_ways_taken m (after m s e) run)
+threads_of_ways_taken_are_entering_threads m s [] = refl
+threads_of_ways_taken_are_entering_threads m s (e ∷ run) = by (is_own (asked m s e.0)) (threads_of_ways_taken_are_entering_threads m (after m s e) run)
   where
     by : (b : Bool) → map (λ (w : ℕ × Bool). w.0) (ways_taken m (after m s e) run) ≡ entering m (after m s e) run
         → map (λ (w : ℕ × Bool). w.0) (cond b (ways_taken m (after m s e) run) ((e.0, is_refusal (act m s e)) ∷ ways_taken m (after m s e) run))
@@ -106,7 +106,7 @@ goes_alone_append s u w t refused n k e d a b =
       many = length-append a.run b.run ∙ (λ i. a.many i + b.many i);
       alone = alone_append t a.run b.run a.alone b.alone;
       answered = answered_run_append s.flat.code (full_of s) a.run b.run a.answered answered;
-      tries = tries_append (full_by s.flat.code) refused (full_of s) a.run b.run a.tries tries;
+      tries = each_tries_append (full_by s.flat.code) refused (full_of s) a.run b.run a.tries tries;
       ends = b.ends ∙ ap (λ z. end (full_by z) (full_of u) b.run) a.code ∙ ap (λ z. end (full_by s.flat.code) z b.run) a.ends
           ∙ sym (end_append (full_by s.flat.code) (full_of s) a.run b.run);
       ways = ways_taken-append (full_by s.flat.code) (full_of s) a.run b.run
@@ -120,12 +120,12 @@ goes_alone_append s u w t refused n k e d a b =
     }
 
 -- steps that concern no other thread are no tries
-plain_run_tries_nothing : (code : List ℕ) (refused : Bool) (s : State _) (run : List Step) → GoesAhead (full_by code) (sources_by code) s run
+each_tries_by_any_way_if_goes_ahead : (code : List ℕ) (refused : Bool) (s : State _) (run : List Step) → GoesAhead (full_by code) (sources_by code) s run
     → EachTries (full_by code) refused s run
-plain_run_tries_nothing code refused s [] goes = tt
-plain_run_tries_nothing code refused s (e ∷ run) goes = (
+each_tries_by_any_way_if_goes_ahead code refused s [] goes = tt
+each_tries_by_any_way_if_goes_ahead code refused s (e ∷ run) goes = (
   λ o is. absurd (cc (sym goes.0 ∙ ap is_own is)),
-  plain_run_tries_nothing code refused (after (full_by code) s e) run goes.2,
+  each_tries_by_any_way_if_goes_ahead code refused (after (full_by code) s e) run goes.2,
 )
 
 -- steps of one thread that concern no other
@@ -137,7 +137,7 @@ goes_alone_by_plain_run s u t refused run plain alone ends code threads objects 
   many = refl;
   alone = alone;
   answered = plain_run_is_answered s.flat.code (full_of s) run plain;
-  tries = plain_run_tries_nothing s.flat.code refused (full_of s) run plain.0;
+  tries = each_tries_by_any_way_if_goes_ahead s.flat.code refused (full_of s) run plain.0;
   ends = ends;
   ways = ways_taken_is_empty_if_goes_ahead (full_by s.flat.code) (sources_by s.flat.code) (full_of s) run plain.0;
   code = code;
@@ -177,7 +177,7 @@ pub goes_alone_by_entry : (f g : Flat) (sources : List Source) (t : ℕ) (refuse
 goes_alone_by_entry f g sources t refused rests may can is code threads objects =
     let s = sourced_flat f sources in
     let u = sourced_flat g sources in
-    let step = takes_step_at_rest f g sources t (result_by refused) rests can is code threads objects in record {
+    let step = takes_step_at_rest_if_tables_step f g sources t (result_by refused) rests can is code threads objects in record {
       run = (t, result_by refused) ∷ [];
       many = refl;
       alone = (refl, tt);
@@ -194,8 +194,8 @@ goes_alone_by_entry f g sources t refused rests may can is code threads objects 
     }
 
 -- the guest stays the same
-pub like_after_going_alone : (s u : SourcedFlat) (t : ℕ) (refused : Bool) (n e : ℕ) → GoesAlone s u t refused n e → IsLike s.flat u.flat
-like_after_going_alone s u t refused n e a = like_after_run s u a.run a.ends a.code a.threads a.objects
+pub flat_after_going_alone_is_like_flat_before : (s u : SourcedFlat) (t : ℕ) (refused : Bool) (n e : ℕ) → GoesAlone s u t refused n e → IsLike s.flat u.flat
+flat_after_going_alone_is_like_flat_before s u t refused n e a = flat_after_run_is_like_flat_before s u a.run a.ends a.code a.threads a.objects
 
 -- ---- turns
 
@@ -205,24 +205,24 @@ tries_if_result_is_by_way m s true e tries = tries
 tries_if_result_is_by_way m s false e tries = λ o is enters. tries o is
 
 -- a run of one thread goes by its turns
-pub alone_run_in_turns : {T : Type 0} (m : Machine T) (s : State T) (t : ℕ) (refused : Bool) (run : List Step) → IsRun m s run → IsAlone t run
+pub alone_run_is_in_turns_of_its_thread : {T : Type 0} (m : Machine T) (s : State T) (t : ℕ) (refused : Bool) (run : List Step) → IsRun m s run → IsAlone t run
     → EachTries m refused s run → InTurns m s (replicate (length run) (t, refused)) run
-alone_run_in_turns m s t refused [] ok alone tries = refl
-alone_run_in_turns m s t refused ((u, r) ∷ run) ok alone tries = inr (
+alone_run_is_in_turns_of_its_thread m s t refused [] ok alone tries = refl
+alone_run_is_in_turns_of_its_thread m s t refused ((u, r) ∷ run) ok alone tries = inr (
   r,
   run,
   (λ i. (sym alone.0 i, r) ∷ run),
   subst (λ z. Can m s (z, r)) (sym alone.0) ok.0,
   tries_if_result_is_by_way m s refused (t, r) (subst (λ z. (o : ℕ) → asked m s z ≡ machines.Try o → r ≡ result_by refused) (sym alone.0) tries.0),
   subst (λ z. InTurns m (after m s (z, r)) (replicate (length run) (t, refused)) run) (sym alone.0)
-      (alone_run_in_turns m (after m s (u, r)) t refused run ok.1 alone.1 tries.1),
+      (alone_run_is_in_turns_of_its_thread m (after m s (u, r)) t refused run ok.1 alone.1 tries.1),
 )
 
-pub goes_alone_in_turns : (s u : SourcedFlat) (t : ℕ) (refused : Bool) (n e : ℕ) → (a : GoesAlone s u t refused n e)
+pub run_of_going_alone_is_in_turns_of_its_thread : (s u : SourcedFlat) (t : ℕ) (refused : Bool) (n e : ℕ) → (a : GoesAlone s u t refused n e)
     → InTurns (full_by s.flat.code) (full_of s) (replicate n (t, refused)) a.run
-goes_alone_in_turns s u t refused n e a =
+run_of_going_alone_is_in_turns_of_its_thread s u t refused n e a =
     subst (λ z. InTurns (full_by s.flat.code) (full_of s) (replicate z (t, refused)) a.run) a.many
-    (alone_run_in_turns (full_by s.flat.code) (full_of s) t refused a.run
+    (alone_run_is_in_turns_of_its_thread (full_by s.flat.code) (full_of s) t refused a.run
     (counting_run_is_run (full_by s.flat.code) (sources_by s.flat.code) (full_of s) a.run a.answered.0) a.alone a.tries)
 
 plain_tries_if_sourced_tries : {T S : Type 0} (m : Machine T) (giving : Giving S) (s : State (T × S)) (refused : Bool) (e : Step)

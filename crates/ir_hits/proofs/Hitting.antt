@@ -15,7 +15,7 @@ use Rattle.ir_hits.specs.Hits.{Numbered, thread_at, HitBy, HitByNumber, IsLowest
 use Rattle.ir_hits.specs.Seeing.{Concerns, SomeConcerns, IsNoted, AllNoted, SeesHit, SeesHitAt, IsLowestOf, steps_of, Changes, LeavesWritten}
 use Rattle.ir_hits.specs.declared.before.Before.{Before}
 use Rattle.ir_hits.specs.declared.before.Before.TheVariants.{Nothing, Word, Inside}
-use Rattle.ir_hits.proofs.Leaves.{emitting_step_below_steps, thread_same_after_last_step, held_for_writing_before_leave, leaves_written_if_write_hold_lost}
+use Rattle.ir_hits.proofs.Leaves.{emitting_step_is_below_step_count, thread_same_after_last_step, held_for_writing_before_and_not_after_written_leave, leaves_written_if_write_hold_lost}
 
 -- ---- one point
 
@@ -40,7 +40,7 @@ hit_step_below_steps f run t j (Watch u address) h = elim (cases_lt j (steps_of 
       (thread_same_after_last_step f run t h.1.0 (subst (λ i. steps_of f run t ≤ i) same past))))
 ]
 hit_step_below_steps f run t j (WatchObject object) h =
-    let within = emitting_step_below_steps f run t h.0 (Out object Writing h.2.0) h.2.1 in omega (arith, h.1, within)
+    let within = emitting_step_is_below_step_count f run t h.0 (Out object Writing h.2.0) h.2.1 in omega (arith, h.1, within)
 
 -- what hits after step j is seen there
 pub hit_after_step_is_seen : (f : FittedTrace) (run : List Step) → IsRunOf f.guest f.recorded run → (t j last : ℕ)
@@ -52,10 +52,10 @@ hit_after_step_is_seen f run whole t j last steps all (Watch u address) (Word wo
     subst (Changes f run t address) (let e : h.1.0 ≡ j = omega (arith, h.1.1) in e) h.1.2 (sym k.1 ∙ same)
 hit_after_step_is_seen f run whole t j last steps all (Watch u address) Inside k h = k
 hit_after_step_is_seen f run whole t j last steps all (WatchObject object) Nothing k h =
-    k (held_for_writing_before_leave f run whole t j object (subst (LeavesWritten f run t object) (let e : h.0 ≡ j = omega (arith, h.1) in e) h.2)).0
+    k (held_for_writing_before_and_not_after_written_leave f run whole t j object (subst (LeavesWritten f run t object) (let e : h.0 ≡ j = omega (arith, h.1) in e) h.2)).0
 hit_after_step_is_seen f run whole t j last steps all (WatchObject object) (Word word) k h = k
 hit_after_step_is_seen f run whole t j last steps all (WatchObject object) Inside k h =
-    (held_for_writing_before_leave f run whole t j object (subst (LeavesWritten f run t object) (let e : h.0 ≡ j = omega (arith, h.1) in e) h.2)).1
+    (held_for_writing_before_and_not_after_written_leave f run whole t j object (subst (LeavesWritten f run t object) (let e : h.0 ≡ j = omega (arith, h.1) in e) h.2)).1
 
 -- and the other way round
 pub seen_hit_after_step_is_hit : (f : FittedTrace) (run : List Step) → IsRunOf f.guest f.recorded run → (t j last : ℕ) → j < steps_of f run t
@@ -94,18 +94,18 @@ pub record AreHitsSeen (f : FittedTrace) (run : List Step) (points : List Number
       → HitBy f run t k p.point
 
 -- each point noted something
-note_of_each_point : (points : List Numbered) (notes : List Before) (i : ℕ) (p : Numbered) → length notes ≡ length points
+note_exists_for_each_point : (points : List Numbered) (notes : List Before) (i : ℕ) (p : Numbered) → length notes ≡ length points
     → slice_get points i ≡ Some p → (b : Before) × (slice_get notes i ≡ Some b)
-note_of_each_point points notes i p size is = elim (slice_get_cases notes i).1 [
+note_exists_for_each_point points notes i p size is = elim (slice_get_cases notes i).1 [
   | inl found ↦ (found.0, found.2)
   | inr past ↦ absurd (let within = slice_get_within points i p is in omega (arith, size, past.0, within))
 ]
 
-seen_hit_at_point : (f : FittedTrace) (run : List Step) (points : List Numbered) (notes : List Before) (t k last : ℕ) (y : ThreadState)
+hit_of_listed_point_is_seen : (f : FittedTrace) (run : List Step) (points : List Numbered) (notes : List Before) (t k last : ℕ) (y : ThreadState)
     → AreHitsSeen f run points notes t k last y → (i : ℕ) (p : Numbered) → slice_get points i ≡ Some p → HitBy f run t k p.point
     → SeesHitAt t last y notes points i p
-seen_hit_at_point f run points notes t k last y s i p is h =
-    let b = note_of_each_point points notes i p s.size is in
+hit_of_listed_point_is_seen f run points notes t k last y s i p is h =
+    let b = note_exists_for_each_point points notes i p s.size is in
     (is, b.0, b.1, s.seen i p b.0 is b.1 h)
 
 -- the lowest number of those that are seen to hit
@@ -114,7 +114,7 @@ pub lowest_seen_number_is_lowest_hit : (f : FittedTrace) (run : List Step) (poin
 lowest_seen_number_is_lowest_hit f run points notes t k last y m s found = record {
   hits = let h = found.0 in (h.0, h.1, h.2.0, h.3, s.hit h.0 h.1 h.2.1 h.2.0 h.2.2 h.2.3);
   lowest = λ n h. subst (λ z. m ≤ z) h.3 (found.1 h.0 h.1 (slice_get_within points h.0 h.1 h.2)
-      (seen_hit_at_point f run points notes t k last y s h.0 h.1 h.2 h.4));
+      (hit_of_listed_point_is_seen f run points notes t k last y s h.0 h.1 h.2 h.4));
 }
 
 -- or none of them does
@@ -122,7 +122,7 @@ pub no_hit_if_none_seen : (f : FittedTrace) (run : List Step) (points : List Num
     → AreHitsSeen f run points notes t k last y → IsLowestOf t last y notes points (length points) None → (n : ℕ)
     → HitByNumber f run points t k n → ⊥
 no_hit_if_none_seen f run points notes t k last y s none n h =
-    none h.0 h.1 (slice_get_within points h.0 h.1 h.2) (seen_hit_at_point f run points notes t k last y s h.0 h.1 h.2 h.4)
+    none h.0 h.1 (slice_get_within points h.0 h.1 h.2) (hit_of_listed_point_is_seen f run points notes t k last y s h.0 h.1 h.2 h.4)
 
 -- ---- a step, and the start
 

@@ -74,17 +74,17 @@ ask_is_leave_if_write_hold_lost machine.Done r o h k w n = absurd (n w)
 -- ---- the steps of a run
 
 -- each step emits something
-pub step_of_thread_emits_label : (f : FittedTrace) (run : List Step) (t j : ℕ) → j < steps_of f run t → (a : Label)
+pub step_below_step_count_emits_label : (f : FittedTrace) (run : List Step) (t j : ℕ) → j < steps_of f run t → (a : Label)
     × Emits (machine_of f) (start_of f) run t j a
-step_of_thread_emits_label f run t j less =
+step_below_step_count_emits_label f run t j less =
     let xs : List (thread.ThreadState × Label) = trail (machine_of f) (start_of f) run t in
     let d : thread.ThreadState × Label = ((start_of f).now t, Quiet) in
     ((get_or xs j d).1, ((get_or xs j d).0, get_or_is_at_index_if_below_length xs j d less))
 
 -- only its steps do
-pub emitting_step_below_steps : (f : FittedTrace) (run : List Step) (t j : ℕ) (a : Label) → Emits (machine_of f) (start_of f) run t j a
+pub emitting_step_is_below_step_count : (f : FittedTrace) (run : List Step) (t j : ℕ) (a : Label) → Emits (machine_of f) (start_of f) run t j a
     → j < steps_of f run t
-emitting_step_below_steps f run t j a h = (get_or_is_item_if_at_index (trail (machine_of f) (start_of f) run t) j (h.0, a) h.1).0
+emitting_step_is_below_step_count f run t j a h = (get_or_is_item_if_at_index (trail (machine_of f) (start_of f) run t) j (h.0, a) h.1).0
 
 -- the thread doesn't change after its last step
 thread_in_past_length_is_last : {T : Type 0} (xs : List (T × Label)) (k : ℕ) (last : T) → length xs ≤ k → thread_in xs k last ≡ last
@@ -102,19 +102,19 @@ thread_same_after_last_step f run t j past =
 abbrev Asks : FittedTrace → List Step → ℕ → ℕ → Ask → Type 0
 Asks f run t j q = (machine_of f).ask (thread_at f run t j) ≡ q
 
-held_after_step_by_act : (f : FittedTrace) (run : List Step) (t j : ℕ) (a : Label)
+held_after_step_is_held_after_its_act : (f : FittedTrace) (run : List Step) (t j : ℕ) (a : Label)
     → (s : StepOf (machine_of f) (thread_at f run t j) (thread_at f run t (suc j)) a) → (o : ℕ)
     → held_at (thread_at f run t (suc j)).held o
     ≡ held_after (act_of ((machine_of f).ask (thread_at f run t j))
     (reply (act_of ((machine_of f).ask (thread_at f run t j)) s.result) s.object)) (held_at (thread_at f run t j).held) o
-held_after_step_by_act f run t j a s o =
+held_after_step_is_held_after_its_act f run t j a s o =
     ap (λ (x : thread.ThreadState). held_at x.held o) s.next
     ∙ (guest_machine_is_lawful f).takes (thread_at f run t j) (reply (act_of ((machine_of f).ask (thread_at f run t j)) s.result) s.object) o
 
 -- a step that leaves an object after writing: the thread is inside before it, and not after it
-pub held_for_writing_before_leave : (f : FittedTrace) (run : List Step) → IsRunOf f.guest f.recorded run → (t j o : ℕ) → LeavesWritten f run t o j
+pub held_for_writing_before_and_not_after_written_leave : (f : FittedTrace) (run : List Step) → IsRunOf f.guest f.recorded run → (t j o : ℕ) → LeavesWritten f run t o j
     → (held_at (thread_at f run t j).held o ≡ Some Writing) × (held_at (thread_at f run t (suc j)).held o ≢ Some Writing)
-held_for_writing_before_leave f run whole t j o h =
+held_for_writing_before_and_not_after_written_leave f run whole t j o h =
     let x : thread.ThreadState = thread_at f run t j in
     let s = emitting_step_is_step_of (machine_of f) (start_of f) run whole.1.runs t j (Out o Writing h.0) h.1 in
     let asks : (machine_of f).ask x ≡ machine.Leave o Writing =
@@ -123,7 +123,7 @@ held_for_writing_before_leave f run whole t j o h =
     let gone : held_after (act_of ((machine_of f).ask x) r) (held_at x.held) o ≡ None =
     subst (λ q. held_after (act_of q r) (held_at x.held) o ≡ None) (sym asks) (upd_at_own_place (held_at x.held) o None) in (
       subst (λ q. Holds q (held_at x.held)) asks ((guest_machine_is_lawful f).holds x),
-      none_is_not_writing (held_at (thread_at f run t (suc j)).held o) (held_after_step_by_act f run t j (Out o Writing h.0) s o ∙ gone),
+      none_is_not_writing (held_at (thread_at f run t (suc j)).held o) (held_after_step_is_held_after_its_act f run t j (Out o Writing h.0) s o ∙ gone),
     )
 
 -- and the other way round
@@ -132,12 +132,12 @@ pub leaves_written_if_write_hold_lost : (f : FittedTrace) (run : List Step) → 
     → LeavesWritten f run t o j
 leaves_written_if_write_hold_lost f run whole t j o less inside out =
     let x : thread.ThreadState = thread_at f run t j in
-    let some = step_of_thread_emits_label f run t j less in
+    let some = step_below_step_count_emits_label f run t j less in
     let s = emitting_step_is_step_of (machine_of f) (start_of f) run whole.1.runs t j some.0 some.1 in
     let r : ℕ = reply (act_of ((machine_of f).ask x) s.result) s.object in
     let asks : (machine_of f).ask x ≡ machine.Leave o Writing =
     ask_is_leave_if_write_hold_lost ((machine_of f).ask x) r o (held_at x.held) ((guest_machine_is_lawful f).holds x) inside
-    (λ w. out (held_after_step_by_act f run t j some.0 s o ∙ w)) in
+    (λ w. out (held_after_step_is_held_after_its_act f run t j some.0 s o ∙ w)) in
     let emits : some.0 ≡ Out o Writing s.object.version =
     s.emits ∙ ap (λ q. emitted (act_of q s.result) s.object) asks in
     (s.object.version, subst (Emits (machine_of f) (start_of f) run t j) emits some.1)

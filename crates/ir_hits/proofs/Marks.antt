@@ -15,29 +15,29 @@ use Rattle.ir_hits.specs.Passing.{is_store, stores, KeepsMarks, IsBreakMarked, A
 
 -- ---- stores
 
-is_store_if_store : (j : Inst) → IsStore j → is_store (Some j) ≡ true
-is_store_if_store (inst.Store op rs1 rs2 imm) s = refl
-is_store_if_store (inst.Lui rd imm) s = absurd s
-is_store_if_store (inst.Auipc rd imm) s = absurd s
-is_store_if_store (inst.Jal rd offset) s = absurd s
-is_store_if_store (inst.Jalr rd rs1 imm) s = absurd s
-is_store_if_store (inst.Branch op rs1 rs2 offset) s = absurd s
-is_store_if_store (inst.Load op rd rs1 imm) s = absurd s
-is_store_if_store (inst.OpImm op rd rs1 imm) s = absurd s
-is_store_if_store (inst.Shift op rd rs1 amount) s = absurd s
-is_store_if_store (inst.Op op rd rs1 rs2) s = absurd s
-is_store_if_store (inst.Fence rd rs1 imm) s = absurd s
-is_store_if_store inst.Ecall s = absurd s
-is_store_if_store inst.Ebreak s = absurd s
+is_store_is_true_if_store : (j : Inst) → IsStore j → is_store (Some j) ≡ true
+is_store_is_true_if_store (inst.Store op rs1 rs2 imm) s = refl
+is_store_is_true_if_store (inst.Lui rd imm) s = absurd s
+is_store_is_true_if_store (inst.Auipc rd imm) s = absurd s
+is_store_is_true_if_store (inst.Jal rd offset) s = absurd s
+is_store_is_true_if_store (inst.Jalr rd rs1 imm) s = absurd s
+is_store_is_true_if_store (inst.Branch op rs1 rs2 offset) s = absurd s
+is_store_is_true_if_store (inst.Load op rd rs1 imm) s = absurd s
+is_store_is_true_if_store (inst.OpImm op rd rs1 imm) s = absurd s
+is_store_is_true_if_store (inst.Shift op rd rs1 amount) s = absurd s
+is_store_is_true_if_store (inst.Op op rd rs1 rs2) s = absurd s
+is_store_is_true_if_store (inst.Fence rd rs1 imm) s = absurd s
+is_store_is_true_if_store inst.Ecall s = absurd s
+is_store_is_true_if_store inst.Ebreak s = absurd s
 
-is_store_if_store_found : (o : Option Inst) (i : Inst) → decoded o ≡ Found i → IsStore i → is_store o ≡ true
-is_store_if_store_found (Some j) i is store = let same : j ≡ i = cc in is_store_if_store j (subst IsStore (sym same) store)
-is_store_if_store_found None i is store = absurd cc
+is_store_of_option_is_true_if_store_found : (o : Option Inst) (i : Inst) → decoded o ≡ Found i → IsStore i → is_store o ≡ true
+is_store_of_option_is_true_if_store_found (Some j) i is store = let same : j ≡ i = cc in is_store_is_true_if_store j (subst IsStore (sym same) store)
+is_store_of_option_is_true_if_store_found None i is store = absurd cc
 
 store_at_place_is_marked : (code : List ℕ) (place : ℕ) (i : Inst) → fetched_word (slice_get code place) ≡ Found i → IsStore i
     → mark_of (map stores code) place ≡ true
 store_at_place_is_marked [] place i is store = refl
-store_at_place_is_marked (w ∷ ws) zero i is store = is_store_if_store_found (instruction_of w) i is store
+store_at_place_is_marked (w ∷ ws) zero i is store = is_store_of_option_is_true_if_store_found (instruction_of w) i is store
 store_at_place_is_marked (w ∷ ws) (suc place) i is store = store_at_place_is_marked ws place i is store
 
 store_at_conditional_place_is_marked : (b : Bool) (code : List ℕ) (place : ℕ) (i : Inst) → fetched_word (if b then slice_get code place else None) ≡ Found i → IsStore i

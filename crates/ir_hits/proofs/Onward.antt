@@ -17,8 +17,8 @@ use Rattle.ir_hits.specs.declared.before.Before.{Before}
 use Rattle.ir_command.specs.declared.hit.Hit.{Hit}
 use Rattle.ir_hits.proofs.Hitting.{AreHitsSeen, AreNothingNoted, hits_seen_after_step, hits_seen_at_start, lowest_seen_number_is_lowest_hit, no_hit_if_none_seen}
 use Rattle.ir_hits.proofs.Standing.{thread_of_standing_is_run_thread, last_position_is_steps_of_thread}
-use Rattle.ir_hits.proofs.Passing.{IsStretch, notes_within_stretch, no_hit_within_stretch}
-use Rattle.ir_hits.proofs.Windows.{no_hit_in_empty_window, no_hit_in_longer_window, start_hit_is_last_at_start, no_last_hit_at_start}
+use Rattle.ir_hits.proofs.Passing.{IsStretch, notes_still_hold_within_stretch, no_hit_within_stretch}
+use Rattle.ir_hits.proofs.Windows.{no_hit_in_empty_window, no_hit_in_window_extended_by_position_without_hit, start_hit_is_last_at_start, last_hit_at_start_is_none_if_no_hit_at_position_zero}
 use Rattle.ir_hits.proofs.CallerLemmas.{no_hit_in_joined_windows}
 
 -- thread t has passed on, at least by a step; before that the points noted so much, and what they may hit at is marked
@@ -53,21 +53,21 @@ record ComesTo (f : FittedTrace) (run : List Step) (points : List Numbered) (not
   pub none : NoneWithin f run points t (suc j) (suc k)
 
 -- by one step
-comes_to_position_by_step : (f : FittedTrace) (last : List ℕ) (code : Marked) (points : List Numbered) (notes : List Before) (t to : ℕ) (old new : Standing)
+passage_comes_to_position_of_its_start : (f : FittedTrace) (last : List ℕ) (code : Marked) (points : List Numbered) (notes : List Before) (t to : ℕ) (old new : Standing)
     → IsPassage f last code points notes t to old new → (run : List Step) → IsRunOf f.guest f.recorded run → (k : ℕ)
     → positions (flat_in f old) t ≡ k → ComesTo f run points notes t (positions (flat_in f old) t) k
-comes_to_position_by_step f last code points notes t to old new s run whole k at = record {
+passage_comes_to_position_of_its_start f last code points notes t to old new s run whole k at = record {
   all = subst (λ z. AllNoted t z points notes) (thread_of_standing_is_run_thread f old s.before run whole t k at) s.all;
   none = no_hit_in_empty_window f run points t (suc (positions (flat_in f old) t)) (suc k) (omega (arith, at));
 }
 
 -- by several
-comes_to_position_by_stretch : (f : FittedTrace) (last : List ℕ) (code : Marked) (points : List Numbered) (notes : List Before) (t to : ℕ) (old new : Standing)
+passage_by_stretch_comes_to_position_before_its_end : (f : FittedTrace) (last : List ℕ) (code : Marked) (points : List Numbered) (notes : List Before) (t to : ℕ) (old new : Standing)
     (s : IsPassage f last code points notes t to old new) → (run : List Step) → IsRunOf f.guest f.recorded run → (k : ℕ)
     → positions (flat_in f new) t ≡ suc k
     → UnmarkedSteps code s.passed.count (thread_of (flat_in f old) t) (thread_of (flat_in f new) t)
     → ComesTo f run points notes t (positions (flat_in f old) t) k
-comes_to_position_by_stretch f last code points notes t to old new s run whole k next steps =
+passage_by_stretch_comes_to_position_before_its_end f last code points notes t to old new s run whole k next steps =
     let j : ℕ = positions (flat_in f old) t in
     let n : ℕ = s.passed.count in
     let x : ThreadState = slice_index_or old.threads t idle in
@@ -85,17 +85,17 @@ comes_to_position_by_stretch f last code points notes t to old new s run whole k
     } in
     record {
       all = subst (λ i. AllNoted t (thread_at f run t i) points notes) on
-          (notes_within_stretch f run code points notes t j n (k - j) x y stretch (omega (arith, sum)) s.all);
+          (notes_still_hold_within_stretch f run code points notes t j n (k - j) x y stretch (omega (arith, sum)) s.all);
       none = subst (NoneWithin f run points t (suc j)) (sym sum) (no_hit_within_stretch f run code points t j n x y stretch);
     }
 
-passage_comes_to_position : (f : FittedTrace) (last : List ℕ) (code : Marked) (points : List Numbered) (notes : List Before) (t to : ℕ) (old new : Standing)
+passage_comes_to_position_before_its_end : (f : FittedTrace) (last : List ℕ) (code : Marked) (points : List Numbered) (notes : List Before) (t to : ℕ) (old new : Standing)
     → IsPassage f last code points notes t to old new → (run : List Step) → IsRunOf f.guest f.recorded run → (k : ℕ)
     → positions (flat_in f new) t ≡ suc k → ComesTo f run points notes t (positions (flat_in f old) t) k
-passage_comes_to_position f last code points notes t to old new s run whole k next = elim s.passed.how [
-  | inl one ↦ comes_to_position_by_step f last code points notes t to old new s run whole k
+passage_comes_to_position_before_its_end f last code points notes t to old new s run whole k next = elim s.passed.how [
+  | inl one ↦ passage_comes_to_position_of_its_start f last code points notes t to old new s run whole k
       (let e : positions (flat_in f old) t ≡ k = omega (arith, one, next, s.passed.taken) in e)
-  | inr steps ↦ comes_to_position_by_stretch f last code points notes t to old new s run whole k next steps
+  | inr steps ↦ passage_by_stretch_comes_to_position_before_its_end f last code points notes t to old new s run whole k next steps
 ]
 
 -- what is seen of the thread after it
@@ -104,11 +104,11 @@ pub record IsAfterPassage (f : FittedTrace) (run : List Step) (points : List Num
   pub seen : AreHitsSeen f run points notes t (positions (flat_in f new) t) end (slice_index_or new.threads t idle)
   pub none : NoneWithin f run points t (suc (positions (flat_in f old) t)) (positions (flat_in f new) t)
 
-is_after_passage_to_position : (f : FittedTrace) (last : List ℕ) (code : Marked) (points : List Numbered) (notes : List Before) (t to : ℕ) (old new : Standing)
+is_after_passage_if_new_position_is_successor : (f : FittedTrace) (last : List ℕ) (code : Marked) (points : List Numbered) (notes : List Before) (t to : ℕ) (old new : Standing)
     (end k : ℕ) → IsPassage f last code points notes t to old new → end ≡ cut_of last t → (run : List Step)
     → IsRunOf f.guest f.recorded run → positions (flat_in f new) t ≡ suc k → IsAfterPassage f run points notes t end old new
-is_after_passage_to_position f last code points notes t to old new end k s is run whole next =
-    let comes = passage_comes_to_position f last code points notes t to old new s run whole k next in
+is_after_passage_if_new_position_is_successor f last code points notes t to old new end k s is run whole next =
+    let comes = passage_comes_to_position_before_its_end f last code points notes t to old new s run whole k next in
     let within = (s.after.at.each run whole).cut t in
     record {
       seen = subst (λ i. AreHitsSeen f run points notes t i end (slice_index_or new.threads t idle)) (sym next)
@@ -118,23 +118,23 @@ is_after_passage_to_position f last code points notes t to old new end k s is ru
       none = subst (NoneWithin f run points t (suc (positions (flat_in f old) t))) (sym next) comes.none;
     }
 
-is_after_passage : (f : FittedTrace) (last : List ℕ) (code : Marked) (points : List Numbered) (notes : List Before) (t to : ℕ) (old new : Standing)
+new_state_of_passage_is_after_passage : (f : FittedTrace) (last : List ℕ) (code : Marked) (points : List Numbered) (notes : List Before) (t to : ℕ) (old new : Standing)
     (end : ℕ) → IsPassage f last code points notes t to old new → end ≡ cut_of last t → (run : List Step)
     → IsRunOf f.guest f.recorded run → IsAfterPassage f run points notes t end old new
-is_after_passage f last code points notes t to old new end s is run whole =
-    is_after_passage_to_position f last code points notes t to old new end (positions (flat_in f new) t - 1) s is run whole
+new_state_of_passage_is_after_passage f last code points notes t to old new end s is run whole =
+    is_after_passage_if_new_position_is_successor f last code points notes t to old new end (positions (flat_in f new) t - 1) s is run whole
     (omega (arith, s.passed.taken, s.passed.some))
 
 -- a point hits there
-pub next_hit_after_passage : (f : FittedTrace) (last : List ℕ) (code : Marked) (points : List Numbered) (notes : List Before) (t to : ℕ)
+pub lowest_point_seen_after_passage_is_next_hit : (f : FittedTrace) (last : List ℕ) (code : Marked) (points : List Numbered) (notes : List Before) (t to : ℕ)
     (old new : Standing) (end p : ℕ) (y : ThreadState) (h : Hit) → y ≡ slice_index_or new.threads t idle
     → IsPassage f last code points notes t to old new
     → end ≡ cut_of last t → p ≤ positions (flat_in f old) t
     → EachRun f (λ run. NoneWithin f run points t (suc p) (suc (positions (flat_in f old) t)))
     → (found : Option ℕ) → found ≡ Some h.number → IsLowestOf t end y notes points (length points) found
     → h.position ≡ positions (flat_in f new) t → EachRun f (λ run. IsNextHit f run points t p to (Some h))
-next_hit_after_passage f last code points notes t to old new end p y h y_is s is low none found some all at run whole =
-    let seen = is_after_passage f last code points notes t to old new end s is run whole in
+lowest_point_seen_after_passage_is_next_hit f last code points notes t to old new end p y h y_is s is low none found some all at run whole =
+    let seen = new_state_of_passage_is_after_passage f last code points notes t to old new end s is run whole in
     let lowest : IsLowestOf t end (slice_index_or new.threads t idle) notes points (length points) (Some h.number) =
     subst (λ (z : ThreadState × Option ℕ). IsLowestOf t end z.0 notes points (length points) z.1) (λ i. (y_is i, some i)) all in (
       omega (arith, at, low, s.passed.taken, s.passed.some),
@@ -146,15 +146,15 @@ next_hit_after_passage f last code points notes t to old new end p y h y_is s is
     )
 
 -- or none does
-pub no_hit_after_passage : (f : FittedTrace) (last : List ℕ) (code : Marked) (points : List Numbered) (notes : List Before) (t to : ℕ)
+pub no_hit_through_passage_if_none_seen_after_it : (f : FittedTrace) (last : List ℕ) (code : Marked) (points : List Numbered) (notes : List Before) (t to : ℕ)
     (old new : Standing) (end p : ℕ) (y : ThreadState) → y ≡ slice_index_or new.threads t idle
     → IsPassage f last code points notes t to old new → end ≡ cut_of last t
     → EachRun f (λ run. NoneWithin f run points t (suc p) (suc (positions (flat_in f old) t)))
     → (found : Option ℕ) → found ≡ None → IsLowestOf t end y notes points (length points) found
     → EachRun f (λ run. NoneWithin f run points t (suc p) (suc (positions (flat_in f new) t)))
-no_hit_after_passage f last code points notes t to old new end p y y_is s is none found none_is all run whole =
-    let seen = is_after_passage f last code points notes t to old new end s is run whole in
-    no_hit_in_longer_window f run points t (suc p) (positions (flat_in f new) t)
+no_hit_through_passage_if_none_seen_after_it f last code points notes t to old new end p y y_is s is none found none_is all run whole =
+    let seen = new_state_of_passage_is_after_passage f last code points notes t to old new end s is run whole in
+    no_hit_in_window_extended_by_position_without_hit f run points t (suc p) (positions (flat_in f new) t)
     (no_hit_in_joined_windows f run points t (suc p) (suc (positions (flat_in f old) t)) (positions (flat_in f new) t) (none run whole) seen.none)
     (no_hit_if_none_seen f run points notes t (positions (flat_in f new) t) end (slice_index_or new.threads t idle) seen.seen
     (subst (λ (z : ThreadState × Option ℕ). IsLowestOf t end z.0 notes points (length points) z.1) (λ i. (y_is i, none_is i)) all))
@@ -177,7 +177,7 @@ start_hit_is_last_hit : (f : FittedTrace) (last : List ℕ) (points : List Numbe
     → AreNothingNoted notes → (found : Option Hit) → IsStartHit t end y notes points found
     → EachRun f (λ run. IsLastHit f run points t (positions (flat_in f s) t + 1) found)
 start_hit_is_last_hit f last points notes t s end y y_is are start is size none None found run whole =
-    no_last_hit_at_start f run points t (positions (flat_in f s) t) start.1
+    last_hit_at_start_is_none_if_no_hit_at_position_zero f run points t (positions (flat_in f s) t) start.1
     (no_hit_if_none_seen f run points notes t 0 end (slice_index_or s.threads t idle)
     (hits_seen_at_thread_start f last points notes t s end are start is size none run whole)
     (subst (λ z. IsLowestOf t end z notes points (length points) None) y_is found))

@@ -9,7 +9,7 @@ use Rattle.ir_thread.specs.State.{ThreadState, held_at, ask_of, after_reply, rep
 use Rattle.ir_thread.specs.Permitted.{step_of, run_of}
 use Rattle.ir_thread.specs.Private.{UnmarkedSteps}
 use Rattle.ir_thread.specs.declared.ask.Ask.TheVariants as ask
-use Rattle.ir_thread.proofs.CallerLemmas.{private_steps_prefix, held_after_private_steps, unmarked_steps_prefix, thread_unmarked_step_begins_unmarked, thread_memory_after_unmarked_steps}
+use Rattle.ir_thread.proofs.CallerLemmas.{private_steps_prefix, held_after_private_steps, unmarked_steps_prefix, thread_unmarked_step_begins_unmarked, thread_memory_is_unchanged_by_unmarked_steps}
 use Rattle.ir_flat.specs.Flat.{Flat, thread_of}
 use Rattle.ir_fit.specs.Fit.{FittedTrace, IsRunOf}
 use Rattle.ir_cut.specs.Positions.{machine_of, start_of}
@@ -23,14 +23,14 @@ use Rattle.ir_hits.specs.Passing.{Watches, IsCovered, AreCovered, HasPassed}
 use Rattle.ir_hits.specs.Seeing.{IsNoted, AllNoted, steps_of, Changes, LeavesWritten}
 use Rattle.ir_hits.specs.declared.before.Before.{Before}
 use Rattle.ir_hits.specs.declared.before.Before.TheVariants.{Nothing, Word, Inside}
-use Rattle.ir_hits.proofs.Leaves.{held_for_writing_before_leave}
+use Rattle.ir_hits.proofs.Leaves.{held_for_writing_before_and_not_after_written_leave}
 
 -- ---- private steps of a run
 
-thread_after_private_step : (f : FittedTrace) (run : List Step) → IsRunOf f.guest f.recorded run → (t k : ℕ) (x : ThreadState) → k < steps_of f run t
+thread_after_private_step_is_step_of_code : (f : FittedTrace) (run : List Step) → IsRunOf f.guest f.recorded run → (t k : ℕ) (x : ThreadState) → k < steps_of f run t
     → thread_at f run t k ≡ x → ask_of f.guest.code x ≡ ask.Private → thread_at f run t (suc k) ≡ step_of f.guest.code x
 unfolding step_of
-thread_after_private_step f run whole t k x less at private =
+thread_after_private_step_is_step_of_code f run whole t k x less at private =
     let some = step_below_count_emits f run t k less in
     let z : StepOf (machine_of f) (thread_at f run t k) (thread_at f run t (suc k)) some.0 =
     emitting_step_is_step_of (machine_of f) (start_of f) run whole.1.runs t k some.0 some.1 in
@@ -38,14 +38,14 @@ thread_after_private_step f run whole t k x less at private =
     z.next ∙ ap (λ (y : ThreadState). after_reply f.guest.code y (reply_of (ask_of f.guest.code y) n)) at
     ∙ ap (λ q. after_reply f.guest.code x (reply_of q n)) private
 
-pub thread_after_private_steps_of_run : (f : FittedTrace) (run : List Step) → IsRunOf f.guest f.recorded run → (t j n k : ℕ) (x : ThreadState) → thread_at f run t j ≡ x
+pub thread_after_private_steps_is_run_of_code : (f : FittedTrace) (run : List Step) → IsRunOf f.guest f.recorded run → (t j n k : ℕ) (x : ThreadState) → thread_at f run t j ≡ x
     → j + n ≤ steps_of f run t → ((i : ℕ) → i < n → ask_of f.guest.code (run_of f.guest.code i x) ≡ ask.Private) → k ≤ n
     → thread_at f run t (j + k) ≡ run_of f.guest.code k x
 unfolding run_of
-thread_after_private_steps_of_run f run whole t j n zero x at within each le = ap (thread_at f run t) (add-zero j) ∙ at
-thread_after_private_steps_of_run f run whole t j n (suc k) x at within each le =
-    ap (thread_at f run t) (add-suc j k) ∙ thread_after_private_step f run whole t (j + k) (run_of f.guest.code k x) (omega (arith, within, le))
-    (thread_after_private_steps_of_run f run whole t j n k x at within each (omega (arith, le))) (each k (omega (arith, le)))
+thread_after_private_steps_is_run_of_code f run whole t j n zero x at within each le = ap (thread_at f run t) (add-zero j) ∙ at
+thread_after_private_steps_is_run_of_code f run whole t j n (suc k) x at within each le =
+    ap (thread_at f run t) (add-suc j k) ∙ thread_after_private_step_is_step_of_code f run whole t (j + k) (run_of f.guest.code k x) (omega (arith, within, le))
+    (thread_after_private_steps_is_run_of_code f run whole t j n k x at within each (omega (arith, le))) (each k (omega (arith, le)))
 
 -- ---- steps at instructions that aren't marked, where what the points may hit at is
 
@@ -58,26 +58,26 @@ pub record IsStretch (f : FittedTrace) (run : List Step) (code : Marked) (points
   pub within : j + n ≤ steps_of f run t
   pub steps : UnmarkedSteps code n x y
 
-pub thread_within_stretch : (f : FittedTrace) (run : List Step) (code : Marked) (points : List Numbered) (t j n k : ℕ) (x y : ThreadState)
+pub thread_within_stretch_is_run_of_code : (f : FittedTrace) (run : List Step) (code : Marked) (points : List Numbered) (t j n k : ℕ) (x y : ThreadState)
     → IsStretch f run code points t j n x y → k ≤ n → thread_at f run t (j + k) ≡ run_of code.words k x
-thread_within_stretch f run code points t j n k x y s le =
-    subst (λ c. thread_at f run t (j + k) ≡ run_of c k x) (sym s.words) (thread_after_private_steps_of_run f run s.whole t j n k x s.at s.within
+thread_within_stretch_is_run_of_code f run code points t j n k x y s le =
+    subst (λ c. thread_at f run t (j + k) ≡ run_of c k x) (sym s.words) (thread_after_private_steps_is_run_of_code f run s.whole t j n k x s.at s.within
     (subst (λ (c : List ℕ). (i : ℕ) → i < n → ask_of c (run_of c i x) ≡ ask.Private) s.words s.steps.steps.each) le)
 
-held_within_stretch : (f : FittedTrace) (run : List Step) (code : Marked) (points : List Numbered) (t j n k : ℕ) (x y : ThreadState)
+held_is_unchanged_within_stretch : (f : FittedTrace) (run : List Step) (code : Marked) (points : List Numbered) (t j n k : ℕ) (x y : ThreadState)
     → IsStretch f run code points t j n x y → k ≤ n → (thread_at f run t (j + k)).held ≡ x.held
-held_within_stretch f run code points t j n k x y s le =
-    ap (λ (z : ThreadState). z.held) (thread_within_stretch f run code points t j n k x y s le)
+held_is_unchanged_within_stretch f run code points t j n k x y s le =
+    ap (λ (z : ThreadState). z.held) (thread_within_stretch_is_run_of_code f run code points t j n k x y s le)
     ∙ held_after_private_steps code.words k x (run_of code.words k x) (private_steps_prefix code.words k n x y le s.steps.steps)
 
-memory_within_stretch : (f : FittedTrace) (run : List Step) (code : Marked) (points : List Numbered) (t j n k : ℕ) (x y : ThreadState) (p : Point)
+watched_memory_is_unchanged_within_stretch : (f : FittedTrace) (run : List Step) (code : Marked) (points : List Numbered) (t j n k : ℕ) (x y : ThreadState) (p : Point)
     → IsStretch f run code points t j n x y → k ≤ n → IsCovered code t p → Watches t p
     → (thread_at f run t (j + k)).core.memory ≡ x.core.memory
-memory_within_stretch f run code points t j n k x y (Break u address) s le c w = absurd w
-memory_within_stretch f run code points t j n k x y (Watch u address) s le c w =
-    ap (λ (z : ThreadState). z.core.memory) (thread_within_stretch f run code points t j n k x y s le)
-    ∙ thread_memory_after_unmarked_steps code k x (run_of code.words k x) (c w) (unmarked_steps_prefix code k n x y le s.steps)
-memory_within_stretch f run code points t j n k x y (WatchObject object) s le c w = absurd w
+watched_memory_is_unchanged_within_stretch f run code points t j n k x y (Break u address) s le c w = absurd w
+watched_memory_is_unchanged_within_stretch f run code points t j n k x y (Watch u address) s le c w =
+    ap (λ (z : ThreadState). z.core.memory) (thread_within_stretch_is_run_of_code f run code points t j n k x y s le)
+    ∙ thread_memory_is_unchanged_by_unmarked_steps code k x (run_of code.words k x) (c w) (unmarked_steps_prefix code k n x y le s.steps)
+watched_memory_is_unchanged_within_stretch f run code points t j n k x y (WatchObject object) s le c w = absurd w
 
 -- ---- no point hits between
 
@@ -85,22 +85,22 @@ covered_point_not_hit_within_stretch : (f : FittedTrace) (run : List Step) (code
     → IsStretch f run code points t j n x y → suc k < n → IsCovered code t p → HitBy f run t (suc (j + k)) p → ⊥
 covered_point_not_hit_within_stretch f run code points t j n k x y (Break u address) s less c h =
     let here : thread_at f run t (suc (j + k)) ≡ run_of code.words (suc k) x = ap (thread_at f run t) (sym (add-suc j k))
-    ∙ thread_within_stretch f run code points t j n (suc k) x y s (omega (arith, less)) in
+    ∙ thread_within_stretch_is_run_of_code f run code points t j n (suc k) x y s (omega (arith, less)) in
     let pc : (run_of code.words (suc k) x).core.pc ≡ address = ap (λ (z : ThreadState). z.core.pc) (sym here) ∙ h.1 in
     true_is_not_false (is_marked code.marks address) (c h.0)
     (ap (λ a. is_marked code.marks a) (sym pc) ∙ thread_unmarked_step_begins_unmarked code (suc k) n x y less s.steps)
 covered_point_not_hit_within_stretch f run code points t j n k x y (Watch u address) s less c h =
     let e : h.1.0 ≡ j + k = omega (arith, h.1.1) in
-    let before = memory_within_stretch f run code points t j n k x y (Watch u address) s (omega (arith, less)) c h.0 in
+    let before = watched_memory_is_unchanged_within_stretch f run code points t j n k x y (Watch u address) s (omega (arith, less)) c h.0 in
     let after = ap (λ i. (thread_at f run t i).core.memory) (sym (add-suc j k))
-    ∙ memory_within_stretch f run code points t j n (suc k) x y (Watch u address) s (omega (arith, less)) c h.0 in
+    ∙ watched_memory_is_unchanged_within_stretch f run code points t j n (suc k) x y (Watch u address) s (omega (arith, less)) c h.0 in
     subst (Changes f run t address) e h.1.2 (ap (λ m. memory_word m address) (before ∙ sym after))
 covered_point_not_hit_within_stretch f run code points t j n k x y (WatchObject object) s less c h =
     let e : h.0 ≡ j + k = omega (arith, h.1) in
-    let inside = held_for_writing_before_leave f run s.whole t (j + k) object (subst (LeavesWritten f run t object) e h.2) in
-    let before = held_within_stretch f run code points t j n k x y s (omega (arith, less)) in
+    let inside = held_for_writing_before_and_not_after_written_leave f run s.whole t (j + k) object (subst (LeavesWritten f run t object) e h.2) in
+    let before = held_is_unchanged_within_stretch f run code points t j n k x y s (omega (arith, less)) in
     let after = ap (λ i. (thread_at f run t i).held) (sym (add-suc j k))
-    ∙ held_within_stretch f run code points t j n (suc k) x y s (omega (arith, less)) in
+    ∙ held_is_unchanged_within_stretch f run code points t j n (suc k) x y s (omega (arith, less)) in
     inside.1 (ap (λ held. held_at held object) (after ∙ sym before) ∙ inside.0)
 
 pub no_hit_within_stretch : (f : FittedTrace) (run : List Step) (code : Marked) (points : List Numbered) (t j n : ℕ) (x y : ThreadState)
@@ -112,23 +112,23 @@ no_hit_within_stretch f run code points t j n x y s i m low high h =
 
 -- ---- what the points noted is what they would note before the last step
 
-note_same_in_like_thread : (t : ℕ) (x z : ThreadState) (p : Point) (b : Before) → z.held ≡ x.held → (Watches t p → z.core.memory ≡ x.core.memory)
+note_holds_in_thread_with_equal_held_and_memory : (t : ℕ) (x z : ThreadState) (p : Point) (b : Before) → z.held ≡ x.held → (Watches t p → z.core.memory ≡ x.core.memory)
     → IsNoted t x p b → IsNoted t z p b
-note_same_in_like_thread t x z (Break u address) b held memory k = tt
-note_same_in_like_thread t x z (Watch u address) Nothing held memory k = k
-note_same_in_like_thread t x z (Watch u address) (Word word) held memory k = (k.0, k.1 ∙ ap (λ m. memory_word m address) (sym (memory k.0)))
-note_same_in_like_thread t x z (Watch u address) Inside held memory k = k
-note_same_in_like_thread t x z (WatchObject object) Nothing held memory k = λ e. k (ap (λ h. held_at h object) (sym held) ∙ e)
-note_same_in_like_thread t x z (WatchObject object) (Word word) held memory k = k
-note_same_in_like_thread t x z (WatchObject object) Inside held memory k = ap (λ h. held_at h object) held ∙ k
+note_holds_in_thread_with_equal_held_and_memory t x z (Break u address) b held memory k = tt
+note_holds_in_thread_with_equal_held_and_memory t x z (Watch u address) Nothing held memory k = k
+note_holds_in_thread_with_equal_held_and_memory t x z (Watch u address) (Word word) held memory k = (k.0, k.1 ∙ ap (λ m. memory_word m address) (sym (memory k.0)))
+note_holds_in_thread_with_equal_held_and_memory t x z (Watch u address) Inside held memory k = k
+note_holds_in_thread_with_equal_held_and_memory t x z (WatchObject object) Nothing held memory k = λ e. k (ap (λ h. held_at h object) (sym held) ∙ e)
+note_holds_in_thread_with_equal_held_and_memory t x z (WatchObject object) (Word word) held memory k = k
+note_holds_in_thread_with_equal_held_and_memory t x z (WatchObject object) Inside held memory k = ap (λ h. held_at h object) held ∙ k
 
-pub notes_within_stretch : (f : FittedTrace) (run : List Step) (code : Marked) (points : List Numbered) (notes : List Before) (t j n k : ℕ)
+pub notes_still_hold_within_stretch : (f : FittedTrace) (run : List Step) (code : Marked) (points : List Numbered) (notes : List Before) (t j n k : ℕ)
     (x y : ThreadState) → IsStretch f run code points t j n x y → k ≤ n → AllNoted t x points notes
     → AllNoted t (thread_at f run t (j + k)) points notes
-notes_within_stretch f run code points notes t j n k x y s le all = record {
+notes_still_hold_within_stretch f run code points notes t j n k x y s le all = record {
   size = all.size;
-  each = λ i p b here there. note_same_in_like_thread t x (thread_at f run t (j + k)) p.point b (held_within_stretch f run code points t j n k x y s le)
-      (memory_within_stretch f run code points t j n k x y p.point s le (s.covered i p here)) (all.each i p b here there);
+  each = λ i p b here there. note_holds_in_thread_with_equal_held_and_memory t x (thread_at f run t (j + k)) p.point b (held_is_unchanged_within_stretch f run code points t j n k x y s le)
+      (watched_memory_is_unchanged_within_stretch f run code points t j n k x y p.point s le (s.covered i p here)) (all.each i p b here there);
 }
 
 -- ---- how far the thread came

@@ -43,8 +43,8 @@ last_position_is_steps_of_thread f last are run whole t end is = is ∙ last_pos
 -- ---- where threads are
 
 -- what is at a cut is at its own positions
-pub standing_at_own_positions : (f : FittedTrace) (p : Cut) (s : Standing) → StandsAt f p s → StandsAt f (positions (flat_in f s)) s
-standing_at_own_positions f p s h = subst (λ (q : Cut). StandsAt f q s) (fun_ext (λ t. sym (h.at.steps t))) h
+pub standing_at_cut_stands_at_own_positions : (f : FittedTrace) (p : Cut) (s : Standing) → StandsAt f p s → StandsAt f (positions (flat_in f s)) s
+standing_at_cut_stands_at_own_positions f p s h = subst (λ (q : Cut). StandsAt f q s) (fun_ext (λ t. sym (h.at.steps t))) h
 
 -- a thread of the state is the run's
 pub thread_of_standing_is_run_thread : (f : FittedTrace) (s : Standing) → StandsAt f (positions (flat_in f s)) s → (run : List Step)
@@ -57,10 +57,10 @@ pub steps_of_thread_are_position : (f : FittedTrace) (s : Standing) (t n : ℕ) 
 steps_of_thread_are_position f s t n x is steps = steps ∙ ap (λ (y : thread.ThreadState). y.steps) is
 
 -- a list of the threads' positions is the cut at which they are
-positions_are_listed_positions : (f : FittedTrace) (s : Standing) (at : List ℕ) → length at ≡ length s.threads
+positions_are_listed_if_list_has_steps_of_each_thread : (f : FittedTrace) (s : Standing) (at : List ℕ) → length at ≡ length s.threads
     → ((t : ℕ) → t < length s.threads → cut_of at t ≡ (slice_index_or s.threads t idle).steps) → (t : ℕ)
     → positions (flat_in f s) t ≡ cut_of at t
-positions_are_listed_positions f s at size here t = elim (cases_lt t (length s.threads)) [
+positions_are_listed_if_list_has_steps_of_each_thread f s at size here t = elim (cases_lt t (length s.threads)) [
   | inl l ↦ sym (here t l)
   | inr past ↦ ap (λ (x : thread.ThreadState). x.steps) (get_or_past s.threads t idle past)
       ∙ sym (get_or_past at t 0 (omega (arith, size, past)))
@@ -76,9 +76,9 @@ listed_steps_are_cut_of_standing : (f : FittedTrace) (s : Standing) (at : List �
 listed_steps_are_cut_of_standing f s at stands size here = record {
   size = size ∙ stands.at.threads;
   consistent = λ run whole. subst (λ (p : Cut). IsCut (machine_of f) (start_of f) run p × Consistent (machine_of f) (start_of f) run p)
-      (fun_ext (positions_are_listed_positions f s at size here))
+      (fun_ext (positions_are_listed_if_list_has_steps_of_each_thread f s at size here))
       ((stands.at.each run whole).cut, (stands.at.each run whole).consistent);
-  here = positions_are_listed_positions f s at size here;
+  here = positions_are_listed_if_list_has_steps_of_each_thread f s at size here;
 }
 
 -- the cut that is read off these threads

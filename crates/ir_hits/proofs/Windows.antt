@@ -13,16 +13,16 @@ pub no_hit_in_empty_window : (f : FittedTrace) (run : List Step) (points : List 
 no_hit_in_empty_window f run points t from to empty j n low high h = omega (arith, empty, low, high)
 
 -- one more position
-pub no_hit_in_longer_window : (f : FittedTrace) (run : List Step) (points : List Numbered) (t from k : ℕ) → NoneWithin f run points t from k
+pub no_hit_in_window_extended_by_position_without_hit : (f : FittedTrace) (run : List Step) (points : List Numbered) (t from k : ℕ) → NoneWithin f run points t from k
     → ((n : ℕ) → HitByNumber f run points t k n → ⊥) → NoneWithin f run points t from (suc k)
-no_hit_in_longer_window f run points t from k before here j n low high h = elim (cases_eq j k) [
+no_hit_in_window_extended_by_position_without_hit f run points t from k before here j n low high h = elim (cases_eq j k) [
   | inl same ↦ here n (subst (λ i. HitByNumber f run points t i n) same h)
   | inr ne ↦ before j n low (omega (arith, high, ne)) h
 ]
 
 -- the position of a thread that has advanced to a hit
-pub reached_position_is_hit_position : (to p : ℕ) (found : Option Hit) (h : Hit) → p ≡ reached to found → found ≡ Some h → p ≡ h.position
-reached_position_is_hit_position to p found h there is = there ∙ ap (reached to) is
+pub reached_position_is_hit_position_if_hit_found : (to p : ℕ) (found : Option Hit) (h : Hit) → p ≡ reached to found → found ≡ Some h → p ≡ h.position
+reached_position_is_hit_position_if_hit_found to p found h there is = there ∙ ap (reached to) is
 
 -- a window begins at most one position above
 pub window_start_at_most_one_above : (p : ℕ) → window_start p ≤ p + 1
@@ -55,7 +55,7 @@ start_hit_is_last_at_start f run points t p h start at here = (
   subst (λ k. IsLowest f run points t k h.number) (sym at) here,
 )
 
-pub no_last_hit_at_start : (f : FittedTrace) (run : List Step) (points : List Numbered) (t p : ℕ) → p ≡ 0
+pub last_hit_at_start_is_none_if_no_hit_at_position_zero : (f : FittedTrace) (run : List Step) (points : List Numbered) (t p : ℕ) → p ≡ 0
     → ((n : ℕ) → HitByNumber f run points t 0 n → ⊥) → IsLastHit f run points t (p + 1) None
-no_last_hit_at_start f run points t p start none j n low high h =
+last_hit_at_start_is_none_if_no_hit_at_position_zero f run points t p start none j n low high h =
     none n (subst (λ i. HitByNumber f run points t i n) (let e : j ≡ 0 = omega (arith, start, high) in e) h)

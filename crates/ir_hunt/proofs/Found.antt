@@ -28,16 +28,16 @@ use Rattle.ir_hunt.specs.Seeking.{RanBy}
 use Rattle.ir_hunt.specs.Stale.{IsWanted, FulfilsStale}
 
 -- no world had answered
-answers_of_fresh_world_are_empty : (n t : ℕ) → get_or {A = List Answered} (replicate n []) t [] ≡ []
-answers_of_fresh_world_are_empty zero t = refl
-answers_of_fresh_world_are_empty (suc n) zero = refl
-answers_of_fresh_world_are_empty (suc n) (suc t) = answers_of_fresh_world_are_empty n t
+get_or_of_replicated_empty_is_empty : (n t : ℕ) → get_or {A = List Answered} (replicate n []) t [] ≡ []
+get_or_of_replicated_empty_is_empty zero t = refl
+get_or_of_replicated_empty_is_empty (suc n) zero = refl
+get_or_of_replicated_empty_is_empty (suc n) (suc t) = get_or_of_replicated_empty_is_empty n t
 
 -- a run by a chooser to its end is the run by the order of its turns
-schedule_is_run_by_turns : (guest : Guest) (plan : Plan) (chooser : Chooser) (run : List Step)
+schedule_is_run_by_order_of_its_turns : (guest : Guest) (plan : Plan) (chooser : Chooser) (run : List Step)
     → IsSchedule (has_tries plan.profile) (machine (first guest plan)) (length (first guest plan).threads) (tables (first guest plan)) chooser run
     → IsByOrder (machine (first guest plan)) (tables (first guest plan)) (length guest.entries) (threads_of run) run
-schedule_is_run_by_turns guest plan chooser run h = schedules_are_orders (has_tries plan.profile) (machine (first guest plan)) (length guest.entries)
+schedule_is_run_by_order_of_its_turns guest plan chooser run h = schedules_are_orders (has_tries plan.profile) (machine (first guest plan)) (length guest.entries)
     (tables (first guest plan)) chooser run
     (subst (λ n. IsSchedule (has_tries plan.profile) (machine (first guest plan)) n (tables (first guest plan)) chooser run)
     (length_of_start_threads guest plan.budget plan.profile 0 (length guest.entries)) h)
@@ -50,10 +50,10 @@ pub found_run_is_planned_and_fulfils : (guest : Guest) (plan : Plan) (conditions
 found_run_is_planned_and_fulfils guest plan conditions chooser b h answered holds = (
   record {
     by_order = subst (λ o. IsByOrder (machine (first guest plan)) (tables (first guest plan)) (length guest.entries) o h.run)
-        (sym h.gained.order) (schedule_is_run_by_turns guest plan chooser h.run h.schedule);
+        (sym h.gained.order) (schedule_is_run_by_order_of_its_turns guest plan chooser h.run h.schedule);
     answered = λ t l. subst (IsAnswered (origin_of true plan.random plan.input t))
         (h.gained.answers t (subst (λ n. t < n) (sym (length_of_start_threads guest plan.budget plan.profile 0 (length guest.entries))) l) ∙ ap (λ z. z ++ answers_in (log (machine (first guest plan)) (tables (first guest plan)) h.run t))
-        (answers_of_fresh_world_are_empty (length guest.entries) t)) (answered t l);
+        (get_or_of_replicated_empty_is_empty (length guest.entries) t)) (answered t l);
   },
   record {
     flat = b.flat;

@@ -49,9 +49,9 @@ fresh_recording_is_trace_by_order guest plan entries order before trace outputs 
     )
 
 -- whether a stale write of the trace rests is whether one of each run by the order does
-stale_by_order_if_trace_rests : (guest : Guest) (plan : Plan) (order : List ℕ) (trace : Recorded) (f : FittedTrace) (has : Bool) → IsTraceBy guest plan order trace
+has_stale_by_order_if_trace_has_rests : (guest : Guest) (plan : Plan) (order : List ℕ) (trace : Recorded) (f : FittedTrace) (has : Bool) → IsTraceBy guest plan order trace
     → f.guest ≡ guest → f.recorded ≡ trace → HasRun f → HasRests f has → HasStaleBy guest plan order has
-stale_by_order_if_trace_rests guest plan order trace f has by of_guest of_trace fits rests run planned = let r = by run planned in record {
+has_stale_by_order_if_trace_has_rests guest plan order trace f has by of_guest of_trace fits rests run planned = let r = by run planned in record {
   trace = trace;
   outputs = r.0;
   of_run = r.1;
@@ -63,7 +63,7 @@ stale_by_order_if_trace_rests guest plan order trace f has by of_guest of_trace 
 }
 
 -- the same, where that was found out
-pub result_says_stale_by_order_if_trace_rests : {E : Type 0} (guest : Guest) (plan : Plan) (order : List ℕ) (trace : Recorded) (f : FittedTrace) (r : Result Bool E)
+pub ok_result_has_stale_by_order_if_it_has_rests : {E : Type 0} (guest : Guest) (plan : Plan) (order : List ℕ) (trace : Recorded) (f : FittedTrace) (r : Result Bool E)
     → IsTraceBy guest plan order trace → f.guest ≡ guest → f.recorded ≡ trace → HasRun f → IfOk r (HasRests f) → IfOk r (HasStaleBy guest plan order)
-result_says_stale_by_order_if_trace_rests guest plan order trace f (Ok has) by of_guest of_trace fits rests = stale_by_order_if_trace_rests guest plan order trace f has by of_guest of_trace fits rests
-result_says_stale_by_order_if_trace_rests guest plan order trace f (Err e) by of_guest of_trace fits rests = tt
+ok_result_has_stale_by_order_if_it_has_rests guest plan order trace f (Ok has) by of_guest of_trace fits rests = has_stale_by_order_if_trace_has_rests guest plan order trace f has by of_guest of_trace fits rests
+ok_result_has_stale_by_order_if_it_has_rests guest plan order trace f (Err e) by of_guest of_trace fits rests = tt

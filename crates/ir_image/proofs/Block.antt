@@ -33,9 +33,9 @@ words_fail_if_bytes_fail n bytes e h =
     subst (λ (x : ImageErr). Fails x (fields_at word_at n bytes)) g.1 (words_fail_if_bytes_short n bytes g.0)
 
 -- the words of a piece but its first
-rest_of_read_words : (w : ℕ) (ws : List ℕ) (a b c d : ℕ) (more : List ℕ) → IsRead little_number 4 (a ∷ b ∷ c ∷ d ∷ more) (w ∷ ws)
+tail_of_words_is_read_from_later_bytes : (w : ℕ) (ws : List ℕ) (a b c d : ℕ) (more : List ℕ) → IsRead little_number 4 (a ∷ b ∷ c ∷ d ∷ more) (w ∷ ws)
     → IsRead little_number 4 more ws
-rest_of_read_words w ws a b c d more h k lt =
+tail_of_words_is_read_from_later_bytes w ws a b c d more h k lt =
     let step : 4 * suc k ≡ suc (suc (suc (suc (4 * k)))) = omega arith in
     subst (λ (i : ℕ). slice_index ws k ≡ little_number 4 (drop i (a ∷ b ∷ c ∷ d ∷ more))) step (h (suc k) (omega arith))
 
@@ -49,12 +49,12 @@ words_at_of_read_bytes (w ∷ ws) (a ∷ b ∷ []) rest e h = absurd (omega arit
 words_at_of_read_bytes (w ∷ ws) (a ∷ b ∷ c ∷ []) rest e h = absurd (omega arith)
 words_at_of_read_bytes (w ∷ ws) (a ∷ b ∷ c ∷ d ∷ more) rest e h =
     let first : w ≡ little_number 4 (a ∷ b ∷ c ∷ d ∷ []) = h 0 (omega arith) in
-    let next = words_at_of_read_bytes ws more rest (omega arith) (rest_of_read_words w ws a b c d more h) in
+    let next = words_at_of_read_bytes ws more rest (omega arith) (tail_of_words_is_read_from_later_bytes w ws a b c d more h) in
     rw (word_at_of_four_bytes a b c d (more ++ rest), next, ← first) refl
 
 -- a list that was written over the whole of another of its length
-take_of_overwritten_list : (dst items : List ℕ) (n : ℕ) → length dst ≡ n → take n (dst ++ drop (length dst) items) ≡ dst
-take_of_overwritten_list dst items n e = ap (λ (k : ℕ). take k (dst ++ drop (length dst) items)) (sym e) ∙ take-append_seam dst (drop (length dst) items)
+take_length_of_append_drop : (dst items : List ℕ) (n : ℕ) → length dst ≡ n → take n (dst ++ drop (length dst) items) ≡ dst
+take_length_of_append_drop dst items n e = ap (λ (k : ℕ). take k (dst ++ drop (length dst) items)) (sym e) ∙ take-append_seam dst (drop (length dst) items)
 
 pub words_at_of_overwritten_items : (n room : ℕ) (bytes own rest ws items : List ℕ) → bytes_at Short (4 * n) bytes ≡ Ok (own, rest) → length ws ≡ n
     → room ≡ n → IsRead little_number 4 own ws
@@ -65,4 +65,4 @@ words_at_of_overwritten_items n room bytes own rest ws items e count full h =
     ap (λ (x : List ℕ). own ++ x) (sym p.back) in
     let size : length own ≡ 4 * length ws = omega (arith, ap length p.prefix, length-take-le (4 * n) bytes p.long) in
     ap (λ (k : ℕ). fields_at word_at k bytes) (sym count) ∙ ap (fields_at word_at (length ws)) whole ∙ words_at_of_read_bytes ws own rest size h
-    ∙ ap (λ (x : List ℕ). Ok (x, rest)) (sym (take_of_overwritten_list ws items room (count ∙ sym full)))
+    ∙ ap (λ (x : List ℕ). Ok (x, rest)) (sym (take_length_of_append_drop ws items room (count ∙ sym full)))

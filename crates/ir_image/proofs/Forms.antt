@@ -9,17 +9,17 @@ use Rattle.ir_image.specs.Guest.{limits_of, most_threads, most_objects, most_obj
 use Rattle.ir_image.specs.Bounds.{IsGuest}
 use Rattle.ir_image.specs.Padded.{padded}
 
-pub form_has_words : (form : ImageForm) → 0 < (limits_of form).words
-form_has_words Small = omega arith
-form_has_words Large = omega arith
+pub word_limit_of_form_is_positive : (form : ImageForm) → 0 < (limits_of form).words
+word_limit_of_form_is_positive Small = omega arith
+word_limit_of_form_is_positive Large = omega arith
 
 pub words_of_form_at_most_limit : (form : ImageForm) → (limits_of form).words ≤ most_object_words
 words_of_form_at_most_limit Small = omega arith
 words_of_form_at_most_limit Large = omega arith
 
-pub form_has_threads : (form : ImageForm) → 0 < (limits_of form).threads
-form_has_threads Small = omega arith
-form_has_threads Large = omega arith
+pub thread_limit_of_form_is_positive : (form : ImageForm) → 0 < (limits_of form).threads
+thread_limit_of_form_is_positive Small = omega arith
+thread_limit_of_form_is_positive Large = omega arith
 
 pub threads_of_form_at_most_limit : (form : ImageForm) → (limits_of form).threads ≤ most_threads
 threads_of_form_at_most_limit Small = omega arith
@@ -38,18 +38,18 @@ guest_objects_at_most_limit g fits = let few = fits.few_objects in let most = ob
 
 -- ---- words of whole objects
 
-pub object_count_of_whole_objects : (form : ImageForm) (words objects : ℕ) → words ≡ (limits_of form).words * objects → words / (limits_of form).words ≡ objects
-object_count_of_whole_objects Small words objects e = omega (arith, e)
-object_count_of_whole_objects Large words objects e = omega (arith, e)
+pub words_divided_by_limit_is_object_count : (form : ImageForm) (words objects : ℕ) → words ≡ (limits_of form).words * objects → words / (limits_of form).words ≡ objects
+words_divided_by_limit_is_object_count Small words objects e = omega (arith, e)
+words_divided_by_limit_is_object_count Large words objects e = omega (arith, e)
 
 pub words_of_whole_objects_divide : (form : ImageForm) (words objects : ℕ) → words ≡ (limits_of form).words * objects → words % (limits_of form).words ≡ 0
 words_of_whole_objects_divide Small words objects e = omega (arith, e)
 words_of_whole_objects_divide Large words objects e = omega (arith, e)
 
-pub words_of_whole_objects : (form : ImageForm) (words : ℕ) → words % (limits_of form).words ≡ 0
+pub words_are_limit_times_quotient_if_whole : (form : ImageForm) (words : ℕ) → words % (limits_of form).words ≡ 0
     → (limits_of form).words * (words / (limits_of form).words) ≡ words
-words_of_whole_objects Small words whole = omega (arith, whole)
-words_of_whole_objects Large words whole = omega (arith, whole)
+words_are_limit_times_quotient_if_whole Small words whole = omega (arith, whole)
+words_are_limit_times_quotient_if_whole Large words whole = omega (arith, whole)
 
 whole_words_at_most_limit : (form : ImageForm) (words : ℕ) → words % (limits_of form).words ≡ 0
     → words / (limits_of form).words ≤ (limits_of form).objects → words ≤ most_object_words * most_objects
@@ -61,8 +61,8 @@ guest_words_at_most_limit g fits = whole_words_at_most_limit g.form (length g.wo
 
 -- ---- words, and 0 after them
 
-pub element_of_padded : (xs : List ℕ) (i : ℕ) → get_or (padded xs) i 0 ≡ get_or xs i 0
-element_of_padded xs i =
+pub get_or_zero_of_padded_is_unchanged : (xs : List ℕ) (i : ℕ) → get_or (padded xs) i 0 ≡ get_or xs i 0
+get_or_zero_of_padded_is_unchanged xs i =
     let zeros : List ℕ = replicate (most_object_words - length xs) 0 in
     elim (cases_lt i (length xs)) [
       | inl l ↦ get_or_append_left xs zeros 0 i l

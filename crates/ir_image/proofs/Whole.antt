@@ -5,7 +5,7 @@ use Rattle.std.proofs.lemmas.Bool.{eqb-true}
 use Rattle.std.proofs.lemmas.List.{append-nil, nil_from_length}
 use Rattle.byteorder.specs.Endian.{little_bytes}
 use Rattle.ir_bytes.specs.Reading.{field_at, bytes_at, fields_at}
-use Rattle.ir_bytes.proofs.CallerLemmas.{two_steps_succeed, five_steps_succeed, six_steps_succeed, test_passed_if_ok, ok_is_injective, number_within_if_no_fault, no_fault_if_number_within, IsBytes, bytes_if_each_fits, Takes, takes_after_takes, TakesField, field_at_takes_field, field_at_of_little_bytes, number_of_one_byte_takes_byte, field_at_of_byte, TakesBytes, bytes_at_takes_bytes, bytes_at_of_append, TakesFields, fields_at_takes_fields, fields_at_of_encodings}
+use Rattle.ir_bytes.proofs.CallerLemmas.{each_of_two_is_ok_if_bind_is_ok, each_of_five_is_ok_if_binds_are_ok, each_of_six_is_ok_if_binds_are_ok, test_passed_if_ok, ok_is_injective, number_within_if_no_fault, no_fault_if_number_within, IsBytes, is_bytes_if_each_below_256, Takes, takes_append_of_successive_takes, TakesField, field_at_takes_field, field_at_of_little_bytes, takes_byte_if_takes_its_little_bytes, field_at_of_byte, TakesBytes, bytes_at_takes_bytes, bytes_at_of_append, TakesFields, fields_at_takes_fields, fields_at_of_encodings}
 use Rattle.ir_image.specs.declared.counts.Counts.{Counts}
 use Rattle.ir_image.specs.declared.image_err.ImageErr.{ImageErr}
 use Rattle.ir_image.specs.declared.image_err.ImageErr.TheVariants.{Short, Count, Trailing}
@@ -14,7 +14,7 @@ use Rattle.ir_image.specs.Bounds.{IsWord, IsGuest, IsPlace}
 use Rattle.ir_image.specs.Fields.{image_threads_field, image_objects_field, words_field, bytes_field, entry_at, word_at}
 use Rattle.ir_image.specs.declared.form.ImageForm.{ImageForm}
 use Rattle.ir_image.specs.Encoding.{counts_of, counts_encoding, words_encoding, body_encoding, encoding}
-use Rattle.ir_image.proofs.Forms.{object_count_of_whole_objects, words_of_whole_objects_divide, words_of_whole_objects}
+use Rattle.ir_image.proofs.Forms.{words_divided_by_limit_is_object_count, words_of_whole_objects_divide, words_are_limit_times_quotient_if_whole}
 use Rattle.ir_image.proofs.Fields.{form_at_takes_magic, form_at_of_magic, word_at_takes_word, word_at_of_little_bytes, entry_at_takes_little_bytes, entry_at_of_little_bytes}
 
 -- ---- the counts
@@ -41,14 +41,14 @@ counts_fields_take_counts all first threads objects words bytes t0 t1 t2 t3 t4 =
     let m = number_within_if_no_fault 0 (limits_of first.0).objects objects.0 Count t2.passes in
     let c = number_within_if_no_fault 0 most_code_words words.0 Count t3.passes in
     let d = number_within_if_no_fault 0 memory_size bytes.0 Count t4.passes in
-    let second = takes_after_takes threads.1 (objects.0 ∷ []) objects.1 (little_bytes 4 words.0) words.1
-    (number_of_one_byte_takes_byte threads.1 objects t2.takes t2.fits) t3.takes in
-    let third = takes_after_takes threads.1 (objects.0 ∷ [] ++ little_bytes 4 words.0) words.1 (little_bytes 4 bytes.0) bytes.1 second t4.takes
+    let second = takes_append_of_successive_takes threads.1 (objects.0 ∷ []) objects.1 (little_bytes 4 words.0) words.1
+    (takes_byte_if_takes_its_little_bytes threads.1 objects t2.takes t2.fits) t3.takes in
+    let third = takes_append_of_successive_takes threads.1 (objects.0 ∷ [] ++ little_bytes 4 words.0) words.1 (little_bytes 4 bytes.0) bytes.1 second t4.takes
     in
-    let fourth = takes_after_takes first.1 (threads.0 ∷ []) threads.1 ((objects.0 ∷ [] ++ little_bytes 4 words.0) ++ little_bytes 4 bytes.0)
-    bytes.1 (number_of_one_byte_takes_byte first.1 threads t1.takes t1.fits) third in
+    let fourth = takes_append_of_successive_takes first.1 (threads.0 ∷ []) threads.1 ((objects.0 ∷ [] ++ little_bytes 4 words.0) ++ little_bytes 4 bytes.0)
+    bytes.1 (takes_byte_if_takes_its_little_bytes first.1 threads t1.takes t1.fits) third in
     record {
-      takes = takes_after_takes all (image_magic first.0) first.1
+      takes = takes_append_of_successive_takes all (image_magic first.0) first.1
           (threads.0 ∷ [] ++ ((objects.0 ∷ [] ++ little_bytes 4 words.0) ++ little_bytes 4 bytes.0)) bytes.1 t0 fourth;
       within = record { some_thread = n.0; few_threads = n.1; few_objects = m.1; short_code = c.1; short_data = d.1 };
     }
@@ -56,7 +56,7 @@ counts_fields_take_counts all first threads objects words bytes t0 t1 t2 t3 t4 =
 counts_at_takes_counts : (all : List ℕ) (x : Counts × List ℕ) → IsBytes all → counts_at all ≡ Ok x → TakesCounts all x
 unfolding counts_at
 counts_at_takes_counts all x fits e =
-    six_steps_succeed (form_at all) (λ first. field_at Short (image_threads_field first.0) first.1)
+    each_of_six_is_ok_if_binds_are_ok (form_at all) (λ first. field_at Short (image_threads_field first.0) first.1)
     (λ first threads. field_at Short (image_objects_field first.0) threads.1)
     (λ first threads objects. field_at Short words_field objects.1) (λ first threads objects words. field_at Short bytes_field words.1)
     (λ first threads objects words bytes. Ok
@@ -102,22 +102,22 @@ counts_of_guest_by_parts : (g : Guest) (c : Counts) → g.form ≡ c.form → le
     → length g.code ≡ c.words → length g.bytes ≡ c.bytes → counts_of g ≡ c
 counts_of_guest_by_parts g c f n m w d = λ i. record { form = f i; threads = n i; objects = m i; words = w i; bytes = d i }
 
-append_of_four_nested : (a b c d : List ℕ) → a ++ (b ++ (c ++ d)) ≡ a ++ b ++ c ++ d
-append_of_four_nested a b c d = simp append_assoc
+append_of_four_is_associative : (a b c d : List ℕ) → a ++ (b ++ (c ++ d)) ≡ a ++ b ++ c ++ d
+append_of_four_is_associative a b c d = simp append_assoc
 
 -- four parts, and nothing after them
 append_of_four_pieces_and_nothing : (all a r0 b r1 c r2 d r3 : List ℕ) → all ≡ a ++ r0 → r0 ≡ b ++ r1 → r1 ≡ c ++ r2 → r2 ≡ d ++ r3 → r3 ≡ []
     → all ≡ a ++ b ++ c ++ d
 append_of_four_pieces_and_nothing all a r0 b r1 c r2 d r3 p0 p1 p2 p3 p4 =
     let last : r2 ≡ d = p3 ∙ ap (λ (x : List ℕ). d ++ x) p4 ∙ append-nil d in
-    p0 ∙ ap (λ (x : List ℕ). a ++ x) (p1 ∙ ap (λ (x : List ℕ). b ++ x) (p2 ∙ ap (λ (x : List ℕ). c ++ x) last)) ∙ append_of_four_nested a b c d
+    p0 ∙ ap (λ (x : List ℕ). a ++ x) (p1 ∙ ap (λ (x : List ℕ). b ++ x) (p2 ∙ ap (λ (x : List ℕ). c ++ x) last)) ∙ append_of_four_is_associative a b c d
 
 body_fields_take_body : (c : Counts) (all : List ℕ) (entries code initial words : List ℕ × List ℕ) → IsWithin c
     → TakesFields (IsPlace c.words) (little_bytes 4) c.threads all entries → TakesFields IsWord (little_bytes 4) c.words entries.1 code
     → TakesBytes c.bytes code.1 initial → TakesFields IsWord (little_bytes 4) ((limits_of c.form).words * c.objects) initial.1 words
     → words.1 ≡ [] → TakesBody c all (record { form = c.form; entries = entries.0; code = code.0; bytes = initial.0; words = words.0 })
 body_fields_take_body c all entries code initial words within t0 t1 t2 t3 nothing =
-    let objects = object_count_of_whole_objects c.form (length words.0) c.objects t3.count in
+    let objects = words_divided_by_limit_is_object_count c.form (length words.0) c.objects t3.count in
     record {
       counts = counts_of_guest_by_parts (record { form = c.form; entries = entries.0; code = code.0; bytes = initial.0; words = words.0 }) c refl t0.count
           objects t1.count t2.count;
@@ -140,7 +140,7 @@ body_fields_take_body c all entries code initial words within t0 t1 t2 t3 nothin
 body_at_takes_body : (c : Counts) (all : List ℕ) (g : Guest) → IsBytes all → IsWithin c → body_at c all ≡ Ok g → TakesBody c all g
 unfolding body_at
 body_at_takes_body c all g fits within e =
-    five_steps_succeed (fields_at (entry_at c.words) c.threads all) (λ entries. fields_at word_at c.words entries.1)
+    each_of_five_is_ok_if_binds_are_ok (fields_at (entry_at c.words) c.threads all) (λ entries. fields_at word_at c.words entries.1)
     (λ entries code. bytes_at Short c.bytes code.1) (λ entries code initial. fields_at word_at ((limits_of c.form).words * c.objects) initial.1)
     (λ entries code initial words. cond (eqb (length words.1) 0)
     (Ok (record { form = c.form; entries = entries.0; code = code.0; bytes = initial.0; words = words.0 })) (Err Trailing)) g e
@@ -164,11 +164,11 @@ body_at_of_encoding g fits =
     (λ n rest place. entry_at_of_little_bytes (length g.code) n rest fits.short_code place) g.entries r0 fits.entries_fit in
     let e1 = fields_at_of_encodings IsWord (little_bytes 4) word_at word_at_of_little_bytes g.code r1 fits.code_fits in
     let e2 = bytes_at_of_append Short g.bytes r2 in
-    let count = words_of_whole_objects g.form (length g.words) fits.whole_objects in
+    let count = words_are_limit_times_quotient_if_whole g.form (length g.words) fits.whole_objects in
     let e3 : fields_at word_at ((limits_of g.form).words * object_count g) r2 ≡ Ok (g.words, []) =
     ap (λ (k : ℕ). fields_at word_at k r2) count ∙ ap (fields_at word_at (length g.words)) (sym (append-nil r2)) ∙ fields_at_of_encodings IsWord
     (little_bytes 4) word_at word_at_of_little_bytes g.words [] fits.words_fit in
-    ap (body_at (counts_of g)) (sym (append_of_four_nested (words_encoding g.entries) (words_encoding g.code) g.bytes r2)) ∙ rw (e0, e1, e2, e3) refl
+    ap (body_at (counts_of g)) (sym (append_of_four_is_associative (words_encoding g.entries) (words_encoding g.code) g.bytes r2)) ∙ rw (e0, e1, e2, e3) refl
 
 -- ---- the whole image
 
@@ -182,7 +182,7 @@ counts_and_body_take_guest all x g t u = (
 pub guest_at_takes_encoding : (all : List ℕ) (g : Guest) → IsBytes all → guest_at all ≡ Ok g → IsGuest g × (all ≡ encoding g)
 unfolding guest_at
 guest_at_takes_encoding all g fits e =
-    two_steps_succeed (counts_at all) (λ c. body_at c.0 c.1) g e (λ x e0 e1.
+    each_of_two_is_ok_if_bind_is_ok (counts_at all) (λ c. body_at c.0 c.1) g e (λ x e0 e1.
     let t = counts_at_takes_counts all x fits e0 in
     counts_and_body_take_guest all x g t (body_at_takes_body x.0 x.1 g t.takes.rest_fits t.within e1))
 
@@ -190,7 +190,7 @@ guest_at_takes_encoding all g fits e =
 pub read_parts_take_encoding : (all : List ℕ) (c : Counts) (rest : List ℕ) (g h : Guest) → ((i : ℕ) → slice_index all i < 256)
     → counts_at all ≡ Ok (c, rest) → body_at c rest ≡ Ok g → g ≡ h → IsGuest h × (all ≡ encoding h)
 read_parts_take_encoding all c rest g h bytes e0 e1 same =
-    let fits = bytes_if_each_fits all bytes in
+    let fits = is_bytes_if_each_below_256 all bytes in
     let t = counts_at_takes_counts all (c, rest) fits e0 in
     subst (λ (x : Guest). IsGuest x × (all ≡ encoding x)) same
     (counts_and_body_take_guest all (c, rest) g t (body_at_takes_body c rest g t.takes.rest_fits t.within e1))

@@ -25,72 +25,72 @@ immediate_instruction_by w o = elim o as (λ _. Option Inst) [
   | None ↦ option_and_then (λ op. Some (Shift op (reg_at 7 w) (reg_at 15 w) (amount_at w))) (shift_op_of (bits 31 25 w) (bits 14 12 w))
 ]
 
-shift_has_no_immediate_operation : (op : ShiftOp) → imm_op_of (shift_functs op).three ≡ None
-shift_has_no_immediate_operation Slli = refl
-shift_has_no_immediate_operation Srli = refl
-shift_has_no_immediate_operation Srai = refl
+imm_op_of_shift_funct_is_none : (op : ShiftOp) → imm_op_of (shift_functs op).three ≡ None
+imm_op_of_shift_funct_is_none Slli = refl
+imm_op_of_shift_funct_is_none Srli = refl
+imm_op_of_shift_funct_is_none Srai = refl
 
-pub instruction_of_word_by_code : (w : ℕ) (i : Inst) → IsCode w i → instruction_of w ≡ Some i
+pub instruction_of_word_if_it_is_code : (w : ℕ) (i : Inst) → IsCode w i → instruction_of w ≡ Some i
 unfolding instruction_of
-instruction_of_word_by_code w (Lui rd imm) p =
+instruction_of_word_if_it_is_code w (Lui rd imm) p =
     let e0 = registers_equal_by_number (reg_at 7 w) rd p.rd_field in
     let e1 = upper_immediates_equal_by_value (u_of w) imm p.imm_field in
     rw p.opcode_field (cc)
-instruction_of_word_by_code w (Auipc rd imm) p =
+instruction_of_word_if_it_is_code w (Auipc rd imm) p =
     let e0 = registers_equal_by_number (reg_at 7 w) rd p.rd_field in
     let e1 = upper_immediates_equal_by_value (u_of w) imm p.imm_field in
     rw p.opcode_field (cc)
-instruction_of_word_by_code w (Jal rd offset) p =
+instruction_of_word_if_it_is_code w (Jal rd offset) p =
     let e0 = registers_equal_by_number (reg_at 7 w) rd p.rd_field in
     let e1 = jump_offsets_equal_by_value (j_of w) offset p.imm_field in
     rw p.opcode_field (cc)
-instruction_of_word_by_code w (Jalr rd rs1 imm) p =
+instruction_of_word_if_it_is_code w (Jalr rd rs1 imm) p =
     let e0 = registers_equal_by_number (reg_at 7 w) rd p.rd_field in
     let e1 = registers_equal_by_number (reg_at 15 w) rs1 p.rs1_field in
     let e2 = immediates_equal_by_value (i_of w) imm p.imm_field in
     rw (p.opcode_field, p.three_field) (cc)
-instruction_of_word_by_code w (Branch op rs1 rs2 offset) p =
+instruction_of_word_if_it_is_code w (Branch op rs1 rs2 offset) p =
     let e0 = registers_equal_by_number (reg_at 15 w) rs1 p.rs1_field in
     let e1 = registers_equal_by_number (reg_at 20 w) rs2 p.rs2_field in
     let e2 = branch_offsets_equal_by_value (b_of w) offset p.imm_field in
     rw (p.opcode_field, p.three_field, branch_op_of_own_funct op) (cc)
-instruction_of_word_by_code w (Load op rd rs1 imm) p =
+instruction_of_word_if_it_is_code w (Load op rd rs1 imm) p =
     let e0 = registers_equal_by_number (reg_at 7 w) rd p.rd_field in
     let e1 = registers_equal_by_number (reg_at 15 w) rs1 p.rs1_field in
     let e2 = immediates_equal_by_value (i_of w) imm p.imm_field in
     rw (p.opcode_field, p.three_field, load_op_of_own_funct op) (cc)
-instruction_of_word_by_code w (Store op rs1 rs2 imm) p =
+instruction_of_word_if_it_is_code w (Store op rs1 rs2 imm) p =
     let e0 = registers_equal_by_number (reg_at 15 w) rs1 p.rs1_field in
     let e1 = registers_equal_by_number (reg_at 20 w) rs2 p.rs2_field in
     let e2 = immediates_equal_by_value (s_of w) imm p.imm_field in
     rw (p.opcode_field, p.three_field, store_op_of_own_funct op) (cc)
-instruction_of_word_by_code w (Op op rd rs1 rs2) p =
+instruction_of_word_if_it_is_code w (Op op rd rs1 rs2) p =
     let e0 = registers_equal_by_number (reg_at 7 w) rd p.rd_field in
     let e1 = registers_equal_by_number (reg_at 15 w) rs1 p.rs1_field in
     let e2 = registers_equal_by_number (reg_at 20 w) rs2 p.rs2_field in
     rw (p.opcode_field, p.seven_field, p.three_field, reg_op_of_own_functs op) (cc)
-instruction_of_word_by_code w (Fence rd rs1 imm) p =
+instruction_of_word_if_it_is_code w (Fence rd rs1 imm) p =
     let e0 = registers_equal_by_number (reg_at 7 w) rd p.rd_field in
     let e1 = registers_equal_by_number (reg_at 15 w) rs1 p.rs1_field in
     let e2 = immediates_equal_by_value (i_of w) imm p.imm_field in
     rw (p.opcode_field, p.three_field) (cc)
-instruction_of_word_by_code w (OpImm op rd rs1 imm) p =
+instruction_of_word_if_it_is_code w (OpImm op rd rs1 imm) p =
     let e0 = registers_equal_by_number (reg_at 7 w) rd p.rd_field in
     let e1 = registers_equal_by_number (reg_at 15 w) rs1 p.rs1_field in
     let e2 = immediates_equal_by_value (i_of w) imm p.imm_field in
     let same : Some (OpImm op (reg_at 7 w) (reg_at 15 w) (i_of w)) ≡ Some (OpImm op rd rs1 imm) = cc in
     rw p.opcode_field (ap (immediate_instruction_by w) (ap imm_op_of p.three_field ∙ imm_op_of_own_funct op) ∙ same)
-instruction_of_word_by_code w (Shift op rd rs1 amount) p =
+instruction_of_word_if_it_is_code w (Shift op rd rs1 amount) p =
     let e0 = registers_equal_by_number (reg_at 7 w) rd p.rd_field in
     let e1 = registers_equal_by_number (reg_at 15 w) rs1 p.rs1_field in
     let e2 = shift_amounts_equal_by_bits (amount_at w) amount p.rs2_field in
     let same : Some (Shift op (reg_at 7 w) (reg_at 15 w) (amount_at w)) ≡ Some (Shift op rd rs1 amount) = cc in
     let row : shift_op_of (bits 31 25 w) (bits 14 12 w) ≡ Some op = ap (λ (n : ℕ). shift_op_of n (bits 14 12 w)) p.seven_field
     ∙ ap (shift_op_of (shift_functs op).seven) p.three_field ∙ shift_op_of_own_functs op in
-    rw p.opcode_field (ap (immediate_instruction_by w) (ap imm_op_of p.three_field ∙ shift_has_no_immediate_operation op)
+    rw p.opcode_field (ap (immediate_instruction_by w) (ap imm_op_of p.three_field ∙ imm_op_of_shift_funct_is_none op)
     ∙ ap (option_and_then (λ op. Some (Shift op (reg_at 7 w) (reg_at 15 w) (amount_at w)))) row ∙ same)
-instruction_of_word_by_code w Ecall p = rw p refl
-instruction_of_word_by_code w Ebreak p = rw p refl
+instruction_of_word_if_it_is_code w Ecall p = rw p refl
+instruction_of_word_if_it_is_code w Ebreak p = rw p refl
 
 conditional_instruction_cases : {P : Type 0} (b : Bool) (x y : Option Inst) (i : Inst) → cond b x y ≡ Some i → (b ≡ true → x ≡ Some i → P)
     → (b ≡ false → y ≡ Some i → P) → P
@@ -233,16 +233,16 @@ instruction_of_word_has_code w i e =
     absurd cc))))))))))))
 
 -- what a decoder answers that finds the instruction of a word, and refuses only a word without one
-pub decoder_finds_instruction_by_code : (w : ℕ) (r : Result Inst Illegal) → IfOk r (λ i. IsCode w i) → IfErr r (λ _. (i : Inst) → IsCode w i → ⊥)
+pub decoder_result_is_ok_if_word_has_code : (w : ℕ) (r : Result Inst Illegal) → IfOk r (λ i. IsCode w i) → IfErr r (λ _. (i : Inst) → IsCode w i → ⊥)
     → (i : Inst) → IsCode w i → r ≡ Ok i
-decoder_finds_instruction_by_code w (Ok j) found illegal i code = ap (λ (k : Inst). Ok k) (word_has_one_instruction w j i found code)
-decoder_finds_instruction_by_code w (Err d) found illegal i code = absurd (illegal i code)
+decoder_result_is_ok_if_word_has_code w (Ok j) found illegal i code = ap (λ (k : Inst). Ok k) (word_has_one_instruction w j i found code)
+decoder_result_is_ok_if_word_has_code w (Err d) found illegal i code = absurd (illegal i code)
 
 -- what a decoder answers that finds the instruction of a word, and no other
-pub decoder_answers_instruction_of_word : (w : ℕ) (r : Result Inst Illegal) → IfOk r (λ i. IsCode w i) → ((i : Inst) → IsCode w i → r ≡ Ok i)
+pub decoder_result_agrees_with_instruction_of : (w : ℕ) (r : Result Inst Illegal) → IfOk r (λ i. IsCode w i) → ((i : Inst) → IsCode w i → r ≡ Ok i)
     → result_ok r ≡ instruction_of w
-decoder_answers_instruction_of_word w (Ok i) found only = sym (instruction_of_word_by_code w i found)
-decoder_answers_instruction_of_word w (Err d) found only = none_case (instruction_of w) refl
+decoder_result_agrees_with_instruction_of w (Ok i) found only = sym (instruction_of_word_if_it_is_code w i found)
+decoder_result_agrees_with_instruction_of w (Err d) found only = none_case (instruction_of w) refl
   where
     none_case : (o : Option Inst) → instruction_of w ≡ o → None ≡ instruction_of w
     none_case None e = sym e

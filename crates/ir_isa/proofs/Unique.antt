@@ -129,11 +129,11 @@ sign_extended_21_is_injective m n a b e = grind (arith, ints)
 abbrev branch_offset_bits : ℕ → ℕ
 branch_offset_bits word = 2 ^ 12 * bits 31 31 word + 2 ^ 11 * bits 7 7 word + 2 ^ 5 * bits 30 25 word + 2 * bits 11 8 word
 
-branch_offset_bits_fix_high_field : (v w : ℕ) → branch_offset_bits v ≡ branch_offset_bits w → bits 31 25 v ≡ bits 31 25 w
-branch_offset_bits_fix_high_field v w e = omega arith
+high_fields_equal_if_branch_offset_bits_equal : (v w : ℕ) → branch_offset_bits v ≡ branch_offset_bits w → bits 31 25 v ≡ bits 31 25 w
+high_fields_equal_if_branch_offset_bits_equal v w e = omega arith
 
-branch_offset_bits_fix_low_field : (v w : ℕ) → branch_offset_bits v ≡ branch_offset_bits w → bits 11 7 v ≡ bits 11 7 w
-branch_offset_bits_fix_low_field v w e = omega arith
+low_fields_equal_if_branch_offset_bits_equal : (v w : ℕ) → branch_offset_bits v ≡ branch_offset_bits w → bits 11 7 v ≡ bits 11 7 w
+low_fields_equal_if_branch_offset_bits_equal v w e = omega arith
 
 -- words of 32 bits with one instruction are one word
 pub instruction_has_one_word : (v w : ℕ) (i : Inst) → v < 2 ^ 32 → w < 2 ^ 32 → IsCode v i → IsCode w i → v ≡ w
@@ -145,8 +145,8 @@ instruction_has_one_word v w (Jalr rd rs1 imm) a b p q =
     let e = sign_extended_12_is_injective _ _ (omega arith) (omega arith) (p.imm_field ∙ sym q.imm_field) in omega arith
 instruction_has_one_word v w (Branch op rs1 rs2 offset) a b p q =
     let e = sign_extended_13_is_injective _ _ (omega arith) (omega arith) (p.imm_field ∙ sym q.imm_field) in
-    let high = branch_offset_bits_fix_high_field v w e in
-    let low = branch_offset_bits_fix_low_field v w e in
+    let high = high_fields_equal_if_branch_offset_bits_equal v w e in
+    let low = low_fields_equal_if_branch_offset_bits_equal v w e in
     let two : bits 24 20 v ≡ bits 24 20 w = p.rs2_field ∙ sym q.rs2_field in
     let one : bits 19 15 v ≡ bits 19 15 w = p.rs1_field ∙ sym q.rs1_field in
     let three : bits 14 12 v ≡ bits 14 12 w = p.three_field ∙ sym q.three_field in

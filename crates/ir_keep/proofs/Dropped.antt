@@ -3,16 +3,16 @@ use Rattle.std.proofs.Common.{◌≡◌, ◌==◌, ◌+◌, ◌<◌, ◌≤◌, 
 use Rattle.std.proofs.lemmas.Bool.Decides.{nat_tests}
 use Rattle.ir_keep.specs.Keeping.{without}
 use Rattle.ir_keep.specs.Store.{Entry, laid, in_force, kept_of, all_kept, taken_away, place_of, AreEntries, AreBelow, AreFalling, AreNewer, AreLaid, HasStart, IsStore}
-use Rattle.ir_keep.proofs.Laid.{laid_of_handed_is_laid_twice, length_of_handed}
+use Rattle.ir_keep.proofs.Laid.{laid_of_handed_is_laid_twice, length_of_handed_is_length_of_own_pages}
 use Rattle.ir_keep.proofs.Whole.{handed_pages_are_newer}
 use Rattle.ir_keep.proofs.Again.{has_start_under_newer_entry}
 
 -- the newest entry's pages stay, where an older one is taken away
-pub in_force_after_taken_away : (n place : ℕ) (entries : List Entry) → AreEntries n entries → suc place < length entries → in_force (taken_away (suc place) entries) ≡ in_force entries
-in_force_after_taken_away n place [] are lt = absurd (omega (arith, lt))
-in_force_after_taken_away n zero (e ∷ []) are lt = absurd (omega (arith, lt))
-in_force_after_taken_away n zero (e ∷ gone ∷ older) are lt = laid_of_handed_is_laid_twice e.pages gone.pages (in_force older) (are.0.pages ∙ sym are.1.0.pages)
-in_force_after_taken_away n (suc place) (e ∷ older) are lt = ap (laid e.pages) (in_force_after_taken_away n place older are.1 (omega (arith, lt)))
+pub in_force_is_unchanged_by_taking_older_away : (n place : ℕ) (entries : List Entry) → AreEntries n entries → suc place < length entries → in_force (taken_away (suc place) entries) ≡ in_force entries
+in_force_is_unchanged_by_taking_older_away n place [] are lt = absurd (omega (arith, lt))
+in_force_is_unchanged_by_taking_older_away n zero (e ∷ []) are lt = absurd (omega (arith, lt))
+in_force_is_unchanged_by_taking_older_away n zero (e ∷ gone ∷ older) are lt = laid_of_handed_is_laid_twice e.pages gone.pages (in_force older) (are.0.pages ∙ sym are.1.0.pages)
+in_force_is_unchanged_by_taking_older_away n (suc place) (e ∷ older) are lt = ap (laid e.pages) (in_force_is_unchanged_by_taking_older_away n place older are.1 (omega (arith, lt)))
 
 -- a list without the element at a place
 abbrev pub list_without_place : {X : Type 0} → ℕ → List X → List X
@@ -21,13 +21,13 @@ list_without_place zero (x ∷ xs) = xs
 list_without_place (suc place) (x ∷ xs) = x ∷ list_without_place place xs
 
 -- what is kept is what was kept, but for the one at the place
-pub all_kept_after_taken_away : (n place : ℕ) (entries : List Entry) → AreEntries n entries → place < length entries → all_kept (taken_away place entries) ≡ list_without_place place (all_kept entries)
-all_kept_after_taken_away n place [] are lt = absurd (omega (arith, lt))
-all_kept_after_taken_away n zero (e ∷ older) are lt = refl
-all_kept_after_taken_away n (suc zero) (e ∷ []) are lt = absurd (omega (arith, lt))
-all_kept_after_taken_away n (suc zero) (e ∷ gone ∷ older) are lt = λ i. kept_of e (in_force_after_taken_away n zero (e ∷ gone ∷ older) are lt i) ∷ all_kept older
-all_kept_after_taken_away n (suc (suc place)) (e ∷ older) are lt =
-    λ i. kept_of e (laid e.pages (in_force_after_taken_away n place older are.1 (omega (arith, lt)) i)) ∷ all_kept_after_taken_away n (suc place) older are.1 (omega (arith, lt)) i
+pub all_kept_of_taken_away_is_list_without_place : (n place : ℕ) (entries : List Entry) → AreEntries n entries → place < length entries → all_kept (taken_away place entries) ≡ list_without_place place (all_kept entries)
+all_kept_of_taken_away_is_list_without_place n place [] are lt = absurd (omega (arith, lt))
+all_kept_of_taken_away_is_list_without_place n zero (e ∷ older) are lt = refl
+all_kept_of_taken_away_is_list_without_place n (suc zero) (e ∷ []) are lt = absurd (omega (arith, lt))
+all_kept_of_taken_away_is_list_without_place n (suc zero) (e ∷ gone ∷ older) are lt = λ i. kept_of e (in_force_is_unchanged_by_taking_older_away n zero (e ∷ gone ∷ older) are lt i) ∷ all_kept older
+all_kept_of_taken_away_is_list_without_place n (suc (suc place)) (e ∷ older) are lt =
+    λ i. kept_of e (laid e.pages (in_force_is_unchanged_by_taking_older_away n place older are.1 (omega (arith, lt)) i)) ∷ all_kept_of_taken_away_is_list_without_place n (suc place) older are.1 (omega (arith, lt)) i
 
 -- ---- by its number
 
@@ -66,7 +66,7 @@ taken_away_are_entries n place [] are = tt
 taken_away_are_entries n zero (e ∷ older) are = are.1
 taken_away_are_entries n (suc zero) (e ∷ []) are = are
 taken_away_are_entries n (suc zero) (e ∷ gone ∷ older) are =
-    (record { frames = are.0.frames; pages = length_of_handed e.pages gone.pages ∙ are.0.pages; cut = are.0.cut }, are.1.1)
+    (record { frames = are.0.frames; pages = length_of_handed_is_length_of_own_pages e.pages gone.pages ∙ are.0.pages; cut = are.0.cut }, are.1.1)
 taken_away_are_entries n (suc (suc place)) (e ∷ older) are = (are.0, taken_away_are_entries n (suc place) older are.1)
 
 taken_away_numbers_below : (n place : ℕ) (entries : List Entry) → AreBelow n entries → AreBelow n (taken_away place entries)
@@ -90,7 +90,7 @@ taken_away_pages_are_laid n (suc zero) (e ∷ []) lt are falling lies = lies
 taken_away_pages_are_laid n (suc zero) (e ∷ gone ∷ older) lt are falling lies =
     (handed_pages_are_newer gone.number e.number e.pages gone.pages (in_force older) (omega (arith, falling.0.0)) (are.0.pages ∙ sym are.1.0.pages) lies.0 lies.1.0, lies.1.1)
 taken_away_pages_are_laid n (suc (suc place)) (e ∷ older) lt are falling lies = (
-  subst (AreNewer e.number e.pages) (sym (in_force_after_taken_away n place older are.1 (omega (arith, lt)))) lies.0,
+  subst (AreNewer e.number e.pages) (sym (in_force_is_unchanged_by_taking_older_away n place older are.1 (omega (arith, lt)))) lies.0,
   taken_away_pages_are_laid n (suc place) older (omega (arith, lt)) are.1 falling.1 lies.1,
 )
 
@@ -106,24 +106,24 @@ taken_away_has_start (suc (suc place)) (e ∷ next ∷ older) lt start =
     has_start_under_newer_entry e (taken_away (suc place) (next ∷ older)) (taken_away_has_start (suc place) (next ∷ older) (omega (arith, lt)) start)
 
 -- the entry of a number other than 0 isn't the oldest
-place_of_nonzero_number_before_start_base : (n : ℕ) (b : Bool) (e : Entry) → (e.number == n) ≡ b → e.number ≡ 0 → (n ≡ 0 → ⊥) → (if b then 0 else 1) < 1 → (if b then 0 else 1) + 1 < 1
-place_of_nonzero_number_before_start_base n true e is zeroth later lt = absurd (later (grind (arith, nat_tests, is, zeroth)))
-place_of_nonzero_number_before_start_base n false e is zeroth later lt = absurd (omega (arith, lt))
+place_of_nonzero_number_is_not_last_base : (n : ℕ) (b : Bool) (e : Entry) → (e.number == n) ≡ b → e.number ≡ 0 → (n ≡ 0 → ⊥) → (if b then 0 else 1) < 1 → (if b then 0 else 1) + 1 < 1
+place_of_nonzero_number_is_not_last_base n true e is zeroth later lt = absurd (later (grind (arith, nat_tests, is, zeroth)))
+place_of_nonzero_number_is_not_last_base n false e is zeroth later lt = absurd (omega (arith, lt))
 
-place_of_number_before_start_step : (n p : ℕ) (b : Bool) (older : List Entry) → (p < length older → suc p < length older) → (if b then 0 else suc p) < suc (length older) → 0 < length older
+place_of_number_is_not_last_step : (n p : ℕ) (b : Bool) (older : List Entry) → (p < length older → suc p < length older) → (if b then 0 else suc p) < suc (length older) → 0 < length older
     → suc (if b then 0 else suc p) < suc (length older)
-place_of_number_before_start_step n p true older more lt some = omega (arith, some)
-place_of_number_before_start_step n p false older more lt some = omega (arith, more (omega (arith, lt)))
+place_of_number_is_not_last_step n p true older more lt some = omega (arith, some)
+place_of_number_is_not_last_step n p false older more lt some = omega (arith, more (omega (arith, lt)))
 
-pub place_of_nonzero_number_before_start : (n : ℕ) (entries : List Entry) → HasStart entries → (n ≡ 0 → ⊥) → place_of n entries < length entries → suc (place_of n entries) < length entries
-place_of_nonzero_number_before_start n [] start later lt = absurd start
-place_of_nonzero_number_before_start n (e ∷ []) start later lt = omega (arith, place_of_nonzero_number_before_start_base n (e.number == n) e refl start.0 later lt)
-place_of_nonzero_number_before_start n (e ∷ next ∷ older) start later lt =
-    place_of_number_before_start_step n (place_of n (next ∷ older)) (e.number == n) (next ∷ older) (place_of_nonzero_number_before_start n (next ∷ older) start later) lt (omega arith)
+pub place_of_nonzero_number_is_not_last : (n : ℕ) (entries : List Entry) → HasStart entries → (n ≡ 0 → ⊥) → place_of n entries < length entries → suc (place_of n entries) < length entries
+place_of_nonzero_number_is_not_last n [] start later lt = absurd start
+place_of_nonzero_number_is_not_last n (e ∷ []) start later lt = omega (arith, place_of_nonzero_number_is_not_last_base n (e.number == n) e refl start.0 later lt)
+place_of_nonzero_number_is_not_last n (e ∷ next ∷ older) start later lt =
+    place_of_number_is_not_last_step n (place_of n (next ∷ older)) (e.number == n) (next ∷ older) (place_of_nonzero_number_is_not_last n (next ∷ older) start later) lt (omega arith)
 
-pub store_after_taken_away : (m last n : ℕ) (entries : List Entry) → IsStore m last entries → (n ≡ 0 → ⊥) → place_of n entries < length entries
+pub is_store_after_taken_away : (m last n : ℕ) (entries : List Entry) → IsStore m last entries → (n ≡ 0 → ⊥) → place_of n entries < length entries
     → IsStore m last (taken_away (place_of n entries) entries)
-store_after_taken_away m last n entries store later lt =
+is_store_after_taken_away m last n entries store later lt =
     let place = place_of n entries in
     record {
       few = omega (arith, store.few, taken_away_is_not_longer place entries);
@@ -132,5 +132,5 @@ store_after_taken_away m last n entries store later lt =
       numbers = taken_away_numbers_fall place entries store.numbers;
       latest = taken_away_numbers_below (suc last) place entries store.latest;
       laid = taken_away_pages_are_laid m place entries lt store.each store.numbers store.laid;
-      start = taken_away_has_start place entries (place_of_nonzero_number_before_start n entries store.start later lt) store.start;
+      start = taken_away_has_start place entries (place_of_nonzero_number_is_not_last n entries store.start later lt) store.start;
     }

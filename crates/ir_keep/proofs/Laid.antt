@@ -19,71 +19,71 @@ laid_of_handed_is_laid_twice (x ∷ own) [] old same = absurd (omega (arith, sam
 laid_of_handed_is_laid_twice (x ∷ own) (y ∷ given) [] same = λ i. newer_of_first_of_is_newer_twice x y blank i ∷ laid_of_handed_is_laid_twice own given [] (omega (arith, same)) i
 laid_of_handed_is_laid_twice (x ∷ own) (y ∷ given) (q ∷ old) same = λ i. newer_of_first_of_is_newer_twice x y q i ∷ laid_of_handed_is_laid_twice own given old (omega (arith, same)) i
 
-pub length_of_laid : (pages : List (Option Page)) (old : List Page) → length (laid pages old) ≡ length pages
-length_of_laid [] old = refl
-length_of_laid (x ∷ pages) [] = ap suc (length_of_laid pages [])
-length_of_laid (x ∷ pages) (q ∷ old) = ap suc (length_of_laid pages old)
+pub length_of_laid_is_length_of_own_pages : (pages : List (Option Page)) (old : List Page) → length (laid pages old) ≡ length pages
+length_of_laid_is_length_of_own_pages [] old = refl
+length_of_laid_is_length_of_own_pages (x ∷ pages) [] = ap suc (length_of_laid_is_length_of_own_pages pages [])
+length_of_laid_is_length_of_own_pages (x ∷ pages) (q ∷ old) = ap suc (length_of_laid_is_length_of_own_pages pages old)
 
-pub length_of_handed : (own given : List (Option Page)) → length (handed own given) ≡ length own
-length_of_handed [] given = refl
-length_of_handed (x ∷ own) [] = refl
-length_of_handed (x ∷ own) (y ∷ given) = ap suc (length_of_handed own given)
+pub length_of_handed_is_length_of_own_pages : (own given : List (Option Page)) → length (handed own given) ≡ length own
+length_of_handed_is_length_of_own_pages [] given = refl
+length_of_handed_is_length_of_own_pages (x ∷ own) [] = refl
+length_of_handed_is_length_of_own_pages (x ∷ own) (y ∷ given) = ap suc (length_of_handed_is_length_of_own_pages own given)
 
 -- ---- an entry is made of what changed
 
-pub same_bytes_are_equal : (a b : List ℕ) → same_bytes a b ≡ true → a ≡ b
-same_bytes_are_equal [] [] e = refl
-same_bytes_are_equal [] (y ∷ b) e = cc e
-same_bytes_are_equal (x ∷ a) [] e = cc e
-same_bytes_are_equal (x ∷ a) (y ∷ b) e =
+pub bytes_are_equal_if_same_bytes_is_true : (a b : List ℕ) → same_bytes a b ≡ true → a ≡ b
+bytes_are_equal_if_same_bytes_is_true [] [] e = refl
+bytes_are_equal_if_same_bytes_is_true [] (y ∷ b) e = cc e
+bytes_are_equal_if_same_bytes_is_true (x ∷ a) [] e = cc e
+bytes_are_equal_if_same_bytes_is_true (x ∷ a) (y ∷ b) e =
     let both : ((x == y) ≡ true) × (same_bytes a b ≡ true) = conjuncts_are_true (x == y) (same_bytes a b) e in
     let one : x ≡ y = grind (arith, nat_tests, both.0) in
-    λ i. one i ∷ same_bytes_are_equal a b both.1 i
+    λ i. one i ∷ bytes_are_equal_if_same_bytes_is_true a b both.1 i
 
-bytes_of_newer_changed_page : (n : ℕ) (bytes : List ℕ) (old : Page) (b : Bool) → same_bytes bytes old.bytes ≡ b → (newer (if b then None else Some (record { source = n; bytes = bytes })) old).bytes ≡ bytes
-bytes_of_newer_changed_page n bytes old true e = sym (same_bytes_are_equal bytes old.bytes e)
-bytes_of_newer_changed_page n bytes old false e = refl
+bytes_of_newer_changed_page_are_new_bytes : (n : ℕ) (bytes : List ℕ) (old : Page) (b : Bool) → same_bytes bytes old.bytes ≡ b → (newer (if b then None else Some (record { source = n; bytes = bytes })) old).bytes ≡ bytes
+bytes_of_newer_changed_page_are_new_bytes n bytes old true e = sym (bytes_are_equal_if_same_bytes_is_true bytes old.bytes e)
+bytes_of_newer_changed_page_are_new_bytes n bytes old false e = refl
 
-source_of_newer_changed_page : (n : ℕ) (bytes : List ℕ) (old : Page) (b : Bool) → (newer (if b then None else Some (record { source = n; bytes = bytes })) old).source ≡ (if b then old.source else n)
-source_of_newer_changed_page n bytes old true = refl
-source_of_newer_changed_page n bytes old false = refl
+source_of_newer_changed_page_by_condition : (n : ℕ) (bytes : List ℕ) (old : Page) (b : Bool) → (newer (if b then None else Some (record { source = n; bytes = bytes })) old).source ≡ (if b then old.source else n)
+source_of_newer_changed_page_by_condition n bytes old true = refl
+source_of_newer_changed_page_by_condition n bytes old false = refl
 
 -- the pages of the new entry are those of the state
-pub bytes_of_laid_changed_pages : (n : ℕ) (news : List (List ℕ)) (old : List Page) → map (λ (p : Page). p.bytes) (laid (changed n news old) old) ≡ news
-bytes_of_laid_changed_pages n [] old = refl
-bytes_of_laid_changed_pages n (bytes ∷ news) [] = λ i. bytes_of_newer_changed_page n bytes blank (same_bytes bytes []) refl i ∷ bytes_of_laid_changed_pages n news [] i
-bytes_of_laid_changed_pages n (bytes ∷ news) (q ∷ old) = λ i. bytes_of_newer_changed_page n bytes q (same_bytes bytes q.bytes) refl i ∷ bytes_of_laid_changed_pages n news old i
+pub bytes_of_laid_changed_pages_are_new_bytes : (n : ℕ) (news : List (List ℕ)) (old : List Page) → map (λ (p : Page). p.bytes) (laid (changed n news old) old) ≡ news
+bytes_of_laid_changed_pages_are_new_bytes n [] old = refl
+bytes_of_laid_changed_pages_are_new_bytes n (bytes ∷ news) [] = λ i. bytes_of_newer_changed_page_are_new_bytes n bytes blank (same_bytes bytes []) refl i ∷ bytes_of_laid_changed_pages_are_new_bytes n news [] i
+bytes_of_laid_changed_pages_are_new_bytes n (bytes ∷ news) (q ∷ old) = λ i. bytes_of_newer_changed_page_are_new_bytes n bytes q (same_bytes bytes q.bytes) refl i ∷ bytes_of_laid_changed_pages_are_new_bytes n news old i
 
 -- and their sources are those of the rule
 pub sources_of_laid_changed_are_next_sources : (n : ℕ) (news : List (List ℕ)) (old : List Page) → length news ≡ length old
     → map (λ (p : Page). p.source) (laid (changed n news old) old) ≡ next_sources n news (map (λ (p : Page). p.bytes) old) (map (λ (p : Page). p.source) old)
 sources_of_laid_changed_are_next_sources n [] old same = refl
 sources_of_laid_changed_are_next_sources n (bytes ∷ news) [] same = absurd (omega (arith, same))
-sources_of_laid_changed_are_next_sources n (bytes ∷ news) (q ∷ old) same = λ i. source_of_newer_changed_page n bytes q (same_bytes bytes q.bytes) i ∷ sources_of_laid_changed_are_next_sources n news old (omega (arith, same)) i
+sources_of_laid_changed_are_next_sources n (bytes ∷ news) (q ∷ old) same = λ i. source_of_newer_changed_page_by_condition n bytes q (same_bytes bytes q.bytes) i ∷ sources_of_laid_changed_are_next_sources n news old (omega (arith, same)) i
 
 -- ---- pages at a place
 
-pub laid_page_at_place : (pages : List (Option Page)) (old : List Page) (place : ℕ) → place < length pages → get_or (laid pages old) place blank ≡ newer (get_or pages place None) (get_or old place blank)
-laid_page_at_place [] old place lt = absurd (omega (arith, lt))
-laid_page_at_place (x ∷ pages) [] zero lt = refl
-laid_page_at_place (x ∷ pages) [] (suc place) lt = laid_page_at_place pages [] place (omega (arith, lt))
-laid_page_at_place (x ∷ pages) (q ∷ old) zero lt = refl
-laid_page_at_place (x ∷ pages) (q ∷ old) (suc place) lt = laid_page_at_place pages old place (omega (arith, lt))
+pub laid_page_at_place_is_newer_of_both : (pages : List (Option Page)) (old : List Page) (place : ℕ) → place < length pages → get_or (laid pages old) place blank ≡ newer (get_or pages place None) (get_or old place blank)
+laid_page_at_place_is_newer_of_both [] old place lt = absurd (omega (arith, lt))
+laid_page_at_place_is_newer_of_both (x ∷ pages) [] zero lt = refl
+laid_page_at_place_is_newer_of_both (x ∷ pages) [] (suc place) lt = laid_page_at_place_is_newer_of_both pages [] place (omega (arith, lt))
+laid_page_at_place_is_newer_of_both (x ∷ pages) (q ∷ old) zero lt = refl
+laid_page_at_place_is_newer_of_both (x ∷ pages) (q ∷ old) (suc place) lt = laid_page_at_place_is_newer_of_both pages old place (omega (arith, lt))
 
 -- the newest page at a place is the newest entry's own, or that of the older ones
-pub page_in_force_at_place : (entries : List Entry) (i place : ℕ) (d : Entry) → i < length entries → place < length (get_or entries i d).pages
+pub page_in_force_is_newer_of_own_and_older : (entries : List Entry) (i place : ℕ) (d : Entry) → i < length entries → place < length (get_or entries i d).pages
     → get_or (in_force (drop i entries)) place blank ≡ newer (get_or (get_or entries i d).pages place None) (get_or (in_force (drop (i + 1) entries)) place blank)
-page_in_force_at_place entries i place d lt below =
-    ap (λ es. get_or (in_force es) place blank) (drop_more entries i d lt) ∙ laid_page_at_place (get_or entries i d).pages (in_force (drop (i + 1) entries)) place below
+page_in_force_is_newer_of_own_and_older entries i place d lt below =
+    ap (λ es. get_or (in_force es) place blank) (drop_more entries i d lt) ∙ laid_page_at_place_is_newer_of_both (get_or entries i d).pages (in_force (drop (i + 1) entries)) place below
 
 -- an own page is found
-pub page_in_force_with_own_page : (entries : List Entry) (i place : ℕ) (d : Entry) (page : Page) → i < length entries → place < length (get_or entries i d).pages → get_or (get_or entries i d).pages place None ≡ Some page
+pub page_in_force_is_own_page_if_there_is_one : (entries : List Entry) (i place : ℕ) (d : Entry) (page : Page) → i < length entries → place < length (get_or entries i d).pages → get_or (get_or entries i d).pages place None ≡ Some page
     → get_or (in_force (drop i entries)) place blank ≡ page
-page_in_force_with_own_page entries i place d page lt below e = page_in_force_at_place entries i place d lt below ∙ ap (λ o. newer o (get_or (in_force (drop (i + 1) entries)) place blank)) e
+page_in_force_is_own_page_if_there_is_one entries i place d page lt below e = page_in_force_is_newer_of_own_and_older entries i place d lt below ∙ ap (λ o. newer o (get_or (in_force (drop (i + 1) entries)) place blank)) e
 
-pub page_in_force_without_own_page : (entries : List Entry) (i place : ℕ) (d : Entry) → i < length entries → place < length (get_or entries i d).pages → get_or (get_or entries i d).pages place None ≡ None
+pub page_in_force_is_older_page_if_there_is_no_own : (entries : List Entry) (i place : ℕ) (d : Entry) → i < length entries → place < length (get_or entries i d).pages → get_or (get_or entries i d).pages place None ≡ None
     → get_or (in_force (drop i entries)) place blank ≡ get_or (in_force (drop (i + 1) entries)) place blank
-page_in_force_without_own_page entries i place d lt below e = page_in_force_at_place entries i place d lt below ∙ ap (λ o. newer o (get_or (in_force (drop (i + 1) entries)) place blank)) e
+page_in_force_is_older_page_if_there_is_no_own entries i place d lt below e = page_in_force_is_newer_of_own_and_older entries i place d lt below ∙ ap (λ o. newer o (get_or (in_force (drop (i + 1) entries)) place blank)) e
 
 pub entry_at_place_is_entry : (n : ℕ) (entries : List Entry) (k : ℕ) (d : Entry) → AreEntries n entries → k < length entries → IsEntry n (get_or entries k d)
 entry_at_place_is_entry n [] k d are lt = absurd (omega (arith, lt))

@@ -6,10 +6,10 @@ use Rattle.std.specs.List.{All}
 use Rattle.ir_mach.specs.Pages.{IsPage, ArePages}
 use Rattle.ir_keep.specs.Pages.{same_bytes}
 use Rattle.ir_keep.specs.Store.{Page, Entry, laid, in_force, changed, handed, AreEntries, AreFalling, IsWhole, AreWhole, AreNewer, AreLaid, AreFull}
-use Rattle.ir_keep.proofs.Laid.{length_of_laid}
+use Rattle.ir_keep.proofs.Laid.{length_of_laid_is_length_of_own_pages}
 
-pub length_of_in_force : (n : ℕ) (entry : Entry) (older : List Entry) → AreEntries n (entry ∷ older) → length (in_force (entry ∷ older)) ≡ 16 * n
-length_of_in_force n entry older are = length_of_laid entry.pages (in_force older) ∙ are.0.pages
+pub length_of_in_force_is_sixteen_per_thread : (n : ℕ) (entry : Entry) (older : List Entry) → AreEntries n (entry ∷ older) → length (in_force (entry ∷ older)) ≡ 16 * n
+length_of_in_force_is_sixteen_per_thread n entry older are = length_of_laid_is_length_of_own_pages entry.pages (in_force older) ∙ are.0.pages
 
 whole_page_at_later_number : (m n : ℕ) (page : Page) → m ≤ n → IsWhole m page → IsWhole n page
 whole_page_at_later_number m n page le w = record { within = omega (arith, w.within, le); size = w.size }
@@ -31,46 +31,46 @@ pub in_force_pages_are_whole : (n : ℕ) (entry : Entry) (older : List Entry) �
 in_force_pages_are_whole n entry [] are falling lies = laid_pages_over_none_are_whole entry.number entry.pages lies.0
 in_force_pages_are_whole n entry (next ∷ older) are falling lies =
     laid_pages_are_whole next.number entry.number entry.pages (in_force (next ∷ older)) (omega (arith, falling.0.0))
-    (are.0.pages ∙ sym (length_of_in_force n next older are.1)) (in_force_pages_are_whole n next older are.1 falling.1 lies.1) lies.0
+    (are.0.pages ∙ sym (length_of_in_force_is_sixteen_per_thread n next older are.1)) (in_force_pages_are_whole n next older are.1 falling.1 lies.1) lies.0
 
 pub whole_pages_are_full : (n : ℕ) (pages : List Page) → AreWhole n pages → AreFull pages
 whole_pages_are_full n [] w = tt
 whole_pages_are_full n (page ∷ pages) w = (w.0.size, whole_pages_are_full n pages w.1)
 
-pub drop_of_full_pages : (k : ℕ) (pages : List Page) → AreFull pages → AreFull (drop k pages)
-drop_of_full_pages zero pages full = full
-drop_of_full_pages (suc k) [] full = tt
-drop_of_full_pages (suc k) (page ∷ pages) full = drop_of_full_pages k pages full.1
+pub drop_of_full_pages_is_full : (k : ℕ) (pages : List Page) → AreFull pages → AreFull (drop k pages)
+drop_of_full_pages_is_full zero pages full = full
+drop_of_full_pages_is_full (suc k) [] full = tt
+drop_of_full_pages_is_full (suc k) (page ∷ pages) full = drop_of_full_pages_is_full k pages full.1
 
-take_of_full_pages : (k : ℕ) (pages : List Page) → AreFull pages → AreFull (take k pages)
-take_of_full_pages zero pages full = tt
-take_of_full_pages (suc k) [] full = tt
-take_of_full_pages (suc k) (page ∷ pages) full = (full.0, take_of_full_pages k pages full.1)
+take_of_full_pages_is_full : (k : ℕ) (pages : List Page) → AreFull pages → AreFull (take k pages)
+take_of_full_pages_is_full zero pages full = tt
+take_of_full_pages_is_full (suc k) [] full = tt
+take_of_full_pages_is_full (suc k) (page ∷ pages) full = (full.0, take_of_full_pages_is_full k pages full.1)
 
 bytes_of_full_pages_are_pages : (pages : List Page) → AreFull pages → All IsPage (map (λ (p : Page). p.bytes) pages)
 bytes_of_full_pages_are_pages [] full = λ k d lt. absurd (omega (arith, lt))
 bytes_of_full_pages_are_pages (page ∷ pages) full = All-cons IsPage page.bytes (map (λ (p : Page). p.bytes) pages) full.0 (bytes_of_full_pages_are_pages pages full.1)
 
 -- the first 16 are the pages of a thread
-pub first_full_pages_are_thread_pages : (pages : List Page) → AreFull pages → 16 ≤ length pages → ArePages (map (λ (p : Page). p.bytes) (take 16 pages))
-first_full_pages_are_thread_pages pages full enough = record {
+pub bytes_of_first_sixteen_full_pages_are_pages : (pages : List Page) → AreFull pages → 16 ≤ length pages → ArePages (map (λ (p : Page). p.bytes) (take 16 pages))
+bytes_of_first_sixteen_full_pages_are_pages pages full enough = record {
   count = length-map (take 16 pages) (λ (p : Page). p.bytes) ∙ length-take-le 16 pages enough;
-  sizes = bytes_of_full_pages_are_pages (take 16 pages) (take_of_full_pages 16 pages full);
+  sizes = bytes_of_full_pages_are_pages (take 16 pages) (take_of_full_pages_is_full 16 pages full);
 }
 
 -- ---- a state is kept
 
-changed_page_is_newer : (n : ℕ) (b : Bool) (page q : Page) (own : List (Option Page)) (old : List Page) → q.source < page.source → IsWhole n page → AreNewer n own old
+newer_pages_with_changed_page_in_front : (n : ℕ) (b : Bool) (page q : Page) (own : List (Option Page)) (old : List Page) → q.source < page.source → IsWhole n page → AreNewer n own old
     → AreNewer n ((if b then None else Some page) ∷ own) (q ∷ old)
-changed_page_is_newer n true page q own old lt w new = new
-changed_page_is_newer n false page q own old lt w new = (lt, w, new)
+newer_pages_with_changed_page_in_front n true page q own old lt w new = new
+newer_pages_with_changed_page_in_front n false page q own old lt w new = (lt, w, new)
 
 pub changed_pages_are_newer : (m n : ℕ) (news : List (List ℕ)) (old : List Page) → m < n → length news ≡ length old → AreWhole m old → All IsPage news
     → AreNewer n (changed n news old) old
 changed_pages_are_newer m n [] old lt same w all = tt
 changed_pages_are_newer m n (bytes ∷ news) [] lt same w all = absurd (omega (arith, same))
 changed_pages_are_newer m n (bytes ∷ news) (q ∷ old) lt same w all =
-    changed_page_is_newer n (same_bytes bytes q.bytes) (record { source = n; bytes = bytes }) q (changed n news old) old (omega (arith, lt, w.0.within))
+    newer_pages_with_changed_page_in_front n (same_bytes bytes q.bytes) (record { source = n; bytes = bytes }) q (changed n news old) old (omega (arith, lt, w.0.within))
     (record { within = omega arith; size = All-head IsPage bytes news all })
     (changed_pages_are_newer m n news old lt (omega (arith, same)) w.1 (All-tail IsPage bytes news all))
 

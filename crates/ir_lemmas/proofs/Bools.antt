@@ -20,8 +20,8 @@ false_if_not_is_true true h = sym h
 false_if_not_is_true false h = refl
 
 -- what isn't so where its test says no
-pub false_test_refutes : (b : Bool) (P : Type 0) → IsTrue b ↔ P → b ≡ false → P → ⊥
-false_test_refutes b P test is h = let so : IsTrue b = test.1 h in cc (is, so)
+pub proposition_refuted_if_test_is_false : (b : Bool) (P : Type 0) → IsTrue b ↔ P → b ≡ false → P → ⊥
+proposition_refuted_if_test_is_false b P test is h = let so : IsTrue b = test.1 h in cc (is, so)
 
 pub left_of_true_and : (a b : Bool) → (a && b) ≡ true → a ≡ true
 left_of_true_and true b e = refl

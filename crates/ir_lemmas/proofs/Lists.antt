@@ -35,8 +35,8 @@ all_splits_off_last P [] x h = (tt, h.0)
 all_splits_off_last P (y ∷ xs) x h = let r = all_splits_off_last P xs x h.1 in ((h.0, r.0), r.1)
 
 -- a text that four others are added to
-pub append_of_four_texts : (a b c d e x y z all : List ℕ) → x ≡ a ++ b → y ≡ x ++ c → z ≡ y ++ d → all ≡ z ++ e → all ≡ a ++ (b ++ (c ++ (d ++ e)))
-append_of_four_texts a b c d e x y z all first second third last =
+pub four_appends_nest_to_the_right : (a b c d e x y z all : List ℕ) → x ≡ a ++ b → y ≡ x ++ c → z ≡ y ++ d → all ≡ z ++ e → all ≡ a ++ (b ++ (c ++ (d ++ e)))
+four_appends_nest_to_the_right a b c d e x y z all first second third last =
     last ∙ ap (λ t. t ++ e) (third ∙ ap (λ t. t ++ d) (second ∙ ap (λ t. t ++ c) first))
     ∙ append_assoc ((a ++ b) ++ c) d e ∙ append_assoc (a ++ b) c (d ++ e) ∙ append_assoc a b (c ++ (d ++ e))
 
@@ -51,10 +51,10 @@ element_below_length_exists [] v l = absurd (omega (arith, l))
 element_below_length_exists (x ∷ xs) zero l = (x, refl)
 element_below_length_exists (x ∷ xs) (suc v) l = element_below_length_exists xs v (omega (arith, l))
 
-pub element_of_all_by_recursion : {X : Type 0} (P : X → Type 0) (xs : List X) (i : ℕ) (d : X) → AllByRecursion P xs → i < length xs → P (get_or xs i d)
-element_of_all_by_recursion P [] i d all l = absurd (omega arith)
-element_of_all_by_recursion P (x ∷ xs) zero d all l = all.0
-element_of_all_by_recursion P (x ∷ xs) (suc i) d all l = element_of_all_by_recursion P xs i d all.1 (omega arith)
+pub get_or_element_satisfies_all_by_recursion : {X : Type 0} (P : X → Type 0) (xs : List X) (i : ℕ) (d : X) → AllByRecursion P xs → i < length xs → P (get_or xs i d)
+get_or_element_satisfies_all_by_recursion P [] i d all l = absurd (omega arith)
+get_or_element_satisfies_all_by_recursion P (x ∷ xs) zero d all l = all.0
+get_or_element_satisfies_all_by_recursion P (x ∷ xs) (suc i) d all l = get_or_element_satisfies_all_by_recursion P xs i d all.1 (omega arith)
 
 pub element_of_zeros_is_zero : (n i : ℕ) → get_or {A = ℕ} (replicate n 0) i 0 ≡ 0
 element_of_zeros_is_zero n i = elim (cases_lt i n) [
@@ -62,10 +62,10 @@ element_of_zeros_is_zero n i = elim (cases_lt i n) [
   | inr g ↦ get_or_past (replicate n 0) i 0 (subst (λ k. k ≤ i) (sym (length-replicate n 0)) g)
 ]
 
-pub found_element_of_all_by_recursion : {X : Type 0} (P : X → Type 0) (xs : List X) (i : ℕ) (e : X) → AllByRecursion P xs → slice_get xs i ≡ Some e → P e
-found_element_of_all_by_recursion P [] i e all h = absurd (cc h)
-found_element_of_all_by_recursion P (x ∷ xs) zero e all h = let same : x ≡ e = cc h in subst P same all.0
-found_element_of_all_by_recursion P (x ∷ xs) (suc i) e all h = found_element_of_all_by_recursion P xs i e all.1 h
+pub slice_get_element_satisfies_all_by_recursion : {X : Type 0} (P : X → Type 0) (xs : List X) (i : ℕ) (e : X) → AllByRecursion P xs → slice_get xs i ≡ Some e → P e
+slice_get_element_satisfies_all_by_recursion P [] i e all h = absurd (cc h)
+slice_get_element_satisfies_all_by_recursion P (x ∷ xs) zero e all h = let same : x ≡ e = cc h in subst P same all.0
+slice_get_element_satisfies_all_by_recursion P (x ∷ xs) (suc i) e all h = slice_get_element_satisfies_all_by_recursion P xs i e all.1 h
 
 pub get_of_append_item_cases : {A : Type 0} (l : List A) (a b : A) (j : ℕ) → get_elem? (l ++ a ∷ []) j ≡ some b → (get_elem? l j ≡ some b)
     ⊎ ((j ≡ length l) × (a ≡ b))
@@ -145,10 +145,10 @@ pub take_length_of_append : {A : Type 0} (xs ys : List A) → take (length xs) (
 take_length_of_append [] ys = refl
 take_length_of_append (x ∷ xs) ys = ap (λ z. x ∷ z) (take_length_of_append xs ys)
 
-pub text_is_put_if_nothing_left : (xs ys zs : List ℕ) → xs ++ ys ≡ zs → ys ≡ [] → xs ≡ zs
-text_is_put_if_nothing_left xs ys zs e n = sym (append-nil xs) ∙ ap (λ z. xs ++ z) (sym n) ∙ e
+pub prefix_is_whole_if_rest_is_empty : (xs ys zs : List ℕ) → xs ++ ys ≡ zs → ys ≡ [] → xs ≡ zs
+prefix_is_whole_if_rest_is_empty xs ys zs e n = sym (append-nil xs) ∙ ap (λ z. xs ++ z) (sym n) ∙ e
 
 -- of what is left to put, the first text was put
-pub text_split_after_put : (so_far line left more text new : List ℕ) → so_far ++ left ≡ text → left ≡ line ++ more → new ≡ so_far ++ line → new ++ more ≡ text
-text_split_after_put so_far line left more text new e first made =
+pub append_of_written_and_left_step : (so_far line left more text new : List ℕ) → so_far ++ left ≡ text → left ≡ line ++ more → new ≡ so_far ++ line → new ++ more ≡ text
+append_of_written_and_left_step so_far line left more text new e first made =
     ap (λ (x : List ℕ). x ++ more) made ∙ append_assoc so_far line more ∙ ap (λ (x : List ℕ). so_far ++ x) (sym first) ∙ e

@@ -158,7 +158,7 @@ impl Mach {
     }
 
     /// The value of register x0 to x31.
-    #[tactic(auto, using(crate::proofs::Lists::read_of_first_elements))]
+    #[tactic(auto, using(crate::proofs::Lists::slice_index_of_take_32))]
     pub fn reg(&self, n: u8) -> u32
         requires { n < 32 }
         ensures value { result ≡ register self.now n }
@@ -237,7 +237,7 @@ impl Mach {
     }
 
     /// Goes past a system call: pc to the next word, and the answer, if there is one, into a0.
-    #[tactic(auto, using(crate::proofs::Lists::set_of_first_elements))]
+    #[tactic(auto, using(crate::proofs::Lists::take_32_of_slice_set))]
     pub fn pass_call(&mut self, answer: Option<u32>)
         ensures { self.new ≡ past_call self.old answer }
     {
@@ -247,7 +247,7 @@ impl Mach {
         self.pc = self.pc.wrapping_add(4);
     }
 
-    #[tactic(auto, using(crate::proofs::Lists::set_of_first_elements))]
+    #[tactic(auto, using(crate::proofs::Lists::take_32_of_slice_set))]
     fn apply(&mut self, effect: Effect) -> Ran
         requires { IsPossible effect }
         ensures { IsStep (applied effect self.old) self.old result self.new }

@@ -15,15 +15,15 @@ pub digit_below_radix : (digit value radix : ℕ) → (value < radix) × (digit 
 digit_below_radix digit value radix h = omega arith
 
 -- one digit more
-pub value_with_digit_below_power : (v r d i : ℕ) → v < 16 ^ i → r ≤ 16 → d < r → v * r + d < 16 ^ (i + 1)
-value_with_digit_below_power v r d i small radix digit =
+pub value_with_digit_added_below_next_power_of_16 : (v r d i : ℕ) → v < 16 ^ i → r ≤ 16 → d < r → v * r + d < 16 ^ (i + 1)
+value_with_digit_added_below_next_power_of_16 v r d i small radix digit =
     let more : 16 ^ (i + 1) ≡ 16 ^ i * 16 = rw add-one (pow-suc 16 i) in
     let most : v * r ≤ v * 16 = mul-le-mul_left v radix in
     rw more (omega arith)
 
-pub value_with_digit_below_two_to_128 : (v r d i : ℕ) → v < 16 ^ i → r ≤ 16 → d < r → i < 20 → v * r + d < 2 ^ 128
-value_with_digit_below_two_to_128 v r d i small radix digit short =
-    let next = value_with_digit_below_power v r d i small radix digit in
+pub value_with_digit_added_below_two_to_128 : (v r d i : ℕ) → v < 16 ^ i → r ≤ 16 → d < r → i < 20 → v * r + d < 2 ^ 128
+value_with_digit_added_below_two_to_128 v r d i small radix digit short =
+    let next = value_with_digit_added_below_next_power_of_16 v r d i small radix digit in
     let most : 16 ^ (i + 1) ≤ 16 ^ 20 = pow-le-pow_right {n = 16} (omega arith) {i = i + 1} {j = 20} (omega arith) in
     omega arith
 
@@ -51,7 +51,7 @@ pub value_of_prefix_step : (r i v d byte : ℕ) (ds : List ℕ) → i < length d
 value_of_prefix_step r i v d byte ds lt is digit radix so_far = record {
   all = all_digits_step r i byte ds lt is digit.0 so_far.all;
   value = digits_value_step r i v d byte ds lt is digit.1 so_far.value;
-  small = value_with_digit_below_power v r d i so_far.small radix (digit_below_radix d (digit_value byte) r digit);
+  small = value_with_digit_added_below_next_power_of_16 v r d i so_far.small radix (digit_below_radix d (digit_value byte) r digit);
 }
 
 -- more digits write no less at most

@@ -1,31 +1,28 @@
 -- Object steps in one order: one step more, and what a thread's own steps emit.
-use Rattle.std.proofs.Common.{◌≡◌, ◌≢◌, ℕ, ◌≤◌, Bool, true, false, eqb, List, [], ◌∷◌, ◌++◌, Option, Some, None, refl, sym, ap, ◌∙◌, subst, arith, inl, inr, eq-eqb, ne_eqb}
+use Rattle.std.proofs.Common.{◌≡◌, ◌≢◌, ℕ, ◌≤◌, eqb, List, [], ◌∷◌, ◌++◌, Option, Some, None, refl, sym, ap, ◌∙◌, subst, arith, inl, inr, eq-eqb, ne_eqb}
 use Rattle.std.proofs.lemmas.Bool.{cases_eq}
 use Rattle.ir_runs.specs.Machine.{Act, Silent, Result, Entry, Refusal, Exit, Load, Store, Never, Machine, upd, Object, target, Admits, acted, emitted}
+use Rattle.ir_runs.specs.Run.{join_if}
 use Rattle.ir_runs.specs.declared.access.Access.{Access}
 use Rattle.ir_runs.specs.declared.access.Access.TheVariants.{Reading, Writing}
-use Rattle.ir_object.specs.Order.{Shared, keep_if, of_thread, objects_then, objects_after, IsAllowed, order_labels, IsStep, IsLegal, inside_then, inside_if, inside_after}
-use Rattle.ir_runs.proofs.CallerLemmas.{upd_at_own_place, upd_at_other_place, upd_by_cases}
+use Rattle.ir_object.specs.Order.{Shared, of_thread, objects_then, objects_after, IsAllowed, order_labels, IsStep, IsLegal, inside_then, inside_if, inside_after}
+use Rattle.ir_runs.proofs.CallerLemmas.{upd_at_own_place, upd_at_other_place, property_of_upd_by_cases, conditional_cons_join_if_of_append}
 
 -- ---- one step more
 
-keep_if_of_append : {A : Type 0} (b : Bool) (x : A) (xs ys : List A) → keep_if b x (xs ++ ys) ≡ keep_if b x xs ++ ys
-keep_if_of_append true x xs ys = refl
-keep_if_of_append false x xs ys = refl
-
 pub of_thread_of_append : {A : Type 0} (t : ℕ) (xs ys : List (ℕ × A)) → of_thread t (xs ++ ys) ≡ of_thread t xs ++ of_thread t ys
 of_thread_of_append t [] ys = refl
-of_thread_of_append t (x ∷ xs) ys = ap (keep_if (eqb t x.0) x.1) (of_thread_of_append t xs ys) ∙ keep_if_of_append (eqb t x.0) x.1 (of_thread t xs) (of_thread t ys)
+of_thread_of_append t (x ∷ xs) ys = ap (join_if (eqb t x.0) x.1) (of_thread_of_append t xs ys) ∙ conditional_cons_join_if_of_append (eqb t x.0) x.1 (of_thread t xs) (of_thread t ys)
 
 pub of_thread_after_own_step : {A : Type 0} (t : ℕ) (xs : List (ℕ × A)) (x : A) → of_thread t (xs ++ (t, x) ∷ []) ≡ of_thread t xs ++ x ∷ []
-of_thread_after_own_step t xs x = of_thread_of_append t xs ((t, x) ∷ []) ∙ ap (λ b. of_thread t xs ++ keep_if b x []) (eq-eqb t t refl)
+of_thread_after_own_step t xs x = of_thread_of_append t xs ((t, x) ∷ []) ∙ ap (λ b. of_thread t xs ++ join_if b x []) (eq-eqb t t refl)
 
 append_of_empty : {A : Type 0} (xs : List A) → xs ++ [] ≡ xs
 append_of_empty [] = refl
 append_of_empty (x ∷ xs) = ap (λ z. x ∷ z) (append_of_empty xs)
 
 pub of_thread_after_other_step : {A : Type 0} (t u : ℕ) (xs : List (ℕ × A)) (x : A) → u ≢ t → of_thread u (xs ++ (t, x) ∷ []) ≡ of_thread u xs
-of_thread_after_other_step t u xs x ne = of_thread_of_append u xs ((t, x) ∷ []) ∙ ap (λ b. of_thread u xs ++ keep_if b x []) (ne_eqb u t ne)
+of_thread_after_other_step t u xs x ne = of_thread_of_append u xs ((t, x) ∷ []) ∙ ap (λ b. of_thread u xs ++ join_if b x []) (ne_eqb u t ne)
     ∙ append_of_empty (of_thread u xs)
 
 pub objects_after_step : (f : ℕ → Object) (xs : List (ℕ × Shared)) (x : ℕ × Shared)
@@ -52,7 +49,7 @@ legal_order_is_allowed m n count f (x ∷ xs) l = (l.0.admits, l.0.answers, lega
 pub no_steps_of_missing_thread : {T : Type 0} (m : Machine T) (n count : ℕ) (f : ℕ → Object) (xs : List (ℕ × Shared)) → IsLegal m n count f xs → (t : ℕ)
     → n ≤ t → of_thread t xs ≡ []
 no_steps_of_missing_thread m n count f [] l t g = refl
-no_steps_of_missing_thread m n count f (x ∷ xs) l t g = ap (λ b. keep_if b x.1 (of_thread t xs))
+no_steps_of_missing_thread m n count f (x ∷ xs) l t g = ap (λ b. join_if b x.1 (of_thread t xs))
     (ne_eqb t x.0 (λ e. let h = l.0.thread in omega (arith, e, g))) ∙ no_steps_of_missing_thread m n count (objects_then f x) xs l.1 t g
 
 -- ---- how a thread is inside an object, by its own steps
@@ -106,11 +103,11 @@ pub inside_of_thread_after_order : (f : ℕ → Object) (xs : List (ℕ × Share
 inside_of_thread_after_order f [] t o = refl
 inside_of_thread_after_order f (x ∷ xs) t o = inside_of_thread_after_order (objects_then f x) xs t o ∙ elim (cases_eq t x.0) [
   | inl e ↦ subst (λ z. inside_after o ((objects_then f x o).inside z) (of_thread z xs) ≡ inside_after o ((f o).inside z)
-      (keep_if (eqb z x.0) x.1 (of_thread z xs))) (sym e)
+      (join_if (eqb z x.0) x.1 (of_thread z xs))) (sym e)
       (ap (λ i. inside_after o i (of_thread x.0 xs)) (inside_of_actor_after_step f x.0 x.1.0 x.1.1 o)
-      ∙ sym (ap (λ b. inside_after o ((f o).inside x.0) (keep_if b x.1 (of_thread x.0 xs))) (eq-eqb x.0 x.0 refl)))
+      ∙ sym (ap (λ b. inside_after o ((f o).inside x.0) (join_if b x.1 (of_thread x.0 xs))) (eq-eqb x.0 x.0 refl)))
   | inr ne ↦ ap (λ i. inside_after o i (of_thread t xs)) (inside_of_others_after_step f x t o ne)
-      ∙ sym (ap (λ b. inside_after o ((f o).inside t) (keep_if b x.1 (of_thread t xs))) (ne_eqb t x.0 ne))
+      ∙ sym (ap (λ b. inside_after o ((f o).inside t) (join_if b x.1 (of_thread t xs))) (ne_eqb t x.0 ne))
 ]
 
 pub inside_after_step : (o : ℕ) (i : Option Access) (xs : List Shared) (x : Shared)
@@ -137,7 +134,7 @@ writer_alone_after_entry m o t v Writing b can h u w ne is = elim (cases_eq u t)
 writer_alone_after_exit : (t : ℕ) (inside : ℕ → Option Access) → WriterIsAlone inside → WriterIsAlone (upd inside t None)
 writer_alone_after_exit t inside h u w ne is = elim (cases_eq u t) [
   | inl e ↦ absurd (cc (sym (upd_at_own_place inside t None) ∙ ap (upd inside t None) (sym e) ∙ is))
-  | inr nq ↦ upd_by_cases inside t None w (λ z. z ≡ None) (λ e. refl) (λ e. h u w ne (sym (upd_at_other_place inside t u None nq) ∙ is))
+  | inr nq ↦ property_of_upd_by_cases inside t None w (λ z. z ≡ None) (λ e. refl) (λ e. h u w ne (sym (upd_at_other_place inside t u None nq) ∙ is))
 ]
 
 pub writer_alone_after_act : {T : Type 0} (m : Machine T) (q : Act) (t : ℕ) (b : Object) → Admits m q b → WriterIsAlone b.inside → WriterIsAlone (acted q t b).inside

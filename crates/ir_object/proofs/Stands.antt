@@ -11,7 +11,7 @@ use Rattle.ir_object.specs.declared.fields.Fields.{Fields}
 use Rattle.ir_object.specs.Cell.{Cell, one_if_reading, is_writing, readers, has_writer, Counts}
 use Rattle.ir_object.specs.Standing.{Admitted, CanLeave, StandsFor, WordsStand}
 use Rattle.ir_object.specs.Word.{entered, left_by}
-use Rattle.ir_runs.proofs.CallerLemmas.{upd_at_own_place, upd_at_other_place, upd_by_cases}
+use Rattle.ir_runs.proofs.CallerLemmas.{upd_at_own_place, upd_at_other_place, property_of_upd_by_cases}
 
 disjuncts_are_false : (a b : Bool) → (a || b) ≡ false → (a ≡ false) × (b ≡ false)
 disjuncts_are_false false b e = (refl, e)
@@ -22,26 +22,26 @@ disjunction_of_false false b e f = f
 disjunction_of_false true b e f = absurd (cc e)
 
 -- a change past the first n isn't counted
-readers_after_change_past_count : (n : ℕ) (f : ℕ → Option Access) (t : ℕ) (x : Option Access) → n ≤ t → readers n (upd f t x) ≡ readers n f
-readers_after_change_past_count zero f t x l = refl
-readers_after_change_past_count (suc n) f t x l =
+readers_unchanged_by_change_past_count : (n : ℕ) (f : ℕ → Option Access) (t : ℕ) (x : Option Access) → n ≤ t → readers n (upd f t x) ≡ readers n f
+readers_unchanged_by_change_past_count zero f t x l = refl
+readers_unchanged_by_change_past_count (suc n) f t x l =
     let here : one_if_reading (upd f t x n) ≡ one_if_reading (f n) = ap one_if_reading (upd_at_other_place f t n x (λ e. omega (arith, e, l))) in
-    let rest = readers_after_change_past_count n f t x (omega arith) in
+    let rest = readers_unchanged_by_change_past_count n f t x (omega arith) in
     omega (arith, here, rest)
 
 -- one thread changed
-pub readers_after_change : (n : ℕ) (f : ℕ → Option Access) (t : ℕ) (x : Option Access) → t < n
+pub readers_after_change_by_old_and_new_access : (n : ℕ) (f : ℕ → Option Access) (t : ℕ) (x : Option Access) → t < n
     → readers n (upd f t x) + one_if_reading (f t) ≡ readers n f + one_if_reading x
-readers_after_change zero f t x l = absurd (omega arith)
-readers_after_change (suc n) f t x l = elim (cases_eq n t) [
+readers_after_change_by_old_and_new_access zero f t x l = absurd (omega arith)
+readers_after_change_by_old_and_new_access (suc n) f t x l = elim (cases_eq n t) [
   | inl e ↦
       let here : one_if_reading (upd f t x n) ≡ one_if_reading x = ap one_if_reading (ap (upd f t x) e ∙ upd_at_own_place f t x) in
       let was : one_if_reading (f n) ≡ one_if_reading (f t) = ap (λ z. one_if_reading (f z)) e in
-      let rest = readers_after_change_past_count n f t x (omega (arith, e)) in
+      let rest = readers_unchanged_by_change_past_count n f t x (omega (arith, e)) in
       omega (arith, here, was, rest)
   | inr ne ↦
       let here : one_if_reading (upd f t x n) ≡ one_if_reading (f n) = ap one_if_reading (upd_at_other_place f t n x ne) in
-      let rest = readers_after_change n f t x (omega (arith, ne, l)) in
+      let rest = readers_after_change_by_old_and_new_access n f t x (omega (arith, ne, l)) in
       omega (arith, here, rest)
 ]
 
@@ -92,12 +92,12 @@ has_writer_if_writer (suc n) f t l e = elim (cases_eq t n) [
 ]
 
 -- a change that puts no writer in and takes none out
-pub has_writer_after_equal_change : (n : ℕ) (f : ℕ → Option Access) (t : ℕ) (x : Option Access) → is_writing x ≡ is_writing (f t)
+pub has_writer_is_unchanged_if_writing_is_equal : (n : ℕ) (f : ℕ → Option Access) (t : ℕ) (x : Option Access) → is_writing x ≡ is_writing (f t)
     → has_writer n (upd f t x) ≡ has_writer n f
-has_writer_after_equal_change zero f t x e = refl
-has_writer_after_equal_change (suc n) f t x e =
-    ap (λ a. a || is_writing (upd f t x n)) (has_writer_after_equal_change n f t x e) ∙ ap (λ b. has_writer n f || b)
-    (upd_by_cases f t x n (λ y. is_writing y ≡ is_writing (f n)) (λ same. e ∙ ap (λ z. is_writing (f z)) (sym same)) (λ _. refl))
+has_writer_is_unchanged_if_writing_is_equal zero f t x e = refl
+has_writer_is_unchanged_if_writing_is_equal (suc n) f t x e =
+    ap (λ a. a || is_writing (upd f t x n)) (has_writer_is_unchanged_if_writing_is_equal n f t x e) ∙ ap (λ b. has_writer n f || b)
+    (property_of_upd_by_cases f t x n (λ y. is_writing y ≡ is_writing (f n)) (λ same. e ∙ ap (λ z. is_writing (f z)) (sym same)) (λ _. refl))
 
 others_outside_after_change : (n : ℕ) (f : ℕ → Option Access) (t : ℕ) (x : Option Access) → t < n → ((u : ℕ) → n ≤ u → f u ≡ None) → (u : ℕ) → n ≤ u
     → upd f t x u ≡ None
@@ -139,16 +139,16 @@ pub counts_after_entry : (n : ℕ) (f : Fields) (inside : ℕ → Option Access)
 counts_after_entry n f inside t Reading l e c = record {
   readers =
       let was : one_if_reading (inside t) ≡ 0 = ap one_if_reading e in
-      let sums = readers_after_change n inside t (Some Reading) l in
+      let sums = readers_after_change_by_old_and_new_access n inside t (Some Reading) l in
       let counted = c.readers in
       omega (arith, was, sums, counted);
-  writer = c.writer ∙ sym (has_writer_after_equal_change n inside t (Some Reading) (sym (ap is_writing e)));
+  writer = c.writer ∙ sym (has_writer_is_unchanged_if_writing_is_equal n inside t (Some Reading) (sym (ap is_writing e)));
   others = others_outside_after_change n inside t (Some Reading) l c.others;
 }
 counts_after_entry n f inside t Writing l e c = record {
   readers =
       let was : one_if_reading (inside t) ≡ 0 = ap one_if_reading e in
-      let sums = readers_after_change n inside t (Some Writing) l in
+      let sums = readers_after_change_by_old_and_new_access n inside t (Some Writing) l in
       let counted = c.readers in
       omega (arith, was, sums, counted);
   writer = sym (has_writer_if_writer n (upd inside t (Some Writing)) t l (upd_at_own_place inside t (Some Writing)));
@@ -167,10 +167,10 @@ pub counts_after_leave : (n : ℕ) (f : Fields) (inside : ℕ → Option Access)
 counts_after_leave n f inside t Reading l e alone c = record {
   readers =
       let was : one_if_reading (inside t) ≡ 1 = ap one_if_reading e in
-      let sums = readers_after_change n inside t None l in
+      let sums = readers_after_change_by_old_and_new_access n inside t None l in
       let counted = c.readers in
       omega (arith, was, sums, counted);
-  writer = c.writer ∙ sym (has_writer_after_equal_change n inside t None (sym (ap is_writing e)));
+  writer = c.writer ∙ sym (has_writer_is_unchanged_if_writing_is_equal n inside t None (sym (ap is_writing e)));
   others = others_outside_after_change n inside t None l c.others;
 }
 counts_after_leave n f inside t Writing l e alone c = record {
@@ -180,7 +180,7 @@ counts_after_leave n f inside t Writing l e alone c = record {
 }
   where
     nobody : (u : ℕ) → upd inside t None u ≡ None
-    nobody u = upd_by_cases inside t None u (λ x. x ≡ None) (λ _. refl) (λ ne. alone refl u ne)
+    nobody u = property_of_upd_by_cases inside t None u (λ x. x ≡ None) (λ _. refl) (λ ne. alone refl u ne)
 
 pub words_stand : WordsStand
 words_stand = record {

@@ -2,6 +2,7 @@
 use Rattle.std.specs.Prelude.{◌≡◌, ◌≢◌, ℕ, ◌^◌, ◌<◌, Bool, true, false, eqb, List, [], ◌∷◌, Option, Some, None}
 use Rattle.ir_image.specs.Guest.{most_object_words}
 use Rattle.ir_runs.specs.Machine.{Act, Silent, Result, Entry, Refusal, Exit, Load, Store, Never, Machine, upd, Object, target, Admits, acted, reply, emitted, Label}
+use Rattle.ir_runs.specs.Run.{join_if}
 use Rattle.ir_runs.specs.declared.access.Access.{Access}
 use Rattle.ir_runs.specs.declared.access.Access.TheVariants.{Writing}
 
@@ -9,15 +10,10 @@ use Rattle.ir_runs.specs.declared.access.Access.TheVariants.{Writing}
 abbrev pub Shared : Type 0
 Shared = Act × ℕ
 
--- xs, with x before it if b
-abbrev pub keep_if : {A : Type 0} → Bool → A → List A → List A
-keep_if true x xs = x ∷ xs
-keep_if false x xs = xs
-
 -- what thread t has in an order of all
 abbrev pub of_thread : {A : Type 0} → ℕ → List (ℕ × A) → List A
 of_thread t [] = []
-of_thread t (x ∷ xs) = keep_if (eqb t x.0) x.1 (of_thread t xs)
+of_thread t (x ∷ xs) = join_if (eqb t x.0) x.1 (of_thread t xs)
 
 -- the objects after an object step
 abbrev pub objects_then : (ℕ → Object) → ℕ × Shared → ℕ → Object

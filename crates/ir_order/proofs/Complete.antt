@@ -8,7 +8,7 @@ use Rattle.ir_thread.specs.declared.ask.Ask.TheVariants.{Done}
 use Rattle.ir_thread.specs.declared.profile.Profile.{Profile}
 use Rattle.ir_thread.proofs.CallerLemmas.{ask_of_permitted}
 use Rattle.ir_flat.specs.Flat.{thread_of, start_threads, start_flat, idle}
-use Rattle.ir_flat.proofs.CallerLemmas.{shared_done_is_done}
+use Rattle.ir_flat.proofs.CallerLemmas.{ask_is_done_if_shared_ask_is_done}
 use Rattle.ir_order.specs.Complete.{CompleteRunsHaveSteps}
 
 first_thread_starts_not_ended : (guest : Guest) (budget : ℕ) (profile : Profile) (n : ℕ) → 1 ≤ n
@@ -23,5 +23,5 @@ ask_is_not_done_unless_ended code x live done = let permits : Permits x Done = s
 pub complete_runs_have_steps : CompleteRunsHaveSteps
 complete_runs_have_steps guest budget profile [] some done h =
     ask_is_not_done_unless_ended guest.code (thread_of (start_flat guest budget profile) 0) (first_thread_starts_not_ended guest budget profile (length guest.entries) some)
-    (shared_done_is_done (ask_of guest.code (thread_of (start_flat guest budget profile) 0)) (done 0))
+    (ask_is_done_if_shared_ask_is_done (ask_of guest.code (thread_of (start_flat guest budget profile) 0)) (done 0))
 complete_runs_have_steps guest budget profile (e ∷ run) some done h = absurd (cc h)

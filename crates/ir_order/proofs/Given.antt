@@ -3,7 +3,7 @@ use Rattle.std.proofs.Common.{◌≡◌, ◌<◌, ℕ, zero, suc, Bool, true, fa
 use Rattle.ir_runs.specs.Machine.{Ask, Private, Env, Enter, Try, Leave, Get, Put, Done, Act, act_of, Silent, Result, Entry, Refusal, Exit, Load, Store, Never, Machine, upd, Object, target, Admits, emitted, Label, logged}
 use Rattle.ir_runs.specs.declared.access.Access.TheVariants.{Reading, Writing}
 use Rattle.ir_runs.specs.Run.{State, Step, asked, act, after, events, log}
-use Rattle.ir_runs.proofs.CallerLemmas.{upd_by_cases, trail_of_cons_own_thread, trail_of_cons_other_thread}
+use Rattle.ir_runs.proofs.CallerLemmas.{property_of_upd_by_cases, trail_of_cons_own_thread, trail_of_cons_other_thread}
 use Rattle.ir_record.specs.Refusing.{Tries}
 use Rattle.ir_record.specs.Worlds.{answers_in}
 use Rattle.ir_sources.specs.Sources.{Source, given, Gave}
@@ -57,15 +57,15 @@ own_log_has_given_splits_off_step m s e run source h =
     (subst (HasGiven source) (ap events (trail_of_cons_own_thread m s e run)) h)
 
 -- a step's act has the answer that comes next
-pub step_takes_next_answer : {T : Type 0} (m : Machine T) (s : State T) (n : ℕ) (sources : ℕ → Source) (e : Step) (run : List Step)
+pub first_step_of_given_run_takes_next_answer : {T : Type 0} (m : Machine T) (s : State T) (n : ℕ) (sources : ℕ → Source) (e : Step) (run : List Step)
     → AreGiven m s n sources (e ∷ run) → e.0 < n → TakesNextAnswer (act m s e) (sources e.0)
-step_takes_next_answer m s n sources e run h l = (own_log_has_given_splits_off_step m s e run (sources e.0) (h e.0 l)).0
+first_step_of_given_run_takes_next_answer m s n sources e run h l = (own_log_has_given_splits_off_step m s e run (sources e.0) (h e.0 l)).0
 
 -- and what is left after it answers the others
-pub given_after_step : {T : Type 0} (m : Machine T) (s : State T) (n : ℕ) (sources : ℕ → Source) (e : Step) (run : List Step)
+pub rest_of_given_run_is_given_after_first_step : {T : Type 0} (m : Machine T) (s : State T) (n : ℕ) (sources : ℕ → Source) (e : Step) (run : List Step)
     → AreGiven m s n sources (e ∷ run) → AreGiven m (after m s e) n (upd sources e.0 (source_left_by (act m s e) (sources e.0))) run
-given_after_step m s n sources e run h t l =
-    upd_by_cases sources e.0 (source_left_by (act m s e) (sources e.0)) t (λ source. HasGiven source (log m (after m s e) run t))
+rest_of_given_run_is_given_after_first_step m s n sources e run h t l =
+    property_of_upd_by_cases sources e.0 (source_left_by (act m s e) (sources e.0)) t (λ source. HasGiven source (log m (after m s e) run t))
     (λ same. subst (λ u. HasGiven (source_left_by (act m s e) (sources e.0)) (log m (after m s e) run u)) (sym same)
     (own_log_has_given_splits_off_step m s e run (sources e.0) (h e.0 (subst (λ u. u < n) same l))).1)
     (λ other. subst (HasGiven (sources t)) (ap events (trail_of_cons_other_thread m s e run t other)) (h t l))

@@ -14,8 +14,8 @@ use Rattle.ir_record.specs.Refusing.{Turn}
 use Rattle.ir_record_run.specs.Order.{most_turns, turn, turn_by, turn_of, turns, item_by, item_of}
 use Rattle.ir_order.specs.Spelling.{item_text}
 
-decimal_numeral_model : IsNumeralModel (λ ds. all_ascii_digits ds ≡ true) (digits_value 10)
-decimal_numeral_model = numerals_by_value (λ ds. all_ascii_digits ds ≡ true) tells_all_ascii_digits
+decimal_digits_are_numeral_model : IsNumeralModel (λ ds. all_ascii_digits ds ≡ true) (digits_value 10)
+decimal_digits_are_numeral_model = numerals_by_value (λ ds. all_ascii_digits ds ≡ true) tells_all_ascii_digits
 
 conditional_some_if_tests_true : (a d l h : Bool) (v : ℕ) → a ≡ true → d ≡ true → l ≡ true → h ≡ true
     → ◌≡◌ {A = Option ℕ} (if (a && d) && (l && h) then Some v else None) (Some v)
@@ -24,17 +24,17 @@ conditional_some_if_tests_true a d l h v p q r s = rw (p, q, r, s) refl
 -- a number that is printed is read
 number_within_of_decimal : (low high n : ℕ) → n < 2 ^ 64 → low ≤ n → n ≤ high → number_within low high (decimal n) ≡ Some n
 number_within_of_decimal low high n small l h =
-    let is : digits_value 10 (decimal n) ≡ n = digits_value-decimal decimal_numeral_model n small in
+    let is : digits_value 10 (decimal n) ≡ n = digits_value-decimal decimal_digits_are_numeral_model n small in
     conditional_some_if_tests_true (nat_le 1 (length (decimal n))) (all_ascii_digits (decimal n)) (nat_le low (digits_value 10 (decimal n)))
     (nat_le (digits_value 10 (decimal n)) high) (digits_value 10 (decimal n))
-    (le-leb 1 (length (decimal n)) (decimal_nonempty n small)) (digits_decimal decimal_numeral_model n small)
+    (le-leb 1 (length (decimal n)) (decimal_nonempty n small)) (digits_decimal decimal_digits_are_numeral_model n small)
     (le-leb low (digits_value 10 (decimal n)) (omega (arith, is, l))) (le-leb (digits_value 10 (decimal n)) high (omega (arith, is, h)))
     ∙ ap (λ (m : ℕ). Some m) is
 
 -- no byte of a number that is printed is this mark
 no_byte_of_decimal_is_mark : (n mark : ℕ) → n < 2 ^ 64 → (mark < 48) ⊎ (57 < mark) → (k d : ℕ) → k < length (decimal n) → (get_or (decimal n) k d == mark) ≡ false
 no_byte_of_decimal_is_mark n mark small far k d l = ne_eqb (get_or (decimal n) k d) mark
-    (λ e. not_in_digits decimal_numeral_model (decimal n) mark (digits_decimal decimal_numeral_model n small) (λ r. elim far [
+    (λ e. not_in_digits decimal_digits_are_numeral_model (decimal n) mark (digits_decimal decimal_digits_are_numeral_model n small) (λ r. elim far [
       | inl low ↦ omega (arith, r, low)
       | inr high ↦ omega (arith, r, high)
     ]) k l (get_or_default (decimal n) k 0 d l ∙ e))
@@ -65,9 +65,9 @@ abbrev pub turn_text : ℕ → Bool → List ℕ
 turn_text thread false = decimal thread
 turn_text thread true = decimal thread ++ 33 ∷ []
 
-turn_of-turn_text : (n thread : ℕ) (refused : Bool) → thread < n → thread < 2 ^ 64 → turn_of n (turn_text thread refused) ≡ Some (thread, refused)
-turn_of-turn_text n thread false l small = turn_of_decimal_is_plain n thread l small
-turn_of-turn_text n thread true l small = turn_of_marked_decimal_is_refused n thread l small
+turn_of_turn_text : (n thread : ℕ) (refused : Bool) → thread < n → thread < 2 ^ 64 → turn_of n (turn_text thread refused) ≡ Some (thread, refused)
+turn_of_turn_text n thread false l small = turn_of_decimal_is_plain n thread l small
+turn_of_turn_text n thread true l small = turn_of_marked_decimal_is_refused n thread l small
 
 -- none of its bytes is such a mark
 no_byte_of_turn_text_is_mark : (thread : ℕ) (refused : Bool) (mark : ℕ) → thread < 2 ^ 64 → 57 < mark → (k d : ℕ) → k < length (turn_text thread refused)
@@ -75,20 +75,20 @@ no_byte_of_turn_text_is_mark : (thread : ℕ) (refused : Bool) (mark : ℕ) → 
 no_byte_of_turn_text_is_mark thread false mark small far = no_byte_of_decimal_is_mark thread mark small (inr far)
 no_byte_of_turn_text_is_mark thread true mark small far = no_byte_is_mark_with_byte_added (decimal thread) 33 mark (no_byte_of_decimal_is_mark thread mark small (inr far)) (λ e. omega (arith, e, far))
 
-item_of_single_turn : (n thread : ℕ) (refused : Bool) → thread < n → thread < 2 ^ 64
+item_of_turn_text_is_one_turn : (n thread : ℕ) (refused : Bool) → thread < n → thread < 2 ^ 64
     → item_of n (turn_text thread refused) ≡ Some (replicate 1 (thread, refused))
-item_of_single_turn n thread refused l small =
+item_of_turn_text_is_one_turn n thread refused l small =
     ap (item_by n) (slice_split_none (λ b. b == 120) (turn_text thread refused) (no_byte_of_turn_text_is_mark thread refused 120 small (omega arith)))
-    ∙ ap (λ (z : Option Turn). turns z (Some 1)) (turn_of-turn_text n thread refused l small)
+    ∙ ap (λ (z : Option Turn). turns z (Some 1)) (turn_of_turn_text n thread refused l small)
 
-item_of_counted_turns : (n thread : ℕ) (refused : Bool) (count : ℕ) → thread < n → thread < 2 ^ 64 → 1 ≤ count → count ≤ most_turns
+item_of_counted_turn_text_is_repeated_turn : (n thread : ℕ) (refused : Bool) (count : ℕ) → thread < n → thread < 2 ^ 64 → 1 ≤ count → count ≤ most_turns
     → item_of n (turn_text thread refused ++ 120 ∷ decimal count) ≡ Some (replicate count (thread, refused))
-item_of_counted_turns n thread refused count l small some few =
+item_of_counted_turn_text_is_repeated_turn n thread refused count l small some few =
     ap (item_by n) (slice_split_at (λ b. b == 120) (turn_text thread refused) 120 (decimal count) (no_byte_of_turn_text_is_mark thread refused 120 small (omega arith))
     (eq-eqb 120 120 refl)
     ∙ ap (λ (z : List (List ℕ)). turn_text thread refused ∷ z)
     (slice_split_none (λ b. b == 120) (decimal count) (no_byte_of_decimal_is_mark count 120 (omega (arith, few)) (inr (omega arith)))))
-    ∙ ap (λ (z : Option Turn). turns z (number_within 1 most_turns (decimal count))) (turn_of-turn_text n thread refused l small)
+    ∙ ap (λ (z : Option Turn). turns z (number_within 1 most_turns (decimal count))) (turn_of_turn_text n thread refused l small)
     ∙ ap (turns (Some (thread, refused))) (number_within_of_decimal 1 most_turns count (omega (arith, few)) some few)
 
 -- an item's text, by that of its turn
@@ -104,13 +104,13 @@ item_text_equals_item_text_by_turn thread true count true e = rw e refl
 item_text_equals_item_text_by_turn thread true count false e = rw e (sym (append_assoc (decimal thread) (33 ∷ []) (120 ∷ decimal count)))
 
 -- an item spells its turns
-pub item_of_item_text : (n thread : ℕ) (refused : Bool) (count : ℕ) → thread < n → thread < 2 ^ 8 → 1 ≤ count → count ≤ most_turns
+pub item_of_item_text_is_repeated_turn : (n thread : ℕ) (refused : Bool) (count : ℕ) → thread < n → thread < 2 ^ 8 → 1 ≤ count → count ≤ most_turns
     → item_of n (item_text thread refused count) ≡ Some (replicate count (thread, refused))
-item_of_item_text n thread refused count l small some few = elim (cases_eq count 1) [
-  | inl one ↦ ap (item_of n) (item_text_equals_item_text_by_turn thread refused count true (eq-eqb count 1 one)) ∙ item_of_single_turn n thread refused l (omega (arith, small))
+item_of_item_text_is_repeated_turn n thread refused count l small some few = elim (cases_eq count 1) [
+  | inl one ↦ ap (item_of n) (item_text_equals_item_text_by_turn thread refused count true (eq-eqb count 1 one)) ∙ item_of_turn_text_is_one_turn n thread refused l (omega (arith, small))
       ∙ ap (λ k. Some (replicate k (thread, refused))) (sym one)
   | inr more ↦ ap (item_of n) (item_text_equals_item_text_by_turn thread refused count false (ne_eqb count 1 more))
-      ∙ item_of_counted_turns n thread refused count l (omega (arith, small)) some few
+      ∙ item_of_counted_turn_text_is_repeated_turn n thread refused count l (omega (arith, small)) some few
 ]
 
 -- ---- an item is one part of a list

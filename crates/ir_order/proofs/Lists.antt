@@ -8,17 +8,17 @@ use Rattle.std.proofs.lemmas.List.{replicate-append-replicate, get_or_default}
 use Rattle.ir_record.specs.Recording.{order_of_turns, turns_of_items}
 use Rattle.ir_record.specs.Refusing.{Turn, plain_turns}
 use Rattle.ir_record.specs.declared.item.Item.{Item}
-use Rattle.ir_record.proofs.CallerLemmas.{plain_turns-append}
+use Rattle.ir_record.proofs.CallerLemmas.{plain_turns_of_append}
 use Rattle.ir_record.specs.declared.turns.Turns.{Turns}
 use Rattle.ir_record_run.specs.Order.{most_turns, joined, item_of, items_of, order_of}
 use Rattle.ir_order.specs.Spelling.{item_text, with_item, SpellsTurns, Spells, IsListOf}
-use Rattle.ir_order.proofs.Items.{item_of_item_text, split_of_item_text_is_itself, item_text_is_not_empty}
+use Rattle.ir_order.proofs.Items.{item_of_item_text_is_repeated_turn, split_of_item_text_is_itself, item_text_is_not_empty}
 
 -- ---- a text that is cut at its last mark
 
-onto_first_of_append : (b : ℕ) (parts more : List (List ℕ)) → 0 < length parts → onto_first b (parts ++ more) ≡ onto_first b parts ++ more
-onto_first_of_append b [] more some = absurd (omega (arith, some))
-onto_first_of_append b (part ∷ parts) more some = refl
+onto_first_of_append_of_nonempty : (b : ℕ) (parts more : List (List ℕ)) → 0 < length parts → onto_first b (parts ++ more) ≡ onto_first b parts ++ more
+onto_first_of_append_of_nonempty b [] more some = absurd (omega (arith, some))
+onto_first_of_append_of_nonempty b (part ∷ parts) more some = refl
 
 split_is_not_empty : (p : ℕ → Bool) (bs : List ℕ) → 0 < length (slice_split p bs)
 split_is_not_empty p bs = omega (arith, length-slice_split p bs)
@@ -31,7 +31,7 @@ split_at_mark_between p (b ∷ bs) mark cs is = elim (cases_Bool (p b)) [
   | inl is_mark ↦ slice_split-cons_yes p b (bs ++ mark ∷ cs) is_mark ∙ ap (λ (z : List (List ℕ)). [] ∷ z) (split_at_mark_between p bs mark cs is)
       ∙ sym (ap (λ (z : List (List ℕ)). z ++ slice_split p cs) (slice_split-cons_yes p b bs is_mark))
   | inr is_none ↦ slice_split-cons_no p b (bs ++ mark ∷ cs) is_none ∙ ap (onto_first b) (split_at_mark_between p bs mark cs is)
-      ∙ onto_first_of_append b (slice_split p bs) (slice_split p cs) (split_is_not_empty p bs)
+      ∙ onto_first_of_append_of_nonempty b (slice_split p bs) (slice_split p cs) (split_is_not_empty p bs)
       ∙ sym (ap (λ (z : List (List ℕ)). z ++ slice_split p cs) (slice_split-cons_no p b bs is_none))
 ]
 
@@ -47,59 +47,59 @@ joined_with_empty : (a : Option (List Turn)) → joined (Some []) a ≡ a
 joined_with_empty None = refl
 joined_with_empty (Some a) = refl
 
-items_of_append : (n : ℕ) (items more : List (List ℕ)) → items_of n (items ++ more) ≡ joined (items_of n items) (items_of n more)
-items_of_append n [] more = sym (joined_with_empty (items_of n more))
-items_of_append n (item ∷ items) more = ap (joined (item_of n item)) (items_of_append n items more)
+items_of_append_are_joined : (n : ℕ) (items more : List (List ℕ)) → items_of n (items ++ more) ≡ joined (items_of n items) (items_of n more)
+items_of_append_are_joined n [] more = sym (joined_with_empty (items_of n more))
+items_of_append_are_joined n (item ∷ items) more = ap (joined (item_of n item)) (items_of_append_are_joined n items more)
     ∙ joined_associative (item_of n item) (items_of n items) (items_of n more)
 
 -- ---- all of two lists
 
-all_by_recursion_of_append_parts : {X : Type 0} (P : X → Type 0) (xs ys : List X) → AllByRecursion P (xs ++ ys) → AllByRecursion P xs × AllByRecursion P ys
-all_by_recursion_of_append_parts P [] ys h = (tt, h)
-all_by_recursion_of_append_parts P (x ∷ xs) ys h = let rest = all_by_recursion_of_append_parts P xs ys h.1 in ((h.0, rest.0), rest.1)
+all_by_recursion_of_both_parts_if_of_append : {X : Type 0} (P : X → Type 0) (xs ys : List X) → AllByRecursion P (xs ++ ys) → AllByRecursion P xs × AllByRecursion P ys
+all_by_recursion_of_both_parts_if_of_append P [] ys h = (tt, h)
+all_by_recursion_of_both_parts_if_of_append P (x ∷ xs) ys h = let rest = all_by_recursion_of_both_parts_if_of_append P xs ys h.1 in ((h.0, rest.0), rest.1)
 
-replicated_element_has_property : {X : Type 0} (P : X → Type 0) (count : ℕ) (x : X) → 1 ≤ count → AllByRecursion P (replicate count x) → P x
-replicated_element_has_property P zero x some h = absurd (omega (arith, some))
-replicated_element_has_property P (suc count) x some h = h.0
+element_has_property_if_all_of_replicate_do : {X : Type 0} (P : X → Type 0) (count : ℕ) (x : X) → 1 ≤ count → AllByRecursion P (replicate count x) → P x
+element_has_property_if_all_of_replicate_do P zero x some h = absurd (omega (arith, some))
+element_has_property_if_all_of_replicate_do P (suc count) x some h = h.0
 
 -- ---- a list with one item more
 
 -- a list that is one item
-order_of_item_text : (n thread : ℕ) (refused : Bool) (count : ℕ) → thread < n → thread < 2 ^ 8 → 1 ≤ count → count ≤ most_turns
+order_of_item_text_is_repeated_turn : (n thread : ℕ) (refused : Bool) (count : ℕ) → thread < n → thread < 2 ^ 8 → 1 ≤ count → count ≤ most_turns
     → order_of n (item_text thread refused count) ≡ Some (replicate count (thread, refused))
-order_of_item_text n thread refused count l small some few =
+order_of_item_text_is_repeated_turn n thread refused count l small some few =
     ap (items_of n) (split_of_item_text_is_itself thread refused count small few)
-    ∙ ap (λ (z : Option (List Turn)). joined z (Some [])) (item_of_item_text n thread refused count l small some few)
+    ∙ ap (λ (z : Option (List Turn)). joined z (Some [])) (item_of_item_text_is_repeated_turn n thread refused count l small some few)
     ∙ ap (λ (z : List Turn). Some z) (append-nil (replicate count (thread, refused)))
 
-order_of_list_with_item : (n : ℕ) (list item : List ℕ) → order_of n (list ++ 44 ∷ item) ≡ joined (order_of n list) (order_of n item)
-order_of_list_with_item n list item = ap (items_of n) (split_at_mark_between (λ b. b == 44) list 44 item (eq-eqb 44 44 refl))
-    ∙ items_of_append n (slice_split (λ b. b == 44) list) (slice_split (λ b. b == 44) item)
+order_of_list_with_item_is_joined_orders : (n : ℕ) (list item : List ℕ) → order_of n (list ++ 44 ∷ item) ≡ joined (order_of n list) (order_of n item)
+order_of_list_with_item_is_joined_orders n list item = ap (items_of n) (split_at_mark_between (λ b. b == 44) list 44 item (eq-eqb 44 44 refl))
+    ∙ items_of_append_are_joined n (slice_split (λ b. b == 44) list) (slice_split (λ b. b == 44) item)
 
-order_with_turns_is_not_empty : (turns : List Turn) (one : Turn) (count : ℕ) → 1 ≤ count → turns ++ replicate count one ≢ []
-order_with_turns_is_not_empty [] one zero some h = absurd (omega (arith, some))
-order_with_turns_is_not_empty [] one (suc count) some h = absurd (cc h)
-order_with_turns_is_not_empty (t ∷ turns) one count some h = absurd (cc h)
+append_of_replicate_is_not_empty : (turns : List Turn) (one : Turn) (count : ℕ) → 1 ≤ count → turns ++ replicate count one ≢ []
+append_of_replicate_is_not_empty [] one zero some h = absurd (omega (arith, some))
+append_of_replicate_is_not_empty [] one (suc count) some h = absurd (cc h)
+append_of_replicate_is_not_empty (t ∷ turns) one count some h = absurd (cc h)
 
 is_list_of_if_spelled : (list : List ℕ) (turns : List Turn) → 0 < length list → turns ≢ [] → SpellsTurns list turns → IsListOf list turns
 is_list_of_if_spelled [] turns some steps h = absurd (omega (arith, some))
 is_list_of_if_spelled (b ∷ list) turns some steps h = (steps, h)
 
-pub is_list_of_after_item : (list : List ℕ) (turns : List Turn) (thread : ℕ) (refused : Bool) (count : ℕ) → thread < 2 ^ 8 → 1 ≤ count → count ≤ most_turns
+pub is_list_of_holds_with_item_added : (list : List ℕ) (turns : List Turn) (thread : ℕ) (refused : Bool) (count : ℕ) → thread < 2 ^ 8 → 1 ≤ count → count ≤ most_turns
     → IsListOf list turns → IsListOf (with_item list (item_text thread refused count)) (turns ++ replicate count (thread, refused))
-is_list_of_after_item [] turns thread refused count small some few none =
+is_list_of_holds_with_item_added [] turns thread refused count small some few none =
     is_list_of_if_spelled (item_text thread refused count) (turns ++ replicate count (thread, refused)) (item_text_is_not_empty thread refused count small)
-    (order_with_turns_is_not_empty turns (thread, refused) count some)
+    (append_of_replicate_is_not_empty turns (thread, refused) count some)
     (subst (λ (z : List Turn). SpellsTurns (item_text thread refused count) (z ++ replicate count (thread, refused))) (sym none)
-    (λ n all. order_of_item_text n thread refused count (replicated_element_has_property (λ t. t.0 < n) count (thread, refused) some all) small some few))
-is_list_of_after_item (b ∷ list) turns thread refused count small some few h = (
-  order_with_turns_is_not_empty turns (thread, refused) count some,
+    (λ n all. order_of_item_text_is_repeated_turn n thread refused count (element_has_property_if_all_of_replicate_do (λ t. t.0 < n) count (thread, refused) some all) small some few))
+is_list_of_holds_with_item_added (b ∷ list) turns thread refused count small some few h = (
+  append_of_replicate_is_not_empty turns (thread, refused) count some,
   λ n all.
-      let parts = all_by_recursion_of_append_parts (λ t. t.0 < n) turns (replicate count (thread, refused)) all in
-      order_of_list_with_item n (b ∷ list) (item_text thread refused count)
+      let parts = all_by_recursion_of_both_parts_if_of_append (λ t. t.0 < n) turns (replicate count (thread, refused)) all in
+      order_of_list_with_item_is_joined_orders n (b ∷ list) (item_text thread refused count)
       ∙ ap (λ (z : Option (List Turn)). joined z (order_of n (item_text thread refused count))) (h.1 n parts.0)
       ∙ ap (joined (Some turns))
-      (order_of_item_text n thread refused count (replicated_element_has_property (λ t. t.0 < n) count (thread, refused) some parts.1) small some few),
+      (order_of_item_text_is_repeated_turn n thread refused count (element_has_property_if_all_of_replicate_do (λ t. t.0 < n) count (thread, refused) some parts.1) small some few),
 )
 
 -- a list isn't empty where there are turns
@@ -140,11 +140,11 @@ is_list_of_turns_step old list new thread refused total left count small within 
     ∙ ap (λ (z : List Turn). turns ++ z) (replicate-append-replicate (total - left) count one ∙ ap (λ (k : ℕ). replicate k one) longer) in
     subst (λ (z : List ℕ). IsListOf z (turns ++ replicate (total - (left - count)) one)) (sym is)
     (subst (IsListOf (with_item list (item_text thread refused count))) same
-    (is_list_of_after_item list (turns ++ replicate (total - left) one) thread refused count small some few (before turns h)))
+    (is_list_of_holds_with_item_added list (turns ++ replicate (total - left) one) thread refused count small some few (before turns h)))
 
-plain_turns-replicate : (n t : ℕ) → plain_turns (replicate n t) ≡ replicate n (t, false)
-plain_turns-replicate zero t = refl
-plain_turns-replicate (suc n) t = ap (λ z. (t, false) ∷ z) (plain_turns-replicate n t)
+plain_turns_of_replicate : (n t : ℕ) → plain_turns (replicate n t) ≡ replicate n (t, false)
+plain_turns_of_replicate zero t = refl
+plain_turns_of_replicate (suc n) t = ap (λ z. (t, false) ∷ z) (plain_turns_of_replicate n t)
 
 -- the turns so far, and one more
 order_of_turns_step : (turns : List Turns) (k : ℕ) (t : Turns) → k < length turns → t ≡ get_or turns k t
@@ -166,8 +166,8 @@ is_list_of_plain_turns_step turns k none list l h =
     let same : plain_turns (order_of_turns (take (k + 1) turns)) ≡ plain_turns (order_of_turns (take k turns)) ++ replicate t.count (t.thread, false) =
     ap (λ (z : ℕ). plain_turns (order_of_turns (take z turns))) next
     ∙ ap plain_turns (order_of_turns_step turns k t l (get_or_default turns k none t l))
-    ∙ plain_turns-append (order_of_turns (take k turns)) (replicate t.count t.thread)
-    ∙ ap (λ (z : List Turn). plain_turns (order_of_turns (take k turns)) ++ z) (plain_turns-replicate t.count t.thread) in
+    ∙ plain_turns_of_append (order_of_turns (take k turns)) (replicate t.count t.thread)
+    ∙ ap (λ (z : List Turn). plain_turns (order_of_turns (take k turns)) ++ z) (plain_turns_of_replicate t.count t.thread) in
     subst (IsListOf list) (sym same) h
 
 pub turns_of_items_step : (items : List Item) (k : ℕ) (x : Item) → k < length items → x ≡ get_or items k x

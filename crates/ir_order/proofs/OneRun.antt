@@ -13,30 +13,30 @@ use Rattle.ir_flat.proofs.CallerLemmas.{guest_start_is_idle}
 use Rattle.ir_thread.specs.declared.profile.Profile.{Profile}
 use Rattle.ir_record.specs.Refusing.{Turn, plain_turns, InTurns, IsByTurns}
 use Rattle.ir_record.specs.Worlds.{answers_in}
-use Rattle.ir_record.proofs.CallerLemmas.{plain_turns-append, by_plain_turns_if_by_order, by_order_if_by_plain_turns}
+use Rattle.ir_record.proofs.CallerLemmas.{plain_turns_of_append, by_plain_turns_if_by_order, by_order_if_by_plain_turns}
 use Rattle.ir_sources.specs.Sources.{MadeWith, Source, source, from_sources, Gave}
 use Rattle.ir_order.specs.OneRun.{AreSame, AreAnswered, IsAnsweredByOrder, IsAnsweredByTurns, OneRunByAnOrder, OneRunByTurns, PlainTurnsAreOrders}
-use Rattle.ir_order.proofs.Given.{source_left_by, AreGiven, step_takes_next_answer, given_after_step, enters_if_it_can_if_tries, act_taken_from_source_is_unique}
+use Rattle.ir_order.proofs.Given.{source_left_by, AreGiven, first_step_of_given_run_takes_next_answer, rest_of_given_run_is_given_after_first_step, enters_if_it_can_if_tries, act_taken_from_source_is_unique}
 use Rattle.ir_order.proofs.Alike.{Alike, acted_by, alike_if_equal, alike_step, same_runs_if_alike}
 
 -- where all threads are done, no turns have a step
-no_turn_taken_if_done : {T : Type 0} (m : Machine T) (s : State T) (turns : List Turn) (run : List Step) → IsDone m s → InTurns m s turns run → run ≡ []
-no_turn_taken_if_done m s [] run done h = h
-no_turn_taken_if_done m s ((t, refused) ∷ turns) run done (inl none) = no_turn_taken_if_done m s turns run done none.1
-no_turn_taken_if_done m s ((t, refused) ∷ turns) run done (inr some) =
+run_in_turns_is_empty_if_done : {T : Type 0} (m : Machine T) (s : State T) (turns : List Turn) (run : List Step) → IsDone m s → InTurns m s turns run → run ≡ []
+run_in_turns_is_empty_if_done m s [] run done h = h
+run_in_turns_is_empty_if_done m s ((t, refused) ∷ turns) run done (inl none) = run_in_turns_is_empty_if_done m s turns run done none.1
+run_in_turns_is_empty_if_done m s ((t, refused) ∷ turns) run done (inr some) =
     absurd (subst (λ q. Admits m (act_of q some.0) (s.objects (target (act_of q some.0)))) (done t) some.3)
 
 -- what two turns of one thread leave to the turns after them
-later_turns_hold_after_equal_act : {T : Type 0} (m : Machine T) (s : State T) (n : ℕ) (sources : ℕ → Source) (t r w : ℕ) (turns : List Turn) (run : List Step)
+rest_is_in_turns_and_given_after_equal_act : {T : Type 0} (m : Machine T) (s : State T) (n : ℕ) (sources : ℕ → Source) (t r w : ℕ) (turns : List Turn) (run : List Step)
     → act m s (t, r) ≡ act m s (t, w) → InTurns m (after m s (t, w)) turns run
     → AreGiven m s n sources ((t, w) ∷ run)
     → InTurns m (after m s (t, r)) turns run
     × AreGiven m (after m s (t, r)) n (upd sources t (source_left_by (act m s (t, r)) (sources t))) run
 unfolding after
-later_turns_hold_after_equal_act m s n sources t r w turns run p rest gives = (
+rest_is_in_turns_and_given_after_equal_act m s n sources t r w turns run p rest gives = (
   subst (λ (q : Act). InTurns m (acted_by m s t q) turns run) (sym p) rest,
   subst (λ (q : Act). AreGiven m (acted_by m s t q) n (upd sources t (source_left_by q (sources t))) run) (sym p)
-      (given_after_step m s n sources (t, w) run gives),
+      (rest_of_given_run_is_given_after_first_step m s n sources (t, w) run gives),
 )
 
 -- where a run by turns ends with all threads done, each run by these turns and more is the same
@@ -45,7 +45,7 @@ runs_by_extended_turns_are_alike : {T : Type 0} (m : Machine T) (n : ℕ) (more 
     → Alike m s a b
 unfolding after
 runs_by_extended_turns_are_alike m n more [] s sources a b idle in_turns done in_turns' gives gives' = alike_if_equal m s a b
-    (in_turns ∙ sym (no_turn_taken_if_done m s more b (subst (λ z. IsDone m (end m s z)) in_turns done) in_turns'))
+    (in_turns ∙ sym (run_in_turns_is_empty_if_done m s more b (subst (λ z. IsDone m (end m s z)) in_turns done) in_turns'))
 runs_by_extended_turns_are_alike m n more ((t, refused) ∷ turns) s sources a b idle (inl none) done (inl none') gives gives' =
     runs_by_extended_turns_are_alike m n more turns s sources a b idle none.1 done none'.1 gives gives'
 runs_by_extended_turns_are_alike m n more ((t, refused) ∷ turns) s sources a b idle (inl none) done (inr some') gives gives' = absurd (none.0 some'.0 some'.3)
@@ -58,11 +58,11 @@ runs_by_extended_turns_are_alike m n more ((t, refused) ∷ turns) s sources a b
     let given_b : AreGiven m s n sources ((t, w) ∷ some'.1) = subst (AreGiven m s n sources) some'.2 gives' in
     let p : act m s (t, r) ≡ act m s (t, w) = act_taken_from_source_is_unique m s.objects (sources t) refused (asked m s t) r w some.3 some'.3
     (enters_if_it_can_if_tries m s t r refused some.4) (enters_if_it_can_if_tries m s t w refused some'.4)
-    (step_takes_next_answer m s n sources (t, r) some.1 given_a below.0) (step_takes_next_answer m s n sources (t, w) some'.1 given_b below.0) in
-    let rest = later_turns_hold_after_equal_act m s n sources t r w (turns ++ more) some'.1 p some'.5 given_b in
+    (first_step_of_given_run_takes_next_answer m s n sources (t, r) some.1 given_a below.0) (first_step_of_given_run_takes_next_answer m s n sources (t, w) some'.1 given_b below.0) in
+    let rest = rest_is_in_turns_and_given_after_equal_act m s n sources t r w (turns ++ more) some'.1 p some'.5 given_b in
     let h : Alike m s ((t, r) ∷ some.1) ((t, w) ∷ some'.1) = alike_step m s t r w some.1 some'.1 p
     (runs_by_extended_turns_are_alike m n more turns (after m s (t, r)) (upd sources t (source_left_by (act m s (t, r)) (sources t))) some.1 some'.1 below.1 some.5
-    (subst (λ z. IsDone m (end m s z)) some.2 done) rest.0 (given_after_step m s n sources (t, r) some.1 given_a) rest.1) in
+    (subst (λ z. IsDone m (end m s z)) some.2 done) rest.0 (rest_of_given_run_is_given_after_first_step m s n sources (t, r) some.1 given_a) rest.1) in
     subst (λ z. Alike m s z b) (sym some.2) (subst (Alike m s ((t, r) ∷ some.1)) (sym some'.2) h)
 
 -- more rounds
@@ -78,7 +78,7 @@ in_turns_with_rounds_split m s n c d turns run l h =
     let e : c + (d - c) ≡ d = omega (arith, l) in
     subst (λ (z : List Turn). InTurns m s z run)
     (ap (λ (k : ℕ). turns ++ plain_turns (rounds n k)) (sym e) ∙ ap (λ (z : List ℕ). turns ++ plain_turns z) (rounds_of_sum n c (d - c))
-    ∙ ap (λ (z : List Turn). turns ++ z) (plain_turns-append (rounds n c) (rounds n (d - c)))
+    ∙ ap (λ (z : List Turn). turns ++ z) (plain_turns_of_append (rounds n c) (rounds n (d - c)))
     ∙ sym (append_assoc turns (plain_turns (rounds n c)) (plain_turns (rounds n (d - c))))) h
 
 -- runs by turns are alike where the one takes no more rounds than the other
@@ -101,10 +101,10 @@ runs_by_turns_are_same m s n sources turns a b idle x y gives gives' = elim (cas
     turned m s a b h = record { steps = sym h.steps; trails = λ t. sym (h.trails t); traces = sym h.traces; ends = sym h.ends }
 
 -- worlds in which calls for the time are counted answer from their sources alone
-given_by_counted_worlds : {T : Type 0} (m : Machine T) (s : State T) (n : ℕ) (made : ℕ → MadeWith) (run : List Step)
+given_if_answered_by_counted_worlds : {T : Type 0} (m : Machine T) (s : State T) (n : ℕ) (made : ℕ → MadeWith) (run : List Step)
     → ((t : ℕ) → t < n → (made t).counted ≡ true) → AreAnswered m s n made run
     → AreGiven m s n (λ t. source (made t).seed (made t).file) run
-given_by_counted_worlds m s n made run counted h t l =
+given_if_answered_by_counted_worlds m s n made run counted h t l =
     subst (λ (c : Bool). (left : Source) × Gave (source (made t).seed (made t).file) (from_sources c (answers_in (log m s run t))) left)
     (counted t l) (h t l)
 
@@ -113,8 +113,8 @@ one_run_by_turns guest budget profile turns made a b counted x y =
     let f = start_flat guest budget profile in
     runs_by_turns_are_same (machine f) (tables f) (length guest.entries) (λ t. source (made t).seed (made t).file) turns a b
     (guest_start_is_idle guest budget profile) x.by_turns y.by_turns
-    (given_by_counted_worlds (machine f) (tables f) (length guest.entries) made a counted x.answered)
-    (given_by_counted_worlds (machine f) (tables f) (length guest.entries) made b counted y.answered)
+    (given_if_answered_by_counted_worlds (machine f) (tables f) (length guest.entries) made a counted x.answered)
+    (given_if_answered_by_counted_worlds (machine f) (tables f) (length guest.entries) made b counted y.answered)
 
 -- a run by an order is one by its turns
 pub answered_by_turns_if_answered_by_order : (guest : Guest) (budget : ℕ) (profile : Profile) (order : List ℕ) (made : ℕ → MadeWith) (run : List Step)

@@ -5,7 +5,7 @@ use Rattle.std.proofs.lemmas.Bool.{cases_lt}
 use Rattle.std.proofs.lemmas.Option.{same_Some}
 use Rattle.ir_lemmas.proofs.CallerLemmas.{element_below_length_exists}
 use Rattle.ir_explore.specs.declared.origin.Origin.{Origin}
-use Rattle.ir_explore.proofs.CallerLemmas.{slice_get_after_push_cases, slice_get_kept_by_append, place_of_element_is_below_length}
+use Rattle.ir_explore.proofs.CallerLemmas.{slice_get_after_push_cases, slice_get_kept_by_append, index_of_element_is_below_length}
 use Rattle.ir_runs.specs.Run.{Step}
 use Rattle.ir_record.specs.Recording.{turns_of_items}
 use Rattle.ir_thread.specs.State.{most_budget}
@@ -53,7 +53,7 @@ module _ (setup : Setup) (flats : List SourcedFlat) (origins : List Origin) (lev
   -- a listed node is shown
   in_list : (i v : ℕ) → slice_get listed i ≡ Some v → (x : Shown) × (slice_get outcomes i ≡ Some x) × (x.node ≡ v)
   in_list i v is =
-      let less : i < length outcomes = (let a = place_of_element_is_below_length listed i v is in let b = has.shown.count in omega (arith, a, b)) in
+      let less : i < length outcomes = (let a = index_of_element_is_below_length listed i v is in let b = has.shown.count in omega (arith, a, b)) in
       let x = element_below_length_exists outcomes i less in
       (x.0, x.1, same_Some x.0.node v (sym (has.shown.node i x.0 x.1) ∙ is))
 
@@ -141,7 +141,7 @@ module _ (setup : Setup) (flats : List SourcedFlat) (origins : List Origin) (lev
   -- if all nodes were looked at
   pub explored_whole : seen ≡ length origins → AreExplored setup flats levels outcomes
   explored_whole all = explored_to levels (omega arith)
-      (λ v n high is. absurd (let a = place_of_element_is_below_length origins v n is in omega (arith, a, high, all)))
+      (λ v n high is. absurd (let a = index_of_element_is_below_length origins v n is in omega (arith, a, high, all)))
       (λ v n low is. searched.most v n is)
 
   -- if only those before this one were
@@ -155,7 +155,7 @@ module _ (setup : Setup) (flats : List SourcedFlat) (origins : List Origin) (lev
   all_outcomes whole all nodes x = (
     λ h.
         let r = all h.0 h.1 h.2 in
-        let less : r.0 < seen = (let a = place_of_element_is_below_length flats r.0 r.1 r.2.0 in omega (arith, a, nodes, whole)) in
+        let less : r.0 < seen = (let a = index_of_element_is_below_length flats r.0 r.1 r.2.0 in omega (arith, a, nodes, whole)) in
         let k = has.different.all r.0 r.1 less r.2.0 r.2.1 in
         subst (IsIn flats outcomes) (r.2.2 ∙ h.3) (has_in r.1.flat k.0),
     λ h.

@@ -28,9 +28,9 @@ use Rattle.ir_outcomes.specs.Shown.{switches_by, IsShownAt, IsHangShown}
 use Rattle.ir_outcomes.specs.declared.shown.Shown.{Shown}
 use Rattle.ir_outcomes.proofs.Showing.{switches_again}
 
-pub shown_at_if_again : (setup : Setup) (turns : List Turn) (table : List Refusal) (path : List Origin) (level : ℕ) (s u : SourcedFlat)
+pub shown_at_level_if_again_by_short_enough_path : (setup : Setup) (turns : List Turn) (table : List Refusal) (path : List Origin) (level : ℕ) (s u : SourcedFlat)
     → IsAgainBy setup turns table path u → length path ≤ suc level → IsLike u.flat s.flat → LookAlike u s → IsShownAt setup s level turns
-shown_at_if_again setup turns table path level s u w few like looks =
+shown_at_level_if_again_by_short_enough_path setup turns table path level s u w few like looks =
     let a = w.again in record {
       steps = a.steps;
       counting = answered_run_is_counting setup a.steps a.answered;
@@ -67,23 +67,23 @@ shut_is_positive_if_some_closed (true ∷ marks) (suc v) is = shut_is_positive_i
 shut_is_positive_if_some_closed (false ∷ marks) v is = omega arith
 
 -- of the first nodes, with one more
-pub shut_count_kept_by_marked_node : (marks : List Bool) (v : ℕ) (d : Bool) → v < length marks → get_or marks v d ≡ true
+pub shut_of_take_one_more_is_unchanged_if_marked : (marks : List Bool) (v : ℕ) (d : Bool) → v < length marks → get_or marks v d ≡ true
     → shut (take (suc v) marks) ≡ shut (take v marks)
 unfolding shut
-shut_count_kept_by_marked_node [] v d l is = absurd (omega (arith, l))
-shut_count_kept_by_marked_node (true ∷ marks) zero d l is = refl
-shut_count_kept_by_marked_node (false ∷ marks) zero d l is = absurd (true≢false (sym is))
-shut_count_kept_by_marked_node (true ∷ marks) (suc v) d l is = shut_count_kept_by_marked_node marks v d (omega (arith, l)) is
-shut_count_kept_by_marked_node (false ∷ marks) (suc v) d l is = ap suc (shut_count_kept_by_marked_node marks v d (omega (arith, l)) is)
+shut_of_take_one_more_is_unchanged_if_marked [] v d l is = absurd (omega (arith, l))
+shut_of_take_one_more_is_unchanged_if_marked (true ∷ marks) zero d l is = refl
+shut_of_take_one_more_is_unchanged_if_marked (false ∷ marks) zero d l is = absurd (true≢false (sym is))
+shut_of_take_one_more_is_unchanged_if_marked (true ∷ marks) (suc v) d l is = shut_of_take_one_more_is_unchanged_if_marked marks v d (omega (arith, l)) is
+shut_of_take_one_more_is_unchanged_if_marked (false ∷ marks) (suc v) d l is = ap suc (shut_of_take_one_more_is_unchanged_if_marked marks v d (omega (arith, l)) is)
 
-pub shut_count_increased_by_unmarked_node : (marks : List Bool) (v : ℕ) (d : Bool) → v < length marks → get_or marks v d ≡ false
+pub shut_of_take_one_more_adds_one_if_unmarked : (marks : List Bool) (v : ℕ) (d : Bool) → v < length marks → get_or marks v d ≡ false
     → shut (take (suc v) marks) ≡ suc (shut (take v marks))
 unfolding shut
-shut_count_increased_by_unmarked_node [] v d l is = absurd (omega (arith, l))
-shut_count_increased_by_unmarked_node (true ∷ marks) zero d l is = absurd (true≢false is)
-shut_count_increased_by_unmarked_node (false ∷ marks) zero d l is = refl
-shut_count_increased_by_unmarked_node (true ∷ marks) (suc v) d l is = shut_count_increased_by_unmarked_node marks v d (omega (arith, l)) is
-shut_count_increased_by_unmarked_node (false ∷ marks) (suc v) d l is = ap suc (shut_count_increased_by_unmarked_node marks v d (omega (arith, l)) is)
+shut_of_take_one_more_adds_one_if_unmarked [] v d l is = absurd (omega (arith, l))
+shut_of_take_one_more_adds_one_if_unmarked (true ∷ marks) zero d l is = absurd (true≢false is)
+shut_of_take_one_more_adds_one_if_unmarked (false ∷ marks) zero d l is = refl
+shut_of_take_one_more_adds_one_if_unmarked (true ∷ marks) (suc v) d l is = shut_of_take_one_more_adds_one_if_unmarked marks v d (omega (arith, l)) is
+shut_of_take_one_more_adds_one_if_unmarked (false ∷ marks) (suc v) d l is = ap suc (shut_of_take_one_more_adds_one_if_unmarked marks v d (omega (arith, l)) is)
 
 pub shut_of_empty : 0 ≡ shut []
 unfolding shut
@@ -93,10 +93,10 @@ closed_place_is_not_open : (marks : List Bool) (v : ℕ) → slice_get marks v �
 closed_place_is_not_open marks v unmarked is = true≢false (same_Some true false (sym is ∙ unmarked))
 
 -- without marks there is no first that isn't marked
-pub no_hang_without_marks : (marks : List Bool) (hang : Option Shown) → length marks ≤ 0
+pub no_hang_if_marks_are_empty : (marks : List Bool) (hang : Option Shown) → length marks ≤ 0
     → ((x : Shown) → hang ≡ Some x → IsFirst marks x.node) → hang ≡ None
-no_hang_without_marks marks None few first = refl
-no_hang_without_marks marks (Some x) few first =
+no_hang_if_marks_are_empty marks None few first = refl
+no_hang_if_marks_are_empty marks (Some x) few first =
     let l = slice_get_within marks x.node false (first x refl).0 in absurd (omega (arith, l, few))
 
 module _ (setup : Setup) (flats : List SourcedFlat) (origins : List Origin) (marks : List Bool) (marked : AreMarked flats marks)

@@ -8,33 +8,33 @@ use Rattle.ir_explore.specs.Origins.{AreWaysUnder, Refused}
 use Rattle.ir_outcomes.specs.Path.{IsPathTo, ways_of}
 
 -- one turn more at the beginning of a path
-path_through_origin : (origins : List Origin) (v : ℕ) (n : Origin) (more : List Origin) → slice_get origins v ≡ Some n
+path_to_node_is_its_origin_and_path_to_where_it_came_from : (origins : List Origin) (v : ℕ) (n : Origin) (more : List Origin) → slice_get origins v ≡ Some n
     → IsPathTo origins n.from more → IsPathTo origins v (n ∷ more)
-path_through_origin origins v n [] at path = absurd path
-path_through_origin origins v n (m ∷ more) at path = (at, path)
+path_to_node_is_its_origin_and_path_to_where_it_came_from origins v n [] at path = absurd path
+path_to_node_is_its_origin_and_path_to_where_it_came_from origins v n (m ∷ more) at path = (at, path)
 
 -- so is one at the end of those that were found
-pub path_with_origin_pushed : (origins : List Origin) (node v : ℕ) (n : Origin) (found : List Origin) → slice_get origins v ≡ Some n
+pub path_prefix_to_node_step_with_origin_pushed : (origins : List Origin) (node v : ℕ) (n : Origin) (found : List Origin) → slice_get origins v ≡ Some n
     → ((more : List Origin) → IsPathTo origins v more → IsPathTo origins node (found ++ more))
     → (more : List Origin) → IsPathTo origins n.from more → IsPathTo origins node ((found ++ n ∷ []) ++ more)
-path_with_origin_pushed origins node v n found at path more rest =
-    subst (IsPathTo origins node) (sym (append_assoc found (n ∷ []) more)) (path (n ∷ more) (path_through_origin origins v n more at rest))
+path_prefix_to_node_step_with_origin_pushed origins node v n found at path more rest =
+    subst (IsPathTo origins node) (sym (append_assoc found (n ∷ []) more)) (path (n ∷ more) (path_to_node_is_its_origin_and_path_to_where_it_came_from origins v n more at rest))
 
-pushed_refusal_comes_first_in_ways : (refusals : List Refusal) (x : Refusal) → ways_of (refusals ++ x ∷ []) ≡ (replicate x.entries false ++ true ∷ []) ++ ways_of refusals
-pushed_refusal_comes_first_in_ways [] x = sym (append-nil (replicate x.entries false ++ true ∷ []))
-pushed_refusal_comes_first_in_ways (y ∷ refusals) x =
-    ap (λ z. z ++ (replicate y.entries false ++ true ∷ [])) (pushed_refusal_comes_first_in_ways refusals x)
+ways_of_push_are_ways_of_pushed_before_ways_of_rest : (refusals : List Refusal) (x : Refusal) → ways_of (refusals ++ x ∷ []) ≡ (replicate x.entries false ++ true ∷ []) ++ ways_of refusals
+ways_of_push_are_ways_of_pushed_before_ways_of_rest [] x = sym (append-nil (replicate x.entries false ++ true ∷ []))
+ways_of_push_are_ways_of_pushed_before_ways_of_rest (y ∷ refusals) x =
+    ap (λ z. z ++ (replicate y.entries false ++ true ∷ [])) (ways_of_push_are_ways_of_pushed_before_ways_of_rest refusals x)
     ∙ append_assoc (replicate x.entries false ++ true ∷ []) (ways_of refusals) (replicate y.entries false ++ true ∷ [])
 
 -- one refused try more of those that the table has under a number
-pub ways_under_with_refusal_pushed : (table refusals : List Refusal) (number i : ℕ) (x : Refusal) → slice_get table i ≡ Some x
+pub ways_under_number_step_with_refusal_pushed : (table refusals : List Refusal) (number i : ℕ) (x : Refusal) → slice_get table i ≡ Some x
     → ((ways : List Bool) → AreWaysUnder table (suc i) ways → AreWaysUnder table number (ways ++ ways_of refusals))
     → (ways : List Bool) → AreWaysUnder table x.before ways → AreWaysUnder table number (ways ++ ways_of (refusals ++ x ∷ []))
-ways_under_with_refusal_pushed table refusals number i x at found ways spelled =
+ways_under_number_step_with_refusal_pushed table refusals number i x at found ways spelled =
     let one : List Bool = replicate x.entries false ++ true ∷ [] in
     let joined : ((ways ++ replicate x.entries false) ++ true ∷ []) ++ ways_of refusals ≡ ways ++ ways_of (refusals ++ x ∷ []) =
     ap (λ z. z ++ ways_of refusals) (append_assoc ways (replicate x.entries false) (true ∷ []))
-    ∙ append_assoc ways one (ways_of refusals) ∙ ap (λ z. ways ++ z) (sym (pushed_refusal_comes_first_in_ways refusals x)) in
+    ∙ append_assoc ways one (ways_of refusals) ∙ ap (λ z. ways ++ z) (sym (ways_of_push_are_ways_of_pushed_before_ways_of_rest refusals x)) in
     subst (AreWaysUnder table number) joined (found ((ways ++ replicate x.entries false) ++ true ∷ []) (Refused i x ways at spelled))
 
 -- the ways of the last k of these refused tries, of which the last comes first

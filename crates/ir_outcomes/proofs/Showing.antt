@@ -16,10 +16,10 @@ use Rattle.ir_graph.specs.Outcomes.{outcome_of}
 use Rattle.ir_graph.specs.Plain.{full_by}
 use Rattle.ir_graph.specs.Reached.{beginning}
 use Rattle.ir_graph.specs.Setup.{Setup}
-use Rattle.ir_graph.proofs.CallerLemmas.{done_answered_run_is_counted, plain_in_turns_if_sourced_in_turns, threads_of_ways_taken}
+use Rattle.ir_graph.proofs.CallerLemmas.{done_answered_run_is_counted, plain_in_turns_if_sourced_in_turns, threads_of_ways_taken_are_entering_threads}
 use Rattle.ir_outcomes.specs.Again.{IsAgainBy}
 use Rattle.ir_outcomes.specs.Shown.{switches_by, IsShown}
-use Rattle.ir_outcomes.proofs.Again.{switches_of_ways_back}
+use Rattle.ir_outcomes.proofs.Again.{switches_of_ways_back_below_path_length}
 
 module _ (setup : Setup) (turns : List Turn) (table : List Refusal) (path : List Origin) (u : SourcedFlat) (w : IsAgainBy setup turns table path u) where
   -- the threads after a run again, and how often the thread that enters or tries is switched in it
@@ -30,9 +30,9 @@ module _ (setup : Setup) (turns : List Turn) (table : List Refusal) (path : List
   switches_again =
       let same : switches (map (λ z. z.0) w.ways) ≡ switches_by setup most_budget w.again.steps =
       ap (λ z. switches (map (λ x. x.0) z)) (sym w.again.goes)
-      ∙ ap switches (threads_of_ways_taken (full_by setup.guest.code) (beginning setup) w.again.steps
+      ∙ ap switches (threads_of_ways_taken_are_entering_threads (full_by setup.guest.code) (beginning setup) w.again.steps
       ∙ sourced_entering (thread_machine setup.guest.code) given (beginning setup) w.again.steps) in
-      subst (λ n. n ≤ length path - 1) same (switches_of_ways_back table path w.ways w.back)
+      subst (λ n. n ≤ length path - 1) same (switches_of_ways_back_below_path_length table path w.ways w.back)
 
   pub shown_if_again : (level : ℕ) (s : SourcedFlat) → length path ≤ suc level → IsDone (machine u.flat) (tables u.flat)
       → outcome_of (tables u.flat) ≡ outcome_of (tables s.flat) → IsShown setup s level turns

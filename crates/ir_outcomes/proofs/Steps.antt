@@ -14,9 +14,9 @@ pub error_fact_of_known_error : {A E : Type 0} (P : E → Type 0) (r : Result A 
 error_fact_of_known_error P r e is p = subst (λ z. IfErr z P) is p
 
 -- what is so of a new value on success, and of the old one, where an error leaves that
-pub new_has_property_if_error_keeps_old : {A E L : Type 0} (P : L → Type 0) (r : Result A E) (new old : L) → OnOk r (P new) → OnErr r (new ≡ old) → P old → P new
-new_has_property_if_error_keeps_old P (Ok x) new old ok same p = ok
-new_has_property_if_error_keeps_old P (Err e) new old ok same p = subst P (sym same) p
+pub property_carries_from_old_to_new_if_error_keeps_old : {A E L : Type 0} (P : L → Type 0) (r : Result A E) (new old : L) → OnOk r (P new) → OnErr r (new ≡ old) → P old → P new
+property_carries_from_old_to_new_if_error_keeps_old P (Ok x) new old ok same p = ok
+property_carries_from_old_to_new_if_error_keeps_old P (Err e) new old ok same p = subst P (sym same) p
 
 -- fewer levels are left once one is gone over
 pub fewer_levels_left_after_one_is_gone_over : (stop : Option Stop) (old new most : ℕ) → old ≤ most → (stop ≡ None → new ≡ suc old)

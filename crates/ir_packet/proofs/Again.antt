@@ -25,36 +25,36 @@ byte_without_need_of_escape_is_no_mark b false false true w e1 e2 e3 none = absu
 byte_without_need_of_escape_is_no_mark b false false false w e1 e2 e3 none = (e1, e2, e3)
 
 -- a byte that is neither `$` nor `#` stays in the packet
-plain_byte_stays_inside : (raw : List ℕ) (b : ℕ) (more : List ℕ) → eqb b 36 ≡ false → eqb b 35 ≡ false
+items_from_inside_take_up_plain_byte : (raw : List ℕ) (b : ℕ) (more : List ℕ) → eqb b 36 ≡ false → eqb b 35 ≡ false
     → items_from (Inside raw) (b ∷ more) ≡ items_from (Inside (raw ++ b ∷ [])) more
 unfolding items_from
-plain_byte_stays_inside raw b more begins ends =
+items_from_inside_take_up_plain_byte raw b more begins ends =
     ap (λ (t : Bool). items_from (cond t (Inside []) (cond (eqb b 35) (Summing raw) (Inside (raw ++ b ∷ [])))) more) begins
     ∙ ap (λ (t : Bool). items_from (cond t (Summing raw) (Inside (raw ++ b ∷ []))) more) ends
 
-escape_pair_stays_inside : (raw : List ℕ) (b : ℕ) (more : List ℕ) → eqb b 36 ≡ false → eqb b 35 ≡ false
+items_from_inside_take_up_escape_pair : (raw : List ℕ) (b : ℕ) (more : List ℕ) → eqb b 36 ≡ false → eqb b 35 ≡ false
     → items_from (Inside raw) (125 ∷ b ∷ more) ≡ items_from (Inside (raw ++ 125 ∷ b ∷ [])) more
-escape_pair_stays_inside raw b more begins ends =
-    plain_byte_stays_inside raw 125 (b ∷ more) refl refl ∙ plain_byte_stays_inside (raw ++ 125 ∷ []) b more begins ends
+items_from_inside_take_up_escape_pair raw b more begins ends =
+    items_from_inside_take_up_plain_byte raw 125 (b ∷ more) refl refl ∙ items_from_inside_take_up_plain_byte (raw ++ 125 ∷ []) b more begins ends
     ∙ ap (λ (r : List ℕ). items_from (Inside r) more) (append_assoc raw (125 ∷ []) (b ∷ []))
 
-escaped_byte_stays_inside : (raw : List ℕ) (b : ℕ) (more : List ℕ) (t : Bool) → needs_escape b ≡ t
+items_from_inside_take_up_escaped_byte : (raw : List ℕ) (b : ℕ) (more : List ℕ) (t : Bool) → needs_escape b ≡ t
     → items_from (Inside raw) (cond t (125 ∷ bit_xor b 32 ∷ []) (b ∷ []) ++ more)
     ≡ items_from (Inside (raw ++ cond t (125 ∷ bit_xor b 32 ∷ []) (b ∷ []))) more
-escaped_byte_stays_inside raw b more true needs =
+items_from_inside_take_up_escaped_byte raw b more true needs =
     escaped_byte_has_property_if_all_four_have (λ (x : ℕ). items_from (Inside raw) (125 ∷ bit_xor x 32 ∷ more) ≡ items_from (Inside (raw ++ 125 ∷ bit_xor x 32 ∷ [])) more) b
-    (eqb b 35) (eqb b 36) (eqb b 125) (eqb b 42) refl refl refl refl needs (escape_pair_stays_inside raw 3 more refl refl) (escape_pair_stays_inside raw 4 more refl refl)
-    (escape_pair_stays_inside raw 93 more refl refl) (escape_pair_stays_inside raw 10 more refl refl)
-escaped_byte_stays_inside raw b more false needs =
+    (eqb b 35) (eqb b 36) (eqb b 125) (eqb b 42) refl refl refl refl needs (items_from_inside_take_up_escape_pair raw 3 more refl refl) (items_from_inside_take_up_escape_pair raw 4 more refl refl)
+    (items_from_inside_take_up_escape_pair raw 93 more refl refl) (items_from_inside_take_up_escape_pair raw 10 more refl refl)
+items_from_inside_take_up_escaped_byte raw b more false needs =
     let n = byte_without_need_of_escape_is_no_mark b (eqb b 35) (eqb b 36) (eqb b 125) (eqb b 42) refl refl refl needs in
-    plain_byte_stays_inside raw b more n.1 n.0
+    items_from_inside_take_up_plain_byte raw b more n.1 n.0
 
-escaped_payload_stays_inside : (raw payload rest : List ℕ) → items_from (Inside raw) (escaped payload ++ rest) ≡ items_from (Inside (raw ++ escaped payload)) rest
+items_from_inside_take_up_escaped_payload : (raw payload rest : List ℕ) → items_from (Inside raw) (escaped payload ++ rest) ≡ items_from (Inside (raw ++ escaped payload)) rest
 unfolding escaped
-escaped_payload_stays_inside raw [] rest = ap (λ (r : List ℕ). items_from (Inside r) rest) (sym (append-nil raw))
-escaped_payload_stays_inside raw (b ∷ payload) rest =
+items_from_inside_take_up_escaped_payload raw [] rest = ap (λ (r : List ℕ). items_from (Inside r) rest) (sym (append-nil raw))
+items_from_inside_take_up_escaped_payload raw (b ∷ payload) rest =
     ap (items_from (Inside raw)) (append_assoc (escaped_byte b) (escaped payload) rest)
-    ∙ escaped_byte_stays_inside raw b (escaped payload ++ rest) (needs_escape b) refl ∙ escaped_payload_stays_inside (raw ++ escaped_byte b) payload rest
+    ∙ items_from_inside_take_up_escaped_byte raw b (escaped payload ++ rest) (needs_escape b) refl ∙ items_from_inside_take_up_escaped_payload (raw ++ escaped_byte b) payload rest
     ∙ ap (λ (r : List ℕ). items_from (Inside r) rest) (append_assoc raw (escaped_byte b) (escaped payload))
 
 unescaped_of_escaped_byte : (b : ℕ) (more : List ℕ) (t : Bool) → needs_escape b ≡ t
@@ -86,10 +86,10 @@ two_lower_digits_are_number n below =
     joined_digits_are_number (hex_digit_value (slice_index lower_digits (n / 16))) (hex_digit_value (slice_index lower_digits (n % 16))) (n / 16) (n % 16) n
     (IsDigits-lower_digits (n / 16) (omega (arith, below))) (IsDigits-lower_digits (n % 16) (omega arith)) (omega arith)
 
-packet_item_of_escaped_payload : (payload : List ℕ) → length (escaped payload) ≤ 4096
+packet_item_of_escaped_payload_is_packet : (payload : List ℕ) → length (escaped payload) ≤ 4096
     → packet_item (escaped payload) (slice_index lower_digits (checksum (escaped payload) / 16))
     (slice_index lower_digits (checksum (escaped payload) % 16)) ≡ Packet payload
-packet_item_of_escaped_payload payload fits =
+packet_item_of_escaped_payload_is_packet payload fits =
     let raw = escaped payload in
     let s = checksum raw in
     let below : s < 256 = omega arith in
@@ -97,13 +97,13 @@ packet_item_of_escaped_payload payload fits =
     (Packet (unescaped raw)) BadSum)) (le-ltb 4096 (length raw) fits)
     ∙ ap (λ (t : Bool). cond t (Packet (unescaped raw)) BadSum) (two_lower_digits_are_number s below) ∙ ap Packet (unescaped_of_escaped payload)
 
-items_after_packet_mark : (more : List ℕ) → items_from Between (36 ∷ more) ≡ items_from (Inside []) more
+items_after_packet_mark_are_items_from_inside : (more : List ℕ) → items_from Between (36 ∷ more) ≡ items_from (Inside []) more
 unfolding items_from
-items_after_packet_mark more = refl
+items_after_packet_mark_are_items_from_inside more = refl
 
-items_after_packet_end : (raw : List ℕ) (a b : ℕ) (rest : List ℕ) → items_from (Inside raw) (35 ∷ a ∷ b ∷ rest) ≡ packet_item raw a b ∷ items_from Between rest
+items_after_packet_end_are_packet_item_and_rest : (raw : List ℕ) (a b : ℕ) (rest : List ℕ) → items_from (Inside raw) (35 ∷ a ∷ b ∷ rest) ≡ packet_item raw a b ∷ items_from Between rest
 unfolding items_from
-items_after_packet_end raw a b rest = refl
+items_after_packet_end_are_packet_item_and_rest raw a b rest = refl
 
 pub items_of_packet_begin_with_payload : (payload rest : List ℕ) → length (escaped payload) ≤ most_bytes → items (packet_of payload ++ rest) ≡ Packet payload ∷ items rest
 items_of_packet_begin_with_payload payload rest fits =
@@ -111,7 +111,7 @@ items_of_packet_begin_with_payload payload rest fits =
     let s = checksum raw in
     let a = slice_index lower_digits (s / 16) in
     let b = slice_index lower_digits (s % 16) in
-    items_after_packet_mark ((raw ++ 35 ∷ a ∷ b ∷ []) ++ rest)
+    items_after_packet_mark_are_items_from_inside ((raw ++ 35 ∷ a ∷ b ∷ []) ++ rest)
     ∙ ap (items_from (Inside [])) (append_assoc raw (35 ∷ a ∷ b ∷ []) rest)
-    ∙ escaped_payload_stays_inside [] payload (35 ∷ a ∷ b ∷ rest) ∙ items_after_packet_end raw a b rest
-    ∙ ap (λ (i : Item). i ∷ items_from Between rest) (packet_item_of_escaped_payload payload fits)
+    ∙ items_from_inside_take_up_escaped_payload [] payload (35 ∷ a ∷ b ∷ rest) ∙ items_after_packet_end_are_packet_item_and_rest raw a b rest
+    ∙ ap (λ (i : Item). i ∷ items_from Between rest) (packet_item_of_escaped_payload_is_packet payload fits)

@@ -11,31 +11,31 @@ use Rattle.ir_packet.specs.Parts.{Part, Byte, Whole, CutOff, bytes_of, items_of,
 abbrev inside_by : Bool → Bool → List ℕ → ℕ → Place
 inside_by t u raw b = cond t (Inside []) (cond u (Summing raw) (Inside (raw ++ b ∷ [])))
 
-step_between_packets_keeps_bytes : (b : ℕ) (bytes : List ℕ) (t : Bool) → eqb b 36 ≡ t
+bytes_of_part_and_begun_after_step_between_are_byte : (b : ℕ) (bytes : List ℕ) (t : Bool) → eqb b 36 ≡ t
     → flat_map bytes_of (cond t [] (Byte b ∷ [])) ++ (begun (cond t (Inside []) Between) ++ bytes) ≡ b ∷ bytes
-step_between_packets_keeps_bytes b bytes true is = ap (λ (x : ℕ). x ∷ bytes) (sym (eqb-true b 36 is))
-step_between_packets_keeps_bytes b bytes false is = refl
+bytes_of_part_and_begun_after_step_between_are_byte b bytes true is = ap (λ (x : ℕ). x ∷ bytes) (sym (eqb-true b 36 is))
+bytes_of_part_and_begun_after_step_between_are_byte b bytes false is = refl
 
-step_inside_packet_keeps_bytes : (raw : List ℕ) (b : ℕ) (bytes : List ℕ) (t u : Bool) → eqb b 36 ≡ t → eqb b 35 ≡ u
+bytes_of_part_and_begun_after_step_inside_are_raw_and_byte : (raw : List ℕ) (b : ℕ) (bytes : List ℕ) (t u : Bool) → eqb b 36 ≡ t → eqb b 35 ≡ u
     → flat_map bytes_of (cond t (CutOff (36 ∷ raw) ∷ []) []) ++ (begun (inside_by t u raw b) ++ bytes) ≡ 36 ∷ (raw ++ b ∷ bytes)
-step_inside_packet_keeps_bytes raw b bytes true u is none =
+bytes_of_part_and_begun_after_step_inside_are_raw_and_byte raw b bytes true u is none =
     ap (λ (r : List ℕ). 36 ∷ (r ++ 36 ∷ bytes)) (append-nil raw) ∙ ap (λ (x : ℕ). 36 ∷ (raw ++ x ∷ bytes)) (sym (eqb-true b 36 is))
-step_inside_packet_keeps_bytes raw b bytes false true none is =
+bytes_of_part_and_begun_after_step_inside_are_raw_and_byte raw b bytes false true none is =
     ap (λ (r : List ℕ). 36 ∷ r) (append_assoc raw (35 ∷ []) bytes) ∙ ap (λ (x : ℕ). 36 ∷ (raw ++ x ∷ bytes)) (sym (eqb-true b 35 is))
-step_inside_packet_keeps_bytes raw b bytes false false none isnt = ap (λ (r : List ℕ). 36 ∷ r) (append_assoc raw (b ∷ []) bytes)
+bytes_of_part_and_begun_after_step_inside_are_raw_and_byte raw b bytes false false none isnt = ap (λ (r : List ℕ). 36 ∷ r) (append_assoc raw (b ∷ []) bytes)
 
-step_after_digit_keeps_bytes : (raw : List ℕ) (a b : ℕ) (bytes : List ℕ)
+bytes_of_whole_part_are_begun_packet_and_byte : (raw : List ℕ) (a b : ℕ) (bytes : List ℕ)
     → flat_map bytes_of (Whole raw a b ∷ []) ++ bytes ≡ (36 ∷ (raw ++ 35 ∷ a ∷ [])) ++ b ∷ bytes
-step_after_digit_keeps_bytes raw a b bytes =
+bytes_of_whole_part_are_begun_packet_and_byte raw a b bytes =
     ap (λ (r : List ℕ). (36 ∷ r) ++ bytes) (append-nil (raw ++ 35 ∷ a ∷ b ∷ []))
     ∙ ap (λ (r : List ℕ). 36 ∷ r) (append_assoc raw (35 ∷ a ∷ b ∷ []) bytes ∙ sym (append_assoc raw (35 ∷ a ∷ []) (b ∷ bytes)))
 
-step_keeps_bytes : (p : Place) (b : ℕ) (bytes : List ℕ) → flat_map bytes_of (part_at p b) ++ (begun (step p b) ++ bytes) ≡ begun p ++ b ∷ bytes
-step_keeps_bytes Between b bytes = step_between_packets_keeps_bytes b bytes (eqb b 36) refl
-step_keeps_bytes (Inside raw) b bytes = step_inside_packet_keeps_bytes raw b bytes (eqb b 36) (eqb b 35) refl refl
-step_keeps_bytes (Summing raw) b bytes =
+bytes_of_part_and_begun_after_step_are_begun_and_byte : (p : Place) (b : ℕ) (bytes : List ℕ) → flat_map bytes_of (part_at p b) ++ (begun (step p b) ++ bytes) ≡ begun p ++ b ∷ bytes
+bytes_of_part_and_begun_after_step_are_begun_and_byte Between b bytes = bytes_of_part_and_begun_after_step_between_are_byte b bytes (eqb b 36) refl
+bytes_of_part_and_begun_after_step_are_begun_and_byte (Inside raw) b bytes = bytes_of_part_and_begun_after_step_inside_are_raw_and_byte raw b bytes (eqb b 36) (eqb b 35) refl refl
+bytes_of_part_and_begun_after_step_are_begun_and_byte (Summing raw) b bytes =
     ap (λ (r : List ℕ). 36 ∷ r) (append_assoc raw (35 ∷ b ∷ []) bytes ∙ sym (append_assoc raw (35 ∷ []) (b ∷ bytes)))
-step_keeps_bytes (Digit raw a) b bytes = step_after_digit_keeps_bytes raw a b bytes
+bytes_of_part_and_begun_after_step_are_begun_and_byte (Digit raw a) b bytes = bytes_of_whole_part_are_begun_packet_and_byte raw a b bytes
 
 bytes_of_parts_from_are_begun_and_bytes : (p : Place) (bytes : List ℕ) → flat_map bytes_of (parts_from p bytes) ≡ begun p ++ bytes
 unfolding parts_from
@@ -45,10 +45,10 @@ bytes_of_parts_from_are_begun_and_bytes (Summing raw) [] = refl
 bytes_of_parts_from_are_begun_and_bytes (Digit raw a) [] = refl
 bytes_of_parts_from_are_begun_and_bytes p (b ∷ bytes) =
     flat_map-append bytes_of (part_at p b) (parts_from (step p b) bytes)
-    ∙ ap (λ (r : List ℕ). flat_map bytes_of (part_at p b) ++ r) (bytes_of_parts_from_are_begun_and_bytes (step p b) bytes) ∙ step_keeps_bytes p b bytes
+    ∙ ap (λ (r : List ℕ). flat_map bytes_of (part_at p b) ++ r) (bytes_of_parts_from_are_begun_and_bytes (step p b) bytes) ∙ bytes_of_part_and_begun_after_step_are_begun_and_byte p b bytes
 
-pub bytes_of_parts : (bytes : List ℕ) → flat_map bytes_of (parts bytes) ≡ bytes
-bytes_of_parts bytes = bytes_of_parts_from_are_begun_and_bytes Between bytes
+pub bytes_of_parts_join_to_stream : (bytes : List ℕ) → flat_map bytes_of (parts bytes) ≡ bytes
+bytes_of_parts_join_to_stream bytes = bytes_of_parts_from_are_begun_and_bytes Between bytes
 
 items_of_part_between_packets_are_byte_items : (b : ℕ) (t : Bool) → eqb b 36 ≡ t → flat_map items_of (cond t [] (Byte b ∷ [])) ≡ byte_items b
 items_of_part_between_packets_are_byte_items b true is = ap byte_items (sym (eqb-true b 36 is))
@@ -64,19 +64,19 @@ items_of_part_are_ends (Inside raw) b = items_of_part_inside_packet_are_none raw
 items_of_part_are_ends (Summing raw) b = refl
 items_of_part_are_ends (Digit raw a) b = refl
 
-items_of_parts_from : (p : Place) (bytes : List ℕ) → flat_map items_of (parts_from p bytes) ≡ items_from p bytes
+items_of_parts_from_are_items_from : (p : Place) (bytes : List ℕ) → flat_map items_of (parts_from p bytes) ≡ items_from p bytes
 unfolding parts_from items_from
-items_of_parts_from Between [] = refl
-items_of_parts_from (Inside raw) [] = refl
-items_of_parts_from (Summing raw) [] = refl
-items_of_parts_from (Digit raw a) [] = refl
-items_of_parts_from p (b ∷ bytes) =
+items_of_parts_from_are_items_from Between [] = refl
+items_of_parts_from_are_items_from (Inside raw) [] = refl
+items_of_parts_from_are_items_from (Summing raw) [] = refl
+items_of_parts_from_are_items_from (Digit raw a) [] = refl
+items_of_parts_from_are_items_from p (b ∷ bytes) =
     flat_map-append items_of (part_at p b) (parts_from (step p b) bytes)
-    ∙ ap (λ (r : List Item). flat_map items_of (part_at p b) ++ r) (items_of_parts_from (step p b) bytes)
+    ∙ ap (λ (r : List Item). flat_map items_of (part_at p b) ++ r) (items_of_parts_from_are_items_from (step p b) bytes)
     ∙ ap (λ (r : List Item). r ++ items_from (step p b) bytes) (items_of_part_are_ends p b)
 
-pub items_of_parts : (bytes : List ℕ) → flat_map items_of (parts bytes) ≡ items bytes
-items_of_parts bytes = items_of_parts_from Between bytes
+pub items_of_parts_are_items_of_stream : (bytes : List ℕ) → flat_map items_of (parts bytes) ≡ items bytes
+items_of_parts_are_items_of_stream bytes = items_of_parts_from_are_items_from Between bytes
 
 plain_after_plain_byte : (raw : List ℕ) (b : ℕ) → IsPlain raw → (b ≡ 36 → ⊥) → (b ≡ 35 → ⊥) → IsPlain (raw ++ b ∷ [])
 unfolding IsPlain
@@ -109,8 +109,8 @@ is_between (Inside raw) = false
 is_between (Summing raw) = false
 is_between (Digit raw a) = false
 
-not_between_if_test_false : (p : Place) → is_between p ≡ false → p ≡ Between → ⊥
-not_between_if_test_false p isnt is = false≢true (sym isnt ∙ ap is_between is)
+place_is_not_between_if_is_between_is_false : (p : Place) → is_between p ≡ false → p ≡ Between → ⊥
+place_is_not_between_if_is_between_is_false p isnt is = false≢true (sym isnt ∙ ap is_between is)
 
 abbrev AreAllParts : List Part → Type 0
 AreAllParts parts = AllByRecursion IsPart parts
@@ -121,7 +121,7 @@ part_between_packets_and_rest_are_parts b false rest isnt all = (eqb-false b 36 
 
 part_inside_packet_and_rest_are_parts : (raw : List ℕ) (t : Bool) (rest : List Part) → IsPlain raw → AreAllParts rest
     → AreAllParts (cond t (CutOff (36 ∷ raw) ∷ []) [] ++ rest)
-part_inside_packet_and_rest_are_parts raw true rest plain all = ((Inside raw, refl, plain, not_between_if_test_false (Inside raw) refl), all)
+part_inside_packet_and_rest_are_parts raw true rest plain all = ((Inside raw, refl, plain, place_is_not_between_if_is_between_is_false (Inside raw) refl), all)
 part_inside_packet_and_rest_are_parts raw false rest plain all = all
 
 part_at_place_and_rest_are_parts : (p : Place) (b : ℕ) (rest : List Part) → IsPlainPlace p → AreAllParts rest → AreAllParts (part_at p b ++ rest)
@@ -133,9 +133,9 @@ part_at_place_and_rest_are_parts (Digit raw a) b rest plain all = (plain, all)
 parts_from_are_parts : (p : Place) (bytes : List ℕ) → IsPlainPlace p → AreAllParts (parts_from p bytes)
 unfolding parts_from
 parts_from_are_parts Between [] plain = tt
-parts_from_are_parts (Inside raw) [] plain = ((Inside raw, refl, plain, not_between_if_test_false (Inside raw) refl), tt)
-parts_from_are_parts (Summing raw) [] plain = ((Summing raw, refl, plain, not_between_if_test_false (Summing raw) refl), tt)
-parts_from_are_parts (Digit raw a) [] plain = ((Digit raw a, refl, plain, not_between_if_test_false (Digit raw a) refl), tt)
+parts_from_are_parts (Inside raw) [] plain = ((Inside raw, refl, plain, place_is_not_between_if_is_between_is_false (Inside raw) refl), tt)
+parts_from_are_parts (Summing raw) [] plain = ((Summing raw, refl, plain, place_is_not_between_if_is_between_is_false (Summing raw) refl), tt)
+parts_from_are_parts (Digit raw a) [] plain = ((Digit raw a, refl, plain, place_is_not_between_if_is_between_is_false (Digit raw a) refl), tt)
 parts_from_are_parts p (b ∷ bytes) plain =
     part_at_place_and_rest_are_parts p b (parts_from (step p b) bytes) plain (parts_from_are_parts (step p b) bytes (step_keeps_plain_place p b plain))
 

@@ -23,15 +23,15 @@ take_of_push_ignores_take n xs b true long =
     ∙ sym (take-append-le n xs (b ∷ []) (omega (arith, h)))
 take_of_push_ignores_take n xs b false short = ap (λ (r : List ℕ). take n (r ++ b ∷ [])) (take_all n xs (ltb-false n (length xs) short))
 
-packet_item_too_long : (raw : List ℕ) (a b : ℕ) → 4096 < length raw → packet_item raw a b ≡ TooLong
-packet_item_too_long raw a b h =
+packet_item_of_long_packet_is_too_long : (raw : List ℕ) (a b : ℕ) → 4096 < length raw → packet_item raw a b ≡ TooLong
+packet_item_of_long_packet_is_too_long raw a b h =
     ap (λ (t : Bool). cond t TooLong (cond (is_number (two_digits a b) (checksum raw)) (Packet (unescaped raw)) BadSum))
     (lt-ltb 4096 (length raw) h)
 
 packet_item_ignores_take : (raw : List ℕ) (a b : ℕ) (t : Bool) → ltb 4096 (length raw) ≡ t → packet_item (take 4097 raw) a b ≡ packet_item raw a b
 packet_item_ignores_take raw a b true long =
     let h : 4096 < length raw = ltb-true 4096 (length raw) long in
-    packet_item_too_long (take 4097 raw) a b (omega (arith, length-take 4097 raw, h)) ∙ sym (packet_item_too_long raw a b h)
+    packet_item_of_long_packet_is_too_long (take 4097 raw) a b (omega (arith, length-take 4097 raw, h)) ∙ sym (packet_item_of_long_packet_is_too_long raw a b h)
 packet_item_ignores_take raw a b false short =
     let h : length raw ≤ 4096 = ltb-false 4096 (length raw) short in
     ap (λ (r : List ℕ). packet_item r a b) (take_all 4097 raw (omega (arith, h)))

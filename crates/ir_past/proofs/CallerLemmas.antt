@@ -10,6 +10,6 @@ pub use Rattle.ir_past.proofs.Noted.{writer_of_version_is_unique, noted_writer_i
 -- answers that are written, aren't begun or are stopped, and those that say why bytes are no coherent trace
 pub use Rattle.ir_past.proofs.Shown.{answered_if_written, not_answered_if_no_memory, not_answered_if_stopped, refusal_is_answered_or_stopped, refusal_status_is_no_failure}
 -- steps of a run: what they log, and what they do to an object that they enter, leave or pass by
-pub use Rattle.ir_past.proofs.Returning.{Enters, logged_count, log_of_own_step, log_of_other_step, target_object_after_step, other_object_after_step, IsEntering, act_emitting_entry_is_entering, exiting_thread_is_inside, entering_thread_is_not_inside, own_step_keeps_object_or_exits, other_step_adds_leaves_one_to_version_and_keeps_inside}
+pub use Rattle.ir_past.proofs.Returning.{Enters, logged_count, log_of_own_step, log_of_other_step, target_object_after_step, other_object_after_step, IsEntering, act_emitting_entry_is_entering, exiting_thread_is_inside, entering_thread_is_not_inside, own_step_not_entering_keeps_object_or_exits, other_step_adds_leaves_one_to_version_and_keeps_inside}
 -- what a thread enters it leaves
 pub use Rattle.ir_past.proofs.Leaving.{entry_is_left_in_complete_run}

@@ -13,7 +13,7 @@ use Rattle.ir_thread.specs.State.{thread_machine}
 use Rattle.ir_thread.specs.State as thread
 use Rattle.ir_thread.proofs.CallerLemmas.{thread_machine_is_lawful}
 use Rattle.ir_past.specs.Leaving.{LeavesFirst}
-use Rattle.ir_past.proofs.Returning.{Enters, target_object_after_step, IsEntering, act_emitting_entry_is_entering, exiting_thread_is_inside, entering_thread_is_not_inside, own_step_keeps_object_or_exits, other_step_adds_leaves_one_to_version_and_keeps_inside, no_other_writer_leaves_while_inside}
+use Rattle.ir_past.proofs.Returning.{Enters, target_object_after_step, IsEntering, act_emitting_entry_is_entering, exiting_thread_is_inside, entering_thread_is_not_inside, own_step_not_entering_keeps_object_or_exits, other_step_adds_leaves_one_to_version_and_keeps_inside, no_other_writer_leaves_while_inside}
 
 -- ---- the steps of a thread
 
@@ -95,9 +95,9 @@ pub record Exits {T : Type 0} (m : Machine T) (s : State T) (run : List Step) (t
   pub leaves : Emits m s run t leave (Out o a v)
   pub first : (k : ℕ) → Emits m s run t k (Out o a v) → leave ≤ k
 
-run_exits_if_rest_exits_after_own_step : {T : Type 0} (m : Machine T) (s : State T) (e : Step) (run : List Step) (t o : ℕ) (a : Access) (v : ℕ) → e.0 ≡ t
+run_exits_if_rest_exits_after_own_step_not_leaving : {T : Type 0} (m : Machine T) (s : State T) (e : Step) (run : List Step) (t o : ℕ) (a : Access) (v : ℕ) → e.0 ≡ t
     → (label m s e ≡ Out o a v → ⊥) → Exits m (after m s e) run t o a v → Exits m s (e ∷ run) t o a v
-run_exits_if_rest_exits_after_own_step m s e run t o a v own stays x = record {
+run_exits_if_rest_exits_after_own_step_not_leaving m s e run t o a v own stays x = record {
   leave = suc x.leave;
   leaves = run_emits_if_rest_emits_after_own_step m s e run t x.leave (Out o a v) own x.leaves;
   first = no_earlier;
@@ -144,8 +144,8 @@ thread_inside_exits : {T : Type 0} (m : Machine T) → IsLawful m → (s : State
     → (t o : ℕ) (a : Access) (v : ℕ) → (s.objects o).inside t ≡ Some a → (s.objects o).version ≡ v → Exits m s run t o a v
 thread_inside_exits m law s good [] ok done t o a v inside version = absurd (none-some a (sym (no_thread_is_inside_when_done m law s good done t o) ∙ inside))
 thread_inside_exits m law s good (e ∷ run) ok done t o a v inside version = elim (cases_eq e.0 t) [
-  | inl own ↦ elim (own_step_keeps_object_or_exits m s e t o own (thread_inside_does_not_enter m law s good e t o a own inside)) [
-    | inl same ↦ run_exits_if_rest_exits_after_own_step m s e run t o a v own
+  | inl own ↦ elim (own_step_not_entering_keeps_object_or_exits m s e t o own (thread_inside_does_not_enter m law s good e t o a own inside)) [
+    | inl same ↦ run_exits_if_rest_exits_after_own_step_not_leaving m s e run t o a v own
         (λ out. none-some a (sym (thread_is_outside_after_exit m s e t o a own (act_emitting_leave_is_exit (act m s e) (s.objects (target (act m s e))) o a v out)) ∙ (same.1 ∙ inside)))
         (thread_inside_exits m law (after m s e) (state_invariant_after_step m law s good e ok.0) run ok.1 done t o a v (same.1 ∙ inside) (same.0 ∙ version))
     | inr exit ↦
@@ -187,9 +187,9 @@ thread_is_inside_after_entry m s e t o a v l own enters = record {
     object : (after m s e).objects o ≡ acted (Entry o a entry.answer) e.0 (s.objects o)
     object = subst (λ q. (after m s e).objects (target q) ≡ acted q e.0 (s.objects (target q))) entry.does (target_object_after_step m s e)
 
-leaves_first_if_exits : {T : Type 0} (m : Machine T) (s : State T) (e : Step) (run : List Step) (t o : ℕ) (a : Access) (v : ℕ) → e.0 ≡ t
+leaves_first_at_zero_if_rest_exits_after_own_step : {T : Type 0} (m : Machine T) (s : State T) (e : Step) (run : List Step) (t o : ℕ) (a : Access) (v : ℕ) → e.0 ≡ t
     → Exits m (after m s e) run t o a v → LeavesFirst m s (e ∷ run) t 0 o a v
-leaves_first_if_exits m s e run t o a v own x = record {
+leaves_first_at_zero_if_rest_exits_after_own_step m s e run t o a v own x = record {
   leave = suc x.leave;
   past = omega arith;
   leaves = run_emits_if_rest_emits_after_own_step m s e run t x.leave (Out o a v) own x.leaves;
@@ -200,9 +200,9 @@ leaves_first_if_exits m s e run t o a v own x = record {
     no_earlier zero past y = absurd (omega (arith, past))
     no_earlier (suc k) past y = let low = x.first k (rest_emits_if_run_emits_after_own_step m s e run t k (Out o a v) own y) in omega (arith, low)
 
-leaves_first_after_own_step : {T : Type 0} (m : Machine T) (s : State T) (e : Step) (run : List Step) (t j o : ℕ) (a : Access) (v : ℕ) → e.0 ≡ t
+run_leaves_first_if_rest_does_after_own_step : {T : Type 0} (m : Machine T) (s : State T) (e : Step) (run : List Step) (t j o : ℕ) (a : Access) (v : ℕ) → e.0 ≡ t
     → LeavesFirst m (after m s e) run t j o a v → LeavesFirst m s (e ∷ run) t (suc j) o a v
-leaves_first_after_own_step m s e run t j o a v own x = record {
+run_leaves_first_if_rest_does_after_own_step m s e run t j o a v own x = record {
   leave = suc x.leave;
   past = (let less = x.past in omega (arith, less));
   leaves = run_emits_if_rest_emits_after_own_step m s e run t x.leave (Out o a v) own x.leaves;
@@ -213,9 +213,9 @@ leaves_first_after_own_step m s e run t j o a v own x = record {
     no_earlier zero past y = absurd (omega (arith, past))
     no_earlier (suc k) past y = let low = x.first k (omega (arith, past)) (rest_emits_if_run_emits_after_own_step m s e run t k (Out o a v) own y) in omega (arith, low)
 
-leaves_first_after_other_step : {T : Type 0} (m : Machine T) (s : State T) (e : Step) (run : List Step) (t j o : ℕ) (a : Access) (v : ℕ) → (e.0 ≡ t → ⊥)
+run_leaves_first_if_rest_does_after_other_step : {T : Type 0} (m : Machine T) (s : State T) (e : Step) (run : List Step) (t j o : ℕ) (a : Access) (v : ℕ) → (e.0 ≡ t → ⊥)
     → LeavesFirst m (after m s e) run t j o a v → LeavesFirst m s (e ∷ run) t j o a v
-leaves_first_after_other_step m s e run t j o a v other x = record {
+run_leaves_first_if_rest_does_after_other_step m s e run t j o a v other x = record {
   leave = x.leave;
   past = x.past;
   leaves = run_emits_if_rest_emits_after_other_step m s e run t x.leave (Out o a v) (λ same. other (sym same)) x.leaves;
@@ -227,7 +227,7 @@ pub entry_is_left : {T : Type 0} (m : Machine T) → IsLawful m → (s : State T
 entry_is_left m law s good [] ok done t j o a v l enters = absurd enters.1
 entry_is_left m law s good (e ∷ run) ok done t j o a v l enters = elim (cases_eq e.0 t) [
   | inl own ↦ by own (λ k y. entry_is_left m law (after m s e) (state_invariant_after_step m law s good e ok.0) run ok.1 done t k o a v l y) j enters
-  | inr other ↦ leaves_first_after_other_step m s e run t j o a v other
+  | inr other ↦ run_leaves_first_if_rest_does_after_other_step m s e run t j o a v other
       (entry_is_left m law (after m s e) (state_invariant_after_step m law s good e ok.0) run ok.1 done t j o a v l
       (rest_emits_if_run_emits_after_other_step m s e run t j (In o a v l) (λ same. other (sym same)) enters))
 ]
@@ -236,9 +236,9 @@ entry_is_left m law s good (e ∷ run) ok done t j o a v l enters = elim (cases_
         → Emits m s (e ∷ run) t j (In o a v l) → LeavesFirst m s (e ∷ run) t j o a v
     by own again zero y =
         let there = thread_is_inside_after_entry m s e t o a v l own (first_emitted_label_is_own m s e run t (In o a v l) own y) in
-        leaves_first_if_exits m s e run t o a v own
+        leaves_first_at_zero_if_rest_exits_after_own_step m s e run t o a v own
         (thread_inside_exits m law (after m s e) (state_invariant_after_step m law s good e ok.0) run ok.1 done t o a v there.inside there.version)
-    by own again (suc j) y = leaves_first_after_own_step m s e run t j o a v own (again j (rest_emits_if_run_emits_after_own_step m s e run t j (In o a v l) own y))
+    by own again (suc j) y = run_leaves_first_if_rest_does_after_own_step m s e run t j o a v own (again j (rest_emits_if_run_emits_after_own_step m s e run t j (In o a v l) own y))
 
 -- ---- the law
 

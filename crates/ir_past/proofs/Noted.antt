@@ -44,8 +44,8 @@ event_is_write_if_label_is_write (variant.Write p w k) o v l is =
     λ i. variant.Write (object i) (version i) (readers i)
 event_is_write_if_label_is_write (variant.Try p) o v l is = absurd (let bad : Refused p ≡ In o Writing v l = is in cc)
 
-write_entry_is_at_place_of_write_label : (r : Recorded) (t i o v l : ℕ) → At ((trace_of r).logs t) i (In o Writing v l) → IsWriteAt r t i o v l
-write_entry_is_at_place_of_write_label r t i o v l at =
+is_write_at_place_of_write_label_in_log : (r : Recorded) (t i o v l : ℕ) → At ((trace_of r).logs t) i (In o Writing v l) → IsWriteAt r t i o v l
+is_write_at_place_of_write_label_in_log r t i o v l at =
     let e = event_of_label_is_at_its_place (recorded_thread r t).events i (In o Writing v l) at in
     e.1 ∙ ap Some (event_is_write_if_label_is_write e.0 o v l e.2)
 
@@ -54,7 +54,7 @@ pub entered_version_was_made : (r : Recorded) → IsCoherent (length r.threads) 
     → At ((trace_of r).logs t) i (In o a (suc v) l) → (u j k : ℕ) × IsWriteAt r u j o v k
 entered_version_was_made r coherent t i o v a l at =
     let made = coherent.made t i o v l a at in
-    (made.0, made.1, made.2, write_entry_is_at_place_of_write_label r made.0 made.1 o v made.2 made.3)
+    (made.0, made.1, made.2, is_write_at_place_of_write_label_in_log r made.0 made.1 o v made.2 made.3)
 
 -- ---- the versions below a write entry's are made
 
@@ -170,12 +170,12 @@ overwriter_is_noted_if_read_is_stale r m n t i j o v w coherent all h s none =
     h.noted made.0 made.1 o v made.2 made.3 (inl (omega (arith, event_is_of_existing_thread r made.0 made.1 _ made.3, all))) none
 
 -- a write entry was noted, unless memory ran out
-pub makes_after_noted_write : {A E : Type 0} (result : Result A E) (r : Recorded) (t n o v l : ℕ) (a b : Makers) (p : Place) → IsWriteAt r t n o v l
+pub makes_on_ok_after_write : {A E : Type 0} (result : Result A E) (r : Recorded) (t n o v l : ℕ) (a b : Makers) (p : Place) → IsWriteAt r t n o v l
     → p.thread ≡ t → p.event ≡ n → Makes r t n a → OnOk result (vec_len b.objects ≡ vec_len a.objects)
     → OnOk result ((q w : ℕ) → maker_in b q w ≡ (if (q == o) && (w == v) then Some p else maker_in a q w))
     → OnOk result (Makes r t (n + 1) b)
-makes_after_noted_write (Ok x) r t n o v l a b p at thread event h objects noted = makes_after_write r t n o v l a b p at thread event objects noted h
-makes_after_noted_write (Err e) r t n o v l a b p at thread event h objects noted = tt
+makes_on_ok_after_write (Ok x) r t n o v l a b p at thread event h objects noted = makes_after_write r t n o v l a b p at thread event objects noted h
+makes_on_ok_after_write (Err e) r t n o v l a b p at thread event h objects noted = tt
 
 pub makes_of_equal_thread : (r : Recorded) (t n : ℕ) (m : Makers) → t ≡ n → Makes r t 0 m → Makes r n 0 m
 makes_of_equal_thread r t n m same h = subst (λ z. Makes r z 0 m) same h

@@ -20,9 +20,9 @@ use Rattle.ir_past.proofs.Tables.{get_or_of_replicate_none}
 slice_get_is_unique : (es : List Event) (k : ℕ) (a b : Event) → slice_get es k ≡ Some a → slice_get es k ≡ Some b → a ≡ b
 slice_get_is_unique es k a b x y = same_Some a b (sym x ∙ y)
 
-pub open_read_step : (es : List Event) (n o i v : ℕ) (e : Event) → slice_get es n ≡ Some e → (entered e ≡ Some o → ⊥) → IsOpen es n o i v
+pub open_read_stays_open_after_event_not_entering_object : (es : List Event) (n o i v : ℕ) (e : Event) → slice_get es n ≡ Some e → (entered e ≡ Some o → ⊥) → IsOpen es n o i v
     → IsOpen es (n + 1) o i v
-open_read_step es n o i v e at ne p = record {
+open_read_stays_open_after_event_not_entering_object es n o i v e at ne p = record {
   before = omega (arith, p.before);
   read = p.read;
   alone = λ k f after below is enters. elim (cases_lt k n) [
@@ -33,9 +33,9 @@ open_read_step es n o i v e at ne p = record {
   ];
 }
 
-pub open_read_step_back : (es : List Event) (n o i v : ℕ) (e : Event) → slice_get es n ≡ Some e → (entered e ≡ Some o → ⊥) → IsOpen es (n + 1) o i v
+pub open_read_was_open_before_event_not_entering_object : (es : List Event) (n o i v : ℕ) (e : Event) → slice_get es n ≡ Some e → (entered e ≡ Some o → ⊥) → IsOpen es (n + 1) o i v
     → IsOpen es n o i v
-open_read_step_back es n o i v e at ne p = elim (cases_lt i n) [
+open_read_was_open_before_event_not_entering_object es n o i v e at ne p = elim (cases_lt i n) [
   | inl less ↦ record {
     before = less;
     read = p.read;
@@ -47,8 +47,8 @@ open_read_step_back es n o i v e at ne p = elim (cases_lt i n) [
 ]
 
 -- an entry of the object at n leaves none before it open
-pub open_read_is_at_entering_event : (es : List Event) (n o i v : ℕ) (e : Event) → slice_get es n ≡ Some e → entered e ≡ Some o → IsOpen es (n + 1) o i v → i ≡ n
-open_read_is_at_entering_event es n o i v e at enters p = elim (cases_lt i n) [
+pub read_open_just_after_entering_event_is_that_event : (es : List Event) (n o i v : ℕ) (e : Event) → slice_get es n ≡ Some e → entered e ≡ Some o → IsOpen es (n + 1) o i v → i ≡ n
+read_open_just_after_entering_event_is_that_event es n o i v e at enters p = elim (cases_lt i n) [
   | inl less ↦ absurd (p.alone n e less (omega arith) at enters)
   | inr not ↦ omega (arith, p.before, not)
 ]
@@ -82,8 +82,8 @@ holds_open_at_start es n = record {
 pub holds_open_after_other_event : (es : List Event) (n : ℕ) (table : List (Option ReadEntry)) (e : Event) → slice_get es n ≡ Some e
     → ((o : ℕ) → entered e ≡ Some o → ⊥) → HoldsOpen es n table → HoldsOpen es (n + 1) table
 holds_open_after_other_event es n table e at ne h = record {
-  found = λ o x is. open_read_step es n o x.event x.version e at (ne o) (h.found o x is);
-  all = λ o i v p is. h.all o i v (open_read_step_back es n o i v e at (ne o) p) is;
+  found = λ o x is. open_read_stays_open_after_event_not_entering_object es n o x.event x.version e at (ne o) (h.found o x is);
+  all = λ o i v p is. h.all o i v (open_read_was_open_before_event_not_entering_object es n o i v e at (ne o) p) is;
 }
 
 entered_object_is_unique : (o p : ℕ) (e : Event) → entered e ≡ Some p → (p ≡ o → ⊥) → entered e ≡ Some o → ⊥
@@ -94,12 +94,12 @@ pub holds_open_after_read : (es : List Event) (n p v : ℕ) (table : List (Optio
 holds_open_after_read es n p v table at within h = record {
   found = λ o x is. elim (cases_eq p o) [
     | inl here ↦ found_here o x here is
-    | inr ne ↦ open_read_step es n o x.event x.version (Read p v) at (entered_object_is_unique o p (Read p v) refl ne)
+    | inr ne ↦ open_read_stays_open_after_event_not_entering_object es n o x.event x.version (Read p v) at (entered_object_is_unique o p (Read p v) refl ne)
         (h.found o x (sym (get_or_after_set_elsewhere table p o new None ne) ∙ is))
   ];
   all = λ o i w q is. elim (cases_eq p o) [
     | inl here ↦ none-some entry (sym (subst (λ z. last_read (slice_set table p new) z ≡ None) (sym here) is) ∙ get_or_after_set table p new None within)
-    | inr ne ↦ h.all o i w (open_read_step_back es n o i w (Read p v) at (entered_object_is_unique o p (Read p v) refl ne) q) (sym (get_or_after_set_elsewhere table p o new None ne) ∙ is)
+    | inr ne ↦ h.all o i w (open_read_was_open_before_event_not_entering_object es n o i w (Read p v) at (entered_object_is_unique o p (Read p v) refl ne) q) (sym (get_or_after_set_elsewhere table p o new None ne) ∙ is)
   ];
 }
   where
@@ -124,19 +124,19 @@ holds_open_after_write es n p v l table at within h = record {
   found = λ o x is. elim (cases_eq p o) [
     | inl here ↦ absurd (none-some x (sym (get_or_after_set table p None None within)
         ∙ subst (λ z. last_read (slice_set table p None) z ≡ Some x) (sym here) is))
-    | inr ne ↦ open_read_step es n o x.event x.version (Write p v l) at (entered_object_is_unique o p (Write p v l) refl ne)
+    | inr ne ↦ open_read_stays_open_after_event_not_entering_object es n o x.event x.version (Write p v l) at (entered_object_is_unique o p (Write p v l) refl ne)
         (h.found o x (sym (get_or_after_set_elsewhere table p o None None ne) ∙ is))
   ];
   all = λ o i w q is. elim (cases_eq p o) [
     | inl here ↦ not_open o i w here q
-    | inr ne ↦ h.all o i w (open_read_step_back es n o i w (Write p v l) at (entered_object_is_unique o p (Write p v l) refl ne) q)
+    | inr ne ↦ h.all o i w (open_read_was_open_before_event_not_entering_object es n o i w (Write p v l) at (entered_object_is_unique o p (Write p v l) refl ne) q)
         (sym (get_or_after_set_elsewhere table p o None None ne) ∙ is)
   ];
 }
   where
     not_open : (o i w : ℕ) → p ≡ o → IsOpen es (n + 1) o i w → ⊥
     not_open o i w here q =
-        let place : i ≡ n = open_read_is_at_entering_event es n o i w (Write p v l) at (ap Some here) q in
+        let place : i ≡ n = read_open_just_after_entering_event_is_that_event es n o i w (Write p v l) at (ap Some here) q in
         let same : Read o w ≡ Write p v l =
         slice_get_is_unique es n (Read o w) (Write p v l) (subst (λ z. slice_get es z ≡ Some (Read o w)) place q.read) at in
         cc
@@ -151,14 +151,14 @@ pub open_read_makes_later_write_stale : (es : List Event) (i n o v w l : ℕ) �
 open_read_makes_later_write_stale es i n o v w l p at over = record { readers = l; read = p.read; write = at; later = p.before; next = p.alone; over = over }
 
 -- an event that is no write entry is no stale write
-pub other_event_is_not_stale : (es : List Event) (n : ℕ) (e : Event) → slice_get es n ≡ Some e → ((o v l : ℕ) → e ≡ Write o v l → ⊥) → (i o v w : ℕ)
+pub event_other_than_write_is_not_stale_write : (es : List Event) (n : ℕ) (e : Event) → slice_get es n ≡ Some e → ((o v l : ℕ) → e ≡ Write o v l → ⊥) → (i o v w : ℕ)
     → IsStaleIn es i n o v w → ⊥
-other_event_is_not_stale es n e at ne i o v w s = ne o w s.readers (slice_get_is_unique es n e (Write o w s.readers) at s.write)
+event_other_than_write_is_not_stale_write es n e at ne i o v w s = ne o w s.readers (slice_get_is_unique es n e (Write o w s.readers) at s.write)
 
 -- a write entry is none where no read entry at an earlier version is open
-pub write_not_stale_without_open_read : (es : List Event) (n p w l : ℕ) (table : List (Option ReadEntry)) → slice_get es n ≡ Some (Write p w l) → HoldsOpen es n table
+pub write_is_not_stale_unless_last_read_is_older : (es : List Event) (n p w l : ℕ) (table : List (Option ReadEntry)) → slice_get es n ≡ Some (Write p w l) → HoldsOpen es n table
     → ((e : ReadEntry) → last_read table p ≡ Some e → e.version < w → ⊥) → (i o v u : ℕ) → IsStaleIn es i n o v u → ⊥
-write_not_stale_without_open_read es n p w l table at h none i o v u s =
+write_is_not_stale_unless_last_read_is_older es n p w l table at h none i o v u s =
     let same : Write o u s.readers ≡ Write p w l = slice_get_is_unique es n _ _ s.write at in
     let object : o ≡ p = cc in
     let written : u ≡ w = cc in
@@ -201,18 +201,18 @@ pub no_stale_write_if_none_found : (es : List Event) (n o w l : ℕ) (table : Li
     → slice_get es n ≡ Some (Write o w l) → HoldsOpen es n table → before ≡ last_read table o
     → IfNone found ((e : ReadEntry) → before ≡ Some e → e.version < w → ⊥)
     → IfNone found ((i p v u : ℕ) → IsStaleIn es i n p v u → ⊥)
-no_stale_write_if_none_found es n o w l table before None at h same none = λ i p v u s. write_not_stale_without_open_read es n o w l table at h (λ e is less. none e (same ∙ is) less) i p v u s
+no_stale_write_if_none_found es n o w l table before None at h same none = λ i p v u s. write_is_not_stale_unless_last_read_is_older es n o w l table at h (λ e is less. none e (same ∙ is) less) i p v u s
 no_stale_write_if_none_found es n o w l table before (Some x) at h same none = tt
 
 -- ---- the objects of a log's events
 
-object_of_event_fits : (profile : Profile) (objects o : ℕ) (e : Event) → IsEvent profile objects e → entered e ≡ Some o → o < objects
-object_of_event_fits profile objects o (Answer kind value) fits is = absurd (none-some o is)
-object_of_event_fits profile objects o (Read p v) fits is = subst (λ z. z < objects) (same_Some p o is) fits.0
-object_of_event_fits profile objects o (Write p v l) fits is = subst (λ z. z < objects) (same_Some p o is) fits.0
-object_of_event_fits profile objects o (Try p) fits is = absurd (none-some o is)
+object_entered_by_event_is_below_object_count : (profile : Profile) (objects o : ℕ) (e : Event) → IsEvent profile objects e → entered e ≡ Some o → o < objects
+object_entered_by_event_is_below_object_count profile objects o (Answer kind value) fits is = absurd (none-some o is)
+object_entered_by_event_is_below_object_count profile objects o (Read p v) fits is = subst (λ z. z < objects) (same_Some p o is) fits.0
+object_entered_by_event_is_below_object_count profile objects o (Write p v l) fits is = subst (λ z. z < objects) (same_Some p o is) fits.0
+object_entered_by_event_is_below_object_count profile objects o (Try p) fits is = absurd (none-some o is)
 
 pub events_fit_objects : (profile : Profile) (objects : ℕ) (es : List Event) → AllByRecursion (IsEvent profile objects) es → Fits es objects
 events_fit_objects profile objects [] all k o e at is = absurd (none-some e at)
-events_fit_objects profile objects (x ∷ xs) all zero o e at is = object_of_event_fits profile objects o x all.0 (ap entered (same_Some x e at) ∙ is)
+events_fit_objects profile objects (x ∷ xs) all zero o e at is = object_entered_by_event_is_below_object_count profile objects o x all.0 (ap entered (same_Some x e at) ∙ is)
 events_fit_objects profile objects (x ∷ xs) all (suc k) o e at is = events_fit_objects profile objects xs all.1 k o e at is

@@ -9,14 +9,14 @@ use Rattle.ir_past.specs.Tables.{read_in}
 use Rattle.ir_past.specs.Progress.{ReadBefore, HasReads}
 use Rattle.ir_past.specs.declared.place.Place.{Place}
 use Rattle.ir_past.specs.declared.reads.Reads.{Reads}
-use Rattle.ir_past.proofs.Reading.{read_before_first_event, read_before_step_without_read, read_before_step_with_read, read_before_next_thread, are_readers_if_read_to_end}
+use Rattle.ir_past.proofs.Reading.{nothing_is_read_before_first_event, read_before_step_without_read, read_before_step_with_read, read_before_next_thread, are_readers_if_read_to_end}
 
 -- ---- what is noted
 
 pub has_reads_at_start : (r : Recorded) (m : Reads) → vec_len m.objects ≡ r.objects → ((o v : ℕ) → read_in m o v ≡ []) → HasReads r 0 0 m
 has_reads_at_start r m objects none = record {
   objects = objects;
-  each = λ o v. subst (ReadBefore r o v 0 0) (sym (none o v)) (read_before_first_event r o v);
+  each = λ o v. subst (ReadBefore r o v 0 0) (sym (none o v)) (nothing_is_read_before_first_event r o v);
 }
 
 -- an event that is no read entry
@@ -66,12 +66,12 @@ has_reads_after_read r t n o v a b p at thread event objects noted h = record {
         (read_before_step_without_read r q w t n (read_in a q w) (variant.Read o v) at (other q w e) (h.each q w))
 
 -- a read entry was noted, unless memory ran out
-pub has_reads_after_noted_read : {A E : Type 0} (result : Result A E) (r : Recorded) (t n o v : ℕ) (a b : Reads) (p : Place) → IsReadAt r t n o v
+pub has_reads_on_ok_after_read : {A E : Type 0} (result : Result A E) (r : Recorded) (t n o v : ℕ) (a b : Reads) (p : Place) → IsReadAt r t n o v
     → p.thread ≡ t → p.event ≡ n → HasReads r t n a → OnOk result (vec_len b.objects ≡ vec_len a.objects)
     → OnOk result ((q w : ℕ) → read_in b q w ≡ (if (q == o) && (w == v) then read_in a o v ++ p ∷ [] else read_in a q w))
     → OnOk result (HasReads r t (n + 1) b)
-has_reads_after_noted_read (Ok x) r t n o v a b p at thread event h objects noted = has_reads_after_read r t n o v a b p at thread event objects noted h
-has_reads_after_noted_read (Err e) r t n o v a b p at thread event h objects noted = tt
+has_reads_on_ok_after_read (Ok x) r t n o v a b p at thread event h objects noted = has_reads_after_read r t n o v a b p at thread event objects noted h
+has_reads_on_ok_after_read (Err e) r t n o v a b p at thread event h objects noted = tt
 
 -- all events of a thread
 pub has_reads_before_next_thread : (r : Recorded) (t n : ℕ) (m : Reads) → length (recorded_thread r t).events ≤ n → HasReads r t n m → HasReads r (t + 1) 0 m

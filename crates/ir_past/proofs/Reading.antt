@@ -10,14 +10,14 @@ use Rattle.ir_coherence.specs.Before.{IsBefore}
 use Rattle.ir_past.specs.Past.{event_at, IsReadAt, HasPlace, AreReaders}
 use Rattle.ir_past.specs.Progress.{ReadBefore}
 use Rattle.ir_past.specs.declared.place.Place.{Place}
-use Rattle.ir_past.proofs.Rows.{before_next_event, before_next_event_cases, before_next_thread, event_is_of_existing_thread}
+use Rattle.ir_past.proofs.Rows.{before_next_event_if_before_event, before_next_event_cases, before_start_of_next_thread_if_before_event, event_is_of_existing_thread}
 
 nothing_before_first_event : (u j : ℕ) → IsBefore u j 0 0 → ⊥
 nothing_before_first_event u j (inl less) = omega (arith, less)
 nothing_before_first_event u j (inr here) = omega (arith, here.1)
 
-pub read_before_first_event : (r : Recorded) (o v : ℕ) → ReadBefore r o v 0 0 []
-read_before_first_event r o v = record {
+pub nothing_is_read_before_first_event : (r : Recorded) (o v : ℕ) → ReadBefore r o v 0 0 []
+nothing_is_read_before_first_event r o v = record {
   sound = λ k p is. absurd (none-some p is);
   before = λ k p is. absurd (none-some p is);
   complete = λ u i is b. absurd (nothing_before_first_event u i b);
@@ -29,7 +29,7 @@ pub read_before_step_without_read : (r : Recorded) (o v t n : ℕ) (places : Lis
     → ReadBefore r o v t n places → ReadBefore r o v t (n + 1) places
 read_before_step_without_read r o v t n places e at ne h = record {
   sound = h.sound;
-  before = λ k p is. before_next_event p.thread p.event t n (h.before k p is);
+  before = λ k p is. before_next_event_if_before_event p.thread p.event t n (h.before k p is);
   complete = λ u i is b. elim (before_next_event_cases u i t n b) [
     | inl less ↦ h.complete u i is less
     | inr here ↦ absurd (ne (same_Some e (variant.Read o v) (sym at
@@ -47,7 +47,7 @@ read_before_step_with_read r o v p places at h = record {
     | inr new ↦ subst (λ (z : Place). IsReadAt r z.thread z.event o v) new.1 at
   ];
   before = λ k q is. elim (slice_get_after_push_cases places p k q is) [
-    | inl old ↦ before_next_event q.thread q.event p.thread p.event (h.before k q old)
+    | inl old ↦ before_next_event_if_before_event q.thread q.event p.thread p.event (h.before k q old)
     | inr new ↦ subst (λ (z : Place). IsBefore z.thread z.event p.thread (p.event + 1)) new.1 (inr (refl, omega arith))
   ];
   complete = λ u i is b. elim (before_next_event_cases u i p.thread p.event b) [
@@ -80,7 +80,7 @@ pub read_before_next_thread : (r : Recorded) (o v t n : ℕ) (places : List Plac
     → ReadBefore r o v (t + 1) 0 places
 read_before_next_thread r o v t n places all h = record {
   sound = h.sound;
-  before = λ k p is. before_next_thread p.thread p.event t n (h.before k p is);
+  before = λ k p is. before_start_of_next_thread_if_before_event p.thread p.event t n (h.before k p is);
   complete = λ u i is b. elim (cases_eq u t) [
     | inl here ↦ h.complete u i is (inr (here, within u i here is))
     | inr ne ↦ h.complete u i is (inl (below u i ne b))

@@ -83,17 +83,17 @@ unfolding after
 other_object_after_step m s e o ne = upd_at_other_place s.objects (target (act m s e)) o (acted (act m s e) e.0 (s.objects (target (act m s e)))) ne
 
 -- what an act of the thread that takes it does to the object that it is about, but for entries and leaves
-own_act_keeps_object_or_exits : (q : Act) (b : Object) (t o : ℕ) → target q ≡ o → (Enters o (emitted q b) → ⊥)
+own_act_not_entering_keeps_object_or_exits : (q : Act) (b : Object) (t o : ℕ) → target q ≡ o → (Enters o (emitted q b) → ⊥)
     → (((acted q t b).version ≡ b.version) × ((acted q t b).inside t ≡ b.inside t)) ⊎ ((a : Access) × (q ≡ Exit o a))
-own_act_keeps_object_or_exits Silent b t o same free = inl (refl, refl)
-own_act_keeps_object_or_exits (Result k x) b t o same free = inl (refl, refl)
-own_act_keeps_object_or_exits (Entry p Reading x) b t o same free = absurd (free same)
-own_act_keeps_object_or_exits (Entry p Writing x) b t o same free = absurd (free same)
-own_act_keeps_object_or_exits (Refusal p) b t o same free = inl (refl, refl)
-own_act_keeps_object_or_exits (Exit p a) b t o same free = inr (a, ap (λ z. Exit z a) same)
-own_act_keeps_object_or_exits (Load p i) b t o same free = inl (refl, refl)
-own_act_keeps_object_or_exits (Store p i x) b t o same free = inl (refl, refl)
-own_act_keeps_object_or_exits Never b t o same free = inl (refl, refl)
+own_act_not_entering_keeps_object_or_exits Silent b t o same free = inl (refl, refl)
+own_act_not_entering_keeps_object_or_exits (Result k x) b t o same free = inl (refl, refl)
+own_act_not_entering_keeps_object_or_exits (Entry p Reading x) b t o same free = absurd (free same)
+own_act_not_entering_keeps_object_or_exits (Entry p Writing x) b t o same free = absurd (free same)
+own_act_not_entering_keeps_object_or_exits (Refusal p) b t o same free = inl (refl, refl)
+own_act_not_entering_keeps_object_or_exits (Exit p a) b t o same free = inr (a, ap (λ z. Exit z a) same)
+own_act_not_entering_keeps_object_or_exits (Load p i) b t o same free = inl (refl, refl)
+own_act_not_entering_keeps_object_or_exits (Store p i x) b t o same free = inl (refl, refl)
+own_act_not_entering_keeps_object_or_exits Never b t o same free = inl (refl, refl)
 
 -- what an act of thread u does to the object that it is about, as thread t sees it
 other_act_adds_leaves_one_to_version_and_keeps_inside : (q : Act) (b : Object) (u t o : ℕ) → (u ≡ t → ⊥) → target q ≡ o
@@ -199,11 +199,11 @@ entering_thread_is_not_inside m law s good e o a x is = good.linked e.0 o ∙ en
 -- ---- one step
 
 -- a step of thread t that doesn't enter object o leaves it, or changes neither its version nor how t is inside
-pub own_step_keeps_object_or_exits : {T : Type 0} (m : Machine T) (s : State T) (e : Step) (t o : ℕ) → e.0 ≡ t → (Enters o (label m s e) → ⊥)
+pub own_step_not_entering_keeps_object_or_exits : {T : Type 0} (m : Machine T) (s : State T) (e : Step) (t o : ℕ) → e.0 ≡ t → (Enters o (label m s e) → ⊥)
     → ((((after m s e).objects o).version ≡ (s.objects o).version) × (((after m s e).objects o).inside t ≡ (s.objects o).inside t))
     ⊎ ((a : Access) × (act m s e ≡ Exit o a))
-own_step_keeps_object_or_exits m s e t o own free = elim (cases_eq (target (act m s e)) o) [
-  | inl here ↦ elim (own_act_keeps_object_or_exits (act m s e) (s.objects (target (act m s e))) e.0 o here free) [
+own_step_not_entering_keeps_object_or_exits m s e t o own free = elim (cases_eq (target (act m s e)) o) [
+  | inl here ↦ elim (own_act_not_entering_keeps_object_or_exits (act m s e) (s.objects (target (act m s e))) e.0 o here free) [
     | inl h ↦ inl (subst (λ z. (((after m s e).objects z).version ≡ (s.objects z).version) × (((after m s e).objects z).inside t ≡ (s.objects z).inside t)) here (
       ap (λ z. z.version) (target_object_after_step m s e) ∙ h.0,
       ap (λ z. z.inside t) (target_object_after_step m s e) ∙ subst (λ z. (acted (act m s e) e.0 (s.objects (target (act m s e)))).inside z
@@ -275,16 +275,16 @@ comes_back_after_other_step m s e run t j o w other version c = record {
   counted = (let rest = c.counted in omega (arith, rest, version));
 }
 
-outside_thread_comes_back : {T : Type 0} (m : Machine T) → IsLawful m → (s : State T) → StateInvariant m s → (run : List Step) → IsRun m s run → (t j o w l : ℕ)
+outside_thread_comes_back_at_its_next_write : {T : Type 0} (m : Machine T) → IsLawful m → (s : State T) → StateInvariant m s → (run : List Step) → IsRun m s run → (t j o w l : ℕ)
     → (s.objects o).inside t ≡ None → IsNextWrite (log m s run t) j o w l → ComesBack m s run t j o w
-outside_thread_comes_back m law s good [] ok t j o w l out h = absurd h.at
-outside_thread_comes_back m law s good (e ∷ run) ok t j o w l out h = elim (cases_eq e.0 t) [
-  | inl own ↦ by own (λ n free next. outside_thread_comes_back m law (after m s e) (state_invariant_after_step m law s good e ok.0) run ok.1 t n o w l free next)
+outside_thread_comes_back_at_its_next_write m law s good [] ok t j o w l out h = absurd h.at
+outside_thread_comes_back_at_its_next_write m law s good (e ∷ run) ok t j o w l out h = elim (cases_eq e.0 t) [
+  | inl own ↦ by own (λ n free next. outside_thread_comes_back_at_its_next_write m law (after m s e) (state_invariant_after_step m law s good e ok.0) run ok.1 t n o w l free next)
       (next_write_cases (label m s e) (log m (after m s e) run t) j o w l
       (subst (λ (ks : List Label). IsNextWrite ks j o w l) (log_of_own_step m s e run t own) h))
   | inr other ↦ let step = other_step_adds_leaves_one_to_version_and_keeps_inside m s e t o other in
       comes_back_after_other_step m s e run t j o w other step.0
-      (outside_thread_comes_back m law (after m s e) (state_invariant_after_step m law s good e ok.0) run ok.1 t j o w l (step.1 ∙ out)
+      (outside_thread_comes_back_at_its_next_write m law (after m s e) (state_invariant_after_step m law s good e ok.0) run ok.1 t j o w l (step.1 ∙ out)
       (subst (λ (ks : List Label). IsNextWrite ks j o w l) (log_of_other_step m s e run t other) h))
 ]
   where
@@ -304,7 +304,7 @@ outside_thread_comes_back m law s good (e ∷ run) ok t j o w l out h = elim (ca
           number = sym is;
           counted = omega (arith, version);
         }
-    by own again (There n is none next) = elim (own_step_keeps_object_or_exits m s e t o own none) [
+    by own again (There n is none next) = elim (own_step_not_entering_keeps_object_or_exits m s e t o own none) [
       | inl same ↦ comes_back_after_own_step m s e run t j n o w own same.0 is (again n (same.1 ∙ out) next)
       | inr exit ↦ absurd (none-some exit.0 (sym out ∙ subst (λ z. (s.objects o).inside z ≡ Some exit.0) own (exiting_thread_is_inside m law s good e o exit.0 exit.1)))
     ]
@@ -351,10 +351,10 @@ no_other_writer_leaves_while_inside m law s good e t o a other inside = elim (le
 ]
 
 -- the reader leaves
-leaves_and_comes_back_at_exit : {T : Type 0} (m : Machine T) → IsLawful m → (s : State T) → StateInvariant m s → (e : Step) → Can m s e → (run : List Step)
+leaves_and_comes_back_from_exit_to_next_write : {T : Type 0} (m : Machine T) → IsLawful m → (s : State T) → StateInvariant m s → (e : Step) → Can m s e → (run : List Step)
     → IsRun m (after m s e) run → (t j o v w l : ℕ) → e.0 ≡ t → act m s e ≡ Exit o Reading → (s.objects o).version ≡ v
     → IsNextWrite (log m (after m s e) run t) j o w l → LeavesAndComesBack m s (e ∷ run) t j o v w
-leaves_and_comes_back_at_exit m law s good e can run ok t j o v w l own does version next = record {
+leaves_and_comes_back_from_exit_to_next_write m law s good e can run ok t j o v w l own does version next = record {
   before = [];
   leave = e;
   after_leave = run;
@@ -363,7 +363,7 @@ leaves_and_comes_back_at_exit m law s good e can run ok t j o v w l own does ver
   leaves = ap (λ q. emitted q (s.objects (target q))) does ∙ ap (λ z. Out o Reading z) version;
   back = j;
   number = (let same : 0 + j ≡ j = omega arith in same);
-  comes = outside_thread_comes_back m law (after m s e) (state_invariant_after_step m law s good e can) run ok t j o w l out next;
+  comes = outside_thread_comes_back_at_its_next_write m law (after m s e) (state_invariant_after_step m law s good e can) run ok t j o w l out next;
   version = ap (λ z. z.version) object ∙ version;
 }
   where
@@ -373,18 +373,18 @@ leaves_and_comes_back_at_exit m law s good e can run ok t j o v w l own does ver
     out : ((after m s e).objects o).inside t ≡ None
     out = ap (λ z. z.inside t) object ∙ subst (λ z. upd (s.objects o).inside e.0 None z ≡ None) own (upd_at_own_place (s.objects o).inside e.0 None)
 
-inside_reader_leaves_and_comes_back : {T : Type 0} (m : Machine T) → IsLawful m → (s : State T) → StateInvariant m s → (run : List Step) → IsRun m s run → (t j o v w l : ℕ)
+inside_reader_leaves_and_comes_back_at_its_next_write : {T : Type 0} (m : Machine T) → IsLawful m → (s : State T) → StateInvariant m s → (run : List Step) → IsRun m s run → (t j o v w l : ℕ)
     → (s.objects o).inside t ≡ Some Reading → (s.objects o).version ≡ v → IsNextWrite (log m s run t) j o w l → LeavesAndComesBack m s run t j o v w
-inside_reader_leaves_and_comes_back m law s good [] ok t j o v w l reads version h = absurd h.at
-inside_reader_leaves_and_comes_back m law s good (e ∷ run) ok t j o v w l reads version h = elim (cases_eq e.0 t) [
+inside_reader_leaves_and_comes_back_at_its_next_write m law s good [] ok t j o v w l reads version h = absurd h.at
+inside_reader_leaves_and_comes_back_at_its_next_write m law s good (e ∷ run) ok t j o v w l reads version h = elim (cases_eq e.0 t) [
   | inl own ↦ by own
-      (λ n inside same next. inside_reader_leaves_and_comes_back m law (after m s e) (state_invariant_after_step m law s good e ok.0) run ok.1 t n o v w l inside same next)
+      (λ n inside same next. inside_reader_leaves_and_comes_back_at_its_next_write m law (after m s e) (state_invariant_after_step m law s good e ok.0) run ok.1 t n o v w l inside same next)
       (next_write_cases (label m s e) (log m (after m s e) run t) j o w l
       (subst (λ (ks : List Label). IsNextWrite ks j o w l) (log_of_own_step m s e run t own) h))
   | inr other ↦ let step = other_step_adds_leaves_one_to_version_and_keeps_inside m s e t o other in
       let none = no_other_writer_leaves_while_inside m law s good e t o Reading other reads in
       leaves_and_comes_back_after_other_step m s e run t j o v w other
-      (inside_reader_leaves_and_comes_back m law (after m s e) (state_invariant_after_step m law s good e ok.0) run ok.1 t j o v w l (step.1 ∙ reads)
+      (inside_reader_leaves_and_comes_back_at_its_next_write m law (after m s e) (state_invariant_after_step m law s good e ok.0) run ok.1 t j o v w l (step.1 ∙ reads)
       (let same = step.0 in omega (arith, same, none, version))
       (subst (λ (ks : List Label). IsNextWrite ks j o w l) (log_of_other_step m s e run t other) h))
 ]
@@ -396,13 +396,13 @@ inside_reader_leaves_and_comes_back m law s good (e ∷ run) ok t j o v w l read
         let own_entry = act_emitting_entry_is_entering (act m s e) (s.objects (target (act m s e))) o Writing w l k in
         absurd (none-some Reading (sym (subst (λ z. (s.objects o).inside z ≡ None) own
         (entering_thread_is_not_inside m law s good e o Writing own_entry.answer own_entry.does)) ∙ reads))
-    by own again (There n is none next) = elim (own_step_keeps_object_or_exits m s e t o own none) [
+    by own again (There n is none next) = elim (own_step_not_entering_keeps_object_or_exits m s e t o own none) [
       | inl same ↦ leaves_and_comes_back_after_own_step m s e run t j n o v w own is (again n (same.1 ∙ reads) (same.0 ∙ version) next)
       | inr exit ↦ let held = subst (λ z. (s.objects o).inside z ≡ Some exit.0) own (exiting_thread_is_inside m law s good e o exit.0 exit.1) in
           let access : exit.0 ≡ Reading = same_Some exit.0 Reading (sym held ∙ reads) in
           let does : act m s e ≡ Exit o Reading = exit.1 ∙ ap (Exit o) access in
           let quiet : logged_count (label m s e) ≡ 0 = ap (λ q. logged_count (emitted q (s.objects (target q)))) does in
-          leaves_and_comes_back_at_exit m law s good e ok.0 run ok.1 t j o v w l own does version
+          leaves_and_comes_back_from_exit_to_next_write m law s good e ok.0 run ok.1 t j o v w l own does version
           (subst (λ z. IsNextWrite (log m (after m s e) run t) z o w l) (let same : n ≡ j = omega (arith, is, quiet) in same) next)
     ]
 
@@ -471,10 +471,10 @@ reads_and_comes_back_after_other_step m s e run t i j o v w other c = record {
 }
 
 -- the reader enters
-reads_and_comes_back_at_entry : {T : Type 0} (m : Machine T) → IsLawful m → (s : State T) → StateInvariant m s → (e : Step) → Can m s e → (run : List Step)
+reads_and_comes_back_from_read_entry_to_next_write : {T : Type 0} (m : Machine T) → IsLawful m → (s : State T) → StateInvariant m s → (e : Step) → Can m s e → (run : List Step)
     → IsRun m (after m s e) run → (t n o v w l : ℕ) → e.0 ≡ t → label m s e ≡ In o Reading v 0
     → IsNextWrite (log m (after m s e) run t) n o w l → (i j : ℕ) → i ≡ 0 → j ≡ 1 + n → ReadsAndComesBack m s (e ∷ run) t i j o v w
-reads_and_comes_back_at_entry m law s good e can run ok t n o v w l own reads next i j first second = record {
+reads_and_comes_back_from_read_entry_to_next_write m law s good e can run ok t n o v w l own reads next i j first second = record {
   before = [];
   read = e;
   after_read = run;
@@ -484,7 +484,7 @@ reads_and_comes_back_at_entry m law s good e can run ok t n o v w l own reads ne
   number = sym first;
   later = n;
   place = omega (arith, first, second);
-  comes = inside_reader_leaves_and_comes_back m law (after m s e) (state_invariant_after_step m law s good e can) run ok t n o v w l inside version next;
+  comes = inside_reader_leaves_and_comes_back_at_its_next_write m law (after m s e) (state_invariant_after_step m law s good e can) run ok t n o v w l inside version next;
 }
   where
     entry : IsEntering (act m s e) (s.objects (target (act m s e))) o Reading v
@@ -500,21 +500,21 @@ reads_and_comes_back_at_entry m law s good e can run ok t n o v w l own reads ne
     version : ((after m s e).objects o).version ≡ v
     version = ap (λ z. z.version) object ∙ ap (λ z. (s.objects (target z)).version) (sym entry.does) ∙ entry.version
 
-reader_reads_and_comes_back : {T : Type 0} (m : Machine T) → IsLawful m → (s : State T) → StateInvariant m s → (run : List Step) → IsRun m s run
+run_reads_and_comes_back_if_log_has_read_write_pair : {T : Type 0} (m : Machine T) → IsLawful m → (s : State T) → StateInvariant m s → (run : List Step) → IsRun m s run
     → (t i j o v w l : ℕ) → IsReadWritePair (log m s run t) i j o v w l → ReadsAndComesBack m s run t i j o v w
-reader_reads_and_comes_back m law s good [] ok t i j o v w l h = absurd h.read
-reader_reads_and_comes_back m law s good (e ∷ run) ok t i j o v w l h = elim (cases_eq e.0 t) [
-  | inl own ↦ by own (λ a b pair. reader_reads_and_comes_back m law (after m s e) (state_invariant_after_step m law s good e ok.0) run ok.1 t a b o v w l pair)
+run_reads_and_comes_back_if_log_has_read_write_pair m law s good [] ok t i j o v w l h = absurd h.read
+run_reads_and_comes_back_if_log_has_read_write_pair m law s good (e ∷ run) ok t i j o v w l h = elim (cases_eq e.0 t) [
+  | inl own ↦ by own (λ a b pair. run_reads_and_comes_back_if_log_has_read_write_pair m law (after m s e) (state_invariant_after_step m law s good e ok.0) run ok.1 t a b o v w l pair)
       (read_write_pair_cases (label m s e) (log m (after m s e) run t) i j o v w l
       (subst (λ (ks : List Label). IsReadWritePair ks i j o v w l) (log_of_own_step m s e run t own) h))
   | inr other ↦ reads_and_comes_back_after_other_step m s e run t i j o v w other
-      (reader_reads_and_comes_back m law (after m s e) (state_invariant_after_step m law s good e ok.0) run ok.1 t i j o v w l
+      (run_reads_and_comes_back_if_log_has_read_write_pair m law (after m s e) (state_invariant_after_step m law s good e ok.0) run ok.1 t i j o v w l
       (subst (λ (ks : List Label). IsReadWritePair ks i j o v w l) (log_of_other_step m s e run t other) h))
 ]
   where
     by : e.0 ≡ t → ((a b : ℕ) → IsReadWritePair (log m (after m s e) run t) a b o v w l → ReadsAndComesBack m (after m s e) run t a b o v w)
         → PairCases (label m s e) (log m (after m s e) run t) i j o v w l → ReadsAndComesBack m s (e ∷ run) t i j o v w
-    by own again (Read k first n second next) = reads_and_comes_back_at_entry m law s good e ok.0 run ok.1 t n o v w l own k next i j first second
+    by own again (Read k first n second next) = reads_and_comes_back_from_read_entry_to_next_write m law s good e ok.0 run ok.1 t n o v w l own k next i j first second
     by own again (Later a b first second pair) = reads_and_comes_back_after_own_step m s e run t i j a b o v w own first second (again a b pair)
 
 -- ---- the law
@@ -538,5 +538,5 @@ pub returns_counted : (code : List ℕ) (s : State thread.ThreadState) → IsSta
     → IsRun (thread_machine code) s run → (t i j o v w : ℕ) (es : List Event) → log (thread_machine code) s run t ≡ map label_of es
     → IsReturn es i j o v w → ReadsAndComesBack (thread_machine code) s run t i j o v w
 returns_counted code s start run ok t i j o v w es logs h =
-    reader_reads_and_comes_back (thread_machine code) (thread_machine_is_lawful code) s (state_invariant_at_start (thread_machine code) s start) run ok t i j o v w h.readers
+    run_reads_and_comes_back_if_log_has_read_write_pair (thread_machine code) (thread_machine_is_lawful code) s (state_invariant_at_start (thread_machine code) s start) run ok t i j o v w h.readers
     (subst (λ (ks : List Label). IsReadWritePair ks i j o v w h.readers) (sym logs) (return_is_read_write_pair es i j o v w h))

@@ -14,9 +14,9 @@ use Rattle.ir_past.specs.Progress.{HasRows}
 use Rattle.ir_past.specs.declared.stale_write.StaleWrite.{StaleWrite}
 use Rattle.ir_past.proofs.Open.{read_of_stale_write_is_unique}
 
-pub before_next_event : (u j t n : ℕ) → IsBefore u j t n → IsBefore u j t (n + 1)
-before_next_event u j t n (inl less) = inl less
-before_next_event u j t n (inr here) = inr (here.0, omega (arith, here.1))
+pub before_next_event_if_before_event : (u j t n : ℕ) → IsBefore u j t n → IsBefore u j t (n + 1)
+before_next_event_if_before_event u j t n (inl less) = inl less
+before_next_event_if_before_event u j t n (inr here) = inr (here.0, omega (arith, here.1))
 
 pub before_next_event_cases : (u j t n : ℕ) → IsBefore u j t (n + 1) → IsBefore u j t n ⊎ ((u ≡ t) × (j ≡ n))
 before_next_event_cases u j t n (inl less) = inl (inl less)
@@ -25,9 +25,9 @@ before_next_event_cases u j t n (inr here) = elim (cases_lt j n) [
   | inr not ↦ inr (here.0, omega (arith, here.1, not))
 ]
 
-pub before_next_thread : (u j t n : ℕ) → IsBefore u j t n → IsBefore u j (t + 1) 0
-before_next_thread u j t n (inl less) = inl (omega (arith, less))
-before_next_thread u j t n (inr here) = inl (omega (arith, here.0))
+pub before_start_of_next_thread_if_before_event : (u j t n : ℕ) → IsBefore u j t n → IsBefore u j (t + 1) 0
+before_start_of_next_thread_if_before_event u j t n (inl less) = inl (omega (arith, less))
+before_start_of_next_thread_if_before_event u j t n (inr here) = inl (omega (arith, here.0))
 
 -- an event that is there is one of a thread that is there
 pub event_is_of_existing_thread : (r : Recorded) (t i : ℕ) (e : Event) → event_at r t i ≡ Some e → t < length r.threads
@@ -53,7 +53,7 @@ pub has_rows_step_without_stale_write : (r : Recorded) (t n : ℕ) (rows : List 
     → ((i o v w : ℕ) → IsStale r t i n o v w → ⊥) → HasRows r t (n + 1) rows
 has_rows_step_without_stale_write r t n rows h none = record {
   sound = h.sound;
-  before = λ k x is. before_next_event x.thread x.event t n (h.before k x is);
+  before = λ k x is. before_next_event_if_before_event x.thread x.event t n (h.before k x is);
   complete = λ u i j o v w s b. elim (before_next_event_cases u j t n b) [
     | inl less ↦ h.complete u i j o v w s less
     | inr here ↦ absurd (none i o v w (subst (λ z. IsStale r z i n o v w) here.0 (subst (λ z. IsStale r u i z o v w) here.1 s)))
@@ -80,7 +80,7 @@ has_rows_step_with_stale_write r x rows h row = record {
     | inr new ↦ subst (IsRow r) new.1 row
   ];
   before = λ k y is. elim (slice_get_after_push_cases rows x k y is) [
-    | inl old ↦ before_next_event y.thread y.event x.thread x.event (h.before k y old)
+    | inl old ↦ before_next_event_if_before_event y.thread y.event x.thread x.event (h.before k y old)
     | inr new ↦ subst (λ (z : StaleWrite). IsBefore z.thread z.event x.thread (x.event + 1)) new.1 (inr (refl, omega arith))
   ];
   complete = λ u i j o v w s b. elim (before_next_event_cases u j x.thread x.event b) [
@@ -115,7 +115,7 @@ pub has_rows_before_next_thread : (r : Recorded) (t n : ℕ) (rows : List StaleW
     → HasRows r (t + 1) 0 rows
 has_rows_before_next_thread r t n rows all h = record {
   sound = h.sound;
-  before = λ k x is. before_next_thread x.thread x.event t n (h.before k x is);
+  before = λ k x is. before_start_of_next_thread_if_before_event x.thread x.event t n (h.before k x is);
   complete = λ u i j o v w s b. elim (cases_eq u t) [
     | inl here ↦ h.complete u i j o v w s (inr (here, within u i j o v w here s))
     | inr ne ↦ h.complete u i j o v w s (inl (below u j ne b))

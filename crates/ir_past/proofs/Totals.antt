@@ -14,9 +14,9 @@ pub sum_of_drop_past_end : {X : Type 0} (f : X → ℕ) (xs : List X) (i : ℕ) 
 sum_of_drop_past_end f xs i all = at_drop_all (sum_by f) xs i all
 
 -- one more is counted
-pub total_after_next_counted : {X : Type 0} (f : X → ℕ) (xs : List X) (i : ℕ) (x : X) (n more total : ℕ) → i < length xs → more ≡ f (get_or xs i x)
+pub count_plus_rest_is_total_after_next_is_counted : {X : Type 0} (f : X → ℕ) (xs : List X) (i : ℕ) (x : X) (n more total : ℕ) → i < length xs → more ≡ f (get_or xs i x)
     → n + sum_by f (drop i xs) ≡ total → n + more + sum_by f (drop (i + 1) xs) ≡ total
-total_after_next_counted f xs i x n more total within is e = omega (arith, sum_of_drop_begins_with_next f xs i x within, is, e)
+count_plus_rest_is_total_after_next_is_counted f xs i x n more total within is e = omega (arith, sum_of_drop_begins_with_next f xs i x within, is, e)
 
 -- all are counted
 pub total_if_all_counted : {X : Type 0} (f : X → ℕ) (xs : List X) (i n total : ℕ) → length xs ≤ i → n + sum_by f (drop i xs) ≡ total → n ≡ total

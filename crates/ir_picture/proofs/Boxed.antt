@@ -299,9 +299,9 @@ are_boxes_if_boxed_to_end r n boxes all h = record {
       | inr by ↦ omega (arith, by.1, in_a.below, in_b.from)
     ]
 
-pub box_count_within_limit : (r : Recorded) (n : ℕ) (boxes : List EventBox) → n ≡ length r.threads → BoxedBefore r n 0 boxes
+pub box_count_at_most_threads_times_most_events : (r : Recorded) (n : ℕ) (boxes : List EventBox) → n ≡ length r.threads → BoxedBefore r n 0 boxes
     → length boxes ≤ length r.threads * most_events
-box_count_within_limit r n boxes all h = subst (λ z. length boxes ≤ z * most_events) all (omega (arith, h.few))
+box_count_at_most_threads_times_most_events r n boxes all h = subst (λ z. length boxes ≤ z * most_events) all (omega (arith, h.few))
 
 -- the same by the length of the list
 pub boxed_before_step_for_joined_last_box : (r : Recorded) (t n long : ℕ) (boxes : List EventBox) (own : EventBox) → long ≡ length boxes → own ≡ get_or boxes (long - 1) own

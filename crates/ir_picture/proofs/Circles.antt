@@ -21,14 +21,14 @@ use Rattle.ir_picture.specs.declared.placed_box.Point.{Point}
 use Rattle.ir_picture.specs.declared.placed_box.PlacedBox.{PlacedBox}
 use Rattle.ir_picture.specs.declared.table.Version.{Version}
 use Rattle.ir_picture.specs.declared.placing.Lane.{Lane}
-use Rattle.ir_picture.proofs.Lists.{slice_get_of_map, slice_get_before_map}
-use Rattle.ir_picture.proofs.Least.{least_above_of_equal_sets, place_after_no_events}
+use Rattle.ir_picture.proofs.Lists.{slice_get_of_map, slice_get_of_map_inverse}
+use Rattle.ir_picture.proofs.Least.{least_above_of_equal_sets, place_after_no_events_is_first_point}
 use Rattle.ir_picture.proofs.Orders.{placed_at_most_event_count, stuck_order_is_full}
 use Rattle.ir_picture.proofs.Follows.{cannot_follow_if_no_place_known}
 use Rattle.ir_picture.proofs.Cuts.{first_event_is_in_box, cut_box_begins_with_next_event, no_events_left_without_next_box}
 use Rattle.ir_picture.proofs.Known.{knows_at_start}
 use Rattle.ir_picture.proofs.Placed.{first_event_of_box_exists}
-use Rattle.ir_picture.proofs.Room.{left_of_at_most_product, near_first_point}
+use Rattle.ir_picture.proofs.Room.{left_of_at_most_lanes_times_boxes, near_first_point}
 
 -- ---- the start
 
@@ -43,7 +43,7 @@ boxes_are_being_placed_at_start r boxes lanes f are same at none few threads = r
   threads = same;
   at = λ t l is. record {
     cut = (at t l is).1;
-    free = subst (IsAfter boxes (IsOf t 0)) (sym (at t l is).0) (place_after_no_events boxes (IsOf t 0) (λ u i own. omega (arith, own.1)));
+    free = subst (IsAfter boxes (IsOf t 0)) (sym (at t l is).0) (place_after_no_events_is_first_point boxes (IsOf t 0) (λ u i own. omega (arith, own.1)));
   };
   done = λ k b is less. absurd (omega (arith, less));
   knows = knows_at_start r boxes f none;
@@ -68,7 +68,7 @@ boxes_are_being_placed_at_start r boxes lanes f are same at none few threads = r
 
     left_small : left_of boxes lanes ≤ 16 * (16 * most_events)
     left_small = few_left (length lanes) (length boxes) (left_of boxes lanes) (omega (arith, same, threads))
-        (few_boxes (length r.threads) (length boxes) threads few) (left_of_at_most_product boxes lanes)
+        (few_boxes (length r.threads) (length boxes) threads few) (left_of_at_most_lanes_times_boxes boxes lanes)
 
 -- ---- the next box of a thread, if there is one
 
@@ -101,7 +101,7 @@ events_placed_if_no_next_box r boxes lanes f h t none = elim (cases_lt (placed h
         let lane = element_below_length_exists lanes t (omega (arith, thread_there (placed h.order t) less, h.threads)) in
         no_events_left_without_next_box r (events_of_all boxes) t (placed h.order t) lane.0.next h.boxes (h.at t lane.0 lane.1).cut
         (λ a is thread.
-        let back = slice_get_before_map (λ (x : PlacedBox). x.events) boxes lane.0.next a is in
+        let back = slice_get_of_map_inverse (λ (x : PlacedBox). x.events) boxes lane.0.next a is in
         none lane.0 back.0 lane.1 back.1 (ap (λ (x : EventBox). x.thread) back.2 ∙ thread)) less
 
 -- no thread can follow where each next box waits
@@ -168,7 +168,7 @@ are_placed_if_no_next_box r boxes lanes f h over = record {
       h.done k b is (omega (arith, box.some, box.within, events_placed_if_no_next_box r boxes lanes f h b.events.thread (over b.events.thread)));
   threads = length_same lanes ∙ h.threads;
   last = λ t p is.
-      let back = slice_get_before_map (λ (l : Lane). l.free) lanes t p is in
+      let back = slice_get_of_map_inverse (λ (l : Lane). l.free) lanes t p is in
       subst (IsThreadEnd boxes t) back.2 (thread_end t back.0 back.1);
 }
   where

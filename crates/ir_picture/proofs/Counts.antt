@@ -140,8 +140,8 @@ placed_reads_step r c d t o v e is here other = sum_below_with_term_raised (leng
     (ap (λ n. reads o v (map label_of (take n (recorded_thread r t).events))) here ∙ reads_of_prefix_step o v (c t) (recorded_thread r t).events e is)
     (λ u ne. ap (λ n. reads o v (map label_of (take n (recorded_thread r u).events))) (other u ne))
 
-pub placed_reads_within_limit : (r : Recorded) (c : ℕ → ℕ) (o v : ℕ) → IsRecorded r → placed_reads r c o v ≤ length r.threads * most_events
-placed_reads_within_limit r c o v fits = sum_below_at_most_product (length r.threads) most_events (λ u. reads o v (map label_of (take (c u) (recorded_thread r u).events)))
+pub placed_reads_at_most_threads_times_most_events : (r : Recorded) (c : ℕ → ℕ) (o v : ℕ) → IsRecorded r → placed_reads r c o v ≤ length r.threads * most_events
+placed_reads_at_most_threads_times_most_events r c o v fits = sum_below_at_most_product (length r.threads) most_events (λ u. reads o v (map label_of (take (c u) (recorded_thread r u).events)))
     (λ u l. omega (arith, reads_of_prefix_at_most_length o v (c u) (recorded_thread r u).events, (recorded_thread_at_number_is_recorded r fits u l).few_events))
 
 pub placed_reads_at_start : (r : Recorded) (o v : ℕ) → placed_reads r (λ u. 0) o v ≡ 0

@@ -99,9 +99,9 @@ no_events_left_without_next_box r boxes t n k are cut none within =
         ]
 
 -- the cut behind the box at a cut
-pub cut_behind_next_box : (r : Recorded) (boxes : List EventBox) (t n k : ℕ) (b : EventBox) → AreBoxes r boxes → IsCut boxes t n k → slice_get boxes k ≡ Some b
+pub cut_after_next_box_is_its_end_and_next_index : (r : Recorded) (boxes : List EventBox) (t n k : ℕ) (b : EventBox) → AreBoxes r boxes → IsCut boxes t n k → slice_get boxes k ≡ Some b
     → b.thread ≡ t → b.event ≡ n → IsCut boxes t (n + b.count) (k + 1)
-cut_behind_next_box r boxes t n k b are cut at thread event = record {
+cut_after_next_box_is_its_end_and_next_index r boxes t n k b are cut at thread event = record {
   before = λ m a at_m less. elim (cases_lt m k) [
     | inl old ↦ elim (cut.before m a at_m old) [
       | inl lower ↦ inl lower

@@ -12,7 +12,7 @@ use Rattle.ir_picture.specs.declared.asked.Around.{Around}
 use Rattle.ir_picture.specs.declared.event_box.EventBox.{EventBox}
 use Rattle.ir_picture.specs.declared.placed_box.PlacedBox.{PlacedBox}
 use Rattle.ir_picture.specs.declared.picture.Picture.{Picture}
-use Rattle.ir_picture.proofs.Lists.{slice_get_of_map, slice_get_before_map}
+use Rattle.ir_picture.proofs.Lists.{slice_get_of_map, slice_get_of_map_inverse}
 use Rattle.ir_picture.proofs.Cuts.{boxes_are_apart}
 
 -- where an element of a list is that is left
@@ -47,8 +47,8 @@ filtered_elements_keep_order {X} test (z ∷ zs) k m x y less first second =
 
 filtered_boxes_are_apart : (test : PlacedBox → Bool) (boxes : List PlacedBox) → AreApart (events_of_all boxes) → AreApart (events_of_all (filter test boxes))
 filtered_boxes_are_apart test boxes h k m a b less first second =
-    let x = slice_get_before_map (λ (z : PlacedBox). z.events) (filter test boxes) k a first in
-    let y = slice_get_before_map (λ (z : PlacedBox). z.events) (filter test boxes) m b second in
+    let x = slice_get_of_map_inverse (λ (z : PlacedBox). z.events) (filter test boxes) k a first in
+    let y = slice_get_of_map_inverse (λ (z : PlacedBox). z.events) (filter test boxes) m b second in
     let at = filtered_elements_keep_order test boxes k m x.0 y.0 less x.1 y.1 in
     h at.0 at.1 a b at.2 (slice_get_of_map (λ (z : PlacedBox). z.events) boxes at.0 x.0 at.3 ∙ ap Some x.2)
     (slice_get_of_map (λ (z : PlacedBox). z.events) boxes at.1 y.0 at.4 ∙ ap Some y.2)
@@ -57,7 +57,7 @@ filtered_boxes_are_boxes : (r : Recorded) (test : PlacedBox → Bool) (boxes : L
     → ((k : ℕ) (b : EventBox) → slice_get (events_of_all boxes) k ≡ Some b → IsBox r b)
     → (k : ℕ) (b : EventBox) → slice_get (events_of_all (filter test boxes)) k ≡ Some b → IsBox r b
 filtered_boxes_are_boxes r test boxes h k b is =
-    let x = slice_get_before_map (λ (z : PlacedBox). z.events) (filter test boxes) k b is in
+    let x = slice_get_of_map_inverse (λ (z : PlacedBox). z.events) (filter test boxes) k b is in
     let at = filtered_element_was_in_list test boxes k x.0 x.1 in
     h at.0 b (slice_get_of_map (λ (z : PlacedBox). z.events) boxes at.0 x.0 at.1 ∙ ap Some x.2)
 
@@ -80,7 +80,7 @@ pub start_of_event_box_exists : (r : Recorded) (boxes : List PlacedBox) (t i : �
     → (x : ℕ) × StartsAt boxes t i x
 start_of_event_box_exists r boxes t i are within =
     let h = are.all t i within in
-    let back = slice_get_before_map (λ (z : PlacedBox). z.events) boxes h.number h.box h.there in (
+    let back = slice_get_of_map_inverse (λ (z : PlacedBox). z.events) boxes h.number h.box h.there in (
       back.0.start.x,
       record {
         number = h.number;

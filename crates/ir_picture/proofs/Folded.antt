@@ -47,14 +47,14 @@ pub record ArePairs (n : ℕ) (es : List Event) (comma text : List ℕ) : Type 0
   pub lines : text ≡ with_commas (read_pairs n es)
   pub after : comma ≡ comma_after (read_pairs n es)
 
-read_pairs_step : (o : ℕ) (es : List Event) → read_pairs (o + 1) es ≡ read_pairs o es ++ read_entry o (version_read o es)
+read_pairs_of_one_more_object : (o : ℕ) (es : List Event) → read_pairs (o + 1) es ≡ read_pairs o es ++ read_entry o (version_read o es)
 unfolding read_pairs
-read_pairs_step o es = let on : o + 1 ≡ suc o = omega arith in ap (λ n. read_pairs n es) on
+read_pairs_of_one_more_object o es = let on : o + 1 ≡ suc o = omega arith in ap (λ n. read_pairs n es) on
 
 -- the next object was read
-pub pairs_step_for_read_object : (o v : ℕ) (es : List Event) (comma text own new : List ℕ) → ArePairs o es comma text → version_read o es ≡ Some v
+pub are_pairs_after_pair_of_read_object_is_appended : (o v : ℕ) (es : List Event) (comma text own new : List ℕ) → ArePairs o es comma text → version_read o es ≡ Some v
     → own ≡ comma ++ read_pair o v → new ≡ text ++ own → ArePairs (o + 1) es (codes ",") new
-pairs_step_for_read_object o v es comma text own new h is said made = record {
+are_pairs_after_pair_of_read_object_is_appended o v es comma text own new h is said made = record {
   lines = made ∙ ap (λ (x : List ℕ). x ++ own) h.lines
       ∙ ap (λ (x : List ℕ). with_commas (read_pairs o es) ++ x) (said ∙ ap (λ (x : List ℕ). x ++ read_pair o v) h.after)
       ∙ sym (with_commas_of_push (read_pairs o es) (read_pair o v)) ∙ sym (ap with_commas all);
@@ -62,18 +62,18 @@ pairs_step_for_read_object o v es comma text own new h is said made = record {
 }
   where
     all : read_pairs (o + 1) es ≡ read_pairs o es ++ read_pair o v ∷ []
-    all = read_pairs_step o es ∙ ap (λ x. read_pairs o es ++ read_entry o x) is
+    all = read_pairs_of_one_more_object o es ∙ ap (λ x. read_pairs o es ++ read_entry o x) is
 
 -- it wasn't
-pub pairs_step_for_unread_object : (o : ℕ) (es : List Event) (comma text : List ℕ) → ArePairs o es comma text → version_read o es ≡ None
+pub are_pairs_unchanged_after_unread_object : (o : ℕ) (es : List Event) (comma text : List ℕ) → ArePairs o es comma text → version_read o es ≡ None
     → ArePairs (o + 1) es comma text
-pairs_step_for_unread_object o es comma text h is = record {
+are_pairs_unchanged_after_unread_object o es comma text h is = record {
   lines = h.lines ∙ sym (ap with_commas same);
   after = h.after ∙ sym (ap comma_after same);
 }
   where
     same : read_pairs (o + 1) es ≡ read_pairs o es
-    same = read_pairs_step o es ∙ ap (λ x. read_pairs o es ++ read_entry o x) is ∙ append-nil (read_pairs o es)
+    same = read_pairs_of_one_more_object o es ∙ ap (λ x. read_pairs o es ++ read_entry o x) is ∙ append-nil (read_pairs o es)
 
 pub pairs_of_no_objects : (es : List Event) (text : List ℕ) → text ≡ [] → ArePairs 0 es [] text
 unfolding read_pairs with_commas

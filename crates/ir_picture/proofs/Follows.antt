@@ -87,14 +87,14 @@ option_is_none_if_option_map_is_none f None e = refl
 option_is_none_if_option_map_is_none f (Some q) e = absurd (none-some (f q) (sym e))
 
 -- a version that isn't the first is made by its maker
-pub made_by_of_later_version : (k : Version) (v : ℕ) → made_by k (suc v) ≡ k.made
-made_by_of_later_version k v = ap {B = Option Point} (λ (c : Bool). if c then Some first_point else k.made) (ne_eqb (suc v) 0 (λ e. omega (arith, e)))
+pub made_by_of_successor_version_is_made : (k : Version) (v : ℕ) → made_by k (suc v) ≡ k.made
+made_by_of_successor_version_is_made k v = ap {B = Option Point} (λ (c : Bool). if c then Some first_point else k.made) (ne_eqb (suc v) 0 (λ e. omega (arith, e)))
 
 -- the maker of a version is placed where a place after it is known
 maker_is_placed_if_known : (r : Recorded) (boxes : List PlacedBox) (c : ℕ → ℕ) (f : ℕ → ℕ → Version) → AreCoherent r → Knows r boxes c f → (o v w k u j : ℕ) (p : Point)
     → made_by (f o v) v ≡ Some p → v ≡ suc w → IsWriteAt r u j o w k → j < c u
 maker_is_placed_if_known r boxes c f coherent knows o v w k u j p made next write =
-    let at : (f o (suc w)).made ≡ Some p = sym (made_by_of_later_version (f o (suc w)) w) ∙ subst (λ z. made_by (f o z) z ≡ Some p) next made in
+    let at : (f o (suc w)).made ≡ Some p = sym (made_by_of_successor_version_is_made (f o (suc w)) w) ∙ subst (λ z. made_by (f o z) z ≡ Some p) next made in
     let known = (knows.made o w p at).0 in
     let same = writer_of_version_is_unique r coherent known.0 known.1 u j o w known.2.1.0 k known.2.1.1 write in
     subst (λ z. j < c z) same.0 (subst (λ z. z < c known.0) same.1 known.2.0)
@@ -133,7 +133,7 @@ maker_is_known_if_can_follow : (r : Recorded) (boxes : List PlacedBox) (c : ℕ 
     → IsEntryAt r t (c t) o v → CanFollow r c t → made_by (f o v) v ≡ None → ⊥
 maker_is_known_if_can_follow r boxes c f coherent knows t o zero entry follow none = none-some first_point (sym none)
 maker_is_known_if_can_follow r boxes c f coherent knows t o (suc v) entry follow none =
-    knows.none o v (sym (made_by_of_later_version (f o (suc v)) v) ∙ none) made.0 made.1 (
+    knows.none o v (sym (made_by_of_successor_version_is_made (f o (suc v)) v) ∙ none) made.0 made.1 (
       follow.needs made.0 made.1 (inl record {
         object = o;
         version = v;

@@ -4,7 +4,7 @@ use Rattle.std.proofs.lemmas.Result.{on_ok_weaker}
 use Rattle.std.specs.Io.KnownBytes.{Appends}
 use Rattle.std.proofs.KnownBytes.{Appends-nil, Appends-trans}
 use Rattle.ir_stream.specs.Answers.{AppendsPrefix}
-use Rattle.ir_stream.proofs.CallerLemmas.{prefix_after_whole_text, prefix_of_longer_text}
+use Rattle.ir_stream.proofs.CallerLemmas.{appends_prefix_of_append_if_first_appended, appends_prefix_of_longer_text}
 use Rattle.ir_files.specs.Writers.{writer_of}
 use Rattle.ir_text.specs.Buffered.{Buffered}
 use Rattle.ir_text.proofs.CallerLemmas.{buffered_after_line_written}
@@ -40,16 +40,16 @@ buffered_after_piece a b c held kept left text f g = buffered_after_line_written
     (ap (λ (x : List ℕ). x ++ left) (sym g.others) ∙ append_assoc g.part kept left) g.written
 
 -- nothing is left
-pub buffered_if_nothing_left : (a b : Option (List ℕ)) (held left text : List ℕ) → Buffered a b (held ++ left) text → left ≡ [] → Buffered a b held text
-buffered_if_nothing_left a b held left text f none =
+pub only_held_text_is_unwritten_if_nothing_left : (a b : Option (List ℕ)) (held left text : List ℕ) → Buffered a b (held ++ left) text → left ≡ [] → Buffered a b held text
+only_held_text_is_unwritten_if_nothing_left a b held left text f none =
     subst (λ (x : List ℕ). Buffered a b x text) (ap (λ (x : List ℕ). held ++ x) none ∙ append-nil held) f
 
 -- the writing of a piece failed
-pub prefix_written_if_write_fails : (a b c : Option (List ℕ)) (held left text : List ℕ) → Buffered a b (held ++ left) text → AppendsPrefix b c held
+pub prefix_of_text_appended_if_prefix_of_held_is : (a b c : Option (List ℕ)) (held left text : List ℕ) → Buffered a b (held ++ left) text → AppendsPrefix b c held
     → AppendsPrefix a c text
-prefix_written_if_write_fails a b c held left text f prefix =
+prefix_of_text_appended_if_prefix_of_held_is a b c held left text f prefix =
     subst (AppendsPrefix a c) (append_assoc f.part held left ∙ f.others)
-    (prefix_of_longer_text a c (f.part ++ held) left (prefix_after_whole_text a b c f.part held f.written prefix))
+    (appends_prefix_of_longer_text a c (f.part ++ held) left (appends_prefix_of_append_if_first_appended a b c f.part held f.written prefix))
 
 -- ---- one text after another
 
@@ -75,7 +75,7 @@ appended_after_last_text a b c held text next f done =
 prefix_appended_after_held_text : (a b c : Option (List ℕ)) (held text next : List ℕ) → Buffered a b held text → AppendsPrefix b c (held ++ next)
     → AppendsPrefix a c (text ++ next)
 prefix_appended_after_held_text a b c held text next f prefix =
-    subst (AppendsPrefix a c) (part_and_held_before_next_are_text_before_next a b held text next f) (prefix_after_whole_text a b c f.part (held ++ next) f.written prefix)
+    subst (AppendsPrefix a c) (part_and_held_before_next_are_text_before_next a b held text next f) (appends_prefix_of_append_if_first_appended a b c f.part (held ++ next) f.written prefix)
 
 -- the next text was stopped
 pub stops_in_next_text : (e : PastErr) (a b c : Option (List ℕ)) (failed : Bool) (held text next : List ℕ) → Buffered a b held text
@@ -86,8 +86,8 @@ stops_in_next_text err.Write a b c failed held text next f h = (prefix_appended_
 -- a text was stopped, and so was one that is longer
 pub stops_in_longer_text : (e : PastErr) (a b : Option (List ℕ)) (failed : Bool) (text more : List ℕ) → Stops e (writer_of a b failed) text
     → Stops e (writer_of a b failed) (text ++ more)
-stops_in_longer_text err.NoMem a b failed text more h = (prefix_of_longer_text a b text more h.0, h.1)
-stops_in_longer_text err.Write a b failed text more h = (prefix_of_longer_text a b text more h.0, h.1)
+stops_in_longer_text err.NoMem a b failed text more h = (appends_prefix_of_longer_text a b text more h.0, h.1)
+stops_in_longer_text err.Write a b failed text more h = (appends_prefix_of_longer_text a b text more h.0, h.1)
 
 -- ---- four texts, of which the second and the third are put in pieces
 

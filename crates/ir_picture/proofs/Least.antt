@@ -19,23 +19,23 @@ least_above_of_equal_sets from A B y to back h = record {
   least = λ w low all. h.least w low (λ z a. all z (to z a));
 }
 
-pub least_above_of_empty_set : (from : ℕ) (A : ℕ → Type 0) → ((z : ℕ) → A z → ⊥) → IsLeastAbove from A from
-least_above_of_empty_set from A none = record {
+pub least_above_of_empty_set_is_start : (from : ℕ) (A : ℕ → Type 0) → ((z : ℕ) → A z → ⊥) → IsLeastAbove from A from
+least_above_of_empty_set_is_start from A none = record {
   start = omega arith;
   above = λ z a. absurd (none z a);
   least = λ w low all. low;
 }
 
-pub least_above_of_single_number : (from z : ℕ) (A : ℕ → Type 0) → from ≤ z + 1 → A z → ((w : ℕ) → A w → w ≡ z) → IsLeastAbove from A (z + 1)
-least_above_of_single_number from z A low is only = record {
+pub least_above_of_single_number_is_its_successor : (from z : ℕ) (A : ℕ → Type 0) → from ≤ z + 1 → A z → ((w : ℕ) → A w → w ≡ z) → IsLeastAbove from A (z + 1)
+least_above_of_single_number_is_its_successor from z A low is only = record {
   start = low;
   above = λ w a. omega (arith, only w a);
   least = λ w from_low all. omega (arith, all z is);
 }
 
-pub least_above_of_union : (from : ℕ) (A B C : ℕ → Type 0) (x y : ℕ) → ((z : ℕ) → A z → C z) → ((z : ℕ) → B z → C z) → ((z : ℕ) → C z → A z ⊎ B z)
+pub least_above_of_union_is_max : (from : ℕ) (A B C : ℕ → Type 0) (x y : ℕ) → ((z : ℕ) → A z → C z) → ((z : ℕ) → B z → C z) → ((z : ℕ) → C z → A z ⊎ B z)
     → IsLeastAbove from A x → IsLeastAbove from B y → IsLeastAbove from C (max x y)
-least_above_of_union from A B C x y of_a of_b parts h k = record {
+least_above_of_union_is_max from A B C x y of_a of_b parts h k = record {
   start = omega (arith, h.start);
   above = λ z c. elim (parts z c) [
     | inl a ↦ omega (arith, h.above z a)
@@ -116,10 +116,10 @@ place_stays_after_events_if_other_box_set boxes k b new These p there same not h
       (ends_where_after_other_box_set boxes k b new (λ q. q.u) These there not) (ends_where_before_other_box_set boxes k b new (λ q. q.u) These there same not) h.u;
 }
 
-pub place_after_no_events : (boxes : List PlacedBox) (These : ℕ → ℕ → Type 0) → ((u i : ℕ) → These u i → ⊥) → IsAfter boxes These first_point
-place_after_no_events boxes These none = record {
-  x = least_above_of_empty_set 0 (EndsWhere boxes (λ q. q.x) These) (λ z e. none e.box.events.thread e.event e.these);
-  u = least_above_of_empty_set 1 (EndsWhere boxes (λ q. q.u) These) (λ z e. none e.box.events.thread e.event e.these);
+pub place_after_no_events_is_first_point : (boxes : List PlacedBox) (These : ℕ → ℕ → Type 0) → ((u i : ℕ) → These u i → ⊥) → IsAfter boxes These first_point
+place_after_no_events_is_first_point boxes These none = record {
+  x = least_above_of_empty_set_is_start 0 (EndsWhere boxes (λ q. q.x) These) (λ z e. none e.box.events.thread e.event e.these);
+  u = least_above_of_empty_set_is_start 1 (EndsWhere boxes (λ q. q.u) These) (λ z e. none e.box.events.thread e.event e.these);
 }
 
 ends_where_of_union_cases : (boxes : List PlacedBox) (number : Point → ℕ) (A B C : ℕ → ℕ → Type 0) → ((u i : ℕ) → C u i → A u i ⊎ B u i) → (z : ℕ)
@@ -129,24 +129,24 @@ ends_where_of_union_cases boxes number A B C parts z e = elim (parts e.box.event
   | inr b ↦ inr (record { at = e.at; box = e.box; event = e.event; there = e.there; has = e.has; these = b; ends = e.ends })
 ]
 
-pub place_after_union_of_events : (boxes : List PlacedBox) (A B C : ℕ → ℕ → Type 0) (p q : Point) → ((u i : ℕ) → A u i → C u i) → ((u i : ℕ) → B u i → C u i)
+pub place_after_union_of_events_is_later_place : (boxes : List PlacedBox) (A B C : ℕ → ℕ → Type 0) (p q : Point) → ((u i : ℕ) → A u i → C u i) → ((u i : ℕ) → B u i → C u i)
     → ((u i : ℕ) → C u i → A u i ⊎ B u i) → IsAfter boxes A p → IsAfter boxes B q → IsAfter boxes C (later_of p q)
-place_after_union_of_events boxes A B C p q of_a of_b parts h k = record {
-  x = least_above_of_union 0 (EndsWhere boxes (λ y. y.x) A) (EndsWhere boxes (λ y. y.x) B) (EndsWhere boxes (λ y. y.x) C) p.x q.x
+place_after_union_of_events_is_later_place boxes A B C p q of_a of_b parts h k = record {
+  x = least_above_of_union_is_max 0 (EndsWhere boxes (λ y. y.x) A) (EndsWhere boxes (λ y. y.x) B) (EndsWhere boxes (λ y. y.x) C) p.x q.x
       (ends_where_of_wider_set boxes (λ y. y.x) A C of_a) (ends_where_of_wider_set boxes (λ y. y.x) B C of_b) (ends_where_of_union_cases boxes (λ y. y.x) A B C parts) h.x k.x;
-  u = least_above_of_union 1 (EndsWhere boxes (λ y. y.u) A) (EndsWhere boxes (λ y. y.u) B) (EndsWhere boxes (λ y. y.u) C) p.u q.u
+  u = least_above_of_union_is_max 1 (EndsWhere boxes (λ y. y.u) A) (EndsWhere boxes (λ y. y.u) B) (EndsWhere boxes (λ y. y.u) C) p.u q.u
       (ends_where_of_wider_set boxes (λ y. y.u) A C of_a) (ends_where_of_wider_set boxes (λ y. y.u) B C of_b) (ends_where_of_union_cases boxes (λ y. y.u) A B C parts) h.u k.u;
 }
 
 -- where these are events of one box alone
-pub place_after_single_box : (boxes : List PlacedBox) (k i : ℕ) (b : PlacedBox) (These : ℕ → ℕ → Type 0) → slice_get boxes k ≡ Some b
+pub place_after_single_box_is_its_end : (boxes : List PlacedBox) (k i : ℕ) (b : PlacedBox) (These : ℕ → ℕ → Type 0) → slice_get boxes k ≡ Some b
     → IsInBox b.events b.events.thread i → These b.events.thread i
     → ((m j : ℕ) (a : PlacedBox) → slice_get boxes m ≡ Some a → IsInBox a.events a.events.thread j → These a.events.thread j → k ≡ m)
     → IsAfter boxes These (right_of b.end)
-place_after_single_box boxes k i b These there has is only = record {
-  x = least_above_of_single_number 0 b.end.x (EndsWhere boxes (λ q. q.x) These) (omega arith)
+place_after_single_box_is_its_end boxes k i b These there has is only = record {
+  x = least_above_of_single_number_is_its_successor 0 b.end.x (EndsWhere boxes (λ q. q.x) These) (omega arith)
       (record { at = k; box = b; event = i; there = there; has = has; these = is; ends = refl }) (λ w e. one (λ q. q.x) w e);
-  u = least_above_of_single_number 1 b.end.u (EndsWhere boxes (λ q. q.u) These) (omega arith)
+  u = least_above_of_single_number_is_its_successor 1 b.end.u (EndsWhere boxes (λ q. q.u) These) (omega arith)
       (record { at = k; box = b; event = i; there = there; has = has; these = is; ends = refl }) (λ w e. one (λ q. q.u) w e);
 }
   where

@@ -43,27 +43,27 @@ slice_get_of_map f [] k x e = absurd (none-some x e)
 slice_get_of_map f (y ∷ ys) zero x e = ap (λ z. Some (f z)) (same_Some y x e)
 slice_get_of_map f (y ∷ ys) (suc k) x e = slice_get_of_map f ys k x e
 
-pub slice_get_before_map : {X Y : Type 0} (f : X → Y) (xs : List X) (k : ℕ) (y : Y) → slice_get (map f xs) k ≡ Some y
+pub slice_get_of_map_inverse : {X Y : Type 0} (f : X → Y) (xs : List X) (k : ℕ) (y : Y) → slice_get (map f xs) k ≡ Some y
     → (x : X) × (slice_get xs k ≡ Some x) × (f x ≡ y)
-slice_get_before_map f [] k y e = absurd (none-some y e)
-slice_get_before_map f (x ∷ xs) zero y e = (x, refl, same_Some (f x) y e)
-slice_get_before_map f (x ∷ xs) (suc k) y e = slice_get_before_map f xs k y e
+slice_get_of_map_inverse f [] k y e = absurd (none-some y e)
+slice_get_of_map_inverse f (x ∷ xs) zero y e = (x, refl, same_Some (f x) y e)
+slice_get_of_map_inverse f (x ∷ xs) (suc k) y e = slice_get_of_map_inverse f xs k y e
 
 -- a change that f doesn't see
-pub map_after_invisible_set : {X Y : Type 0} (f : X → Y) (xs : List X) (k : ℕ) (x y : X) → slice_get xs k ≡ Some x → f y ≡ f x → map f (slice_set xs k y) ≡ map f xs
-map_after_invisible_set f [] k x y e same = refl
-map_after_invisible_set f (z ∷ zs) zero x y e same = ap (λ w. w ∷ map f zs) (same ∙ ap f (sym (same_Some z x e)))
-map_after_invisible_set f (z ∷ zs) (suc k) x y e same = ap (λ w. f z ∷ w) (map_after_invisible_set f zs k x y e same)
+pub map_is_unchanged_after_set_of_equal_image : {X Y : Type 0} (f : X → Y) (xs : List X) (k : ℕ) (x y : X) → slice_get xs k ≡ Some x → f y ≡ f x → map f (slice_set xs k y) ≡ map f xs
+map_is_unchanged_after_set_of_equal_image f [] k x y e same = refl
+map_is_unchanged_after_set_of_equal_image f (z ∷ zs) zero x y e same = ap (λ w. w ∷ map f zs) (same ∙ ap f (sym (same_Some z x e)))
+map_is_unchanged_after_set_of_equal_image f (z ∷ zs) (suc k) x y e same = ap (λ w. f z ∷ w) (map_is_unchanged_after_set_of_equal_image f zs k x y e same)
 
 -- ---- a list that grows at its end
 
 -- ---- tables by numbers, with a default
 
-pub get_or_after_resize : {X : Type 0} (old new : List X) (n : ℕ) (none : X) → length old < n → length new ≡ n
+pub get_or_is_unchanged_after_growth_by_default : {X : Type 0} (old new : List X) (n : ℕ) (none : X) → length old < n → length new ≡ n
     → ((k : ℕ) (d : X) → k < n → k < length old → get_or new k d ≡ get_or old k d)
     → ((k : ℕ) (d : X) → length old ≤ k → k < n → get_or new k d ≡ none)
     → (v : ℕ) → get_or new v none ≡ get_or old v none
-get_or_after_resize old new n none longer all same more v = elim (cases_lt v (length old)) [
+get_or_is_unchanged_after_growth_by_default old new n none longer all same more v = elim (cases_lt v (length old)) [
   | inl within ↦ same v none (omega (arith, within, longer)) within
   | inr past ↦ elim (cases_lt v n) [
     | inl inside ↦ more v none past inside ∙ sym (get_or_past old v none past)
@@ -102,10 +102,10 @@ mapped_get_or_after_set_elsewhere f d (y ∷ ys) (suc i) zero w ne = refl
 mapped_get_or_after_set_elsewhere f d (y ∷ ys) (suc i) (suc o) w ne = mapped_get_or_after_set_elsewhere f d ys i o w (λ e. ne (ap suc e))
 
 -- one of the tables notes p at w, and the others are as they were
-pub mapped_get_or_after_set_at_pair : {X Y : Type 0} (f : ℕ → X → Y) (d : Y) (xs : List X) (i w : ℕ) (x new : X) (p : Y) → i < length xs → get_or xs i x ≡ x
+pub mapped_get_or_after_set_of_pair_cases : {X Y : Type 0} (f : ℕ → X → Y) (d : Y) (xs : List X) (i w : ℕ) (x new : X) (p : Y) → i < length xs → get_or xs i x ≡ x
     → ((v : ℕ) → f v new ≡ (if v == w then p else f v x)) → (o v : ℕ)
     → mapped_get_or (f v) d (slice_set xs i new) o ≡ (if (o == i) && (v == w) then p else mapped_get_or (f v) d xs o)
-mapped_get_or_after_set_at_pair {X} {Y} f d xs i w x new p within is noted o v = elim (cases_eq o i) [
+mapped_get_or_after_set_of_pair_cases {X} {Y} f d xs i w x new p within is noted o v = elim (cases_eq o i) [
   | inl here ↦ subst (λ z. mapped_get_or (f v) d (slice_set xs i new) z ≡ (if (z == i) && (v == w) then p else mapped_get_or (f v) d xs z)) (sym here)
       (mapped_get_or_after_set (f v) d xs i new within ∙ noted v
       ∙ ap {B = Y} (λ (z : Y). if v == w then p else z) (sym (mapped_get_or_within (f v) d xs i x within is))

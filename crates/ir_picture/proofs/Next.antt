@@ -18,15 +18,15 @@ use Rattle.ir_picture.specs.declared.placed_box.Point.{Point}
 use Rattle.ir_picture.specs.declared.placed_box.PlacedBox.{PlacedBox}
 use Rattle.ir_picture.specs.declared.table.Version.{Version}
 use Rattle.ir_picture.specs.declared.placing.Lane.{Lane}
-use Rattle.ir_picture.proofs.Lists.{slice_get_after_set, slice_get_after_set_cases, length_of_slice_set, slice_get_of_map, map_after_invisible_set}
+use Rattle.ir_picture.proofs.Lists.{slice_get_after_set, slice_get_after_set_cases, length_of_slice_set, slice_get_of_map, map_is_unchanged_after_set_of_equal_image}
 use Rattle.ir_picture.proofs.Least.{place_stays_after_events_if_other_box_set}
 use Rattle.ir_picture.proofs.Orders.{needed_event_is_placed}
 use Rattle.ir_picture.proofs.Follows.{can_follow_if_place_known}
-use Rattle.ir_picture.proofs.Cuts.{cut_box_begins_with_next_event, cut_behind_next_box}
+use Rattle.ir_picture.proofs.Cuts.{cut_box_begins_with_next_event, cut_after_next_box_is_its_end_and_next_index}
 use Rattle.ir_picture.proofs.Known.{knows_after_unplaced_box_set}
 use Rattle.ir_picture.proofs.Steps.{OrderReaches, order_reaches_end_of_box}
-use Rattle.ir_picture.proofs.Placed.{IsPlacedByEvents, placed_if_placed_by_events, placed_by_events_if_placed, box_stays_placed_if_other_box_set, new_box_is_placed_by_events, place_after_needs}
-use Rattle.ir_picture.proofs.Room.{NearVersion, left_of_falls_by_one_after_next_box, near_with_fewer_boxes, near_box_end, near_version_after_noted_all, near_needed_place}
+use Rattle.ir_picture.proofs.Placed.{IsPlacedByEvents, placed_if_placed_by_events, placed_by_events_if_placed, box_stays_placed_if_other_box_set, new_box_is_placed_by_events, after_needs_place_is_after_needed_events}
+use Rattle.ir_picture.proofs.Room.{NearVersion, left_of_falls_by_one_after_next_box, near_with_fewer_boxes_if_near_with_more, near_box_end, near_version_after_noted_all, needed_place_is_near_if_versions_are}
 
 -- ---- the events of a box
 
@@ -133,7 +133,7 @@ boxes_are_being_placed_after_next_box r boxes lanes f lane b e needed coherent h
     is_box = h.boxes.each k b.events events_at
 
     same_events : events_of_all (slice_set boxes k new) ≡ events_of_all boxes
-    same_events = map_after_invisible_set (λ (x : PlacedBox). x.events) boxes k b new there refl
+    same_events = map_is_unchanged_after_set_of_equal_image (λ (x : PlacedBox). x.events) boxes k b new there refl
 
     are_new : AreBoxes r (events_of_all (slice_set boxes k new))
     are_new = subst (AreBoxes r) (sym same_events) h.boxes
@@ -179,7 +179,7 @@ boxes_are_being_placed_after_next_box r boxes lanes f lane b e needed coherent h
     needed_new : IsAfter (slice_set boxes k new) (Needs r t b.events.event) needed
     needed_new = place_stays_after_events_if_other_box_set boxes k b new (Needs r t b.events.event) needed there refl
         (λ i has needs. omega (arith, follow.needs t i (subst (λ n. Needs r t n t i) here needs), has.from, here))
-        (subst (λ n. IsAfter boxes (Needs r t n) needed) (sym here) (place_after_needs r boxes c f coherent h.knows t e needed first_next after))
+        (subst (λ n. IsAfter boxes (Needs r t n) needed) (sym here) (after_needs_place_is_after_needed_events r boxes c f coherent h.knows t e needed first_next after))
 
     new_placed : IsPlacedByEvents r (slice_set boxes k new) new
     new_placed = new_box_is_placed_by_events r (slice_set boxes k new) b.events e lane.free needed are_new is_box first free_new needed_new
@@ -295,7 +295,7 @@ boxes_are_being_placed_after_next_box r boxes lanes f lane b e needed coherent h
           (subst (λ n. IsLaneAt (slice_set boxes k new) t n (lane_after lane new)) (sym stepped.here) (record {
             cut = subst (λ (x : List EventBox). IsCut x t (b.events.event + b.events.count) (k + 1)) (sym same_events)
                 (subst (λ n. IsCut (events_of_all boxes) t (n + b.events.count) (k + 1)) (sym here)
-                (cut_behind_next_box r (events_of_all boxes) t (c t) k b.events h.boxes at_lane.cut events_at refl here));
+                (cut_after_next_box_is_its_end_and_next_index r (events_of_all boxes) t (c t) k b.events h.boxes at_lane.cut events_at refl here));
             free = free_after;
           })))
       | inr old ↦
@@ -317,12 +317,12 @@ boxes_are_being_placed_after_next_box r boxes lanes f lane b e needed coherent h
 
     near_free : IsNear h.top rest (right_of new.end)
     near_free = near_box_end h.top rest b.events e lane.free needed (subst (λ n. IsNear h.top n lane.free) (sym fewer) (h.room.lanes t lane at))
-        (subst (λ n. IsNear h.top n needed) (sym fewer) (near_needed_place h.top (left_of boxes lanes) f e needed h.room.first near after))
+        (subst (λ n. IsNear h.top n needed) (sym fewer) (needed_place_is_near_if_versions_are h.top (left_of boxes lanes) f e needed h.room.first near after))
 
     near_new : (o v : ℕ) → NearVersion h.top rest (noted_all (events_in r b.events) (right_of new.end) f o v)
     near_new o v = near_version_after_noted_all h.top rest (events_in r b.events) (right_of new.end) f near_free (λ q w. record {
-      left = near_with_fewer_boxes h.top rest (left_of boxes lanes) (f q w).left (omega (arith, fewer)) (near q w).left;
-      made = λ p is. near_with_fewer_boxes h.top rest (left_of boxes lanes) p (omega (arith, fewer)) ((near q w).made p is);
+      left = near_with_fewer_boxes_if_near_with_more h.top rest (left_of boxes lanes) (f q w).left (omega (arith, fewer)) (near q w).left;
+      made = λ p is. near_with_fewer_boxes_if_near_with_more h.top rest (left_of boxes lanes) p (omega (arith, fewer)) ((near q w).made p is);
     }) o v
 
     room_new : HasRoom h.top rest (slice_set lanes t (lane_after lane new)) (noted_all (events_in r b.events) (right_of new.end) f)
@@ -331,7 +331,7 @@ boxes_are_being_placed_after_next_box r boxes lanes f lane b e needed coherent h
       first = omega (arith, h.room.first, fewer);
       lanes = λ u l at_u. elim (slice_get_after_set_cases lanes t u (lane_after lane new) l (slice_get_within lanes t lane at) at_u) [
         | inl same ↦ subst (λ (x : Lane). IsNear h.top rest x.free) same.1 near_free
-        | inr old ↦ near_with_fewer_boxes h.top rest (left_of boxes lanes) l.free (omega (arith, fewer)) (h.room.lanes u l old.1)
+        | inr old ↦ near_with_fewer_boxes_if_near_with_more h.top rest (left_of boxes lanes) l.free (omega (arith, fewer)) (h.room.lanes u l old.1)
       ];
       left = λ o v. (near_new o v).left;
       made = λ o v. (near_new o v).made;

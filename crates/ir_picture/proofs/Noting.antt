@@ -125,8 +125,8 @@ holds_reads_after_write es n p v l table at within h = record {
   ];
 }
 
-pub holds_try_after_other_event : (es : List Event) (n : ℕ) (e : Event) → slice_get es n ≡ Some e → ((o : ℕ) → e ≡ Try o → ⊥) → HoldsTry es (n + 1) None
-holds_try_after_other_event es n e at ne = record {
+pub holds_no_try_after_event_other_than_try : (es : List Event) (n : ℕ) (e : Event) → slice_get es n ≡ Some e → ((o : ℕ) → e ≡ Try o → ⊥) → HoldsTry es (n + 1) None
+holds_no_try_after_event_other_than_try es n e at ne = record {
   found = λ o is. absurd (none-some o is);
   all = λ o is. absurd (ne o (slice_get_is_unique es n e (Try o) at (subst (λ z. slice_get es z ≡ Some (Try o)) (omega (arith, is.1)) is.2)));
 }
@@ -203,29 +203,29 @@ reads_again_excludes_tries_again es i a b =
     let bad : ◌≡◌ {A = Event} (Read a.object a.version) (Try b.object) = slice_get_is_unique es i (Read a.object a.version) (Try b.object) a.read b.«try» in
     cc
 
-pub fold_told_by_repeats : (es : List Event) (n : ℕ) (before now : Repeat) → IsRepeatBefore es n before → IsRepeat es n now → IsFold es n (are_alike before now)
-fold_told_by_repeats es zero before now first is = subst (λ (x : Repeat). IsFold es 0 (are_alike x now)) (sym first) (λ i bad. absurd (omega (arith, bad)))
-fold_told_by_repeats es (suc i) repeat.Nothing now was is = λ j e folded.
+pub fold_is_whether_repeats_before_and_now_are_alike : (es : List Event) (n : ℕ) (before now : Repeat) → IsRepeatBefore es n before → IsRepeat es n now → IsFold es n (are_alike before now)
+fold_is_whether_repeats_before_and_now_are_alike es zero before now first is = subst (λ (x : Repeat). IsFold es 0 (are_alike x now)) (sym first) (λ i bad. absurd (omega (arith, bad)))
+fold_is_whether_repeats_before_and_now_are_alike es (suc i) repeat.Nothing now was is = λ j e folded.
     let here : i ≡ j = omega (arith, e) in
     elim folded.repeats [
       | inl reads ↦ was.0 (subst (ReadsAgain es) (sym here) reads.0)
       | inr tries ↦ was.1 (subst (TriesAgain es) (sym here) tries.0)
     ]
-fold_told_by_repeats es (suc i) repeat.Read repeat.Nothing was is = λ j e folded. elim folded.repeats [
+fold_is_whether_repeats_before_and_now_are_alike es (suc i) repeat.Read repeat.Nothing was is = λ j e folded. elim folded.repeats [
   | inl reads ↦ is.0 reads.1
   | inr tries ↦ is.1 tries.1
 ]
-fold_told_by_repeats es (suc i) repeat.Read repeat.Read was is = (i, refl, record { next = refl; repeats = inl (was, is) })
-fold_told_by_repeats es (suc i) repeat.Read repeat.Try was is = λ j e folded. elim folded.repeats [
+fold_is_whether_repeats_before_and_now_are_alike es (suc i) repeat.Read repeat.Read was is = (i, refl, record { next = refl; repeats = inl (was, is) })
+fold_is_whether_repeats_before_and_now_are_alike es (suc i) repeat.Read repeat.Try was is = λ j e folded. elim folded.repeats [
   | inl reads ↦ reads_again_excludes_tries_again es (suc i) reads.1 is
   | inr tries ↦ reads_again_excludes_tries_again es i was (subst (TriesAgain es) (omega (arith, e)) tries.0)
 ]
-fold_told_by_repeats es (suc i) repeat.Try repeat.Nothing was is = λ j e folded. elim folded.repeats [
+fold_is_whether_repeats_before_and_now_are_alike es (suc i) repeat.Try repeat.Nothing was is = λ j e folded. elim folded.repeats [
   | inl reads ↦ is.0 reads.1
   | inr tries ↦ is.1 tries.1
 ]
-fold_told_by_repeats es (suc i) repeat.Try repeat.Read was is = λ j e folded. elim folded.repeats [
+fold_is_whether_repeats_before_and_now_are_alike es (suc i) repeat.Try repeat.Read was is = λ j e folded. elim folded.repeats [
   | inl reads ↦ reads_again_excludes_tries_again es i (subst (ReadsAgain es) (omega (arith, e)) reads.0) was
   | inr tries ↦ reads_again_excludes_tries_again es (suc i) is tries.1
 ]
-fold_told_by_repeats es (suc i) repeat.Try repeat.Try was is = (i, refl, record { next = refl; repeats = inr (was, is) })
+fold_is_whether_repeats_before_and_now_are_alike es (suc i) repeat.Try repeat.Try was is = (i, refl, record { next = refl; repeats = inr (was, is) })

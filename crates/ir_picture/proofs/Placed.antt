@@ -16,10 +16,10 @@ use Rattle.ir_picture.specs.declared.event_box.EventBox.{EventBox}
 use Rattle.ir_picture.specs.declared.placed_box.Point.{Point}
 use Rattle.ir_picture.specs.declared.placed_box.PlacedBox.{PlacedBox}
 use Rattle.ir_picture.specs.declared.table.Version.{Version}
-use Rattle.ir_picture.proofs.Lists.{slice_get_of_map, slice_get_before_map}
-use Rattle.ir_picture.proofs.Least.{least_above_of_equal_sets, place_after_equal_events, place_after_no_events, place_after_union_of_events, place_stays_after_events_if_other_box_set, ends_where_of_wider_set, ends_where_after_other_box_set, ends_where_before_other_box_set}
+use Rattle.ir_picture.proofs.Lists.{slice_get_of_map, slice_get_of_map_inverse}
+use Rattle.ir_picture.proofs.Least.{least_above_of_equal_sets, place_after_equal_events, place_after_no_events_is_first_point, place_after_union_of_events_is_later_place, place_stays_after_events_if_other_box_set, ends_where_of_wider_set, ends_where_after_other_box_set, ends_where_before_other_box_set}
 use Rattle.ir_picture.proofs.FoldNeeds.{box_needs_come_from_first_or_earlier_event}
-use Rattle.ir_picture.proofs.Follows.{need_of_read_is_its_maker, need_of_write_is_its_maker_or_reader, event_without_entry_needs_nothing, test_true_if_choice_is_some, option_is_some_if_option_map_is_some, made_by_of_later_version, can_follow_if_place_known}
+use Rattle.ir_picture.proofs.Follows.{need_of_read_is_its_maker, need_of_write_is_its_maker_or_reader, event_without_entry_needs_nothing, test_true_if_choice_is_some, option_is_some_if_option_map_is_some, made_by_of_successor_version_is_made, can_follow_if_place_known}
 
 -- ---- the first place after what an event needs
 
@@ -27,14 +27,14 @@ use Rattle.ir_picture.proofs.Follows.{need_of_read_is_its_maker, need_of_write_i
 abbrev pub MakesVersion : Recorded → ℕ → ℕ → ℕ → ℕ → Type 0
 MakesVersion r o v u j = (w k : ℕ) × (v ≡ suc w) × IsWriteAt r u j o w k
 
-place_after_makers : (r : Recorded) (boxes : List PlacedBox) (c : ℕ → ℕ) (f : ℕ → ℕ → Version) → Knows r boxes c f → (o v : ℕ) (p : Point)
+made_place_is_after_makers_if_they_are_placed : (r : Recorded) (boxes : List PlacedBox) (c : ℕ → ℕ) (f : ℕ → ℕ → Version) → Knows r boxes c f → (o v : ℕ) (p : Point)
     → made_by (f o v) v ≡ Some p → ((u j : ℕ) → MakesVersion r o v u j → j < c u) → IsAfter boxes (MakesVersion r o v) p
-place_after_makers r boxes c f knows o zero p made all = subst (IsAfter boxes (MakesVersion r o 0)) (same_Some first_point p made)
-    (place_after_no_events boxes (MakesVersion r o 0) (λ u i m. omega (arith, m.2)))
-place_after_makers r boxes c f knows o (suc v) p made all = place_after_equal_events boxes (WritesPlaced r c o v) (MakesVersion r o (suc v)) p
+made_place_is_after_makers_if_they_are_placed r boxes c f knows o zero p made all = subst (IsAfter boxes (MakesVersion r o 0)) (same_Some first_point p made)
+    (place_after_no_events_is_first_point boxes (MakesVersion r o 0) (λ u i m. omega (arith, m.2)))
+made_place_is_after_makers_if_they_are_placed r boxes c f knows o (suc v) p made all = place_after_equal_events boxes (WritesPlaced r c o v) (MakesVersion r o (suc v)) p
     (λ u i these. (v, these.1.0, refl, these.1.1))
     (λ u i m. (all u i m, (m.1, subst (λ z. IsWriteAt r u i o z m.1) (omega (arith, m.2)) m.3)))
-    (knows.made o v p (sym (made_by_of_later_version (f o (suc v)) v) ∙ made)).1
+    (knows.made o v p (sym (made_by_of_successor_version_is_made (f o (suc v)) v) ∙ made)).1
 
 maker_is_needed_by_entry : (r : Recorded) (t i o v : ℕ) → IsEntryAt r t i o v → (u j : ℕ) → MakesVersion r o v u j → Needs r t i u j
 maker_is_needed_by_entry r t i o v entry u j m = inl record {
@@ -45,28 +45,28 @@ maker_is_needed_by_entry r t i o v entry u j m = inl record {
   made = m.3;
 }
 
-pub place_after_needs : (r : Recorded) (boxes : List PlacedBox) (c : ℕ → ℕ) (f : ℕ → ℕ → Version) → AreCoherent r → Knows r boxes c f → (t : ℕ) (e : Event)
+pub after_needs_place_is_after_needed_events : (r : Recorded) (boxes : List PlacedBox) (c : ℕ → ℕ) (f : ℕ → ℕ → Version) → AreCoherent r → Knows r boxes c f → (t : ℕ) (e : Event)
     (p : Point) → event_at r t (c t) ≡ Some e → after_needs f e ≡ Some p → IsAfter boxes (Needs r t (c t)) p
-place_after_needs r boxes c f coherent knows t (Answer kind value) p is after = subst (IsAfter boxes (Needs r t (c t))) (same_Some first_point p after)
-    (place_after_no_events boxes (Needs r t (c t)) (λ u j needs. event_without_entry_needs_nothing r t (c t) u j (Answer kind value) is (λ o v e. cc) (λ o v l e. cc) needs))
-place_after_needs r boxes c f coherent knows t (Try o) p is after = subst (IsAfter boxes (Needs r t (c t))) (same_Some first_point p after)
-    (place_after_no_events boxes (Needs r t (c t)) (λ u j needs. event_without_entry_needs_nothing r t (c t) u j (Try o) is (λ q v e. cc) (λ q v l e. cc) needs))
-place_after_needs r boxes c f coherent knows t (Read o v) p is after =
+after_needs_place_is_after_needed_events r boxes c f coherent knows t (Answer kind value) p is after = subst (IsAfter boxes (Needs r t (c t))) (same_Some first_point p after)
+    (place_after_no_events_is_first_point boxes (Needs r t (c t)) (λ u j needs. event_without_entry_needs_nothing r t (c t) u j (Answer kind value) is (λ o v e. cc) (λ o v l e. cc) needs))
+after_needs_place_is_after_needed_events r boxes c f coherent knows t (Try o) p is after = subst (IsAfter boxes (Needs r t (c t))) (same_Some first_point p after)
+    (place_after_no_events_is_first_point boxes (Needs r t (c t)) (λ u j needs. event_without_entry_needs_nothing r t (c t) u j (Try o) is (λ q v e. cc) (λ q v l e. cc) needs))
+after_needs_place_is_after_needed_events r boxes c f coherent knows t (Read o v) p is after =
     let follow = can_follow_if_place_known r boxes c f coherent knows t (Read o v) p is after in
     place_after_equal_events boxes (MakesVersion r o v) (Needs r t (c t)) p (maker_is_needed_by_entry r t (c t) o v (inl is)) (λ u j needs. need_of_read_is_its_maker r t (c t) o v u j is needs)
-    (place_after_makers r boxes c f knows o v p after (λ u j m. follow.needs u j (maker_is_needed_by_entry r t (c t) o v (inl is) u j m)))
-place_after_needs r boxes c f coherent knows t (Write o v l) p is after =
+    (made_place_is_after_makers_if_they_are_placed r boxes c f knows o v p after (λ u j m. follow.needs u j (maker_is_needed_by_entry r t (c t) o v (inl is) u j m)))
+after_needs_place_is_after_needed_events r boxes c f coherent knows t (Write o v l) p is after =
     let follow = can_follow_if_place_known r boxes c f coherent knows t (Write o v l) p is after in
     let test = test_true_if_choice_is_some ((f o v).readers == l) (option_map (λ (q : Point). later_of q (f o v).left) (made_by (f o v) v)) p after in
     let made = option_is_some_if_option_map_is_some (λ (q : Point). later_of q (f o v).left) (made_by (f o v) v) p test.1 in
     subst (IsAfter boxes (Needs r t (c t))) made.2
-    (place_after_union_of_events boxes (MakesVersion r o v) (ReadsPlaced r c o v) (Needs r t (c t)) made.0 (f o v).left (maker_is_needed_by_entry r t (c t) o v (inr (l, is)))
+    (place_after_union_of_events_is_later_place boxes (MakesVersion r o v) (ReadsPlaced r c o v) (Needs r t (c t)) made.0 (f o v).left (maker_is_needed_by_entry r t (c t) o v (inr (l, is)))
     (λ u j d. inr (record { object = o; version = v; readers = l; write = is; read = d.1 }))
     (λ u j needs. elim (need_of_write_is_its_maker_or_reader r t (c t) o v l u j is needs) [
       | inl m ↦ inl m
       | inr read ↦ inr (follow.needs u j needs, read)
     ])
-    (place_after_makers r boxes c f knows o v made.0 made.1 (λ u j m. follow.needs u j (maker_is_needed_by_entry r t (c t) o v (inr (l, is)) u j m))) (knows.left o v))
+    (made_place_is_after_makers_if_they_are_placed r boxes c f knows o v made.0 made.1 (λ u j m. follow.needs u j (maker_is_needed_by_entry r t (c t) o v (inr (l, is)) u j m))) (knows.left o v))
 
 -- ---- what ends before a box starts, by its events
 
@@ -74,9 +74,9 @@ place_after_needs r boxes c f coherent knows t (Write o v l) p is after =
 abbrev pub ComesBeforeBox : Recorded → EventBox → ℕ → ℕ → Type 0
 ComesBeforeBox r b u i = IsOf b.thread b.event u i ⊎ ((h : ℕ) × IsInBox b b.thread h × Needs r b.thread h u i)
 
-pub ends_where_if_ends_before : (r : Recorded) (boxes : List PlacedBox) (number : Point → ℕ) (b : PlacedBox) → AreBoxes r (events_of_all boxes) → (z : ℕ)
+pub ends_where_comes_before_box_if_ends_before : (r : Recorded) (boxes : List PlacedBox) (number : Point → ℕ) (b : PlacedBox) → AreBoxes r (events_of_all boxes) → (z : ℕ)
     → EndsBefore r boxes number b z → EndsWhere boxes number (ComesBeforeBox r b.events) z
-ends_where_if_ends_before r boxes number b are z (inl e) =
+ends_where_comes_before_box_if_ends_before r boxes number b are z (inl e) =
     let box = are.each e.at e.box.events (slice_get_of_map (λ (x : PlacedBox). x.events) boxes e.at e.box e.there) in
     record {
       at = e.at;
@@ -87,7 +87,7 @@ ends_where_if_ends_before r boxes number b are z (inl e) =
       these = inl e.earlier;
       ends = e.ends;
     }
-ends_where_if_ends_before r boxes number b are z (inr e) = record {
+ends_where_comes_before_box_if_ends_before r boxes number b are z (inr e) = record {
   at = e.at;
   box = e.box;
   event = e.needs.needed;
@@ -97,9 +97,9 @@ ends_where_if_ends_before r boxes number b are z (inr e) = record {
   ends = e.ends;
 }
 
-pub ends_before_if_ends_where : (r : Recorded) (boxes : List PlacedBox) (number : Point → ℕ) (b : PlacedBox) (z : ℕ) → EndsWhere boxes number (ComesBeforeBox r b.events) z
+pub ends_before_if_ends_where_comes_before_box : (r : Recorded) (boxes : List PlacedBox) (number : Point → ℕ) (b : PlacedBox) (z : ℕ) → EndsWhere boxes number (ComesBeforeBox r b.events) z
     → EndsBefore r boxes number b z
-ends_before_if_ends_where r boxes number b z e = elim e.these [
+ends_before_if_ends_where_comes_before_box r boxes number b z e = elim e.these [
   | inl own ↦ inl (record { at = e.at; box = e.box; there = e.there; earlier = (own.0, omega (arith, own.1, e.has.from)); ends = e.ends })
   | inr needed ↦ inr (record {
     at = e.at;
@@ -110,9 +110,9 @@ ends_before_if_ends_where r boxes number b z e = elim e.these [
   })
 ]
 
-ends_where_if_ends_earlier : (r : Recorded) (boxes : List PlacedBox) (number : Point → ℕ) (b : PlacedBox) → AreBoxes r (events_of_all boxes) → (z : ℕ)
+ends_where_is_of_own_thread_if_ends_earlier : (r : Recorded) (boxes : List PlacedBox) (number : Point → ℕ) (b : PlacedBox) → AreBoxes r (events_of_all boxes) → (z : ℕ)
     → EndsEarlier boxes number b z → EndsWhere boxes number (IsOf b.events.thread b.events.event) z
-ends_where_if_ends_earlier r boxes number b are z e =
+ends_where_is_of_own_thread_if_ends_earlier r boxes number b are z e =
     let box = are.each e.at e.box.events (slice_get_of_map (λ (x : PlacedBox). x.events) boxes e.at e.box e.there) in
     record {
       at = e.at;
@@ -124,9 +124,9 @@ ends_where_if_ends_earlier r boxes number b are z e =
       ends = e.ends;
     }
 
-ends_earlier_if_ends_where : (boxes : List PlacedBox) (number : Point → ℕ) (b : PlacedBox) (z : ℕ) → EndsWhere boxes number (IsOf b.events.thread b.events.event) z
+ends_earlier_if_ends_where_is_of_own_thread : (boxes : List PlacedBox) (number : Point → ℕ) (b : PlacedBox) (z : ℕ) → EndsWhere boxes number (IsOf b.events.thread b.events.event) z
     → EndsEarlier boxes number b z
-ends_earlier_if_ends_where boxes number b z e = record {
+ends_earlier_if_ends_where_is_of_own_thread boxes number b z e = record {
   at = e.at;
   box = e.box;
   there = e.there;
@@ -144,27 +144,27 @@ pub record IsPlacedByEvents (r : Recorded) (boxes : List PlacedBox) (b : PlacedB
 pub placed_if_placed_by_events : (r : Recorded) (boxes : List PlacedBox) (b : PlacedBox) → AreBoxes r (events_of_all boxes) → IsPlacedByEvents r boxes b → IsPlaced r boxes b
 placed_if_placed_by_events r boxes b are h = record {
   start_x = least_above_of_equal_sets 0 (EndsWhere boxes (λ q. q.x) (ComesBeforeBox r b.events)) (EndsBefore r boxes (λ q. q.x) b) b.start.x
-      (ends_before_if_ends_where r boxes (λ q. q.x) b) (ends_where_if_ends_before r boxes (λ q. q.x) b are) h.start.x;
+      (ends_before_if_ends_where_comes_before_box r boxes (λ q. q.x) b) (ends_where_comes_before_box_if_ends_before r boxes (λ q. q.x) b are) h.start.x;
   end_x = h.end_x;
   start_u = least_above_of_equal_sets 1 (EndsWhere boxes (λ q. q.u) (ComesBeforeBox r b.events)) (EndsBefore r boxes (λ q. q.u) b) b.start.u
-      (ends_before_if_ends_where r boxes (λ q. q.u) b) (ends_where_if_ends_before r boxes (λ q. q.u) b are) h.start.u;
+      (ends_before_if_ends_where_comes_before_box r boxes (λ q. q.u) b) (ends_where_comes_before_box_if_ends_before r boxes (λ q. q.u) b are) h.start.u;
   end_u = h.end_u;
   came = least_above_of_equal_sets 1 (EndsWhere boxes (λ q. q.u) (IsOf b.events.thread b.events.event)) (EndsEarlier boxes (λ q. q.u) b) b.came
-      (ends_earlier_if_ends_where boxes (λ q. q.u) b) (ends_where_if_ends_earlier r boxes (λ q. q.u) b are) h.came;
+      (ends_earlier_if_ends_where_is_of_own_thread boxes (λ q. q.u) b) (ends_where_is_of_own_thread_if_ends_earlier r boxes (λ q. q.u) b are) h.came;
 }
 
 pub placed_by_events_if_placed : (r : Recorded) (boxes : List PlacedBox) (b : PlacedBox) → AreBoxes r (events_of_all boxes) → IsPlaced r boxes b → IsPlacedByEvents r boxes b
 placed_by_events_if_placed r boxes b are h = record {
   start = record {
     x = least_above_of_equal_sets 0 (EndsBefore r boxes (λ q. q.x) b) (EndsWhere boxes (λ q. q.x) (ComesBeforeBox r b.events)) b.start.x
-        (ends_where_if_ends_before r boxes (λ q. q.x) b are) (ends_before_if_ends_where r boxes (λ q. q.x) b) h.start_x;
+        (ends_where_comes_before_box_if_ends_before r boxes (λ q. q.x) b are) (ends_before_if_ends_where_comes_before_box r boxes (λ q. q.x) b) h.start_x;
     u = least_above_of_equal_sets 1 (EndsBefore r boxes (λ q. q.u) b) (EndsWhere boxes (λ q. q.u) (ComesBeforeBox r b.events)) b.start.u
-        (ends_where_if_ends_before r boxes (λ q. q.u) b are) (ends_before_if_ends_where r boxes (λ q. q.u) b) h.start_u;
+        (ends_where_comes_before_box_if_ends_before r boxes (λ q. q.u) b are) (ends_before_if_ends_where_comes_before_box r boxes (λ q. q.u) b) h.start_u;
   };
   end_x = h.end_x;
   end_u = h.end_u;
   came = least_above_of_equal_sets 1 (EndsEarlier boxes (λ q. q.u) b) (EndsWhere boxes (λ q. q.u) (IsOf b.events.thread b.events.event)) b.came
-      (ends_where_if_ends_earlier r boxes (λ q. q.u) b are) (ends_earlier_if_ends_where boxes (λ q. q.u) b) h.came;
+      (ends_where_is_of_own_thread_if_ends_earlier r boxes (λ q. q.u) b are) (ends_earlier_if_ends_where_is_of_own_thread boxes (λ q. q.u) b) h.came;
 }
 
 -- a box that is placed stays so where another is changed whose events are none that it comes after
@@ -183,9 +183,9 @@ box_stays_placed_if_other_box_set r boxes k old new b at same not h = record {
 
 -- ---- the box that is placed
 
-least_above_of_covered_union : (from : ℕ) (A B C : ℕ → Type 0) (x y : ℕ) → ((z : ℕ) → A z → C z) → ((z : ℕ) → B z → C z) → ((z : ℕ) → C z → (z < x) ⊎ (z < y))
+least_above_is_max_if_union_is_below_either : (from : ℕ) (A B C : ℕ → Type 0) (x y : ℕ) → ((z : ℕ) → A z → C z) → ((z : ℕ) → B z → C z) → ((z : ℕ) → C z → (z < x) ⊎ (z < y))
     → IsLeastAbove from A x → IsLeastAbove from B y → IsLeastAbove from C (max x y)
-least_above_of_covered_union from A B C x y of_a of_b parts h k = record {
+least_above_is_max_if_union_is_below_either from A B C x y of_a of_b parts h k = record {
   start = omega (arith, h.start);
   above = λ z c. elim (parts z c) [
     | inl less ↦ omega (arith, less)
@@ -211,12 +211,12 @@ pub new_box_is_placed_by_events : (r : Recorded) (boxes : List PlacedBox) (event
     → IsPlacedByEvents r boxes (box_at events e free needed)
 new_box_is_placed_by_events r boxes events e free needed are is first of_free of_needed earlier = record {
   start = record {
-    x = least_above_of_covered_union 0 (EndsWhere boxes (λ q. q.x) (IsOf events.thread events.event)) (EndsWhere boxes (λ q. q.x) (Needs r events.thread events.event))
+    x = least_above_is_max_if_union_is_below_either 0 (EndsWhere boxes (λ q. q.x) (IsOf events.thread events.event)) (EndsWhere boxes (λ q. q.x) (Needs r events.thread events.event))
         (EndsWhere boxes (λ q. q.x) (ComesBeforeBox r events)) free.x needed.x
         (ends_where_of_wider_set boxes (λ q. q.x) (IsOf events.thread events.event) (ComesBeforeBox r events) (λ u i own. inl own))
         (ends_where_of_wider_set boxes (λ q. q.x) (Needs r events.thread events.event) (ComesBeforeBox r events) (λ u i needs. inr (events.event, own_first, needs)))
         parts_x of_free.x of_needed.x;
-    u = least_above_of_covered_union 1 (EndsWhere boxes (λ q. q.u) (IsOf events.thread events.event)) (EndsWhere boxes (λ q. q.u) (Needs r events.thread events.event))
+    u = least_above_is_max_if_union_is_below_either 1 (EndsWhere boxes (λ q. q.u) (IsOf events.thread events.event)) (EndsWhere boxes (λ q. q.u) (Needs r events.thread events.event))
         (EndsWhere boxes (λ q. q.u) (ComesBeforeBox r events)) free.u needed.u
         (ends_where_of_wider_set boxes (λ q. q.u) (IsOf events.thread events.event) (ComesBeforeBox r events) (λ u i own. inl own))
         (ends_where_of_wider_set boxes (λ q. q.u) (Needs r events.thread events.event) (ComesBeforeBox r events) (λ u i needs. inr (events.event, own_first, needs)))
@@ -235,7 +235,7 @@ new_box_is_placed_by_events r boxes events e free needed are is first of_free of
         → IsInBox d.events u j → u ≡ d.events.thread → (d.end.x < free.x) × (d.end.u < free.u)
     earlier_box h u j less needs m d at_d has_d thread_d =
         let home = are.all events.thread h (omega (arith, less, is.within, is.some)) in
-        let back = slice_get_before_map (λ (x : PlacedBox). x.events) boxes home.number home.box home.there in
+        let back = slice_get_of_map_inverse (λ (x : PlacedBox). x.events) boxes home.number home.box home.there in
         let a : PlacedBox = back.0 in
         let has : IsInBox a.events events.thread h = subst (λ (x : EventBox). IsInBox x events.thread h) (sym back.2) home.has in
         let at : IsPlacedByEvents r boxes a = earlier home.number h a back.1 has less in

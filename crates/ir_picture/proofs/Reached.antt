@@ -23,8 +23,8 @@ use Rattle.ir_picture.specs.declared.placing.Lane.{Lane}
 use Rattle.ir_picture.specs.declared.placing.Placing.{Placing}
 use Rattle.ir_picture.proofs.Lists.{slice_get_of_map}
 use Rattle.ir_picture.proofs.Fitting.{events_fit_objects}
-use Rattle.ir_picture.proofs.Counts.{placed_reads_within_limit}
-use Rattle.ir_picture.proofs.Room.{left_of_falls_by_one_after_next_box, near_needed_place, event_length_at_most_one}
+use Rattle.ir_picture.proofs.Counts.{placed_reads_at_most_threads_times_most_events}
+use Rattle.ir_picture.proofs.Room.{left_of_falls_by_one_after_next_box, needed_place_is_near_if_versions_are, event_length_at_most_one}
 use Rattle.ir_picture.proofs.Next.{boxes_are_being_placed_after_next_box, lane_after, event_at_of_box_event, length_of_events_in_is_box_count}
 
 pub placing_box_is_box : (r : Recorded) (p : Placing) → IsPlacing r p → (k : ℕ) (b : PlacedBox) → slice_get p.boxes.items k ≡ Some b → IsBox r b.events
@@ -93,7 +93,7 @@ free_place_within_limit r p t lane h at =
 pub needed_place_within_limit : (r : Recorded) (p : Placing) (t : ℕ) (needed : Point) → IsPlacing r p → IsReady r p t needed
     → (needed.x ≤ 2 ^ 40) × (needed.u ≤ 2 ^ 40 + 1)
 needed_place_within_limit r p t needed h ready =
-    let near = near_needed_place h.are.top (boxes_left p) (version_in p.table) ready.event needed h.are.room.first
+    let near = needed_place_is_near_if_versions_are h.are.top (boxes_left p) (version_in p.table) ready.event needed h.are.room.first
     (λ o v. record { left = h.are.room.left o v; made = h.are.room.made o v }) ready.after in
     (omega (arith, near.x, h.are.room.small), omega (arith, near.u, h.are.room.small))
 
@@ -101,13 +101,13 @@ count_within_events_of_sixteen_threads : (n m : ℕ) → n ≤ 16 → m ≤ n * 
 count_within_events_of_sixteen_threads n m a b = omega (arith, b, mul-le n most_events 16 most_events a (omega arith))
 
 -- the counts of read entries fit
-pub reader_counts_fit : (r : Recorded) (p : Placing) (b : EventBox) → IsPlacing r p → IsBox r b → (o v : ℕ)
+pub reader_count_plus_box_events_is_below_limit : (r : Recorded) (p : Placing) (b : EventBox) → IsPlacing r p → IsBox r b → (o v : ℕ)
     → (version_in p.table o v).readers + length (events_in r b) < 2 ^ 32
-reader_counts_fit r p b h is o v = omega (
+reader_count_plus_box_events_is_below_limit r p b h is o v = omega (
   arith,
   h.are.knows.readers o v,
   count_within_events_of_sixteen_threads (length r.threads) (placed_reads r (placed h.are.order) o v) (recorded_threads_at_most_limit r h.recorded)
-      (placed_reads_within_limit r (placed h.are.order) o v h.recorded),
+      (placed_reads_at_most_threads_times_most_events r (placed h.are.order) o v h.recorded),
   length_of_events_in_is_box_count r b is,
   is.within,
   (recorded_thread_at_number_is_recorded r h.recorded b.thread is.thread).few_events,
@@ -199,9 +199,9 @@ ready_parts_of_values_from_get_or r p t needed lane b h ready is_lane is_box =
     ready_parts_of_lane_and_box r p t needed ready lane b at
     (slice_get_read p.boxes.items (length p.boxes.items) lane.next b refl (slice_get_within p.boxes.items lane.next ready.box x.there) is_box)
 
-pub on_ok_of_both_facts : {A E : Type 0} (result : Result A E) (P Q R : Type 0) → OnOk result P → OnOk result Q → (P → Q → R) → OnOk result R
-on_ok_of_both_facts (Ok x) P Q R p q f = f p q
-on_ok_of_both_facts (Err e) P Q R p q f = tt
+pub on_ok_of_consequence_of_two_facts : {A E : Type 0} (result : Result A E) (P Q R : Type 0) → OnOk result P → OnOk result Q → (P → Q → R) → OnOk result R
+on_ok_of_consequence_of_two_facts (Ok x) P Q R p q f = f p q
+on_ok_of_consequence_of_two_facts (Err e) P Q R p q f = tt
 
 -- the end of a box isn't far
 pub placed_box_end_within_limit : (b : EventBox) (e : Event) (free needed : Point) (box : PlacedBox) → box ≡ box_at b e free needed → free.x ≤ 2 ^ 40 → needed.x ≤ 2 ^ 40

@@ -13,15 +13,15 @@ use Rattle.ir_picture.specs.declared.placed_box.PlacedBox.{PlacedBox}
 use Rattle.ir_picture.specs.declared.table.Version.{Version}
 use Rattle.ir_picture.specs.declared.placing.Lane.{Lane}
 use Rattle.ir_picture.proofs.Lists.{length_of_slice_set}
-use Rattle.ir_picture.proofs.Follows.{test_true_if_choice_is_some, option_is_some_if_option_map_is_some, made_by_of_later_version}
+use Rattle.ir_picture.proofs.Follows.{test_true_if_choice_is_some, option_is_some_if_option_map_is_some, made_by_of_successor_version_is_made}
 
 -- ---- boxes that are left
 
-left_of_after_lane_set : (boxes : List PlacedBox) (lanes : List Lane) (t : ℕ) (lane after : Lane) → slice_get lanes t ≡ Some lane
+left_of_changes_by_rest_of_lane_after_lane_set : (boxes : List PlacedBox) (lanes : List Lane) (t : ℕ) (lane after : Lane) → slice_get lanes t ≡ Some lane
     → left_of boxes (slice_set lanes t after) + (length boxes - lane.next) ≡ left_of boxes lanes + (length boxes - after.next)
-left_of_after_lane_set boxes [] t lane after is = absurd (none-some lane is)
-left_of_after_lane_set boxes (l ∷ ls) zero lane after is = omega (arith, ap (λ (x : Lane). length boxes - x.next) (same_Some l lane is))
-left_of_after_lane_set boxes (l ∷ ls) (suc t) lane after is = omega (arith, left_of_after_lane_set boxes ls t lane after is)
+left_of_changes_by_rest_of_lane_after_lane_set boxes [] t lane after is = absurd (none-some lane is)
+left_of_changes_by_rest_of_lane_after_lane_set boxes (l ∷ ls) zero lane after is = omega (arith, ap (λ (x : Lane). length boxes - x.next) (same_Some l lane is))
+left_of_changes_by_rest_of_lane_after_lane_set boxes (l ∷ ls) (suc t) lane after is = omega (arith, left_of_changes_by_rest_of_lane_after_lane_set boxes ls t lane after is)
 
 left_of_boxes_of_equal_count : (boxes new : List PlacedBox) (lanes : List Lane) → length new ≡ length boxes → left_of new lanes ≡ left_of boxes lanes
 left_of_boxes_of_equal_count boxes new [] same = refl
@@ -33,14 +33,14 @@ pub left_of_falls_by_one_after_next_box : (boxes : List PlacedBox) (lanes : List
 left_of_falls_by_one_after_next_box boxes lanes k t new lane after at less next = omega (
   arith,
   left_of_boxes_of_equal_count boxes (slice_set boxes k new) (slice_set lanes t after) (length_of_slice_set boxes k new),
-  left_of_after_lane_set boxes lanes t lane after at,
+  left_of_changes_by_rest_of_lane_after_lane_set boxes lanes t lane after at,
   less,
   next,
 )
 
-pub left_of_at_most_product : (boxes : List PlacedBox) (lanes : List Lane) → left_of boxes lanes ≤ length lanes * length boxes
-left_of_at_most_product boxes [] = omega arith
-left_of_at_most_product boxes (l ∷ ls) = grind (arith, left_of_at_most_product boxes ls)
+pub left_of_at_most_lanes_times_boxes : (boxes : List PlacedBox) (lanes : List Lane) → left_of boxes lanes ≤ length lanes * length boxes
+left_of_at_most_lanes_times_boxes boxes [] = omega arith
+left_of_at_most_lanes_times_boxes boxes (l ∷ ls) = grind (arith, left_of_at_most_lanes_times_boxes boxes ls)
 
 -- ---- places
 
@@ -50,8 +50,8 @@ event_length_at_most_one (Read o v) = omega arith
 event_length_at_most_one (Write o v l) = omega arith
 event_length_at_most_one (Try o) = omega arith
 
-pub near_with_fewer_boxes : (top m n : ℕ) (p : Point) → m ≤ n → IsNear top n p → IsNear top m p
-near_with_fewer_boxes top m n p less h = record { x = omega (arith, h.x, less); u = omega (arith, h.u, less) }
+pub near_with_fewer_boxes_if_near_with_more : (top m n : ℕ) (p : Point) → m ≤ n → IsNear top n p → IsNear top m p
+near_with_fewer_boxes_if_near_with_more top m n p less h = record { x = omega (arith, h.x, less); u = omega (arith, h.u, less) }
 
 pub near_later_of : (top n : ℕ) (p q : Point) → IsNear top n p → IsNear top n q → IsNear top n (later_of p q)
 near_later_of top n p q h k = record { x = omega (arith, h.x, k.x); u = omega (arith, h.u, k.u) }
@@ -89,16 +89,16 @@ pub near_version_after_noted_all : (top n : ℕ) (es : List Event) (p : Point) (
 near_version_after_noted_all top n [] p f h all o v = all o v
 near_version_after_noted_all top n (e ∷ es) p f h all o v = near_version_after_noted_all top n es p (noted e p f) h (near_version_after_noted top n e p f h all) o v
 
-near_made_place : (top n : ℕ) (k : Version) (v : ℕ) (p : Point) → 2 * n ≤ top → NearVersion top n k → made_by k v ≡ Some p → IsNear top n p
-near_made_place top n k zero p low h is = subst (IsNear top n) (same_Some first_point p is) (near_first_point top n low)
-near_made_place top n k (suc v) p low h is = h.made p (sym (made_by_of_later_version k v) ∙ is)
+made_place_is_near_if_version_is : (top n : ℕ) (k : Version) (v : ℕ) (p : Point) → 2 * n ≤ top → NearVersion top n k → made_by k v ≡ Some p → IsNear top n p
+made_place_is_near_if_version_is top n k zero p low h is = subst (IsNear top n) (same_Some first_point p is) (near_first_point top n low)
+made_place_is_near_if_version_is top n k (suc v) p low h is = h.made p (sym (made_by_of_successor_version_is_made k v) ∙ is)
 
-pub near_needed_place : (top n : ℕ) (f : ℕ → ℕ → Version) (e : Event) (p : Point) → 2 * n ≤ top → ((o v : ℕ) → NearVersion top n (f o v))
+pub needed_place_is_near_if_versions_are : (top n : ℕ) (f : ℕ → ℕ → Version) (e : Event) (p : Point) → 2 * n ≤ top → ((o v : ℕ) → NearVersion top n (f o v))
     → after_needs f e ≡ Some p → IsNear top n p
-near_needed_place top n f (Answer kind value) p low all is = subst (IsNear top n) (same_Some first_point p is) (near_first_point top n low)
-near_needed_place top n f (Read o v) p low all is = near_made_place top n (f o v) v p low (all o v) is
-near_needed_place top n f (Write o v l) p low all is =
+needed_place_is_near_if_versions_are top n f (Answer kind value) p low all is = subst (IsNear top n) (same_Some first_point p is) (near_first_point top n low)
+needed_place_is_near_if_versions_are top n f (Read o v) p low all is = made_place_is_near_if_version_is top n (f o v) v p low (all o v) is
+needed_place_is_near_if_versions_are top n f (Write o v l) p low all is =
     let test = test_true_if_choice_is_some ((f o v).readers == l) (option_map (λ (q : Point). later_of q (f o v).left) (made_by (f o v) v)) p is in
     let made = option_is_some_if_option_map_is_some (λ (q : Point). later_of q (f o v).left) (made_by (f o v) v) p test.1 in
-    subst (IsNear top n) made.2 (near_later_of top n made.0 (f o v).left (near_made_place top n (f o v) v made.0 low (all o v) made.1) (all o v).left)
-near_needed_place top n f (Try o) p low all is = subst (IsNear top n) (same_Some first_point p is) (near_first_point top n low)
+    subst (IsNear top n) made.2 (near_later_of top n made.0 (f o v).left (made_place_is_near_if_version_is top n (f o v) v made.0 low (all o v) made.1) (all o v).left)
+needed_place_is_near_if_versions_are top n f (Try o) p low all is = subst (IsNear top n) (same_Some first_point p is) (near_first_point top n low)

@@ -69,9 +69,9 @@ holds_entries_at_start r t n = record {
   all = λ o i v p. absurd (omega (arith, p.before));
 }
 
-last_entry_step : (r : Recorded) (t n o i v : ℕ) (e : Event) → event_at r t n ≡ Some e → (entered e ≡ Some o → ⊥) → IsLastEntry r t n o i v
+last_entry_stays_last_after_event_not_entering_object : (r : Recorded) (t n o i v : ℕ) (e : Event) → event_at r t n ≡ Some e → (entered e ≡ Some o → ⊥) → IsLastEntry r t n o i v
     → IsLastEntry r t (n + 1) o i v
-last_entry_step r t n o i v e at ne p = record {
+last_entry_stays_last_after_event_not_entering_object r t n o i v e at ne p = record {
   before = omega (arith, p.before);
   entry = p.entry;
   alone = λ k f after below is enters. elim (cases_lt k n) [
@@ -83,9 +83,9 @@ last_entry_step r t n o i v e at ne p = record {
   ];
 }
 
-last_entry_step_back : (r : Recorded) (t n o i v : ℕ) (e : Event) → event_at r t n ≡ Some e → (entered e ≡ Some o → ⊥) → IsLastEntry r t (n + 1) o i v
+last_entry_was_last_before_event_not_entering_object : (r : Recorded) (t n o i v : ℕ) (e : Event) → event_at r t n ≡ Some e → (entered e ≡ Some o → ⊥) → IsLastEntry r t (n + 1) o i v
     → IsLastEntry r t n o i v
-last_entry_step_back r t n o i v e at ne p = elim (cases_lt i n) [
+last_entry_was_last_before_event_not_entering_object r t n o i v e at ne p = elim (cases_lt i n) [
   | inl less ↦ record { before = less; entry = p.entry; alone = λ k f after below is enters. p.alone k f after (omega (arith, below)) is enters }
   | inr not ↦
       let here : i ≡ n = omega (arith, p.before, not) in
@@ -105,8 +105,8 @@ last_entry_is_entering_event r t n o i v e at enters p = elim (cases_lt i n) [
 pub holds_entries_after_other_event : (r : Recorded) (t n : ℕ) (table : List (Option ℕ)) (e : Event) → event_at r t n ≡ Some e → entered e ≡ None
     → HoldsEntries r t n table → HoldsEntries r t (n + 1) table
 holds_entries_after_other_event r t n table e at none h = record {
-  found = λ o v is. let p = h.found o v is in (p.0, last_entry_step r t n o p.0 v e at (λ some. none-some o (sym none ∙ some)) p.1);
-  all = λ o i v p. h.all o i v (last_entry_step_back r t n o i v e at (λ some. none-some o (sym none ∙ some)) p);
+  found = λ o v is. let p = h.found o v is in (p.0, last_entry_stays_last_after_event_not_entering_object r t n o p.0 v e at (λ some. none-some o (sym none ∙ some)) p.1);
+  all = λ o i v p. h.all o i v (last_entry_was_last_before_event_not_entering_object r t n o i v e at (λ some. none-some o (sym none ∙ some)) p);
 }
 
 -- an entry
@@ -121,13 +121,13 @@ holds_entries_after_entry r t n p v table e at enters within h = record {
     )
     | inr ne ↦
         let q = h.found o w (sym (get_or_after_set_elsewhere table p o (Some v) None ne) ∙ is) in
-        (q.0, last_entry_step r t n o q.0 w e at (other o ne) q.1)
+        (q.0, last_entry_stays_last_after_event_not_entering_object r t n o q.0 w e at (other o ne) q.1)
   ];
   all = λ o i w q. elim (cases_eq p o) [
     | inl here ↦
         let same = enters_is_unique e p v o w enters (last_entry_is_entering_event r t n o i w e at (entered_if_enters e p v enters ∙ ap Some here) q) in
         subst (λ z. entry_noted (slice_set table p (Some v)) z ≡ Some w) here (get_or_after_set table p (Some v) None within ∙ ap Some same.1)
-    | inr ne ↦ get_or_after_set_elsewhere table p o (Some v) None ne ∙ h.all o i w (last_entry_step_back r t n o i w e at (other o ne) q)
+    | inr ne ↦ get_or_after_set_elsewhere table p o (Some v) None ne ∙ h.all o i w (last_entry_was_last_before_event_not_entering_object r t n o i w e at (other o ne) q)
   ];
 }
   where
@@ -400,9 +400,9 @@ no_sight_if_nothing_new r boxes t i s none h = none s.object h.sight.version (su
 
 -- ---- all sights
 
-before_next_event : (u j t n : ℕ) → IsBefore u j t n → IsBefore u j t (n + 1)
-before_next_event u j t n (inl less) = inl less
-before_next_event u j t n (inr here) = inr (here.0, omega (arith, here.1))
+before_next_event_if_before_event : (u j t n : ℕ) → IsBefore u j t n → IsBefore u j t (n + 1)
+before_next_event_if_before_event u j t n (inl less) = inl less
+before_next_event_if_before_event u j t n (inr here) = inr (here.0, omega (arith, here.1))
 
 before_next_event_cases : (u j t n : ℕ) → IsBefore u j t (n + 1) → IsBefore u j t n ⊎ ((u ≡ t) × (j ≡ n))
 before_next_event_cases u j t n (inl less) = inl (inl less)
@@ -415,8 +415,8 @@ nothing_before_first_event : (u j : ℕ) → IsBefore u j 0 0 → ⊥
 nothing_before_first_event u j (inl less) = omega (arith, less)
 nothing_before_first_event u j (inr here) = omega (arith, here.1)
 
-pub sights_before_first_event : (r : Recorded) (boxes : List PlacedBox) → SightsBefore r boxes 0 0 []
-sights_before_first_event r boxes = record {
+pub no_sights_before_first_event : (r : Recorded) (boxes : List PlacedBox) → SightsBefore r boxes 0 0 []
+no_sights_before_first_event r boxes = record {
   each = λ k s is. absurd (none-some s is);
   before = λ k s is. absurd (none-some s is);
   all = λ s is b. absurd (nothing_before_first_event s.seer.events.thread s.seer.events.event b);
@@ -427,7 +427,7 @@ pub sights_before_step_without_sight : (r : Recorded) (boxes : List PlacedBox) (
     → SightsBefore r boxes t n sights → SightsBefore r boxes t (n + 1) sights
 sights_before_step_without_sight r boxes t n sights none h = record {
   each = h.each;
-  before = λ k s is. before_next_event s.seer.events.thread s.seer.events.event t n (h.before k s is);
+  before = λ k s is. before_next_event_if_before_event s.seer.events.thread s.seer.events.event t n (h.before k s is);
   all = λ s is b. elim (before_next_event_cases s.seer.events.thread s.seer.events.event t n b) [
     | inl less ↦ h.all s is less
     | inr here ↦ absurd (none s (record { sight = is; thread = here.0; event = here.1 }))
@@ -444,7 +444,7 @@ sights_before_step_with_sight r boxes t n sights new coherent some sees h = reco
     | inr now ↦ subst (IsSight r boxes) now.1 sees.sight
   ];
   before = λ k s is. elim (slice_get_after_push_cases sights new k s is) [
-    | inl old ↦ before_next_event s.seer.events.thread s.seer.events.event t n (h.before k s old)
+    | inl old ↦ before_next_event_if_before_event s.seer.events.thread s.seer.events.event t n (h.before k s old)
     | inr now ↦ subst (λ (x : Sight). IsBefore x.seer.events.thread x.seer.events.event t (n + 1)) now.1 (inr (sees.thread, omega (arith, sees.event)))
   ];
   all = λ s is b. elim (before_next_event_cases s.seer.events.thread s.seer.events.event t n b) [
@@ -508,13 +508,13 @@ are_sights_if_before_end r boxes n sights all h = record {
 
 -- ---- limits
 
-pub object_of_entry_fits : (r : Recorded) (t n o v : ℕ) (e : Event) (objects : ℕ) → event_at r t n ≡ Some e → Enters e o v
+pub object_of_entry_is_below_object_count : (r : Recorded) (t n o v : ℕ) (e : Event) (objects : ℕ) → event_at r t n ≡ Some e → Enters e o v
     → Fits (recorded_thread r t).events objects → o < objects
-object_of_entry_fits r t n o v e objects at enters fits = fits n o e at (entered_if_enters e o v enters)
+object_of_entry_is_below_object_count r t n o v e objects at enters fits = fits n o e at (entered_if_enters e o v enters)
 
 -- what is not the first version
-pub sees_new_of_successor_unless_first_version : (r : Recorded) (t i o v : ℕ) → (v ≡ 0 → ⊥) → SeesNew r t i o v → SeesNew r t i o (suc (v - 1))
-sees_new_of_successor_unless_first_version r t i o v ne sees =
+pub sees_new_of_suc_of_predecessor_unless_version_is_zero : (r : Recorded) (t i o v : ℕ) → (v ≡ 0 → ⊥) → SeesNew r t i o v → SeesNew r t i o (suc (v - 1))
+sees_new_of_suc_of_predecessor_unless_version_is_zero r t i o v ne sees =
     let same : v ≡ suc (v - 1) = omega (arith, ne) in
     subst (SeesNew r t i o) same sees
 
@@ -526,9 +526,9 @@ if_none_from_fact (Some x) P p = tt
 pub found_maker_is_maker : (r : Recorded) (t i o v : ℕ) (m : Makers) (result : Option Place) → Makes r (length r.threads) 0 m → SeesNew r t i o v → (v ≡ 0 → ⊥)
     → result ≡ maker_in m o (v - 1) → IfSome result (λ p. IsMakerOf r t i p.thread p.event)
 found_maker_is_maker r t i o v m None makes sees ne is = tt
-found_maker_is_maker r t i o v m (Some p) makes sees ne is = maker_in_table_is_maker r t i o (v - 1) p.thread p.event m p makes (sees_new_of_successor_unless_first_version r t i o v ne sees) (sym is)
+found_maker_is_maker r t i o v m (Some p) makes sees ne is = maker_in_table_is_maker r t i o (v - 1) p.thread p.event m p makes (sees_new_of_suc_of_predecessor_unless_version_is_zero r t i o v ne sees) (sym is)
 
 pub no_maker_if_none_found : (r : Recorded) (t i o v : ℕ) (m : Makers) (result : Option Place) → Makes r (length r.threads) 0 m → SeesNew r t i o v → (v ≡ 0 → ⊥)
     → result ≡ maker_in m o (v - 1) → IfNone result ((u j : ℕ) → IsMakerOf r t i u j → ⊥)
 no_maker_if_none_found r t i o v m (Some p) makes sees ne is = tt
-no_maker_if_none_found r t i o v m None makes sees ne is = no_maker_unless_in_table r t i o (v - 1) m makes (sees_new_of_successor_unless_first_version r t i o v ne sees) (sym is)
+no_maker_if_none_found r t i o v m None makes sees ne is = no_maker_unless_in_table r t i o (v - 1) m makes (sees_new_of_suc_of_predecessor_unless_version_is_zero r t i o v ne sees) (sym is)

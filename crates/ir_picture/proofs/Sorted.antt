@@ -14,8 +14,8 @@ use Rattle.ir_picture.specs.declared.placed_box.PlacedBox.{PlacedBox}
 use Rattle.ir_picture.specs.declared.placing.Lane.{Lane}
 use Rattle.ir_picture.proofs.Lists.{slice_get_of_map}
 
-pub threads_of_boxes_rise : (boxes : List EventBox) → AreApart boxes → IsNonDecreasingBy (λ (b : EventBox). b.thread) boxes
-threads_of_boxes_rise boxes apart i j d le less = elim (cases_eq i j) [
+pub threads_of_apart_boxes_are_nondecreasing : (boxes : List EventBox) → AreApart boxes → IsNonDecreasingBy (λ (b : EventBox). b.thread) boxes
+threads_of_apart_boxes_are_nondecreasing boxes apart i j d le less = elim (cases_eq i j) [
   | inl same ↦ omega (arith, ap (λ k. (get_or boxes k d).thread) same)
   | inr ne ↦ elim (apart i j (get_or boxes i d) (get_or boxes j d) (omega (arith, le, ne)) (slice_get-get_or boxes i d (omega (arith, le, less)))
       (slice_get-get_or boxes j d less)) [

@@ -35,8 +35,8 @@ repeated_event_can_follow r order t i is here there folded = record {
   ];
 }
 
-placed_equal_by_number : (u t : ℕ) (xs ys : List ℕ) (n : ℕ) → placed xs u ≡ n → n ≡ placed ys u → placed xs u ≡ placed ys u
-placed_equal_by_number u t xs ys n a b = a ∙ b
+placed_of_two_orders_equal_if_both_are_same_number : (u t : ℕ) (xs ys : List ℕ) (n : ℕ) → placed xs u ≡ n → n ≡ placed ys u → placed xs u ≡ placed ys u
+placed_of_two_orders_equal_if_both_are_same_number u t xs ys n a b = a ∙ b
 
 pub order_reaches_end_of_box : (r : Recorded) (boxes : List PlacedBox) (k : ℕ) (b : PlacedBox) → AreCoherent r → AreBoxes r (events_of_all boxes)
     → slice_get boxes k ≡ Some b → (es : List Event) (order : List ℕ) (f : ℕ → ℕ → Version) → IsOrder r order
@@ -72,6 +72,6 @@ order_reaches_end_of_box r boxes k b coherent are at (e ∷ es) order f is event
       order = rest.order;
       is = rest.is;
       here = rest.here;
-      others = λ u ne. placed_equal_by_number u t rest.order order (placed next u) (rest.others u ne) (placed_ignores_other_thread t u order ne);
+      others = λ u ne. placed_of_two_orders_equal_if_both_are_same_number u t rest.order order (placed next u) (rest.others u ne) (placed_ignores_other_thread t u order ne);
       knows = rest.knows;
     }

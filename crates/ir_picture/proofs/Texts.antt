@@ -1,7 +1,7 @@
 -- Texts that are put one after the other.
 use Rattle.std.proofs.Common.{◌≡◌, ℕ, suc, ◌+◌, ◌<◌, ◌≤◌, List, [], ◌∷◌, ◌++◌, codes, decimal, length, drop, flat_map, get_or, refl, sym, ap, ◌∙◌, append_assoc, append-nil, arith}
 use Rattle.std.proofs.lemmas.List.{at_drop_more, at_drop_all}
-use Rattle.ir_lemmas.proofs.CallerLemmas.{text_split_after_put, append_of_four_texts}
+use Rattle.ir_lemmas.proofs.CallerLemmas.{append_of_written_and_left_step, four_appends_nest_to_the_right}
 use Rattle.ir_trace.specs.Recorded.{Recorded, RecordedThread}
 use Rattle.ir_log.specs.declared.event.Event.{Event}
 use Rattle.ir_picture.specs.Numbers.{comma, row_start, rows_from, first_numbers, place_numbers, row_with, with_commas, thread_row, thread_rows}
@@ -14,21 +14,21 @@ use Rattle.ir_picture.specs.declared.placed_box.PlacedBox.{PlacedBox}
 use Rattle.ir_picture.specs.declared.sights.Sight.{Sight}
 
 -- the same of two texts
-pub text_split_after_two_puts : (so_far one two left more text mid new : List ℕ) → so_far ++ left ≡ text → left ≡ one ++ (two ++ more) → mid ≡ so_far ++ one
+pub text_is_so_far_then_rest_after_two_puts : (so_far one two left more text mid new : List ℕ) → so_far ++ left ≡ text → left ≡ one ++ (two ++ more) → mid ≡ so_far ++ one
     → new ≡ mid ++ two → new ++ more ≡ text
-text_split_after_two_puts so_far one two left more text mid new e first made last =
-    text_split_after_put mid two (two ++ more) more text new (text_split_after_put so_far one left (two ++ more) text mid e first made) refl last
+text_is_so_far_then_rest_after_two_puts so_far one two left more text mid new e first made last =
+    append_of_written_and_left_step mid two (two ++ more) more text new (append_of_written_and_left_step so_far one left (two ++ more) text mid e first made) refl last
 
 -- ---- texts that are put one after the other
 
-pub append_of_three_texts : (old a b c one two three : List ℕ) → one ≡ old ++ a → two ≡ one ++ b → three ≡ two ++ c → three ≡ old ++ (a ++ (b ++ c))
-append_of_three_texts old a b c one two three x y z = z ∙ ap (λ (w : List ℕ). w ++ c) (y ∙ ap (λ (w : List ℕ). w ++ b) x)
+pub three_appends_nest_to_the_right : (old a b c one two three : List ℕ) → one ≡ old ++ a → two ≡ one ++ b → three ≡ two ++ c → three ≡ old ++ (a ++ (b ++ c))
+three_appends_nest_to_the_right old a b c one two three x y z = z ∙ ap (λ (w : List ℕ). w ++ c) (y ∙ ap (λ (w : List ℕ). w ++ b) x)
     ∙ append_assoc (old ++ a) b c ∙ append_assoc old a (b ++ c)
 
-pub append_of_five_texts : (old a b c d e one two three four five : List ℕ) → one ≡ old ++ a → two ≡ one ++ b → three ≡ two ++ c → four ≡ three ++ d
+pub five_appends_nest_to_the_right : (old a b c d e one two three four five : List ℕ) → one ≡ old ++ a → two ≡ one ++ b → three ≡ two ++ c → four ≡ three ++ d
     → five ≡ four ++ e → five ≡ old ++ (a ++ (b ++ (c ++ (d ++ e))))
-append_of_five_texts old a b c d e one two three four five x y z w v =
-    append_of_four_texts old a b c (d ++ e) one two three five x y z (v ∙ ap (λ (u : List ℕ). u ++ e) w ∙ append_assoc three d e)
+five_appends_nest_to_the_right old a b c d e one two three four five x y z w v =
+    four_appends_nest_to_the_right old a b c (d ++ e) one two three five x y z (v ∙ ap (λ (u : List ℕ). u ++ e) w ∙ append_assoc three d e)
 
 -- ---- texts with a comma between
 
@@ -76,9 +76,9 @@ rows_begin_with_next_line row n xs x some = rows_begin_with_next_row row n xs x 
     ∙ sym (append_assoc (row_start n) (row (get_or xs n x)) (rows_from row (n + 1) (drop (n + 1) xs)))
 
 -- the row of a box was put, its last numbers behind the others
-pub row_with_after_puts : (old : List ℕ) (es : List Event) (b : PlacedBox) (last one two three : List ℕ) → one ≡ old ++ box_start es b → two ≡ one ++ last
+pub puts_of_box_start_last_and_bracket_append_row_with : (old : List ℕ) (es : List Event) (b : PlacedBox) (last one two three : List ℕ) → one ≡ old ++ box_start es b → two ≡ one ++ last
     → three ≡ two ++ codes "]" → three ≡ old ++ row_with es b last
-row_with_after_puts old es b last one two three x y z = append_of_three_texts old (box_start es b) last (codes "]") one two three x y z
+puts_of_box_start_last_and_bracket_append_row_with old es b last one two three x y z = three_appends_nest_to_the_right old (box_start es b) last (codes "]") one two three x y z
     ∙ ap (λ (w : List ℕ). old ++ (codes "[" ++ w)) (regroup (decimal b.events.thread) (comma b.events.event) (comma b.events.count) (first_numbers es)
     (place_numbers b) (last ++ codes "]"))
   where
@@ -130,16 +130,16 @@ all_arrows_past_end k n xs all = at_drop_all (all_arrows k) xs n all
 
 -- ---- the lines of threads, for other viewers
 
-pub all_threads_step : (t : ℕ) (so_far text own new : List ℕ) → text ≡ so_far ++ all_threads t → own ≡ thread_lines t → new ≡ text ++ own
+pub all_threads_are_appended_after_one_more_thread : (t : ℕ) (so_far text own new : List ℕ) → text ≡ so_far ++ all_threads t → own ≡ thread_lines t → new ≡ text ++ own
     → new ≡ so_far ++ all_threads (t + 1)
 unfolding all_threads
-all_threads_step t so_far text own new h same made = made ∙ ap (λ (x : List ℕ). x ++ own) h ∙ append_assoc so_far (all_threads t) own
+all_threads_are_appended_after_one_more_thread t so_far text own new h same made = made ∙ ap (λ (x : List ℕ). x ++ own) h ∙ append_assoc so_far (all_threads t) own
     ∙ ap (λ (x : List ℕ). so_far ++ (all_threads t ++ x)) same
     ∙ (let on : suc t ≡ t + 1 = omega arith in ap (λ n. so_far ++ all_threads n) on)
 
-pub all_threads_of_none : (so_far : List ℕ) → so_far ≡ so_far ++ all_threads 0
+pub append_of_all_threads_of_none_is_unchanged : (so_far : List ℕ) → so_far ≡ so_far ++ all_threads 0
 unfolding all_threads
-all_threads_of_none so_far = sym (append-nil so_far)
+append_of_all_threads_of_none_is_unchanged so_far = sym (append-nil so_far)
 
 -- ---- lines
 

@@ -18,7 +18,7 @@ use Rattle.ir_log.specs.declared.event.Event.TheVariants as variant
 use Rattle.ir_trace.specs.Recorded.{Recorded, recorded_thread}
 use Rattle.ir_past.specs.Past.{event_at}
 use Rattle.ir_past.specs.Returning.{leaves_one}
-use Rattle.ir_past.proofs.CallerLemmas.{label_of_event_is_at_its_place, Enters, log_of_own_step, log_of_other_step, target_object_after_step, other_object_after_step, act_emitting_entry_is_entering, exiting_thread_is_inside, entering_thread_is_not_inside, own_step_keeps_object_or_exits, other_step_adds_leaves_one_to_version_and_keeps_inside}
+use Rattle.ir_past.proofs.CallerLemmas.{label_of_event_is_at_its_place, Enters, log_of_own_step, log_of_other_step, target_object_after_step, other_object_after_step, act_emitting_entry_is_entering, exiting_thread_is_inside, entering_thread_is_not_inside, own_step_not_entering_keeps_object_or_exits, other_step_adds_leaves_one_to_version_and_keeps_inside}
 use Rattle.ir_picture.specs.Needs.{IsEntryAt, Needs, placed, CanFollow, IsOrder, HasNoCircle}
 
 -- ---- versions only grow
@@ -98,7 +98,7 @@ object_stays_written_over_after_step m law s good e o v t (inr is) = elim (cases
   | inl own ↦ elim (label_enters_or_not (label m s e) o) [
     | inl entry ↦ let h = act_emitting_entry_is_entering (act m s e) (s.objects (target (act m s e))) o entry.0 entry.1 entry.2 entry.3 in
         absurd (none-some Writing (sym (subst (λ z. (s.objects o).inside z ≡ None) own (entering_thread_is_not_inside m law s good e o entry.0 h.answer h.does)) ∙ is.1))
-    | inr none ↦ elim (own_step_keeps_object_or_exits m s e t o own none) [
+    | inr none ↦ elim (own_step_not_entering_keeps_object_or_exits m s e t o own none) [
       | inl same ↦ inr (same.0 ∙ is.0, same.1 ∙ is.1)
       | inr exit ↦ inl (left exit.0 exit.1 (same_Some exit.0 Writing
           (sym (subst (λ z. (s.objects o).inside z ≡ Some exit.0) own (exiting_thread_is_inside m law s good e o exit.0 exit.1)) ∙ is.1)))
@@ -153,17 +153,17 @@ written_over_after_write_entry m s e o v l is =
 
 -- ---- what is left of a log
 
-at_place_before_drop : {A : Type 0} (xs : List A) (k n : ℕ) (x : A) → At (drop k xs) n x → At xs (k + n) x
-at_place_before_drop xs zero n x at = let same : n ≡ 0 + n = omega arith in subst (λ z. At xs z x) same at
-at_place_before_drop [] (suc k) n x at = absurd at
-at_place_before_drop (y ∷ ys) (suc k) n x at =
-    let same : suc (k + n) ≡ suc k + n = omega arith in subst (λ z. At (y ∷ ys) z x) same (at_place_before_drop ys k n x at)
+at_sum_if_at_of_drop : {A : Type 0} (xs : List A) (k n : ℕ) (x : A) → At (drop k xs) n x → At xs (k + n) x
+at_sum_if_at_of_drop xs zero n x at = let same : n ≡ 0 + n = omega arith in subst (λ z. At xs z x) same at
+at_sum_if_at_of_drop [] (suc k) n x at = absurd at
+at_sum_if_at_of_drop (y ∷ ys) (suc k) n x at =
+    let same : suc (k + n) ≡ suc k + n = omega arith in subst (λ z. At (y ∷ ys) z x) same (at_sum_if_at_of_drop ys k n x at)
 
-at_place_after_drop : {A : Type 0} (xs : List A) (k n : ℕ) (x : A) → At xs (k + n) x → At (drop k xs) n x
-at_place_after_drop xs zero n x at = let same : 0 + n ≡ n = omega arith in subst (λ z. At xs z x) same at
-at_place_after_drop [] (suc k) n x at = absurd at
-at_place_after_drop (y ∷ ys) (suc k) n x at =
-    at_place_after_drop ys k n x (let same : suc k + n ≡ suc (k + n) = omega arith in subst (λ z. At (y ∷ ys) z x) same at)
+at_of_drop_if_at_sum : {A : Type 0} (xs : List A) (k n : ℕ) (x : A) → At xs (k + n) x → At (drop k xs) n x
+at_of_drop_if_at_sum xs zero n x at = let same : 0 + n ≡ n = omega arith in subst (λ z. At xs z x) same at
+at_of_drop_if_at_sum [] (suc k) n x at = absurd at
+at_of_drop_if_at_sum (y ∷ ys) (suc k) n x at =
+    at_of_drop_if_at_sum ys k n x (let same : suc k + n ≡ suc (k + n) = omega arith in subst (λ z. At (y ∷ ys) z x) same at)
 
 at_place_is_unique : {A : Type 0} (xs : List A) (n : ℕ) (x y : A) → At xs n x → At xs n y → x ≡ y
 at_place_is_unique [] n x y a b = absurd a
@@ -176,16 +176,16 @@ drop_one_more_is_tail_if_drop_is_cons [] ys (suc k) x is = absurd (cc is)
 drop_one_more_is_tail_if_drop_is_cons (z ∷ zs) ys zero x is = let same : zs ≡ ys = cc is in same
 drop_one_more_is_tail_if_drop_is_cons (z ∷ zs) ys (suc k) x is = drop_one_more_is_tail_if_drop_is_cons zs ys k x is
 
-place_is_within_if_drop_is_cons : {A : Type 0} (xs ys : List A) (k : ℕ) (x : A) → drop k xs ≡ x ∷ ys → k < length xs
-place_is_within_if_drop_is_cons [] ys zero x is = absurd (cc is)
-place_is_within_if_drop_is_cons [] ys (suc k) x is = absurd (cc is)
-place_is_within_if_drop_is_cons (z ∷ zs) ys zero x is = omega arith
-place_is_within_if_drop_is_cons (z ∷ zs) ys (suc k) x is = let less = place_is_within_if_drop_is_cons zs ys k x is in omega (arith, less)
+less_than_length_if_drop_is_cons : {A : Type 0} (xs ys : List A) (k : ℕ) (x : A) → drop k xs ≡ x ∷ ys → k < length xs
+less_than_length_if_drop_is_cons [] ys zero x is = absurd (cc is)
+less_than_length_if_drop_is_cons [] ys (suc k) x is = absurd (cc is)
+less_than_length_if_drop_is_cons (z ∷ zs) ys zero x is = omega arith
+less_than_length_if_drop_is_cons (z ∷ zs) ys (suc k) x is = let less = less_than_length_if_drop_is_cons zs ys k x is in omega (arith, less)
 
-place_is_past_end_if_drop_is_empty : {A : Type 0} (xs : List A) (k : ℕ) → drop k xs ≡ [] → length xs ≤ k
-place_is_past_end_if_drop_is_empty [] k is = omega arith
-place_is_past_end_if_drop_is_empty (z ∷ zs) zero is = absurd (cc is)
-place_is_past_end_if_drop_is_empty (z ∷ zs) (suc k) is = let less = place_is_past_end_if_drop_is_empty zs k is in omega (arith, less)
+length_at_most_if_drop_is_empty : {A : Type 0} (xs : List A) (k : ℕ) → drop k xs ≡ [] → length xs ≤ k
+length_at_most_if_drop_is_empty [] k is = omega arith
+length_at_most_if_drop_is_empty (z ∷ zs) zero is = absurd (cc is)
+length_at_most_if_drop_is_empty (z ∷ zs) (suc k) is = let less = length_at_most_if_drop_is_empty zs k is in omega (arith, less)
 
 length_of_mapped_events : (es : List Event) → length (map label_of es) ≡ length es
 length_of_mapped_events [] = refl
@@ -232,14 +232,14 @@ thread_can_follow_logging_step m law s good e can run ok r order logs h = record
     left = h.left e.0 ∙ log_of_own_step m s e run e.0 refl ∙ logs (log m (after m s e) run e.0)
 
     there : placed order e.0 < length (recorded_thread r e.0).events
-    there = let less = place_is_within_if_drop_is_cons (labels r e.0) (log m (after m s e) run e.0) (placed order e.0) (label m s e) left in
+    there = let less = less_than_length_if_drop_is_cons (labels r e.0) (log m (after m s e) run e.0) (placed order e.0) (label m s e) left in
         let size = length_of_mapped_events (recorded_thread r e.0).events in omega (arith, less, size)
 
     -- the label of the next event
     is_label : (ev : Event) → event_at r e.0 (placed order e.0) ≡ Some ev → label m s e ≡ label_of ev
     is_label ev at = at_place_is_unique (labels r e.0) (placed order e.0) (label m s e) (label_of ev)
         (let same : placed order e.0 + 0 ≡ placed order e.0 = omega arith in
-        subst (λ z. At (labels r e.0) z (label m s e)) same (at_place_before_drop (labels r e.0) (placed order e.0) 0 (label m s e)
+        subst (λ z. At (labels r e.0) z (label m s e)) same (at_sum_if_at_of_drop (labels r e.0) (placed order e.0) 0 (label m s e)
         (subst (λ (ks : List Label). At ks 0 (label m s e)) (sym left) refl)))
         (label_of_event_is_at_its_place (recorded_thread r e.0).events (placed order e.0) ev at)
 
@@ -250,7 +250,7 @@ thread_can_follow_logging_step m law s good e can run ok r order logs h = record
         let d : ℕ = j - placed order u in
         let same : j ≡ placed order u + d = omega (arith, past) in
         let here = subst (λ (ks : List Label). At ks d (label_of ev)) (h.left u)
-        (at_place_after_drop (labels r u) (placed order u) d (label_of ev) (subst (λ z. At (labels r u) z (label_of ev)) same
+        (at_of_drop_if_at_sum (labels r u) (placed order u) d (label_of ev) (subst (λ z. At (labels r u) z (label_of ev)) same
         (label_of_event_is_at_its_place (recorded_thread r u).events j ev at))) in
         elim (cases_eq e.0 u) [
           | inl own ↦ logged_label_is_head_or_tail (label m s e) (log m (after m s e) run u) d (label_of ev)
@@ -325,7 +325,7 @@ unrolled_run_has_no_circle : {T : Type 0} (m : Machine T) → IsLawful m → (s 
 unrolled_run_has_no_circle m law s good [] ok r order h = (order, h.is, all)
   where
     all : (t : ℕ) → placed order t ≡ length (recorded_thread r t).events
-    all t = let past = place_is_past_end_if_drop_is_empty (labels r t) (placed order t) (h.left t) in
+    all t = let past = length_at_most_if_drop_is_empty (labels r t) (placed order t) (h.left t) in
         let size = length_of_mapped_events (recorded_thread r t).events in let within = h.within t in omega (arith, past, size, within)
 unrolled_run_has_no_circle m law s good (e ∷ run) ok r order h = elim (logged_adds_label_or_nothing (label m s e)) [
   | inl quiet ↦ unrolled_run_has_no_circle m law (after m s e) (state_invariant_after_step m law s good e ok.0) run ok.1 r order (unrolled_after_silent_step m s e run r order quiet h)

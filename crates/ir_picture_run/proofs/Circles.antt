@@ -24,8 +24,8 @@ run_trace_has_no_circle f h =
     ])
 
 -- so no event of it needs itself
-pub no_circle_at_event : (r : Recorded) (t e : ℕ) → HasNoCircle r → IsCircleAt r t e → ⊥
-no_circle_at_event r t e none circle =
+pub no_event_has_circle_if_recorded_has_none : (r : Recorded) (t e : ℕ) → HasNoCircle r → IsCircleAt r t e → ⊥
+no_event_has_circle_if_recorded_has_none r t e none circle =
     let most = circle.full.most none.0 none.1 t in
     let all : placed none.0 t ≡ length (recorded_thread r t).events = none.2 t in
     let next = circle.next in

@@ -20,11 +20,11 @@ unfolding first_kept
 first_kept_of_no_row shown rows rests none e = e
 
 -- one more row
-pub first_kept_step : (shown : List PlacedBox) (rows : List StaleWrite) (rests : List (Option Rest)) (n : ℕ) (x : StaleWrite) (r : Option Rest)
+pub first_kept_of_one_more_row : (shown : List PlacedBox) (rows : List StaleWrite) (rests : List (Option Rest)) (n : ℕ) (x : StaleWrite) (r : Option Rest)
     (old new : List Resting) → old ≡ first_kept shown rows rests n → new ≡ old ++ kept_if shown (Some x) r → slice_get rows n ≡ Some x
     → slice_index_or rests n None ≡ r → new ≡ first_kept shown rows rests (n + 1)
 unfolding first_kept
-first_kept_step shown rows rests n x r old new before made at rest = made
+first_kept_of_one_more_row shown rows rests n x r old new before made at rest = made
     ∙ ap (λ (k : List Resting). k ++ kept_if shown (Some x) r) before
     ∙ ap (λ (y : Option StaleWrite). first_kept shown rows rests n ++ kept_if shown y r) (sym at)
     ∙ ap (λ (s : Option Rest). first_kept shown rows rests n ++ kept_if shown (slice_get rows n) s) (sym rest)

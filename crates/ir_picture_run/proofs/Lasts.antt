@@ -34,12 +34,12 @@ pub record AreDrawnTo (f : FittedTrace) (boxes : List PlacedBox) (n : ℕ) (draw
   pub size : length drawn ≡ n
   pub each : (k : ℕ) (b : PlacedBox) (d : Drawn) → slice_get boxes k ≡ Some b → slice_get drawn k ≡ Some d → IsDrawn f b d
 
-pub drawn_to_no_box : (f : FittedTrace) (boxes : List PlacedBox) → AreDrawnTo f boxes 0 []
-drawn_to_no_box f boxes = record { size = refl; each = λ k b d at there. absurd (none-some d there) }
+pub none_are_drawn_to_zero_boxes : (f : FittedTrace) (boxes : List PlacedBox) → AreDrawnTo f boxes 0 []
+none_are_drawn_to_zero_boxes f boxes = record { size = refl; each = λ k b d at there. absurd (none-some d there) }
 
-pub drawn_to_next_box : (f : FittedTrace) (boxes : List PlacedBox) (n : ℕ) (old new : List Drawn) (b : PlacedBox) (d : Drawn) → AreDrawnTo f boxes n old
+pub are_drawn_to_one_more_box_after_push : (f : FittedTrace) (boxes : List PlacedBox) (n : ℕ) (old new : List Drawn) (b : PlacedBox) (d : Drawn) → AreDrawnTo f boxes n old
     → slice_get boxes n ≡ Some b → IsDrawn f b d → new ≡ old ++ d ∷ [] → AreDrawnTo f boxes (n + 1) new
-drawn_to_next_box f boxes n old new b d h at is made = subst (AreDrawnTo f boxes (n + 1)) (sym made) (record {
+are_drawn_to_one_more_box_after_push f boxes n old new b d h at is made = subst (AreDrawnTo f boxes (n + 1)) (sym made) (record {
   size = length_push old d ∙ (let s = h.size in omega (arith, s));
   each = λ k c e there new_there. elim (slice_get_after_push_cases old d k e new_there) [
     | inl before ↦ h.each k c e there before

@@ -4,7 +4,7 @@ use Rattle.std.proofs.lemmas.List.{at_drop_more, at_drop_all}
 use Rattle.std.specs.Io.KnownBytes.{Appends}
 use Rattle.std.proofs.KnownBytes.{Appends-nil, Appends-trans}
 use Rattle.ir_stream.specs.Answers.{AppendsPrefix}
-use Rattle.ir_stream.proofs.CallerLemmas.{prefix_after_whole_text, prefix_of_longer_text}
+use Rattle.ir_stream.proofs.CallerLemmas.{appends_prefix_of_append_if_first_appended, appends_prefix_of_longer_text}
 use Rattle.ir_thread.specs.declared.profile.Profile.{Profile}
 use Rattle.ir_log.specs.Logging.{label_of}
 use Rattle.ir_log.specs.declared.event.Event.{Event}
@@ -21,16 +21,16 @@ pub nothing_appended_is_prefix : (a : Option (List ℕ)) (text : List ℕ) → A
 nothing_appended_is_prefix a text = record { part = []; more = text; splits = refl; grown = Appends-nil a }
 
 -- a write of the first part of a text failed
-pub failed_in_first_part : (a b : Option (List ℕ)) (failed : Bool) (bytes first rest : List ℕ) → bytes ≡ first → AppendsPrefix a b bytes
+pub writer_failed_in_text_if_prefix_of_first_part_appended : (a b : Option (List ℕ)) (failed : Bool) (bytes first rest : List ℕ) → bytes ≡ first → AppendsPrefix a b bytes
     → failed ≡ true → Failed (writer_of a b failed) (first ++ rest)
-failed_in_first_part a b failed bytes first rest same prefix broke =
-    (prefix_of_longer_text a b first rest (subst (AppendsPrefix a b) same prefix), broke)
+writer_failed_in_text_if_prefix_of_first_part_appended a b failed bytes first rest same prefix broke =
+    (appends_prefix_of_longer_text a b first rest (subst (AppendsPrefix a b) same prefix), broke)
 
 -- a write of the rest failed
-pub failed_in_second_part : (a b c : Option (List ℕ)) (failed : Bool) (bytes first rest : List ℕ) → bytes ≡ first → Appends a b bytes
+pub writer_failed_in_text_if_prefix_of_second_part_appended : (a b c : Option (List ℕ)) (failed : Bool) (bytes first rest : List ℕ) → bytes ≡ first → Appends a b bytes
     → AppendsPrefix b c rest → failed ≡ true → Failed (writer_of a c failed) (first ++ rest)
-failed_in_second_part a b c failed bytes first rest same done prefix broke =
-    (prefix_after_whole_text a b c first rest (subst (Appends a b) same done) prefix, broke)
+writer_failed_in_text_if_prefix_of_second_part_appended a b c failed bytes first rest same done prefix broke =
+    (appends_prefix_of_append_if_first_appended a b c first rest (subst (Appends a b) same done) prefix, broke)
 
 -- a prefix of the log of these events
 pub log_prefix_of_equal_events : (a b : Option (List ℕ)) (events others : List Event) → events ≡ others
@@ -78,7 +78,7 @@ prefix_appended_in_thread_listing a b c t rs r text some e f prefix =
     let rest : List ℕ = threads_listing (t + 1) (drop (t + 1) rs) in
     subst (AppendsPrefix a c) (append_assoc f.part (thread_listing t r) rest
     ∙ ap (λ (x : List ℕ). f.part ++ x) (sym (threads_listing_of_drop_step t rs r some e)) ∙ f.others)
-    (prefix_of_longer_text a c (f.part ++ thread_listing t r) rest (prefix_after_whole_text a b c f.part (thread_listing t r) f.written prefix))
+    (appends_prefix_of_longer_text a c (f.part ++ thread_listing t r) rest (appends_prefix_of_append_if_first_appended a b c f.part (thread_listing t r) f.written prefix))
 
 pub stopped_in_thread_listing : (e : ListErr) (a b c : Option (List ℕ)) (failed : Bool) (t : ℕ) (rs : List RecordedThread) (r : RecordedThread)
     (text : List ℕ) → t < length rs → r ≡ get_or rs t r → Buffered a b (threads_listing t (drop t rs)) text
@@ -90,8 +90,8 @@ stopped_in_thread_listing err.Write a b c failed t rs r text some e f h = (prefi
 
 stops_after_first_text : (e : ListErr) (a b c : Option (List ℕ)) (failed : Bool) (first rest : List ℕ) → Appends a b first
     → Stops e (writer_of b c failed) rest → Stops e (writer_of a c failed) (first ++ rest)
-stops_after_first_text err.NoMem a b c failed first rest done h = (prefix_after_whole_text a b c first rest done h.0, h.1)
-stops_after_first_text err.Write a b c failed first rest done h = (prefix_after_whole_text a b c first rest done h.0, h.1)
+stops_after_first_text err.NoMem a b c failed first rest done h = (appends_prefix_of_append_if_first_appended a b c first rest done h.0, h.1)
+stops_after_first_text err.Write a b c failed first rest done h = (appends_prefix_of_append_if_first_appended a b c first rest done h.0, h.1)
 
 result_stops_after_first_text : {A : Type 0} (result : Result A ListErr) (a b c : Option (List ℕ)) (failed : Bool) (bytes first rest : List ℕ)
     → bytes ≡ first → Appends a b bytes → IfErr result (λ e. Stops e (writer_of b c failed) rest)

@@ -32,13 +32,13 @@ pub plain_after_byte : (line : List ℕ) (b : ℕ) → IsPlain line → is_feed 
 plain_after_byte [] b plain other = (other, tt)
 plain_after_byte (a ∷ line) b plain other = (plain.0, plain_after_byte line b plain.1 other)
 
-line_ends_at_feed : (line rest : List ℕ) → IsPlain line → (line ≡ line_of (line ++ 10 ∷ rest)) × (rest ≡ after_line (line ++ 10 ∷ rest))
+line_of_and_after_line_split_plain_line_at_feed : (line rest : List ℕ) → IsPlain line → (line ≡ line_of (line ++ 10 ∷ rest)) × (rest ≡ after_line (line ++ 10 ∷ rest))
 unfolding line_of after_line
-line_ends_at_feed line rest plain = (sym (line_of_plain_prefix line (10 ∷ rest) plain ∙ append-nil line), sym (after_line_of_plain_prefix line (10 ∷ rest) plain))
+line_of_and_after_line_split_plain_line_at_feed line rest plain = (sym (line_of_plain_prefix line (10 ∷ rest) plain ∙ append-nil line), sym (after_line_of_plain_prefix line (10 ∷ rest) plain))
 
-line_ends_at_input_end : (line : List ℕ) → IsPlain line → (line ≡ line_of line) × ([] ≡ after_line line)
+line_of_plain_line_is_whole_and_nothing_is_after : (line : List ℕ) → IsPlain line → (line ≡ line_of line) × ([] ≡ after_line line)
 unfolding line_of after_line
-line_ends_at_input_end line plain =
+line_of_plain_line_is_whole_and_nothing_is_after line plain =
     let whole = append-nil line in
     (sym (ap line_of (sym whole) ∙ line_of_plain_prefix line [] plain ∙ whole), sym (ap after_line (sym whole) ∙ after_line_of_plain_prefix line [] plain))
 
@@ -49,7 +49,7 @@ takes_line_at_feed (Some xs) None c line plain p q = absurd p
 takes_line_at_feed (Some xs) (Some ys) None line plain p q = absurd q
 takes_line_at_feed (Some xs) (Some ys) (Some zs) line plain p q =
     let whole : xs ≡ line ++ 10 ∷ zs = p ∙ ap (λ (r : List ℕ). line ++ r) q in
-    let cut = line_ends_at_feed line zs plain in
+    let cut = line_of_and_after_line_split_plain_line_at_feed line zs plain in
     (cut.0 ∙ ap line_of (sym whole), cut.1 ∙ ap after_line (sym whole))
 
 -- the end of the input ends the line
@@ -60,15 +60,15 @@ takes_line_at_input_end (Some xs) None c line plain p q e = absurd p
 takes_line_at_input_end (Some xs) (Some ys) None line plain p q e = absurd q
 takes_line_at_input_end (Some xs) (Some ys) (Some zs) line plain p q e =
     let whole : xs ≡ line = p ∙ ap (λ (r : List ℕ). line ++ r) (q ∙ e) ∙ append-nil line in
-    let cut = line_ends_at_input_end line plain in
+    let cut = line_of_plain_line_is_whole_and_nothing_is_after line plain in
     (cut.0 ∙ ap line_of (sym whole), e ∙ cut.1 ∙ ap after_line (sym whole))
 
 -- what is read without a line feed is no longer than the line
-pub line_is_no_shorter_than_consumed : (a b : Option (List ℕ)) (line : List ℕ) (n : ℕ) → IsPlain line → Consumes a b line → n < length line
+pub line_of_input_is_longer_than_bound_if_consumed_is : (a b : Option (List ℕ)) (line : List ℕ) (n : ℕ) → IsPlain line → Consumes a b line → n < length line
     → IfSome a (λ input. n < length (line_of input))
-line_is_no_shorter_than_consumed None b line n plain p long = tt
-line_is_no_shorter_than_consumed (Some xs) None line n plain p long = absurd p
-line_is_no_shorter_than_consumed (Some xs) (Some ys) line n plain p long =
+line_of_input_is_longer_than_bound_if_consumed_is None b line n plain p long = tt
+line_of_input_is_longer_than_bound_if_consumed_is (Some xs) None line n plain p long = absurd p
+line_of_input_is_longer_than_bound_if_consumed_is (Some xs) (Some ys) line n plain p long =
     let e : length (line_of xs) ≡ length (line ++ line_of ys) = ap (λ (x : List ℕ). length (line_of x)) p
     ∙ ap (λ (x : List ℕ). length x) (line_of_plain_prefix line ys plain) in
     omega (arith, length-append line (line_of ys))
@@ -175,10 +175,10 @@ bundled_session_of_equal_bytes a b c old new image trace image' trace' result p 
     let P : List ℕ → List ℕ → Type 0 = λ x y. IfSome c (Session x y most_input result old new) in
     bundled_session_of_lines a b c old new image trace result p q (subst (P image) same_trace (subst (λ (x : List ℕ). P x trace') same_image s))
 
-pub session_ended_too_long : (result : Result Ended SessionErr) (c old new : Option (List ℕ)) (image trace : List ℕ) → result ≡ Err err.TooLong
+pub session_ends_too_long_if_result_is_too_long : (result : Result Ended SessionErr) (c old new : Option (List ℕ)) (image trace : List ℕ) → result ≡ Err err.TooLong
     → IfServed result (IfSome c (Session image trace most_input result old new))
     → IfSome c (Session image trace most_input (Err err.TooLong) old new)
-session_ended_too_long result c old new image trace e served =
+session_ends_too_long_if_result_is_too_long result c old new image trace e served =
     let P : Result Ended SessionErr → Type 0 = λ r. IfServed r (IfSome c (Session image trace most_input r old new)) in
     subst P e served
 

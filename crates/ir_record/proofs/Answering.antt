@@ -15,7 +15,7 @@ use Rattle.ir_record.specs.Progress.{TookIf, HasLogs, log_at, labels_at}
 use Rattle.ir_record.specs.Worlds.{answers_at, Answered}
 use Rattle.ir_record.proofs.Steps.{turn_taken_by_step, enters_if_free_unless_ask_is_try}
 use Rattle.ir_record.proofs.Running.{hold_few_objects_if_flat}
-use Rattle.ir_record.proofs.Logs.{has_logs_after_event_pushed, labels_after_event_pushed, labels_of_other_thread_after_set}
+use Rattle.ir_record.proofs.Logs.{has_logs_after_event_pushed, labels_after_event_pushed_end_with_its_label, labels_are_unchanged_by_set_of_other_log}
 
 -- there is the step
 pub environment_call_can_step : (f : Flat) (t value : ℕ) (kind : EnvKind) → ask_of f.code (thread_of f t) ≡ Env kind → is_result kind value ≡ true
@@ -62,8 +62,8 @@ turn_taken_by_answer f g logs more t value kind a answers given l e =
       objects = a.objects;
       emits = ap (λ q. emitted (act_of (shared_ask q) value) ((tables f).objects (target (act_of (shared_ask q) value)))) a.asked;
       own_log = subst (λ z. labels_at z t ≡ labels_at logs t ++ Answer kind value ∷ []) (sym a.logged)
-          (labels_after_event_pushed logs t (event.Answer kind value) a.new (omega (arith, a.below, a.has_logs.one_each)) a.pushed);
+          (labels_after_event_pushed_end_with_its_label logs t (event.Answer kind value) a.new (omega (arith, a.below, a.has_logs.one_each)) a.pushed);
       own_answers = ap (λ z. answers_at z t) e ∙ get_or-set_same answers t (answers_at answers t ++ (kind, value) ∷ []) [] l;
-      other_logs = λ u ne. subst (λ z. labels_at z u ≡ labels_at logs u) (sym a.logged) (labels_of_other_thread_after_set logs t u a.new ne);
+      other_logs = λ u ne. subst (λ z. labels_at z u ≡ labels_at logs u) (sym a.logged) (labels_are_unchanged_by_set_of_other_log logs t u a.new ne);
       other_answers = λ u ne. ap (λ z. answers_at z u) e ∙ get_or-set_other answers t u (answers_at answers t ++ (kind, value) ∷ []) [] ne;
     }) (enters_if_free_unless_ask_is_try f t value (Env kind) a.asked (λ o e. cc e))

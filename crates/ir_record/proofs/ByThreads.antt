@@ -19,7 +19,7 @@ use Rattle.ir_thread.specs.declared.ask.Ask.TheVariants as ask
 use Rattle.ir_object.specs.Cell.{Cell}
 use Rattle.ir_object.specs.Order.{Shared, of_thread, order_labels, IsAllowed}
 use Rattle.ir_object.proofs.CallerLemmas.{legal_order_is_allowed, no_steps_of_missing_thread}
-use Rattle.ir_image.proofs.CallerLemmas.{element_of_padded}
+use Rattle.ir_image.proofs.CallerLemmas.{get_or_zero_of_padded_is_unchanged}
 use Rattle.ir_crew.specs.Ends.{AreTracks, IsEnd}
 use Rattle.ir_crew.specs.Plays.{M}
 use Rattle.ir_crew.specs.Rule.{View, IsTrack, start_objects}
@@ -42,18 +42,18 @@ use Rattle.ir_record.proofs.Telling.{StandAtEnd, emitted_there, printed_there, a
 
 -- ---- the start
 
-start_thread_at_place : (g : Guest) (budget : ℕ) (profile : Profile) (from n t : ℕ) → t < n
+start_thread_at_index_is_start_state : (g : Guest) (budget : ℕ) (profile : Profile) (from n t : ℕ) → t < n
     → get_or (start_threads g budget profile from n) t idle ≡ thread.start_state g (from + t) budget profile
-start_thread_at_place g budget profile from zero t l = absurd (omega arith)
-start_thread_at_place g budget profile from (suc n) zero l = ap (λ z. thread.start_state g z budget profile) (let e : from ≡ from + 0 = omega arith in e)
-start_thread_at_place g budget profile from (suc n) (suc t) l = start_thread_at_place g budget profile (suc from) n t (omega (arith, l))
+start_thread_at_index_is_start_state g budget profile from zero t l = absurd (omega arith)
+start_thread_at_index_is_start_state g budget profile from (suc n) zero l = ap (λ z. thread.start_state g z budget profile) (let e : from ≡ from + 0 = omega arith in e)
+start_thread_at_index_is_start_state g budget profile from (suc n) (suc t) l = start_thread_at_index_is_start_state g budget profile (suc from) n t (omega (arith, l))
     ∙ ap (λ z. thread.start_state g z budget profile) (let e : suc from + t ≡ from + suc t = omega arith in e)
 
 -- an object that the guest doesn't have has no words
-words_end_before_missing_object : (form : ImageForm) (words o : ℕ) → words % (limits_of form).words ≡ 0 → words / (limits_of form).words ≤ o
+words_within_limit_times_count_if_quotient_within_count : (form : ImageForm) (words o : ℕ) → words % (limits_of form).words ≡ 0 → words / (limits_of form).words ≤ o
     → words ≤ (limits_of form).words * o
-words_end_before_missing_object Small words o whole past = omega (arith, whole, past)
-words_end_before_missing_object Large words o whole past = omega (arith, whole, past)
+words_within_limit_times_count_if_quotient_within_count Small words o whole past = omega (arith, whole, past)
+words_within_limit_times_count_if_quotient_within_count Large words o whole past = omega (arith, whole, past)
 
 drop_past_length_is_empty : (k : ℕ) (ws : List ℕ) → length ws ≤ k → drop k ws ≡ []
 drop_past_length_is_empty zero [] l = refl
@@ -66,9 +66,9 @@ take_of_empty zero = refl
 take_of_empty (suc k) = refl
 
 first_words_of_missing_object_are_zero : (g : Guest) (o j : ℕ) → IsGuest g → object_count g ≤ o → get_or (first_words g o) j 0 ≡ 0
-first_words_of_missing_object_are_zero g o j guest past = element_of_padded (take (object_words g) (drop (object_words g * o) g.words)) j
+first_words_of_missing_object_are_zero g o j guest past = get_or_zero_of_padded_is_unchanged (take (object_words g) (drop (object_words g * o) g.words)) j
     ∙ ap (λ ws. get_or (take (object_words g) ws) j 0)
-    (drop_past_length_is_empty (object_words g * o) g.words (words_end_before_missing_object g.form (length g.words) o guest.whole_objects past))
+    (drop_past_length_is_empty (object_words g * o) g.words (words_within_limit_times_count_if_quotient_within_count g.form (length g.words) o guest.whole_objects past))
     ∙ ap (λ ws. get_or ws j 0) (take_of_empty (object_words g))
 
 start_tables_have_start_objects : (g : Guest) (budget : ℕ) (profile : Profile) → IsGuest g → (tables (start_flat g budget profile)).objects ≡ start_objects g
@@ -100,19 +100,19 @@ abbrev pub tracks_of : List Work → View
 tracks_of [] = []
 tracks_of (w ∷ ws) = w.me.0 ++ tracks_of ws
 
-left_view_has_tracks : (g : Guest) (es : List (ℕ × Shared)) (v w : View) → AreTracks g es (v ++ w) → AreTracks g es v
-left_view_has_tracks g es [] w h = tt
-left_view_has_tracks g es (k ∷ v) w h = (h.0, left_view_has_tracks g es v w h.1)
+left_part_of_joined_views_has_tracks : (g : Guest) (es : List (ℕ × Shared)) (v w : View) → AreTracks g es (v ++ w) → AreTracks g es v
+left_part_of_joined_views_has_tracks g es [] w h = tt
+left_part_of_joined_views_has_tracks g es (k ∷ v) w h = (h.0, left_part_of_joined_views_has_tracks g es v w h.1)
 
-right_view_has_tracks : (g : Guest) (es : List (ℕ × Shared)) (v w : View) → AreTracks g es (v ++ w) → AreTracks g es w
-right_view_has_tracks g es [] w h = h
-right_view_has_tracks g es (k ∷ v) w h = right_view_has_tracks g es v w h.1
+right_part_of_joined_views_has_tracks : (g : Guest) (es : List (ℕ × Shared)) (v w : View) → AreTracks g es (v ++ w) → AreTracks g es w
+right_part_of_joined_views_has_tracks g es [] w h = h
+right_part_of_joined_views_has_tracks g es (k ∷ v) w h = right_part_of_joined_views_has_tracks g es v w h.1
 
-worker_view_has_tracks : (g : Guest) (es : List (ℕ × Shared)) (ws : List Work) (t : ℕ) → t < length ws → AreTracks g es (tracks_of ws)
+worker_view_has_tracks_if_all_have : (g : Guest) (es : List (ℕ × Shared)) (ws : List Work) (t : ℕ) → t < length ws → AreTracks g es (tracks_of ws)
     → AreTracks g es (work_at ws t).me.0
-worker_view_has_tracks g es [] t l h = absurd (omega arith)
-worker_view_has_tracks g es (w ∷ ws) zero l h = left_view_has_tracks g es w.me.0 (tracks_of ws) h
-worker_view_has_tracks g es (w ∷ ws) (suc t) l h = worker_view_has_tracks g es ws t (omega (arith, l)) (right_view_has_tracks g es w.me.0 (tracks_of ws) h)
+worker_view_has_tracks_if_all_have g es [] t l h = absurd (omega arith)
+worker_view_has_tracks_if_all_have g es (w ∷ ws) zero l h = left_part_of_joined_views_has_tracks g es w.me.0 (tracks_of ws) h
+worker_view_has_tracks_if_all_have g es (w ∷ ws) (suc t) l h = worker_view_has_tracks_if_all_have g es ws t (omega (arith, l)) (right_part_of_joined_views_has_tracks g es w.me.0 (tracks_of ws) h)
 
 -- what the workers of all threads have done
 pub record AllWorkDone (g : Guest) (budget : ℕ) (profile : Profile) (before : List (List Answered)) (ws : List Work) : Type 0 where
@@ -140,11 +140,11 @@ module _ {g : Guest} {budget : ℕ} {profile : Profile} {before : List (List Ans
     | inl l ↦
         let i = over.working t l in
         let x0 : thread_of (start_flat g budget profile) t ≡ thread.start_state g t budget profile =
-        start_thread_at_place g budget profile 0 (length g.entries) t l
+        start_thread_at_index_is_start_state g budget profile 0 (length g.entries) t l
         ∙ ap (λ z. thread.start_state g z budget profile) (let z : 0 + t ≡ t = omega arith in z) in
         let track : IsTrack (length g.entries) (start_objects g) e.steps (record { thread = t; steps = i.track }) =
         (subst (AreTracks g e.steps) (ap (λ (z : M). z.0) i.view)
-        (worker_view_has_tracks g e.steps ws t (let n = over.size in omega (arith, n, l)) (subst (AreTracks g e.steps) view e.tracks))).0 in
+        (worker_view_has_tracks_if_all_have g e.steps ws t (let n = over.size in omega (arith, n, l)) (subst (AreTracks g e.steps) view e.tracks))).0 in
         let m = thread_machine g.code in
         let w = i.worked in
         record {

@@ -78,11 +78,11 @@ pub map_map : {A B C : Type 0} (f : B → C) (h : A → B) (xs : List A) → map
 map_map f h [] = refl
 map_map f h (x ∷ xs) = ap (λ z. f (h x) ∷ z) (map_map f h xs)
 
-pairs_have_same_length : {A : Type 0} (P : A → A → Type 0) (xs ys : List A) → Pairs P xs ys → length ys ≡ length xs
-pairs_have_same_length P [] [] p = refl
-pairs_have_same_length P [] (y ∷ ys) p = absurd p
-pairs_have_same_length P (x ∷ xs) [] p = absurd p
-pairs_have_same_length P (x ∷ xs) (y ∷ ys) p = ap suc (pairs_have_same_length P xs ys p.1)
+lists_related_in_pairs_have_equal_length : {A : Type 0} (P : A → A → Type 0) (xs ys : List A) → Pairs P xs ys → length ys ≡ length xs
+lists_related_in_pairs_have_equal_length P [] [] p = refl
+lists_related_in_pairs_have_equal_length P [] (y ∷ ys) p = absurd p
+lists_related_in_pairs_have_equal_length P (x ∷ xs) [] p = absurd p
+lists_related_in_pairs_have_equal_length P (x ∷ xs) (y ∷ ys) p = ap suc (lists_related_in_pairs_have_equal_length P xs ys p.1)
 
 -- no world has failed
 abbrev pub NoneBroken : {W : Type 0} → (W → Bool) → List (Worker W) → Type 0
@@ -186,7 +186,7 @@ module _ {W O : Type 0} {answers : W → List Answered} {broken : W → Bool} {o
     {profile : Profile} {id : TableId} {worlds : List W} {vs ws : List (Worker W)}
     (ran : HaveRun answers broken origin g budget profile id worlds vs ws) where
   same_count : length ws ≡ length vs
-  same_count = pairs_have_same_length (RanToEnd answers broken origin g) vs ws ran.pairs
+  same_count = lists_related_in_pairs_have_equal_length (RanToEnd answers broken origin g) vs ws ran.pairs
 
   pub threads_there : length ws ≡ length g.entries
   threads_there = same_count ∙ sym (length-map vs (λ w. w.world)) ∙ ap (λ z. length z) ran.same ∙ ran.each
@@ -270,10 +270,10 @@ module _ {W O : Type 0} {answers : W → List Answered} {broken : W → Bool} {o
           let r = stop_of t l (ap (λ z. get_or z t false) (sym (map_map broken (λ w. w.world) ws)) ∙ e) in
           went_on t r.0 _ _ r.1 (λ f. absurd (cc (e, f))) (λ f. r.2) r.3
 
-pub views_are_tracks_of_work : {W : Type 0} (answers : W → List Answered) (ws : List (Worker W))
+pub views_of_seats_are_tracks_of_works : {W : Type 0} (answers : W → List Answered) (ws : List (Worker W))
     → views_of (map (λ w. w.seat) ws) ≡ tracks_of (map (work_of answers) ws)
-views_are_tracks_of_work answers [] = refl
-views_are_tracks_of_work answers (w ∷ ws) = ap (λ z. w.seat.me.0 ++ z) (views_are_tracks_of_work answers ws)
+views_of_seats_are_tracks_of_works answers [] = refl
+views_of_seats_are_tracks_of_works answers (w ∷ ws) = ap (λ z. w.seat.me.0 ++ z) (views_of_seats_are_tracks_of_works answers ws)
 
 pub trace_at_place_is_of_its_worker : {W : Type 0} (answers : W → List Answered) (ws : List (Worker W)) (rs : List RecordedThread) → AreTraces ws rs → (t : ℕ)
     → t < length ws → IsThreadTrace (work_at (map (work_of answers) ws) t).thread (work_at (map (work_of answers) ws) t).log

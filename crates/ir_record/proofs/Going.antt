@@ -10,22 +10,22 @@ use Rattle.ir_flat.specs.Alone.{WentAlone}
 use Rattle.ir_flat.specs.Flat.{Flat, tables, machine, IsFlat}
 use Rattle.ir_runs.specs.Run.{State, Step, Can, after, label, end, join_if, events, log, EntersIfFree, rounds, HasNone}
 use Rattle.ir_runs.specs.Orders.{InTurn}
-use Rattle.ir_runs.proofs.CallerLemmas.{log_append, end_append, turns_append}
+use Rattle.ir_runs.proofs.CallerLemmas.{log_append, end_append, in_turn_of_append}
 use Rattle.ir_record.specs.Ahead.{lead, IsAhead, all_ahead, NoneAhead, Went, WentIf}
 use Rattle.ir_record.specs.Progress.{Progress, Took, TookIf, all_left, labels_at}
 use Rattle.ir_record.specs.Worlds.{answers_at, answers_in}
-use Rattle.ir_record.proofs.Joining.{range_with_last_number, rounds_with_round_added, append_non_empty_by_first, append_non_empty_by_second, threads_have_no_step_if_turns_are_empty}
-use Rattle.ir_record.proofs.Leading.{private_step_can_be_taken, private_step_is_quiet, ahead_after_lead_is_spent, can_step_if_can_later, enters_if_free_if_later_does, private_step_enters_if_free, no_step_if_none_later, label_same_as_later, ahead_after_step_of_both, ahead_by_private_steps, state_is_ahead_by_nothing, state_ahead_by_nothing_is_same}
+use Rattle.ir_record.proofs.Joining.{range_with_last_number, rounds_with_round_added, append_non_empty_by_first, append_non_empty_by_second, threads_have_no_step_if_run_in_turns_is_empty}
+use Rattle.ir_record.proofs.Leading.{private_step_can_be_taken, private_step_is_quiet, ahead_with_lead_lowered_after_step_of_thread_ahead, can_step_if_can_in_state_ahead, enters_if_free_if_it_does_in_state_ahead, private_step_enters_if_free, no_step_if_none_in_state_ahead, label_is_same_in_state_ahead, ahead_after_step_of_both, ahead_with_lead_set_to_count_after_private_steps, state_is_ahead_of_itself_if_leads_are_zero, state_ahead_by_nothing_is_same}
 use Rattle.ir_record.proofs.Running.{hold_few_objects_if_flat}
 use Rattle.ir_record.proofs.Steps.{answers_in_append}
-use Rattle.ir_record.proofs.Tally.{steps_of_thread_leave_all_fewer}
+use Rattle.ir_record.proofs.Tally.{all_left_falls_after_steps_of_thread}
 
 -- ---- how many steps all are ahead
 
-pub all_ahead_after_set : (xs : List ℕ) (t k : ℕ) → t < length xs → all_ahead (set xs t k) + lead xs t ≡ all_ahead xs + k
-all_ahead_after_set [] t k l = absurd (omega (arith, l))
-all_ahead_after_set (x ∷ xs) zero k l = omega arith
-all_ahead_after_set (x ∷ xs) (suc t) k l = let rest = all_ahead_after_set xs t k (omega (arith, l)) in omega (arith, rest)
+pub all_ahead_after_set_plus_old_lead : (xs : List ℕ) (t k : ℕ) → t < length xs → all_ahead (set xs t k) + lead xs t ≡ all_ahead xs + k
+all_ahead_after_set_plus_old_lead [] t k l = absurd (omega (arith, l))
+all_ahead_after_set_plus_old_lead (x ∷ xs) zero k l = omega arith
+all_ahead_after_set_plus_old_lead (x ∷ xs) (suc t) k l = let rest = all_ahead_after_set_plus_old_lead xs t k (omega (arith, l)) in omega (arith, rest)
 
 -- a place that is read, whatever the default is
 pub lead_is_looked_up_element : (xs : List ℕ) (t v : ℕ) → t < length xs → v ≡ get_or xs t v → lead xs t ≡ v
@@ -53,9 +53,9 @@ log_same_if_label_same m s later t r u is = by_case (eqb u t)
 -- ---- one turn
 
 -- a thread that is ahead has already taken its step
-pub turn_of_thread_ahead_is_spent : (s : State thread.ThreadState) (a : Progress) (c : List ℕ) (t k : ℕ) → t < length c → lead c t ≡ suc k
+pub turn_of_thread_ahead_lowers_lead : (s : State thread.ThreadState) (a : Progress) (c : List ℕ) (t k : ℕ) → t < length c → lead c t ≡ suc k
     → IsAhead (machine a.flat) c s (tables a.flat) → WentIf true (t ∷ []) s a c a (set c t k)
-turn_of_thread_ahead_is_spent s a c t k l is h =
+turn_of_thread_ahead_lowers_lead s a c t k l is h =
     let private = h.each t 0 (omega (arith, is)) in
     let quiet : (u : ℕ) → log (machine a.flat) s ((t, 0) ∷ []) u ≡ [] =
     λ u. log_of_quiet_step_is_empty (machine a.flat) s t 0 u (private_step_is_quiet (machine a.flat) s t private) in
@@ -63,22 +63,22 @@ turn_of_thread_ahead_is_spent s a c t k l is h =
       went = record {
         run = (t, 0) ∷ [];
         turns = inr (0, [], refl, private_step_can_be_taken (machine a.flat) s t private, private_step_enters_if_free (machine a.flat) s t private, refl);
-        ahead = ahead_after_lead_is_spent (machine a.flat) c s (tables a.flat) t k l is h;
+        ahead = ahead_with_lead_lowered_after_step_of_thread_ahead (machine a.flat) c s (tables a.flat) t k l is h;
         code = refl;
         threads = refl;
         objects = refl;
         logs = λ u below. sym (append-nil (labels_at a.logs u)) ∙ ap (λ z. labels_at a.logs u ++ z) (sym (quiet u));
         answers = λ u below. sym (append-nil (answers_at a.answers u)) ∙ ap (λ z. answers_at a.answers u ++ answers_in z) (sym (quiet u));
-        fewer = let less = all_ahead_after_set c t k l in omega (arith, less, is);
+        fewer = let less = all_ahead_after_set_plus_old_lead c t k l in omega (arith, less, is);
       };
       some = λ e. (let one : 0 < suc zero = omega arith in one);
       none = λ e. absurd cc;
     }
 
 -- a turn in which nothing is taken
-thread_has_no_step_if_turn_is_empty : {T : Type 0} (m : Machine T) (s : State T) (t : ℕ) (run : List Step) → InTurn m s (t ∷ []) run → run ≡ [] → HasNone m s t
-thread_has_no_step_if_turn_is_empty m s t run (inl none) z = none.0
-thread_has_no_step_if_turn_is_empty m s t run (inr some) z = absurd (cc (some.2, z))
+thread_has_no_step_if_run_in_turn_is_empty : {T : Type 0} (m : Machine T) (s : State T) (t : ℕ) (run : List Step) → InTurn m s (t ∷ []) run → run ≡ [] → HasNone m s t
+thread_has_no_step_if_run_in_turn_is_empty m s t run (inl none) z = none.0
+thread_has_no_step_if_run_in_turn_is_empty m s t run (inr some) z = absurd (cc (some.2, z))
 
 pub passed_turn_changes_nothing : (a b : Progress) (t : ℕ) (moved : Bool) → moved ≡ false → TookIf moved (t ∷ []) a b → tables b.flat ≡ tables a.flat
 passed_turn_changes_nothing a b t moved e k = k.took.ends ∙ ap (end (machine a.flat) (tables a.flat)) (k.none e)
@@ -87,7 +87,7 @@ pub no_step_after_passed_turn : (a b : Progress) (t : ℕ) (moved : Bool) → mo
     → HasNone (machine b.flat) (tables b.flat) t
 no_step_after_passed_turn a b t moved e k =
     let before : HasNone (machine a.flat) (tables a.flat) t =
-    thread_has_no_step_if_turn_is_empty (machine a.flat) (tables a.flat) t k.took.run k.took.turns (k.none e) in
+    thread_has_no_step_if_run_in_turn_is_empty (machine a.flat) (tables a.flat) t k.took.run k.took.turns (k.none e) in
     subst (λ s. HasNone (machine b.flat) s t) (sym (passed_turn_changes_nothing a b t moved e k))
     (subst (λ code. HasNone (thread_machine code) (tables a.flat) t) (sym k.took.code) before)
 
@@ -100,8 +100,8 @@ went_without_step_in_passed_turn s a b c t moved e is h k =
       went = record {
         run = [];
         turns = inl (
-          no_step_if_none_later (machine a.flat) c s (tables a.flat) t is h
-              (thread_has_no_step_if_turn_is_empty (machine a.flat) (tables a.flat) t k.took.run k.took.turns none),
+          no_step_if_none_in_state_ahead (machine a.flat) c s (tables a.flat) t is h
+              (thread_has_no_step_if_run_in_turn_is_empty (machine a.flat) (tables a.flat) t k.took.run k.took.turns none),
           refl,
         );
         ahead = subst (IsAhead (machine a.flat) c s) (sym (passed_turn_changes_nothing a b t moved e k)) h;
@@ -134,7 +134,7 @@ went_by_turn_and_private_steps s a b g c t k l below flat is h took w = by_turn 
         let h' : IsAhead m c (after m s (t, r)) (tables b.flat) =
         subst (IsAhead m c (after m s (t, r))) (sym is_after) (ahead_after_step_of_both m c s (tables a.flat) t r is h) in
         let emitted : (u : ℕ) → log m (tables a.flat) took.took.run u ≡ log m s ((t, r) ∷ []) u = λ u. ap (λ z. log m (tables a.flat) z u) one
-        ∙ log_same_if_label_same m s (tables a.flat) t r u (label_same_as_later m c s (tables a.flat) t r is h) in
+        ∙ log_same_if_label_same m s (tables a.flat) t r u (label_is_same_in_state_ahead m c s (tables a.flat) t r is h) in
         record {
           went = record {
             run = (t, r) ∷ [];
@@ -142,13 +142,13 @@ went_by_turn_and_private_steps s a b g c t k l below flat is h took w = by_turn 
               r,
               [],
               refl,
-              can_step_if_can_later m c s (tables a.flat) t r is h can,
-              enters_if_free_if_later_does m c s (tables a.flat) t r is h enters,
+              can_step_if_can_in_state_ahead m c s (tables a.flat) t r is h can,
+              enters_if_free_if_it_does_in_state_ahead m c s (tables a.flat) t r is h enters,
               refl,
             );
             ahead = subst (IsAhead m (set c t k) (after m s (t, r)))
                 (sym (w.ends ∙ ap (λ n. end n (tables b.flat) (replicate k (t, 0))) same_machine))
-                (ahead_by_private_steps m c (after m s (t, r)) (tables b.flat) t k l is h'
+                (ahead_with_lead_set_to_count_after_private_steps m c (after m s (t, r)) (tables b.flat) t k l is h'
                 (λ j less. subst (λ n. n.ask ((end n (tables b.flat) (replicate j (t, 0))).now t) ≡ Private) same_machine
                 (ap shared_ask (w.each j less))));
             code = w.code ∙ took.took.code;
@@ -160,10 +160,10 @@ went_by_turn_and_private_steps s a b g c t k l below flat is h took w = by_turn 
                 let n : ℕ = length a.flat.threads in
                 let first = took.took.fewer in
                 let size : length took.took.run ≡ 1 = ap length one in
-                let alone_fewer = steps_of_thread_leave_all_fewer b.flat.code n t k (tables b.flat) (hold_few_objects_if_flat b.flat flat) below w.runs in
+                let alone_fewer = all_left_falls_after_steps_of_thread b.flat.code n t k (tables b.flat) (hold_few_objects_if_flat b.flat flat) below w.runs in
                 let ended : all_left n (tables g).now ≡ all_left n (end (machine b.flat) (tables b.flat) (replicate k (t, 0))).now =
                 ap (λ z. all_left n z.now) w.ends in
-                let lead_set = all_ahead_after_set c t k l in
+                let lead_set = all_ahead_after_set_plus_old_lead c t k l in
                 omega (arith, first, size, alone_fewer, ended, lead_set, is);
           };
           some = λ e. (let one : 0 < suc zero = omega arith in one);
@@ -183,9 +183,9 @@ range_from_zero_with_last t = ap (λ k. range_with_len 0 t ++ k ∷ []) (let e :
 
 -- ---- turns one after the other
 
-unfoldable pub went_without_turns : (s : State thread.ThreadState) (a : Progress) (c : List ℕ) → IsAhead (machine a.flat) c s (tables a.flat)
+unfoldable pub went_by_no_turns_changes_nothing : (s : State thread.ThreadState) (a : Progress) (c : List ℕ) → IsAhead (machine a.flat) c s (tables a.flat)
     → Went [] s a c a c
-went_without_turns s a c h = record {
+went_by_no_turns_changes_nothing s a c h = record {
   run = [];
   turns = refl;
   ahead = h;
@@ -207,9 +207,9 @@ pub ahead_of_reached_state : (order : List ℕ) (s : State thread.ThreadState) (
 ahead_of_reached_state order s a b c d p = subst (λ k. IsAhead (thread_machine k) d (end (machine a.flat) s p.run) (tables b.flat)) (sym p.code)
     p.ahead
 
-unfoldable pub went_through_both_orders : (order more : List ℕ) (s : State thread.ThreadState) (a b e : Progress) (c d f : List ℕ) (p : Went order s a c b d)
+unfoldable pub went_through_append_of_orders : (order more : List ℕ) (s : State thread.ThreadState) (a b e : Progress) (c d f : List ℕ) (p : Went order s a c b d)
     → Went more (reached p) b d e f → Went (order ++ more) s a c e f
-went_through_both_orders order more s a b e c d f p q =
+went_through_append_of_orders order more s a b e c d f p q =
     let there : (u : ℕ) → log (machine b.flat) (reached p) q.run u ≡ log (machine a.flat) (reached p) q.run u =
     λ u. ap (λ k. log (thread_machine k) (reached p) q.run u) p.code in
     let logs_of : (u : ℕ) → log (machine a.flat) s (p.run ++ q.run) u ≡ log (machine a.flat) s p.run u ++ log (machine b.flat) (reached p)
@@ -217,7 +217,7 @@ went_through_both_orders order more s a b e c d f p q =
     λ u. log_append (machine a.flat) s p.run q.run u ∙ ap (λ z. log (machine a.flat) s p.run u ++ z) (sym (there u)) in
     record {
       run = p.run ++ q.run;
-      turns = turns_append (machine a.flat) s order more p.run q.run p.turns
+      turns = in_turn_of_append (machine a.flat) s order more p.run q.run p.turns
           (subst (λ k. InTurn (thread_machine k) (reached p) more q.run) p.code q.turns);
       ahead = subst (λ z. IsAhead (machine a.flat) f z (tables e.flat)) (sym (end_append (machine a.flat) s p.run q.run))
           (subst (λ k. IsAhead (thread_machine k) f (end (thread_machine k) (reached p) q.run) (tables e.flat)) p.code q.ahead);
@@ -242,30 +242,30 @@ went_through_both_orders order more s a b e c d f p q =
     }
 
 -- no turn of no thread
-pub no_turns_take_no_step : (s : State thread.ThreadState) (a : Progress) (c : List ℕ) → IsAhead (machine a.flat) c s (tables a.flat) → WentIf false [] s a c a c
-unfolding went_without_turns
-no_turns_take_no_step s a c h = record { went = went_without_turns s a c h; some = λ e. absurd cc; none = λ e. (refl, refl, tt) }
+pub went_without_step_by_no_turns : (s : State thread.ThreadState) (a : Progress) (c : List ℕ) → IsAhead (machine a.flat) c s (tables a.flat) → WentIf false [] s a c a c
+unfolding went_by_no_turns_changes_nothing
+went_without_step_by_no_turns s a c h = record { went = went_by_no_turns_changes_nothing s a c h; some = λ e. absurd cc; none = λ e. (refl, refl, tt) }
 
 none_ahead_of_append : (order more ahead : List ℕ) → NoneAhead order ahead → NoneAhead more ahead → NoneAhead (order ++ more) ahead
 none_ahead_of_append [] more ahead h g = g
 none_ahead_of_append (t ∷ order) more ahead h g = (h.0, none_ahead_of_append order more ahead h.1 g)
 
 -- turns, and one that takes a step
-pub went_on_with_step_after_turns : (moved : Bool) (order more : List ℕ) (s : State thread.ThreadState) (a b e : Progress) (c d f : List ℕ)
+pub went_with_step_if_last_turn_took_step : (moved : Bool) (order more : List ℕ) (s : State thread.ThreadState) (a b e : Progress) (c d f : List ℕ)
     (p : WentIf moved order s a c b d) → WentIf true more (reached p.went) b d e f → WentIf true (order ++ more) s a c e f
-unfolding went_through_both_orders
-went_on_with_step_after_turns moved order more s a b e c d f p q = record {
-  went = went_through_both_orders order more s a b e c d f p.went q.went;
+unfolding went_through_append_of_orders
+went_with_step_if_last_turn_took_step moved order more s a b e c d f p q = record {
+  went = went_through_append_of_orders order more s a b e c d f p.went q.went;
   some = λ _. append_non_empty_by_second p.went.run q.went.run (q.some refl);
   none = λ m. absurd cc;
 }
 
 -- turns, and one that takes none
-pub went_on_without_step_after_turns : (moved : Bool) (order more : List ℕ) (s : State thread.ThreadState) (a b e : Progress) (c d f : List ℕ)
+pub went_as_before_if_last_turn_took_no_step : (moved : Bool) (order more : List ℕ) (s : State thread.ThreadState) (a b e : Progress) (c d f : List ℕ)
     (p : WentIf moved order s a c b d) → WentIf false more (reached p.went) b d e f → WentIf moved (order ++ more) s a c e f
-unfolding went_through_both_orders
-went_on_without_step_after_turns moved order more s a b e c d f p q = record {
-  went = went_through_both_orders order more s a b e c d f p.went q.went;
+unfolding went_through_append_of_orders
+went_as_before_if_last_turn_took_no_step moved order more s a b e c d f p q = record {
+  went = went_through_append_of_orders order more s a b e c d f p.went q.went;
   some = λ m. append_non_empty_by_first p.went.run q.went.run (p.some m);
   none = λ m.
       let first = p.none m in
@@ -278,15 +278,15 @@ went_on_without_step_after_turns moved order more s a b e c d f p q = record {
 }
 
 -- one turn more of a round
-pub round_with_turn_added : (was now ahead_after_step_of_both : Bool) (t : ℕ) (s : State thread.ThreadState) (a b e : Progress) (c d f : List ℕ)
-    (p : WentIf was (range_with_len 0 t) s a c b d) → WentIf ahead_after_step_of_both (t ∷ []) (reached p.went) b d e f → (ahead_after_step_of_both ≡ true → now ≡ true)
-    → (ahead_after_step_of_both ≡ false → now ≡ was) → WentIf now (range_with_len 0 (t + 1)) s a c e f
-round_with_turn_added was now true t s a b e c d f p q taken same =
+pub went_part_of_round_with_turn_added : (was now ahead : Bool) (t : ℕ) (s : State thread.ThreadState) (a b e : Progress) (c d f : List ℕ)
+    (p : WentIf was (range_with_len 0 t) s a c b d) → WentIf ahead (t ∷ []) (reached p.went) b d e f → (ahead ≡ true → now ≡ true)
+    → (ahead ≡ false → now ≡ was) → WentIf now (range_with_len 0 (t + 1)) s a c e f
+went_part_of_round_with_turn_added was now true t s a b e c d f p q taken same =
     subst (λ z. WentIf z (range_with_len 0 (t + 1)) s a c e f) (sym (taken refl))
-    (subst (λ order. WentIf true order s a c e f) (range_from_zero_with_last t) (went_on_with_step_after_turns was (range_with_len 0 t) (t ∷ []) s a b e c d f p q))
-round_with_turn_added was now false t s a b e c d f p q taken same =
+    (subst (λ order. WentIf true order s a c e f) (range_from_zero_with_last t) (went_with_step_if_last_turn_took_step was (range_with_len 0 t) (t ∷ []) s a b e c d f p q))
+went_part_of_round_with_turn_added was now false t s a b e c d f p q taken same =
     subst (λ z. WentIf z (range_with_len 0 (t + 1)) s a c e f) (sym (same refl))
-    (subst (λ order. WentIf was order s a c e f) (range_from_zero_with_last t) (went_on_without_step_after_turns was (range_with_len 0 t) (t ∷ []) s a b e c d f p q))
+    (subst (λ order. WentIf was order s a c e f) (range_from_zero_with_last t) (went_as_before_if_last_turn_took_no_step was (range_with_len 0 t) (t ∷ []) s a b e c d f p q))
 
 -- ---- rounds
 
@@ -306,7 +306,7 @@ all_ahead_of_zeros_is_zero zero = refl
 all_ahead_of_zeros_is_zero (suc n) = let rest = all_ahead_of_zeros_is_zero n in omega (arith, rest)
 
 pub no_rounds_change_nothing : (n : ℕ) (a : Progress) → WentRounds n a a (replicate n 0)
-no_rounds_change_nothing n a = (0, went_without_turns (tables a.flat) a (replicate n 0) (state_is_ahead_by_nothing (machine a.flat) (replicate n 0) (tables a.flat) (lead_of_zeros_is_zero n)))
+no_rounds_change_nothing n a = (0, went_by_no_turns_changes_nothing (tables a.flat) a (replicate n 0) (state_is_ahead_of_itself_if_leads_are_zero (machine a.flat) (replicate n 0) (tables a.flat) (lead_of_zeros_is_zero n)))
 
 lead_zero_if_none_ahead : (from n : ℕ) (ahead : List ℕ) → NoneAhead (range_with_len from n) ahead → (t : ℕ) → from ≤ t → t < from + n → lead ahead t ≡ 0
 lead_zero_if_none_ahead from zero ahead h t low high = absurd (omega (arith, low, high))
@@ -337,7 +337,7 @@ module _ {moved : Bool} {a b e : Progress} {d f : List ℕ} (r : OneMoreRound mo
   round_more = (
     suc r.first.0,
     subst (λ order. Went order (tables a.flat) a (replicate (length a.flat.threads) 0) e f) (rounds_with_round_added (length a.flat.threads) r.first.0)
-        (went_through_both_orders (rounds (length a.flat.threads) r.first.0) (range_with_len 0 (length a.flat.threads)) (tables a.flat) a b e
+        (went_through_append_of_orders (rounds (length a.flat.threads) r.first.0) (range_with_len 0 (length a.flat.threads)) (tables a.flat) a b e
         (replicate (length a.flat.threads) 0) d f r.first.1 r.next.went),
   )
 
@@ -379,7 +379,7 @@ module _ {moved : Bool} {a b e : Progress} {d f : List ℕ} (r : OneMoreRound mo
       let nobody : InTurn (machine b.flat) s (range_with_len 0 n) [] =
       subst (InTurn (machine b.flat) s (range_with_len 0 n)) nothing w.turns in
       let there : HasNone (machine b.flat) s t =
-      threads_have_no_step_if_turns_are_empty (machine b.flat) s 0 n nobody t (omega arith) (omega (arith, l, w.threads, r.first.1.threads)) in
+      threads_have_no_step_if_run_in_turns_is_empty (machine b.flat) s 0 n nobody t (omega arith) (omega (arith, l, w.threads, r.first.1.threads)) in
       let same : tables e.flat ≡ s = state_ahead_by_nothing_is_same (machine b.flat) f (reached w) (tables e.flat) (none_ahead is) w.ahead
       ∙ ap (end (machine b.flat) s) nothing in
       subst (λ z. HasNone (machine e.flat) z t) (sym same) (subst (λ k. HasNone (thread_machine k) s t) (sym w.code) there)

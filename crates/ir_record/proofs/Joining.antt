@@ -21,14 +21,14 @@ range_with_last_number from (suc n) = ap (λ xs. from ∷ xs)
     (ap (λ k. range_with_len (from + 1) n ++ k ∷ []) (let e : from + suc n ≡ from + 1 + n = omega arith in e) ∙ range_with_last_number (from + 1) n)
 
 -- turns in which no thread takes a step
-pub threads_have_no_step_if_turns_are_empty : {T : Type 0} (m : Machine T) (s : State T) (from n : ℕ) → InTurn m s (range_with_len from n) [] → (t : ℕ) → from ≤ t
+pub threads_have_no_step_if_run_in_turns_is_empty : {T : Type 0} (m : Machine T) (s : State T) (from n : ℕ) → InTurn m s (range_with_len from n) [] → (t : ℕ) → from ≤ t
     → t < from + n → HasNone m s t
-threads_have_no_step_if_turns_are_empty m s from zero h t low high = absurd (omega arith)
-threads_have_no_step_if_turns_are_empty m s from (suc n) (inl none) t low high = elim (cases_eq t from) [
+threads_have_no_step_if_run_in_turns_is_empty m s from zero h t low high = absurd (omega arith)
+threads_have_no_step_if_run_in_turns_is_empty m s from (suc n) (inl none) t low high = elim (cases_eq t from) [
   | inl e ↦ subst (HasNone m s) (sym e) none.0
-  | inr ne ↦ threads_have_no_step_if_turns_are_empty m s (from + 1) n none.1 t (omega (arith, low, ne)) (omega (arith, high))
+  | inr ne ↦ threads_have_no_step_if_run_in_turns_is_empty m s (from + 1) n none.1 t (omega (arith, low, ne)) (omega (arith, high))
 ]
-threads_have_no_step_if_turns_are_empty m s from (suc n) (inr some) t low high = absurd (cc some.2)
+threads_have_no_step_if_run_in_turns_is_empty m s from (suc n) (inr some) t low high = absurd (cc some.2)
 
 -- rounds, and a round more
 pub rounds_with_round_added : (n count : ℕ) → rounds n count ++ range_with_len 0 n ≡ rounds n (suc count)

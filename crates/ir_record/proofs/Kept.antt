@@ -11,13 +11,13 @@ use Rattle.ir_runs.specs.Run.{State, Step, end}
 use Rattle.ir_runs.specs.Orders.{InTurn}
 use Rattle.ir_record.specs.Ahead.{AreAsks}
 use Rattle.ir_record.specs.Progress.{Progress, TookIf}
-use Rattle.ir_record.proofs.Leading.{thread_after_step_of_other, other_thread_after_repeated_steps}
+use Rattle.ir_record.proofs.Leading.{thread_is_unchanged_by_step_of_other, other_thread_is_unchanged_by_repeated_steps}
 
 -- a place that is read, whatever the default is
-pub kept_ask_is_looked_up_element : (xs : List Ask) (t : ℕ) (v : Ask) → t < length xs → v ≡ get_or xs t v → get_or xs t Done ≡ v
-kept_ask_is_looked_up_element [] t v l is = absurd (omega (arith, l))
-kept_ask_is_looked_up_element (x ∷ xs) zero v l is = sym is
-kept_ask_is_looked_up_element (x ∷ xs) (suc t) v l is = kept_ask_is_looked_up_element xs t v (omega (arith, l)) is
+pub get_or_done_is_element_below_length : (xs : List Ask) (t : ℕ) (v : Ask) → t < length xs → v ≡ get_or xs t v → get_or xs t Done ≡ v
+get_or_done_is_element_below_length [] t v l is = absurd (omega (arith, l))
+get_or_done_is_element_below_length (x ∷ xs) zero v l is = sym is
+get_or_done_is_element_below_length (x ∷ xs) (suc t) v l is = get_or_done_is_element_below_length xs t v (omega (arith, l)) is
 
 -- the asks of the first threads, and one more
 pub kept_asks_are_of_threads_step : (asks : List Ask) (f : Flat) (t : ℕ) (v : Ask) → t < length asks → v ≡ ask_of f.code (thread_of f t)
@@ -33,13 +33,13 @@ turn_keeps_other_threads : {T : Type 0} (m : Machine T) (s : State T) (t u : ℕ
     → (end m s run).now u ≡ s.now u
 turn_keeps_other_threads m s t u run ne (inl none) = ap (λ z. (end m s z).now u) none.1
 turn_keeps_other_threads m s t u run ne (inr some) = ap (λ z. (end m s z).now u) (some.2 ∙ ap (λ z. (t, some.0) ∷ z) some.5)
-    ∙ thread_after_step_of_other m s t some.0 u ne
+    ∙ thread_is_unchanged_by_step_of_other m s t some.0 u ne
 
 -- thread t takes its turn and private steps after it, and what it asks then is kept
-pub asks_kept_after_turn : (asks : List Ask) (a b : Progress) (g : Flat) (t k : ℕ) (v : Ask) (moved : Bool) → t < length a.flat.threads
+pub are_asks_after_turn_and_private_steps : (asks : List Ask) (a b : Progress) (g : Flat) (t k : ℕ) (v : Ask) (moved : Bool) → t < length a.flat.threads
     → AreAsks asks a.flat → IsFlat g → TookIf moved (t ∷ []) a b → WentAlone b.flat g t k → v ≡ ask_of g.code (thread_of g t)
     → AreAsks (set asks t v) g
-asks_kept_after_turn asks a b g t k v moved below kept flat took w is = record {
+are_asks_after_turn_and_private_steps asks a b g t k v moved below kept flat took w is = record {
   flat = flat;
   places = length-set asks t v ∙ kept.places ∙ sym (w.threads ∙ took.took.threads);
   asked = λ u l. elim (cases_eq u t) [
@@ -50,7 +50,7 @@ asks_kept_after_turn asks a b g t k v moved below kept flat took w is = record {
 }
   where
     same : (u : ℕ) → u ≢ t → ask_of g.code (thread_of g u) ≡ ask_of a.flat.code (thread_of a.flat u)
-    same u ne = ap (λ s. ask_of g.code (s.now u)) w.ends ∙ ap (ask_of g.code) (other_thread_after_repeated_steps (machine b.flat) t k u ne (tables b.flat))
+    same u ne = ap (λ s. ask_of g.code (s.now u)) w.ends ∙ ap (ask_of g.code) (other_thread_is_unchanged_by_repeated_steps (machine b.flat) t k u ne (tables b.flat))
         ∙ ap (λ s. ask_of g.code (s.now u)) took.took.ends
         ∙ ap (ask_of g.code) (turn_keeps_other_threads (machine a.flat) (tables a.flat) t u took.took.run ne took.took.turns)
         ∙ ap (λ code. ask_of code (thread_of a.flat u)) (w.code ∙ took.took.code)

@@ -28,9 +28,9 @@ first_seat_is_new_and_rest_are_seats id t [] rest s l is left h = absurd (omega 
 first_seat_is_new_and_rest_are_seats id t (x ∷ ss) rest s l is left h =
     ((ap (λ z. z.table_id) is ∙ h.0.0, ap (λ z. z.me) is ∙ h.0.1), subst (AreSeats id (suc t)) (sym left) h.1)
 
-pub rest_of_seats_is_one_shorter : {A : Type 0} (ss rest : List A) → 0 < length ss → rest ≡ take 0 ss ++ drop 1 ss → length rest + 1 ≡ length ss
-rest_of_seats_is_one_shorter [] rest l left = absurd (omega arith)
-rest_of_seats_is_one_shorter (x ∷ ss) rest l left = let e : length rest ≡ length ss = ap (λ z. length z) left in omega (arith, e)
+pub rest_without_first_is_one_shorter : {A : Type 0} (ss rest : List A) → 0 < length ss → rest ≡ take 0 ss ++ drop 1 ss → length rest + 1 ≡ length ss
+rest_without_first_is_one_shorter [] rest l left = absurd (omega arith)
+rest_without_first_is_one_shorter (x ∷ ss) rest l left = let e : length rest ≡ length ss = ap (λ z. length z) left in omega (arith, e)
 
 pub worker_traces_with_one_added : {W : Type 0} (ws : List (Worker W)) (rs : List RecordedThread) (w : Worker W) (r : RecordedThread) → AreTraces ws rs
     → IsThreadTrace w.thread w.log r → AreTraces (ws ++ w ∷ []) (rs ++ r ∷ [])
@@ -67,37 +67,37 @@ all_false_if_false_below_length f ws n l h t = elim (cases_lt t n) [
   | inr past ↦ get_or_past (map f ws) t false (let m = length-map ws f in omega (arith, m, l, past))
 ]
 
-pub false_up_to_next_worker : {W : Type 0} (f : W → Bool) (ws : List W) (t : ℕ) (d : W) → t < length ws → f (get_or ws t d) ≡ false
+pub false_below_successor_if_next_is_false : {W : Type 0} (f : W → Bool) (ws : List W) (t : ℕ) (d : W) → t < length ws → f (get_or ws t d) ≡ false
     → ((u : ℕ) → u < t → get_or (map f ws) u false ≡ false) → (u : ℕ) → u < t + 1 → get_or (map f ws) u false ≡ false
-false_up_to_next_worker f ws t d within here before u below = elim (cases_lt u t) [
+false_below_successor_if_next_is_false f ws t d within here before u below = elim (cases_lt u t) [
   | inl l ↦ before u l
   | inr l ↦ let same : t ≡ u = omega (arith, l, below) in
       subst (λ k. get_or (map f ws) k false ≡ false) same (get_or-map f ws t d false within ∙ here)
 ]
 
-pub map_with_last_added : {A B : Type 0} (f : A → B) (xs : List A) (x : A) (ys : List B) (y : B) → ys ≡ map f xs → y ≡ f x → ys ++ y
+pub append_one_to_map_is_map_of_append_one : {A B : Type 0} (f : A → B) (xs : List A) (x : A) (ys : List B) (y : B) → ys ≡ map f xs → y ≡ f x → ys ++ y
     ∷ [] ≡ map f (xs ++ x ∷ [])
-map_with_last_added f xs x ys y e h = (λ i. e i ++ h i ∷ []) ∙ go xs
+append_one_to_map_is_map_of_append_one f xs x ys y e h = (λ i. e i ++ h i ∷ []) ∙ go xs
   where
     go : (zs : _) → map f zs ++ f x ∷ [] ≡ map f (zs ++ x ∷ [])
     go [] = refl
     go (z ∷ zs) = ap (λ k. f z ∷ k) (go zs)
 
-pub length_with_item_added : {A : Type 0} (xs ys : List A) (x : A) → ys ≡ xs ++ x ∷ [] → length ys ≡ suc (length xs)
-length_with_item_added xs ys x e = ap (λ z. length z) e ∙ length-append xs (x ∷ []) ∙ (let q : length xs + 1 ≡ suc (length xs) = omega arith in q)
+pub length_of_append_one_is_suc_length : {A : Type 0} (xs ys : List A) (x : A) → ys ≡ xs ++ x ∷ [] → length ys ≡ suc (length xs)
+length_of_append_one_is_suc_length xs ys x e = ap (λ z. length z) e ∙ length-append xs (x ∷ []) ∙ (let q : length xs + 1 ≡ suc (length xs) = omega arith in q)
 
 pub empty_if_length_zero : {A : Type 0} (xs : List A) (n : ℕ) → n ≡ length xs → n ≡ 0 → xs ≡ []
 empty_if_length_zero [] n e z = refl
 empty_if_length_zero (x ∷ xs) n e z = absurd (omega (arith, e, z))
 
-pub pairs_if_each_place_pairs : {A : Type 0} (P : A → A → Type 0) (xs ys : List A) → length ys ≡ length xs
+pub pairs_if_elements_at_each_index_related : {A : Type 0} (P : A → A → Type 0) (xs ys : List A) → length ys ≡ length xs
     → ((i : ℕ) (d : A) → i < length xs → P (get_or xs i d) (get_or ys i d)) → Pairs P xs ys
-pairs_if_each_place_pairs P [] [] e h = tt
-pairs_if_each_place_pairs P [] (y ∷ ys) e h = absurd (omega (arith, e))
-pairs_if_each_place_pairs P (x ∷ xs) [] e h = absurd (omega (arith, e))
-pairs_if_each_place_pairs P (x ∷ xs) (y ∷ ys) e h = (h 0 x (omega arith), pairs_if_each_place_pairs P xs ys (omega (arith, e)) (λ i d l. h (suc i) d (omega (arith, l))))
+pairs_if_elements_at_each_index_related P [] [] e h = tt
+pairs_if_elements_at_each_index_related P [] (y ∷ ys) e h = absurd (omega (arith, e))
+pairs_if_elements_at_each_index_related P (x ∷ xs) [] e h = absurd (omega (arith, e))
+pairs_if_elements_at_each_index_related P (x ∷ xs) (y ∷ ys) e h = (h 0 x (omega arith), pairs_if_elements_at_each_index_related P xs ys (omega (arith, e)) (λ i d l. h (suc i) d (omega (arith, l))))
 
 -- what is left in a list of which a part was changed in place
-pub take_of_overwritten_list : {A : Type 0} (new old : List A) (n : ℕ) → n ≡ length old → length new ≡ length old
+pub take_length_of_append_drop_is_first_list : {A : Type 0} (new old : List A) (n : ℕ) → n ≡ length old → length new ≡ length old
     → take n (new ++ drop (length new) old) ≡ new
-take_of_overwritten_list new old n e f = ap (λ k. take k (new ++ drop (length new) old)) (e ∙ sym f) ∙ take_length_of_append new (drop (length new) old)
+take_length_of_append_drop_is_first_list new old n e f = ap (λ k. take k (new ++ drop (length new) old)) (e ∙ sym f) ∙ take_length_of_append new (drop (length new) old)

@@ -12,21 +12,21 @@ ready_after_turn t moved a b was failed ready took has_logs same works =
     record { has_logs = has_logs; worlds = same ∙ ready.worlds ∙ sym took.took.threads; works = works }
 
 -- an error that a `?` hands on, after calls that kept the worlds
-pub stays_ready_with_handed_on_error : {W O A : Type 0} (answers : W → List Answered) (broken : W → Bool) (origin : W → O) (old new : Recorder W)
+pub stays_ready_if_error_names_first_failed_world : {W O A : Type 0} (answers : W → List Answered) (broken : W → Bool) (origin : W → O) (old new : Recorder W)
     (r : Result A Failed) (e : Failed) → IsErrAnd r (λ x. x ≡ e) → NamesFirst broken new.worlds.items e
     → AreSameWorlds origin old.worlds.items new.worlds.items → StaysReady answers broken origin old new r
-stays_ready_with_handed_on_error answers broken origin old new (Ok x) e is names same = absurd is
-stays_ready_with_handed_on_error answers broken origin old new (Err x) e is names same = record {
+stays_ready_if_error_names_first_failed_world answers broken origin old new (Ok x) e is names same = absurd is
+stays_ready_if_error_names_first_failed_world answers broken origin old new (Err x) e is names same = record {
   ready = tt;
   failed = subst (NamesFirst broken new.worlds.items) (sym is) names;
   same_worlds = same;
 }
 
 -- what a last call keeps, after calls that kept the worlds
-pub stays_ready_after_calls : {W O A : Type 0} (answers : W → List Answered) (broken : W → Bool) (origin : W → O) (old mid new : Recorder W)
+pub stays_ready_from_old_if_from_mid_with_same_worlds : {W O A : Type 0} (answers : W → List Answered) (broken : W → Bool) (origin : W → O) (old mid new : Recorder W)
     (r : Result A Failed) → AreSameWorlds origin old.worlds.items mid.worlds.items → StaysReady answers broken origin mid new r
     → StaysReady answers broken origin old new r
-stays_ready_after_calls answers broken origin old mid new r same stays = record {
+stays_ready_from_old_if_from_mid_with_same_worlds answers broken origin old mid new r same stays = record {
   ready = stays.ready;
   failed = stays.failed;
   same_worlds = stays.same_worlds ∙ same;

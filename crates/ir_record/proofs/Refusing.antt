@@ -6,8 +6,8 @@ use Rattle.ir_runs.specs.Run.{State, Step, after, IsRun, end, rounds}
 use Rattle.ir_runs.specs.Orders.{InTurn, IsByOrder}
 use Rattle.ir_record.specs.Refusing.{Turn, plain_turns, InTurns, IsByTurns}
 
-pub plain_turns-append : (xs ys : List ℕ) → plain_turns (xs ++ ys) ≡ plain_turns xs ++ plain_turns ys
-plain_turns-append xs ys = map-append (λ t. (t, false)) xs ys
+pub plain_turns_of_append : (xs ys : List ℕ) → plain_turns (xs ++ ys) ≡ plain_turns xs ++ plain_turns ys
+plain_turns_of_append xs ys = map-append (λ t. (t, false)) xs ys
 
 -- turns make a run
 pub is_run_if_in_turns : {T : Type 0} (m : Machine T) (s : State T) (turns : List Turn) (run : List Step) → InTurns m s turns run → IsRun m s run
@@ -17,17 +17,17 @@ is_run_if_in_turns m s ((t, refused) ∷ turns) run (inr some) =
     subst (IsRun m s) (sym some.2) (some.3, is_run_if_in_turns m (after m s (t, some.0)) turns some.1 some.5)
 
 -- turns, and then others
-pub in_turns-append : {T : Type 0} (m : Machine T) (s : State T) (turns more : List Turn) (run rest : List Step) → InTurns m s turns run
+pub in_turns_of_append : {T : Type 0} (m : Machine T) (s : State T) (turns more : List Turn) (run rest : List Step) → InTurns m s turns run
     → InTurns m (end m s run) more rest → InTurns m s (turns ++ more) (run ++ rest)
-in_turns-append m s [] more run rest e h = subst (λ z. InTurns m s more (z ++ rest)) (sym e) (subst (λ z. InTurns m (end m s z) more rest) e h)
-in_turns-append m s ((t, refused) ∷ turns) more run rest (inl none) h = inl (none.0, in_turns-append m s turns more run rest none.1 h)
-in_turns-append m s ((t, refused) ∷ turns) more run rest (inr some) h = inr (
+in_turns_of_append m s [] more run rest e h = subst (λ z. InTurns m s more (z ++ rest)) (sym e) (subst (λ z. InTurns m (end m s z) more rest) e h)
+in_turns_of_append m s ((t, refused) ∷ turns) more run rest (inl none) h = inl (none.0, in_turns_of_append m s turns more run rest none.1 h)
+in_turns_of_append m s ((t, refused) ∷ turns) more run rest (inr some) h = inr (
   some.0,
   some.1 ++ rest,
   ap (λ z. z ++ rest) some.2,
   some.3,
   some.4,
-  in_turns-append m (after m s (t, some.0)) turns more some.1 rest some.5 (subst (λ z. InTurns m (end m s z) more rest) some.2 h),
+  in_turns_of_append m (after m s (t, some.0)) turns more some.1 rest some.5 (subst (λ z. InTurns m (end m s z) more rest) some.2 h),
 )
 
 -- ---- turns in which no try is refused that may enter
@@ -50,7 +50,7 @@ pub by_plain_turns_if_by_order : {T : Type 0} (m : Machine T) (s : State T) (n :
     → IsByTurns m s n (plain_turns order) run
 by_plain_turns_if_by_order m s n order run h = record {
   count = h.count;
-  in_turns = subst (λ z. InTurns m s z run) (plain_turns-append order (rounds n h.count))
+  in_turns = subst (λ z. InTurns m s z run) (plain_turns_of_append order (rounds n h.count))
       (in_plain_turns_if_in_turn m s (order ++ rounds n h.count) run h.turns);
   done = h.done;
 }
@@ -60,6 +60,6 @@ pub by_order_if_by_plain_turns : {T : Type 0} (m : Machine T) (s : State T) (n :
 by_order_if_by_plain_turns m s n order run h = record {
   count = h.count;
   turns = in_turn_if_in_plain_turns m s (order ++ rounds n h.count) run
-      (subst (λ z. InTurns m s z run) (sym (plain_turns-append order (rounds n h.count))) h.in_turns);
+      (subst (λ z. InTurns m s z run) (sym (plain_turns_of_append order (rounds n h.count))) h.in_turns);
   done = h.done;
 }

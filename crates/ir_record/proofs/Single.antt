@@ -16,9 +16,9 @@ rounds_of_one_thread zero = refl
 rounds_of_one_thread (suc count) = ap (λ z. 0 ∷ z) (rounds_of_one_thread count)
 
 -- turns of a thread, then private steps and a turn more
-pub turns_with_private_steps_and_turn_added : (t n ran : ℕ) (a b c d : Progress) (moved : Bool) → Took (replicate n t) a b → Took (replicate ran t) b c
+pub took_turns_with_private_steps_and_turn_added : (t n ran : ℕ) (a b c d : Progress) (moved : Bool) → Took (replicate n t) a b → Took (replicate ran t) b c
     → TookIf moved (t ∷ []) c d → Took (replicate (n + ran + 1) t) a d
-turns_with_private_steps_and_turn_added t n ran a b c d moved p q r =
+took_turns_with_private_steps_and_turn_added t n ran a b c d moved p q r =
     turns_of_thread_add_up t (n + ran) 1 (n + ran + 1) a c d refl (turns_of_thread_add_up t n ran (n + ran) a b c refl p q) r.took
 
 -- as many turns, and one more
@@ -26,9 +26,9 @@ pub replicate_with_one_more : (t n : ℕ) → replicate n t ++ t ∷ [] ≡ repl
 replicate_with_one_more t n = replicate-append-replicate n 1 t
 
 -- a turn with a step leaves fewer steps
-pub fewer_left_after_turn_alone : (ran : ℕ) (b c d : Progress) (moved : Bool) → moved ≡ true → length b.flat.threads ≡ 1
+pub all_left_falls_after_moved_turn_of_only_thread : (ran : ℕ) (b c d : Progress) (moved : Bool) → moved ≡ true → length b.flat.threads ≡ 1
     → Took (replicate ran 0) b c → TookIf moved (0 ∷ []) c d → all_left 1 (tables d.flat).now < all_left 1 (tables b.flat).now
-fewer_left_after_turn_alone ran b c d moved is one q r =
+all_left_falls_after_moved_turn_of_only_thread ran b c d moved is one q r =
     let x : all_left 1 (tables c.flat).now + length q.run ≤ all_left 1 (tables b.flat).now =
     subst (λ n. all_left n (tables c.flat).now + length q.run ≤ all_left n (tables b.flat).now) one q.fewer in
     let y : all_left 1 (tables d.flat).now + length r.took.run ≤ all_left 1 (tables c.flat).now =

@@ -8,20 +8,20 @@ use Rattle.ir_runs.specs.Machine.{Label, Quiet, Answer, In, Out, Refused, logged
 use Rattle.ir_flat.specs.Flat.{Flat, thread_of, tables, machine}
 use Rattle.ir_runs.specs.Run.{Step, Can, asked, after, label, end, join_if, events, log, EntersIfFree, HasNone}
 use Rattle.ir_runs.specs.Orders.{InTurn}
-use Rattle.ir_runs.proofs.CallerLemmas.{log_append, end_append, turns_append}
+use Rattle.ir_runs.proofs.CallerLemmas.{log_append, end_append, in_turn_of_append}
 use Rattle.ir_record.specs.Progress.{Progress, Moved, Took, TookIf, TookTurns, all_left, labels_at}
 use Rattle.ir_record.specs.Refusing.{Turn, plain_turns, InTurns}
 use Rattle.ir_record.specs.Worlds.{answers_at, answers_in}
-use Rattle.ir_record.proofs.Refusing.{in_plain_turns_if_in_turn, in_turns-append}
-use Rattle.ir_record.proofs.Tally.{HoldFewObjects, step_leaves_all_fewer}
+use Rattle.ir_record.proofs.Refusing.{in_plain_turns_if_in_turn, in_turns_of_append}
+use Rattle.ir_record.proofs.Tally.{HoldFewObjects, all_left_falls_after_step}
 
 -- ---- what a step logs
 
-pub log_of_own_step : (f : Flat) (t r : ℕ) → log (machine f) (tables f) ((t, r) ∷ []) t ≡ logged (label (machine f) (tables f) (t, r)) []
-log_of_own_step f t r = ap (λ b. events (join_if b (thread_of f t, label (machine f) (tables f) (t, r)) [])) (eq-eqb t t refl)
+pub log_of_own_step_is_its_logged_label : (f : Flat) (t r : ℕ) → log (machine f) (tables f) ((t, r) ∷ []) t ≡ logged (label (machine f) (tables f) (t, r)) []
+log_of_own_step_is_its_logged_label f t r = ap (λ b. events (join_if b (thread_of f t, label (machine f) (tables f) (t, r)) [])) (eq-eqb t t refl)
 
-pub log_of_step_of_other : (f : Flat) (t r u : ℕ) → u ≢ t → log (machine f) (tables f) ((t, r) ∷ []) u ≡ []
-log_of_step_of_other f t r u ne = ap (λ b. events (join_if b (thread_of f u, label (machine f) (tables f) (t, r)) [])) (ne_eqb u t ne)
+pub log_is_empty_for_step_of_other : (f : Flat) (t r u : ℕ) → u ≢ t → log (machine f) (tables f) ((t, r) ∷ []) u ≡ []
+log_is_empty_for_step_of_other f t r u ne = ap (λ b. events (join_if b (thread_of f u, label (machine f) (tables f) (t, r)) [])) (ne_eqb u t ne)
 
 -- ---- turns that were taken
 
@@ -31,8 +31,8 @@ pub enters_if_free_unless_ask_is_try : (f : Flat) (t r : ℕ) (q : Ask) → ask_
 enters_if_free_unless_ask_is_try f t r q is never o tries can = absurd (never o (sym (ap shared_ask is) ∙ tries))
 
 -- nothing happens in the turn of a thread that has no step
-pub turn_without_step_changes_nothing : (t : ℕ) (a b : Progress) → HasNone (machine a.flat) (tables a.flat) t → b ≡ a → TookIf false (t ∷ []) a b
-turn_without_step_changes_nothing t a b none same = subst (TookIf false (t ∷ []) a) (sym same) (record {
+pub turn_took_no_step_if_none_and_progress_same : (t : ℕ) (a b : Progress) → HasNone (machine a.flat) (tables a.flat) t → b ≡ a → TookIf false (t ∷ []) a b
+turn_took_no_step_if_none_and_progress_same t a b none same = subst (TookIf false (t ∷ []) a) (sym same) (record {
   took = record {
     run = [];
     turns = inl (none, refl);
@@ -71,19 +71,19 @@ moved_if_one_step t r k a b s = record {
   objects = s.objects;
   logs = λ u l. elim (cases_eq u t) [
     | inl e ↦ subst (λ z. labels_at b.logs z ≡ labels_at a.logs z ++ log (machine a.flat) (tables a.flat) ((t, r) ∷ []) z) (sym e)
-        (s.own_log ∙ ap (λ z. labels_at a.logs t ++ z) (sym (log_of_own_step a.flat t r ∙ ap (λ z. logged z []) s.emits)))
+        (s.own_log ∙ ap (λ z. labels_at a.logs t ++ z) (sym (log_of_own_step_is_its_logged_label a.flat t r ∙ ap (λ z. logged z []) s.emits)))
     | inr ne ↦ s.other_logs u ne ∙ sym (append-nil (labels_at a.logs u))
-        ∙ ap (λ z. labels_at a.logs u ++ z) (sym (log_of_step_of_other a.flat t r u ne))
+        ∙ ap (λ z. labels_at a.logs u ++ z) (sym (log_is_empty_for_step_of_other a.flat t r u ne))
   ];
   answers = λ u l. elim (cases_eq u t) [
     | inl e ↦ subst (λ z. answers_at b.answers z ≡ answers_at a.answers z ++ answers_in
         (log (machine a.flat) (tables a.flat) ((t, r) ∷ []) z)) (sym e)
-        (s.own_answers ∙ ap (λ z. answers_at a.answers t ++ answers_in z) (sym (log_of_own_step a.flat t r ∙ ap (λ z. logged z []) s.emits)))
+        (s.own_answers ∙ ap (λ z. answers_at a.answers t ++ answers_in z) (sym (log_of_own_step_is_its_logged_label a.flat t r ∙ ap (λ z. logged z []) s.emits)))
     | inr ne ↦ s.other_answers u ne ∙ sym (append-nil (answers_at a.answers u))
-        ∙ ap (λ z. answers_at a.answers u ++ answers_in z) (sym (log_of_step_of_other a.flat t r u ne))
+        ∙ ap (λ z. answers_at a.answers u ++ answers_in z) (sym (log_is_empty_for_step_of_other a.flat t r u ne))
   ];
   fewer = subst (λ z. all_left (length a.flat.threads) z.now + 1 ≤ all_left (length a.flat.threads) (thread_of a.flat)) (sym s.taken)
-      (step_leaves_all_fewer a.flat.code (length a.flat.threads) (tables a.flat) (t, r) s.few s.below s.can);
+      (all_left_falls_after_step a.flat.code (length a.flat.threads) (tables a.flat) (t, r) s.few s.below s.can);
 }
 
 unfoldable pub took_turn_by_step : (t r : ℕ) (k : Label) (a b : Progress) → OneStep t r k a b → EntersIfFree (machine a.flat) (tables a.flat) (t, r)
@@ -120,12 +120,12 @@ took_refused_turn_by_step t k a b s = record {
   moved = moved_if_one_step t 0 k a b s;
 }
 
-answers_in_logged : (k : Label) (ys : List Label) → answers_in (logged k ys) ≡ answers_in (logged k []) ++ answers_in ys
-answers_in_logged Quiet ys = refl
-answers_in_logged (Answer i v) ys = refl
-answers_in_logged (In o a v l) ys = refl
-answers_in_logged (Refused o) ys = refl
-answers_in_logged (Out o a v) ys = refl
+answers_in_logged_is_append : (k : Label) (ys : List Label) → answers_in (logged k ys) ≡ answers_in (logged k []) ++ answers_in ys
+answers_in_logged_is_append Quiet ys = refl
+answers_in_logged_is_append (Answer i v) ys = refl
+answers_in_logged_is_append (In o a v l) ys = refl
+answers_in_logged_is_append (Refused o) ys = refl
+answers_in_logged_is_append (Out o a v) ys = refl
 
 pub answers_in_append : (xs ys : List Label) → answers_in (xs ++ ys) ≡ answers_in xs ++ answers_in ys
 answers_in_append [] ys = refl
@@ -151,18 +151,18 @@ took_no_turns a = record {
 }
 
 -- the same run on the machine and state at which it begins
-pub log_same_on_first_machine : (a b : Progress) (first : List Step) (run : List Step) (t : ℕ) → b.flat.code ≡ a.flat.code
+pub log_on_later_machine_is_log_on_first_machine_after_run : (a b : Progress) (first : List Step) (run : List Step) (t : ℕ) → b.flat.code ≡ a.flat.code
     → tables b.flat ≡ end (machine a.flat) (tables a.flat) first
     → log (machine b.flat) (tables b.flat) run t ≡ log (machine a.flat) (end (machine a.flat) (tables a.flat) first) run t
-log_same_on_first_machine a b first run t code ends = ap (λ c. log (thread_machine c) (tables b.flat) run t) code
+log_on_later_machine_is_log_on_first_machine_after_run a b first run t code ends = ap (λ c. log (thread_machine c) (tables b.flat) run t) code
     ∙ ap (λ s. log (machine a.flat) s run t) ends
 
-unfoldable pub moved_both : (first next : List Step) (a b c : Progress) → Moved first a b → Moved next b c → Moved (first ++ next) a c
-moved_both first next a b c p q =
+unfoldable pub moved_by_append_of_runs : (first next : List Step) (a b c : Progress) → Moved first a b → Moved next b c → Moved (first ++ next) a c
+moved_by_append_of_runs first next a b c p q =
     let logs_of : (t : ℕ) → log (machine a.flat) (tables a.flat) (first ++ next) t ≡ log (machine a.flat) (tables a.flat) first t ++ log
     (machine b.flat) (tables b.flat) next t =
     λ t. log_append (machine a.flat) (tables a.flat) first next t
-    ∙ ap (λ z. log (machine a.flat) (tables a.flat) first t ++ z) (sym (log_same_on_first_machine a b first next t p.code p.ends)) in
+    ∙ ap (λ z. log (machine a.flat) (tables a.flat) first t ++ z) (sym (log_on_later_machine_is_log_on_first_machine_after_run a b first next t p.code p.ends)) in
     record {
       ends = q.ends ∙ ap (λ k. end (thread_machine k) (tables b.flat) next) p.code ∙ ap (λ s. end (machine a.flat) s next) p.ends
           ∙ sym (end_append (machine a.flat) (tables a.flat) first next);
@@ -198,12 +198,12 @@ moved_if_took k = record {
   fewer = k.fewer;
 }
 
-unfoldable pub took_both_orders : (order more : List ℕ) (a b c : Progress) → Took order a b → Took more b c → Took (order ++ more) a c
-took_both_orders order more a b c p q =
-    let m : Moved (p.run ++ q.run) a c = moved_both p.run q.run a b c (moved_if_took p) (moved_if_took q) in
+unfoldable pub took_append_of_orders : (order more : List ℕ) (a b c : Progress) → Took order a b → Took more b c → Took (order ++ more) a c
+took_append_of_orders order more a b c p q =
+    let m : Moved (p.run ++ q.run) a c = moved_by_append_of_runs p.run q.run a b c (moved_if_took p) (moved_if_took q) in
     record {
       run = p.run ++ q.run;
-      turns = turns_append (machine a.flat) (tables a.flat) order more p.run q.run p.turns
+      turns = in_turn_of_append (machine a.flat) (tables a.flat) order more p.run q.run p.turns
           (subst (λ s. InTurn (machine a.flat) s more q.run) p.ends
           (subst (λ k. InTurn (thread_machine k) (tables b.flat) more q.run) p.code q.turns));
       ends = m.ends;
@@ -239,8 +239,8 @@ pub took_turns_of_empty : (a : Progress) → TookTurns [] a a
 took_turns_of_empty a = took_plain_turns_if_took_order [] a a (took_no_turns a)
 
 -- a turn of what has no step
-pub took_turn_of_thread_without_step : (t : ℕ) (refused : Bool) (a : Progress) → HasNone (machine a.flat) (tables a.flat) t → TookTurns ((t, refused) ∷ []) a a
-took_turn_of_thread_without_step t refused a none = record { run = []; in_turns = inl (none, refl); moved = still }
+pub took_turn_without_step_changes_nothing : (t : ℕ) (refused : Bool) (a : Progress) → HasNone (machine a.flat) (tables a.flat) t → TookTurns ((t, refused) ∷ []) a a
+took_turn_without_step_changes_nothing t refused a none = record { run = []; in_turns = inl (none, refl); moved = still }
   where
     still : Moved [] a a
     still = record {
@@ -256,8 +256,8 @@ took_turn_of_thread_without_step t refused a none = record { run = []; in_turns 
 pub took_turns_of_append : (turns more : List Turn) (a b c : Progress) → TookTurns turns a b → TookTurns more b c → TookTurns (turns ++ more) a c
 took_turns_of_append turns more a b c p q = record {
   run = p.run ++ q.run;
-  in_turns = in_turns-append (machine a.flat) (tables a.flat) turns more p.run q.run p.in_turns
+  in_turns = in_turns_of_append (machine a.flat) (tables a.flat) turns more p.run q.run p.in_turns
       (subst (λ s. InTurns (machine a.flat) s more q.run) p.moved.ends
       (subst (λ k. InTurns (thread_machine k) (tables b.flat) more q.run) p.moved.code q.in_turns));
-  moved = moved_both p.run q.run a b c p.moved q.moved;
+  moved = moved_by_append_of_runs p.run q.run a b c p.moved q.moved;
 }

@@ -12,7 +12,7 @@ use Rattle.ir_flat.specs.Flat.{Flat, thread_of, tables, machine, start_flat}
 use Rattle.ir_flat.proofs.CallerLemmas.{length_of_start_threads}
 use Rattle.ir_runs.specs.Run.{State, Step, asked, end, log, rounds}
 use Rattle.ir_runs.specs.Orders.{InTurn}
-use Rattle.ir_runs.proofs.CallerLemmas.{log_append, end_append, turns_append}
+use Rattle.ir_runs.proofs.CallerLemmas.{log_append, end_append, in_turn_of_append}
 use Rattle.ir_log.specs.Logged.{Logged}
 use Rattle.ir_record.specs.Ahead.{Went}
 use Rattle.ir_record.specs.Failures.{IsUnanswered, StoppedAt, StoppedTurns}
@@ -20,20 +20,20 @@ use Rattle.ir_record.specs.Progress.{Progress, Took, TookTurns, IsReady}
 use Rattle.ir_record.specs.Refusing.{Turn, plain_turns, InTurns}
 use Rattle.ir_record.specs.Worlds.{answers_at, Answered, answers_in}
 use Rattle.ir_record.specs.Recording.{StoppedInTurns}
-use Rattle.ir_record.proofs.Ended.{start, made_recording_is_start, new_log}
+use Rattle.ir_record.proofs.Ended.{start, progress_is_start_if_flat_and_logs_are_new, new_log}
 use Rattle.ir_record.proofs.Going.{reached, range_from_zero_with_last}
-use Rattle.ir_record.proofs.Refusing.{plain_turns-append, in_turns-append, in_plain_turns_if_in_turn}
-use Rattle.ir_record.proofs.Steps.{log_same_on_first_machine, answers_in_append}
+use Rattle.ir_record.proofs.Refusing.{plain_turns_of_append, in_turns_of_append, in_plain_turns_if_in_turn}
+use Rattle.ir_record.proofs.Steps.{log_on_later_machine_is_log_on_first_machine_after_run, answers_in_append}
 
 -- the error that a `?` hands on
-pub if_err_holds_of_error : {A E : Type 0} (P : E → Type 0) (r : Result A E) (e : E) → IsErrAnd r (λ x. x ≡ e) → P e → IfErr r P
-if_err_holds_of_error P (Ok x) e h p = tt
-if_err_holds_of_error P (Err x) e h p = subst P (sym h) p
+pub if_err_holds_if_holds_of_its_error : {A E : Type 0} (P : E → Type 0) (r : Result A E) (e : E) → IsErrAnd r (λ x. x ≡ e) → P e → IfErr r P
+if_err_holds_if_holds_of_its_error P (Ok x) e h p = tt
+if_err_holds_if_holds_of_its_error P (Err x) e h p = subst P (sym h) p
 
 -- a turn in which the thread asks its world, in any state in which it is the same
-pub stopped_at_own_turn : (t : ℕ) (s : State thread.ThreadState) (p : Progress) (named : ℕ) (answers : List (List Answered)) (failed : List Bool)
+pub stopped_at_turn_of_unanswered_thread : (t : ℕ) (s : State thread.ThreadState) (p : Progress) (named : ℕ) (answers : List (List Answered)) (failed : List Bool)
     → IsReady p failed → s.now t ≡ thread_of p.flat t → IsUnanswered t p named answers → StoppedAt (t ∷ []) s p named answers
-stopped_at_own_turn t s p named answers failed ready same h = record {
+stopped_at_turn_of_unanswered_thread t s p named answers failed ready same h = record {
   taken = [];
   left = [];
   so_far = ap (λ z. z ∷ []) (sym h.named_is);
@@ -76,7 +76,7 @@ stopped_after_run_of_order order more s a b run named answers turns code threads
       left = h.left;
       so_far = ap (λ z. order ++ z) h.so_far ∙ sym (append_assoc order h.taken (named ∷ h.left));
       run = run ++ h.run;
-      turns = turns_append (machine a.flat) s order h.taken run h.run turns
+      turns = in_turn_of_append (machine a.flat) s order h.taken run h.run turns
           (subst (λ k. InTurn (thread_machine k) mid h.taken h.run) code h.turns);
       kind = h.kind;
       asks = ap (λ z. asked (machine a.flat) z named) (end_append (machine a.flat) s run h.run)
@@ -132,7 +132,7 @@ stopped_in_plain_turns_if_in_order order p named answers h = record {
   taken = plain_turns h.taken;
   refused = false;
   left = plain_turns h.left;
-  so_far = ap plain_turns h.so_far ∙ plain_turns-append h.taken (named ∷ h.left);
+  so_far = ap plain_turns h.so_far ∙ plain_turns_of_append h.taken (named ∷ h.left);
   run = h.run;
   in_turns = in_plain_turns_if_in_turn (machine p.flat) (tables p.flat) h.taken h.run h.turns;
   kind = h.kind;
@@ -142,10 +142,10 @@ stopped_in_plain_turns_if_in_order order p named answers h = record {
 }
 
 -- a turn in which the thread asks its world
-pub stopped_turns_at_own_turn : (t : ℕ) (refused : Bool) (p : Progress) (named : ℕ) (answers : List (List Answered)) (failed : List Bool) → IsReady p failed
+pub stopped_turns_at_turn_of_unanswered_thread : (t : ℕ) (refused : Bool) (p : Progress) (named : ℕ) (answers : List (List Answered)) (failed : List Bool) → IsReady p failed
     → IsUnanswered t p named answers → StoppedTurns ((t, refused) ∷ []) p named answers
-stopped_turns_at_own_turn t refused p named answers failed ready h =
-    let s : StoppedAt (t ∷ []) (tables p.flat) p named answers = stopped_at_own_turn t (tables p.flat) p named answers failed ready refl h in
+stopped_turns_at_turn_of_unanswered_thread t refused p named answers failed ready h =
+    let s : StoppedAt (t ∷ []) (tables p.flat) p named answers = stopped_at_turn_of_unanswered_thread t (tables p.flat) p named answers failed ready refl h in
     record {
       taken = [];
       refused = refused;
@@ -182,14 +182,14 @@ stopped_turns_after_turns turns more a b named answers p h =
     let both : (t : ℕ) → log (machine a.flat) (tables a.flat) (p.run ++ h.run) t ≡ log (machine a.flat) (tables a.flat) p.run t
     ++ log (machine b.flat) (tables b.flat) h.run t =
     λ t. log_append (machine a.flat) (tables a.flat) p.run h.run t
-    ∙ ap (λ z. log (machine a.flat) (tables a.flat) p.run t ++ z) (sym (log_same_on_first_machine a b p.run h.run t p.moved.code p.moved.ends)) in
+    ∙ ap (λ z. log (machine a.flat) (tables a.flat) p.run t ++ z) (sym (log_on_later_machine_is_log_on_first_machine_after_run a b p.run h.run t p.moved.code p.moved.ends)) in
     record {
       taken = turns ++ h.taken;
       refused = h.refused;
       left = h.left;
       so_far = ap (λ z. turns ++ z) h.so_far ∙ sym (append_assoc turns h.taken ((named, h.refused) ∷ h.left));
       run = p.run ++ h.run;
-      in_turns = in_turns-append (machine a.flat) (tables a.flat) turns h.taken p.run h.run p.in_turns
+      in_turns = in_turns_of_append (machine a.flat) (tables a.flat) turns h.taken p.run h.run p.in_turns
           (subst (λ s. InTurns (machine a.flat) s h.taken h.run) p.moved.ends
           (subst (λ k. InTurns (thread_machine k) (tables b.flat) h.taken h.run) p.moved.code h.in_turns));
       kind = h.kind;
@@ -207,16 +207,16 @@ stopped_turns_after_turns turns more a b named answers p h =
     }
 
 -- the turns from the guest's start
-pub stopped_in_order_from_start : {guest : Guest} {budget : ℕ} {profile : Profile} {turns : List Turn} {before answers : List (List Answered)}
+pub recording_stopped_in_turns_if_stopped_from_start : {guest : Guest} {budget : ℕ} {profile : Profile} {turns : List Turn} {before answers : List (List Answered)}
     {f : Flat} {logs : List Logged} {named : ℕ} → f ≡ start_flat guest budget profile → logs ≡ replicate (length guest.entries) new_log
     → ((count : ℕ) × StoppedTurns (turns ++ plain_turns (rounds (length f.threads) count)) (record { flat = f; logs = logs; answers = before })
     named answers) → StoppedInTurns guest budget profile turns named before answers
-stopped_in_order_from_start {guest} {budget} {profile} {turns} {before} {answers} {f} {logs} {named} p q k =
+recording_stopped_in_turns_if_stopped_from_start {guest} {budget} {profile} {turns} {before} {answers} {f} {logs} {named} p q k =
     let size : length (start_flat guest budget profile).threads ≡ length guest.entries =
     length_of_start_threads guest budget profile 0 (length guest.entries) in
     let h : StoppedTurns (turns ++ plain_turns (rounds (length f.threads) k.0)) (start guest budget profile before) named answers =
     subst (λ z. StoppedTurns (turns ++ plain_turns (rounds (length f.threads) k.0)) z named answers)
-    (made_recording_is_start guest budget profile before p q) k.1 in
+    (progress_is_start_if_flat_and_logs_are_new guest budget profile before p q) k.1 in
     record {
       count = k.0;
       taken = h.taken;

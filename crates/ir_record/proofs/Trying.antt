@@ -10,14 +10,14 @@ use Rattle.ir_runs.specs.Machine.{act_of, target, emitted, Admits, Label, Refuse
 use Rattle.ir_runs.specs.declared.access.Access.TheVariants.{Writing}
 use Rattle.ir_runs.specs.Run.{Can, after}
 use Rattle.ir_flat.specs.Flat.{Flat, thread_of, tables, machine as machine_of, IsFlat}
-use Rattle.ir_flat.proofs.CallerLemmas.{events_added_by, tried_object_is_of_state}
+use Rattle.ir_flat.proofs.CallerLemmas.{events_added_by, tried_object_below_object_count}
 use Rattle.ir_log.specs.Logged.{Logged}
 use Rattle.ir_log.specs.Logging.{label_of}
 use Rattle.ir_log.specs.declared.event.Event.{Event}
 use Rattle.ir_log.specs.declared.event.Event.TheVariants as event
 use Rattle.ir_trace.specs.Bounds.{IsEvent}
 use Rattle.ir_record.specs.Progress.{HasLogs, log_at}
-use Rattle.ir_record.proofs.Entering.{OneEventLogged, label_is_emitted_by_ask, entry_logs_itself, entry_logs_no_answer}
+use Rattle.ir_record.proofs.Entering.{OneEventLogged, label_of_step_is_emitted_by_act_of_ask, entry_logs_itself, entry_logs_no_answer}
 
 -- there is room to log a try
 pub event_count_is_below_limit_at_try : (f : Flat) (t o : ℕ) → ask_of f.code (thread_of f t) ≡ Try o → (thread_of f t).events < most_events
@@ -55,7 +55,7 @@ entering_try_logs_one_event f g logs more t o e x emits fits = record {
   flat = x.flat;
   below = x.below;
   one = ap events_added_by x.asked;
-  emits = label_is_emitted_by_ask f t 1 (Try o) x.asked;
+  emits = label_of_step_is_emitted_by_act_of_ask f t 1 (Try o) x.asked;
   event = emits;
   once = entry_logs_itself o Writing 0 ((tables f).objects o);
   unanswered = entry_logs_no_answer o Writing 0 ((tables f).objects o);
@@ -78,13 +78,13 @@ refused_try_logs_one_event f g logs more t o x = record {
   flat = x.flat;
   below = x.below;
   one = ap events_added_by x.asked;
-  emits = label_is_emitted_by_ask f t 0 (Try o) x.asked;
+  emits = label_of_step_is_emitted_by_act_of_ask f t 0 (Try o) x.asked;
   event = refl;
   once = refl;
   unanswered = refl;
   fits = (
     (subst (Permits (thread_of f t)) x.asked (ask_of_permitted f.code (thread_of f t))).4,
-    tried_object_is_of_state f t o x.flat x.below x.asked,
+    tried_object_below_object_count f t o x.flat x.below x.asked,
   );
   can = x.can;
   taken = x.taken;

@@ -11,6 +11,7 @@ use Rattle.ir_thread.specs.State.{held_at, ask_of, after_ask, after_reply, most_
 use Rattle.ir_runs.specs.Machine as machine
 use Rattle.ir_runs.specs.Lawful as lawful
 use Rattle.ir_runs.specs.Machine.{Act, act_of, Machine, Label, Quiet, Answer, In, Out, logged}
+use Rattle.ir_runs.specs.Run.{join_if}
 use Rattle.ir_runs.specs.Shared.{is_shared}
 use Rattle.ir_runs.specs.Lawful.{held_after}
 use Rattle.ir_thread.specs.Private.{PrivateSteps}
@@ -20,10 +21,11 @@ use Rattle.ir_runs.specs.declared.access.Access.TheVariants.{Writing}
 use Rattle.ir_thread.specs.declared.ask.Ask.{Ask}
 use Rattle.ir_thread.specs.declared.ask.Ask.TheVariants as ask
 use Rattle.ir_runs.specs.declared.env_kind.EnvKind.{EnvKind}
+use Rattle.ir_thread.specs.declared.ask.Reply.{Reply}
 use Rattle.ir_thread.specs.declared.ask.Reply.TheVariants.{Go}
 use Rattle.ir_thread.specs.declared.profile.Profile.TheVariants.{Two}
 use Rattle.ir_thread.proofs.CallerLemmas.{ask_of_permitted, thread_machine_is_lawful}
-use Rattle.ir_object.specs.Order.{Shared, keep_if, inside_if, inside_after}
+use Rattle.ir_object.specs.Order.{Shared, inside_if, inside_after}
 use Rattle.ir_object.proofs.CallerLemmas.{inside_after_step}
 use Rattle.ir_flat.specs.Flat.{MayReply}
 use Rattle.ir_flat.specs.Trails.{alone_label}
@@ -39,11 +41,13 @@ use Rattle.ir_crew.specs.declared.deed.Deed.{Deed}
 use Rattle.ir_crew.specs.declared.deed.Deed.TheVariants.{Leave}
 use Rattle.ir_crew.specs.declared.deed.ObjectStep.{ObjectStep}
 use Rattle.ir_crew.proofs.CallerLemmas.{entries_with_step_added, track, step_of_deed, target_of_deed}
+use Rattle.ir_record.specs.Progress.{steps_left_within}
 use Rattle.ir_record.specs.Worlds.{Answered, answers_in}
 use Rattle.ir_record.specs.declared.by_threads.worker.Worker.{Worker}
-use Rattle.ir_record.specs.Working.{Work, IsWorking, StillWorks, IsOwn, IsInside, IsSeated, Stays}
-use Rattle.ir_record.proofs.Profiles.{profile_after_ask}
-use Rattle.ir_record.proofs.Working.{worked_with_reply_added, held_after_own_act, held_after_is_inside_if}
+use Rattle.ir_record.specs.Working.{Work, IsWorking, StillWorks, IsOwn, IsInside, IsSeated, Stays, own_steps_left}
+use Rattle.ir_record.proofs.Left.{steps_left_fall_after_permitted_ask_unless_done}
+use Rattle.ir_record.proofs.Profiles.{profile_is_unchanged_by_ask}
+use Rattle.ir_record.proofs.Working.{worked_with_reply_added, held_after_own_act_is_unchanged, held_after_is_inside_if}
 
 map_of_append : {A B : Type 0} (f : A → B) (xs ys : List A) → map f (xs ++ ys) ≡ map f xs ++ map f ys
 map_of_append f [] ys = refl
@@ -59,36 +63,36 @@ answers_in_append (Out o a v ∷ xs) ys = answers_in_append xs ys
 
 -- how a thread is inside an object after a step, which is an object step if b
 inside_after_step_is_held_after : (q : Act) (v o : ℕ) (h : ℕ → Option Access) (xs : List Shared) (b : Bool) → is_shared q ≡ b → inside_after o None xs ≡ h o
-    → inside_after o None (xs ++ keep_if b (q, v) []) ≡ held_after q h o
-inside_after_step_is_held_after q v o h xs false is e = ap (inside_after o None) (append-nil xs) ∙ e ∙ sym (held_after_own_act q h o is)
+    → inside_after o None (xs ++ join_if b (q, v) []) ≡ held_after q h o
+inside_after_step_is_held_after q v o h xs false is e = ap (inside_after o None) (append-nil xs) ∙ e ∙ sym (held_after_own_act_is_unchanged q h o is)
 inside_after_step_is_held_after q v o h xs true is e = inside_after_step o None xs (q, v) ∙ ap (inside_if (eqb o (Rattle.ir_runs.specs.Machine.target q)) q) e
     ∙ sym (held_after_is_inside_if q h o is)
 
-appended_act_adds_at_most_its_entry : (q : Act) (v : ℕ) (xs : List Shared) (b : Bool) → entries (xs ++ keep_if b (q, v) []) ≤ entries xs + one_if_entry q
-appended_act_adds_at_most_its_entry q v xs false = let e = ap entries (append-nil xs) in omega (arith, e)
-appended_act_adds_at_most_its_entry q v xs true = let e = entries_with_step_added xs (q, v) in omega (arith, e)
+entries_with_act_appended_grow_by_at_most_one_if_entry : (q : Act) (v : ℕ) (xs : List Shared) (b : Bool) → entries (xs ++ join_if b (q, v) []) ≤ entries xs + one_if_entry q
+entries_with_act_appended_grow_by_at_most_one_if_entry q v xs false = let e = ap entries (append-nil xs) in omega (arith, e)
+entries_with_act_appended_grow_by_at_most_one_if_entry q v xs true = let e = entries_with_step_added xs (q, v) in omega (arith, e)
 
 -- only entries that are logged are entries
-entry_count_within_events_added : (q : Ask) (v : ℕ) → one_if_entry (act_of (shared_ask q) v) ≤ events_added_by q
-entry_count_within_events_added ask.Private v = omega arith
-entry_count_within_events_added (ask.Env kind) v = omega arith
-entry_count_within_events_added (ask.Enter object access) v = omega arith
-entry_count_within_events_added (ask.Try object) zero = omega arith
-entry_count_within_events_added (ask.Try object) (suc zero) = omega arith
-entry_count_within_events_added (ask.Try object) (suc (suc v)) = omega arith
-entry_count_within_events_added (ask.Leave object access) v = omega arith
-entry_count_within_events_added (ask.Get object index) v = omega arith
-entry_count_within_events_added (ask.Put object index value) v = omega arith
-entry_count_within_events_added ask.Print v = omega arith
-entry_count_within_events_added (ask.End e) v = omega arith
-entry_count_within_events_added ask.Done v = omega arith
+one_if_entry_is_at_most_events_added_by_ask : (q : Ask) (v : ℕ) → one_if_entry (act_of (shared_ask q) v) ≤ events_added_by q
+one_if_entry_is_at_most_events_added_by_ask ask.Private v = omega arith
+one_if_entry_is_at_most_events_added_by_ask (ask.Env kind) v = omega arith
+one_if_entry_is_at_most_events_added_by_ask (ask.Enter object access) v = omega arith
+one_if_entry_is_at_most_events_added_by_ask (ask.Try object) zero = omega arith
+one_if_entry_is_at_most_events_added_by_ask (ask.Try object) (suc zero) = omega arith
+one_if_entry_is_at_most_events_added_by_ask (ask.Try object) (suc (suc v)) = omega arith
+one_if_entry_is_at_most_events_added_by_ask (ask.Leave object access) v = omega arith
+one_if_entry_is_at_most_events_added_by_ask (ask.Get object index) v = omega arith
+one_if_entry_is_at_most_events_added_by_ask (ask.Put object index value) v = omega arith
+one_if_entry_is_at_most_events_added_by_ask ask.Print v = omega arith
+one_if_entry_is_at_most_events_added_by_ask (ask.End e) v = omega arith
+one_if_entry_is_at_most_events_added_by_ask ask.Done v = omega arith
 
 -- ---- one step of the thread
 
 -- the object steps, and the labels and the number of the events, are those of what is asked, with this result
 abbrev pub AreObjectStepsAndEventsOfAsk : Ask → ℕ → List ObjectStep → List Event → Type 0
 AreObjectStepsAndEventsOfAsk q v es evs = ◌≡◌ {A = List Shared × List Label × ℕ} (map shared_of es, map logging.label_of evs, length evs) (
-  keep_if (is_shared (act_of (shared_ask q) v)) (act_of (shared_ask q) v, v) [],
+  join_if (is_shared (act_of (shared_ask q) v)) (act_of (shared_ask q) v, v) [],
   logged (alone_label (act_of (shared_ask q) v) (map label_of es)) [],
   events_added_by q,
 )
@@ -116,7 +120,7 @@ working_after_step g budget profile t before w w' q v es evs i s view =
     ∙ ap (λ z. after_ask g.code w.thread z (reply_of q v)) s.asked in
     let even : length (map label_of i.track) ≡ length (map shared_of i.track) = length-map i.track label_of
     ∙ sym (length-map i.track shared_of) in
-    let steps : map shared_of (i.track ++ es) ≡ map shared_of i.track ++ keep_if (is_shared a) (a, v) [] = map_of_append shared_of i.track es
+    let steps : map shared_of (i.track ++ es) ≡ map shared_of i.track ++ join_if (is_shared a) (a, v) [] = map_of_append shared_of i.track es
     ∙ ap (λ (z : List Shared × List Label × ℕ). map shared_of i.track ++ z.0) s.of in
     let more = worked_with_reply_added m (thread.start_state g t budget profile) w.thread (map shared_of i.track) (map label_of i.track)
     (map logging.label_of w.log.events) v (map label_of es) i.worked even (subst (λ z. MayReply m z v) (sym is) s.may) in
@@ -131,7 +135,7 @@ working_after_step g budget profile t before w w' q v es evs i s view =
         replies = more.replies;
         may = more.may;
         now = more.now ∙ next;
-        steps_are = more.steps_are ∙ ap (λ z. map shared_of i.track ++ keep_if (is_shared z) (z, v) []) is ∙ sym steps;
+        steps_are = more.steps_are ∙ ap (λ z. map shared_of i.track ++ join_if (is_shared z) (z, v) []) is ∙ sym steps;
         logged = ap (λ z. Rattle.ir_runs.specs.Run.events
             (Rattle.ir_flat.specs.Trails.alone_trail m (thread.start_state g t budget profile) more.replies z))
             (map_of_append label_of i.track es) ∙ more.logged ∙ ap (λ z. map logging.label_of w.log.events ++ logged (alone_label z (map label_of es)) []) is
@@ -143,9 +147,9 @@ working_after_step g budget profile t before w w' q v es evs i s view =
           ∙ ap (λ z. held_at z.held o) next;
       places = ap (λ z. length z.held) after ∙ length_of_held_after_ask g.code w.thread q (reply_of q v) ∙ i.places;
       few =
-          let here = appended_act_adds_at_most_its_entry a v (map shared_of i.track) (is_shared a) in
+          let here = entries_with_act_appended_grow_by_at_most_one_if_entry a v (map shared_of i.track) (is_shared a) in
           let same = ap entries steps in
-          let one = entry_count_within_events_added q v in
+          let one = one_if_entry_is_at_most_events_added_by_ask q v in
           let was = i.few in
           omega (arith, here, same, one, was, sum);
       room = ap (λ z. z.room) s.log ∙ i.room;
@@ -154,7 +158,7 @@ working_after_step g budget profile t before w w' q v es evs i s view =
           let was = i.count in
           let new : length evs ≡ events_added_by q = ap (λ (z : List Shared × List Label × ℕ). z.2) s.of in
           omega (arith, long, was, new, sum);
-      profile_is = ap (λ z. z.profile) after ∙ profile_after_ask g.code w.thread q (reply_of q v) ∙ i.profile_is;
+      profile_is = ap (λ z. z.profile) after ∙ profile_is_unchanged_by_ask g.code w.thread q (reply_of q v) ∙ i.profile_is;
       events_fit = subst (AllByRecursion (IsEvent profile (object_count g))) (sym events)
           (all_of_append (IsEvent profile (object_count g)) w.log.events evs i.events_fit
           (subst (λ p. AllByRecursion (IsEvent p (object_count g)) evs) i.profile_is s.fit));
@@ -176,10 +180,10 @@ abbrev pub me_after_object_step : Option ObjectStep → M → M
 me_after_object_step None me = me
 me_after_object_step (Some step) me = (did me.0 step.object step.deed, me.1)
 
-me_after_object_step_is_track : (t : ℕ) (step : Option ObjectStep) (steps : List ObjectStep) (me : M) → me ≡ (track t steps ∷ [], [])
+me_after_object_step_is_longer_track : (t : ℕ) (step : Option ObjectStep) (steps : List ObjectStep) (me : M) → me ≡ (track t steps ∷ [], [])
     → me_after_object_step step me ≡ (track t (steps ++ list_of_option step) ∷ [], [])
-me_after_object_step_is_track t None steps me is = is ∙ (λ i. (track t (sym (append-nil steps) i) ∷ [], []))
-me_after_object_step_is_track t (Some step) steps me is = ap (λ (z : M). (did z.0 step.object step.deed, z.1)) is
+me_after_object_step_is_longer_track t None steps me is = is ∙ (λ i. (track t (sym (append-nil steps) i) ∷ [], []))
+me_after_object_step_is_longer_track t (Some step) steps me is = ap (λ (z : M). (did z.0 step.object step.deed, z.1)) is
 
 -- what the event, if there is one, makes of the log
 abbrev pub log_after_event : Option Event → Logged → Logged
@@ -218,7 +222,7 @@ still_works_after_step {g} {w} {w'} same q v step e may of fit asked me took log
       log = log ∙ log_after_event_is_append e w.log;
       answers = answers ∙ answers_after_event_is_append e w.answers;
     })
-    (me ∙ me_after_object_step_is_track t step i.track w.me i.view)
+    (me ∙ me_after_object_step_is_longer_track t step i.track w.me i.view)
 
 -- a step that concerns no other thread
 record IsOwnStep (code : List ℕ) (q : Ask) : Type 0 where
@@ -256,6 +260,35 @@ still_works_after_private_steps {g} {w} {w'} {code} same (suc count) p me log an
     still_works_after_own_step {w = mid} same ask.Private tt (p.each count (omega arith)) me p.steps log answers budget profile t before
     (still_works_after_private_steps {w' = mid} same count (record { steps = refl; each = λ k l. p.each k (omega (arith, l)) }) refl refl refl
     budget profile t before i)
+
+-- ---- how many steps its thread has left
+
+-- a step leaves it fewer
+pub own_steps_left_fall_after_reply_unless_done : (code : List ℕ) (x : thread.ThreadState) (r : Reply) {y : thread.ThreadState} {q : Ask} → ask_of code x ≡ q
+    → q ≢ ask.Done → y ≡ after_reply code x r → own_steps_left y < own_steps_left x
+unfolding after_reply
+own_steps_left_fall_after_reply_unless_done code x r {y} asked some took =
+    let z : thread.ThreadState = after_ask code x (ask_of code x) r in
+    let fewer : steps_left_within (length x.held) z.ended z + 1 ≤ own_steps_left x =
+    steps_left_fall_after_permitted_ask_unless_done code (length x.held) x (ask_of code x) r (omega arith) (ask_of_permitted code x)
+    (λ done. some (sym asked ∙ done)) in
+    let same : own_steps_left y ≡ steps_left_within (length x.held) z.ended z = ap own_steps_left took
+    ∙ ap (λ n. steps_left_within n z.ended z) (length_of_held_after_ask code x (ask_of code x) r) in
+    omega (arith, fewer, same)
+
+-- private steps leave it no more
+pub own_steps_left_do_not_rise_after_private_steps : (code : List ℕ) (count : ℕ) (x y : thread.ThreadState) → PrivateSteps code count x y
+    → own_steps_left y ≤ own_steps_left x
+unfolding run_of step_of
+own_steps_left_do_not_rise_after_private_steps code zero x y p =
+    let same : own_steps_left y ≡ own_steps_left x = ap own_steps_left p.steps in omega (arith, same)
+own_steps_left_do_not_rise_after_private_steps code (suc count) x y p =
+    let middle : thread.ThreadState = run_of code count x in
+    let before : own_steps_left middle ≤ own_steps_left x =
+    own_steps_left_do_not_rise_after_private_steps code count x middle (record { steps = refl; each = λ k l. p.each k (omega (arith, l)) }) in
+    let last : own_steps_left y < own_steps_left middle =
+    own_steps_left_fall_after_reply_unless_done code middle Go (p.each count (omega arith)) (λ done. absurd cc) p.steps in
+    omega (arith, before, last)
 
 -- ---- what is known of a worker where its thread asks for a step
 
@@ -344,8 +377,8 @@ module _ {W : Type 0} {answers : W → List Answered} {g : Guest} {id : TableId}
 
 -- ---- releasing
 
-pub seat_alone_after_deed : (me me' : M) (o : ℕ) (d : Deed) → me' ≡ (did me.0 o d, me.1) → IsAlone me.0 → IsAlone me'.0
-seat_alone_after_deed me me' o d e h = subst (λ (z : M). IsAlone z.0) (sym e) (go me.0 h)
+pub seat_stays_alone_after_deed : (me me' : M) (o : ℕ) (d : Deed) → me' ≡ (did me.0 o d, me.1) → IsAlone me.0 → IsAlone me'.0
+seat_stays_alone_after_deed me me' o d e h = subst (λ (z : M). IsAlone z.0) (sym e) (go me.0 h)
   where
     go : (v : _) → IsAlone v → IsAlone (did v o d)
     go [] h = h
@@ -365,9 +398,9 @@ inside_after_deed_is_inside_if me me' o p d e h = ap (λ (z : M). inside_by p (h
     go (k ∷ l ∷ ks) h = absurd h
 
 -- a step on another object
-pub inside_after_deed_elsewhere : (me me' : M) (o p : ℕ) (d : Deed) → me' ≡ (did me.0 o d, me.1) → IsAlone me.0 → p ≢ o
+pub inside_is_unchanged_after_deed_on_other_object : (me me' : M) (o p : ℕ) (d : Deed) → me' ≡ (did me.0 o d, me.1) → IsAlone me.0 → p ≢ o
     → inside_by p (history me'.0) ≡ inside_by p (history me.0)
-inside_after_deed_elsewhere me me' o p d e h ne = inside_after_deed_is_inside_if me me' o p d e h
+inside_is_unchanged_after_deed_on_other_object me me' o p d e h ne = inside_after_deed_is_inside_if me me' o p d e h
     ∙ ap (λ b. inside_if b (shared_by o d).0 (inside_by p (history me.0))) (ne_eqb p o ne)
 
 -- a leave

@@ -4,12 +4,12 @@ use Rattle.ir_runs.specs.Machine.{Act, act_of, Silent, Result, Entry, Refusal, E
 use Rattle.ir_runs.specs.Shared.{is_shared}
 use Rattle.ir_runs.specs.Lawful.{held_after}
 use Rattle.ir_runs.specs.declared.access.Access.{Access}
-use Rattle.ir_object.specs.Order.{Shared, keep_if, inside_then, inside_if}
-use Rattle.ir_runs.specs.Run.{events}
+use Rattle.ir_object.specs.Order.{Shared, inside_then, inside_if}
+use Rattle.ir_runs.specs.Run.{events, join_if}
 use Rattle.ir_flat.specs.Splice.{shared_steps}
 use Rattle.ir_flat.specs.Flat.{MayReply, MayRun, alone_after}
 use Rattle.ir_flat.specs.Trails.{alone_label, labels_left, alone_trail}
-use Rattle.ir_runs.proofs.CallerLemmas.{events_append}
+use Rattle.ir_runs.proofs.CallerLemmas.{events_append, conditional_cons_join_if_of_append}
 use Rattle.ir_crew.specs.Rule.{label_by, label_of}
 use Rattle.ir_crew.specs.declared.deed.Deed.{Deed}
 use Rattle.ir_crew.specs.declared.deed.Deed.TheVariants.{Enter, Try, Leave, Get, Put}
@@ -23,20 +23,16 @@ may_run_with_reply_added : {T : Type 0} (m : Machine T) (x : T) (vs : List ℕ) 
 may_run_with_reply_added m x [] v h r = (r, tt)
 may_run_with_reply_added m x (u ∷ vs) v h r = (h.0, may_run_with_reply_added m (m.take x u) vs v h.1 r)
 
-alone_after_with_reply_added : {T : Type 0} (m : Machine T) (x : T) (vs : List ℕ) (v : ℕ) → alone_after m x (vs ++ v ∷ []) ≡ m.take (alone_after m x vs) v
-alone_after_with_reply_added m x [] v = refl
-alone_after_with_reply_added m x (u ∷ vs) v = alone_after_with_reply_added m (m.take x u) vs v
-
-keep_if_prepends_to_first_of_append : {A : Type 0} (b : Bool) (x : A) (xs ys : List A) → keep_if b x (xs ++ ys) ≡ keep_if b x xs ++ ys
-keep_if_prepends_to_first_of_append true x xs ys = refl
-keep_if_prepends_to_first_of_append false x xs ys = refl
+alone_after_with_reply_added_takes_reply : {T : Type 0} (m : Machine T) (x : T) (vs : List ℕ) (v : ℕ) → alone_after m x (vs ++ v ∷ []) ≡ m.take (alone_after m x vs) v
+alone_after_with_reply_added_takes_reply m x [] v = refl
+alone_after_with_reply_added_takes_reply m x (u ∷ vs) v = alone_after_with_reply_added_takes_reply m (m.take x u) vs v
 
 shared_steps_with_reply_added : {T : Type 0} (m : Machine T) (x : T) (vs : List ℕ) (v : ℕ)
-    → shared_steps m x (vs ++ v ∷ []) ≡ shared_steps m x vs ++ keep_if (is_shared (act_of (m.ask (alone_after m x vs)) v))
+    → shared_steps m x (vs ++ v ∷ []) ≡ shared_steps m x vs ++ join_if (is_shared (act_of (m.ask (alone_after m x vs)) v))
     (act_of (m.ask (alone_after m x vs)) v, v) []
 shared_steps_with_reply_added m x [] v = refl
-shared_steps_with_reply_added m x (u ∷ vs) v = ap (keep_if (is_shared (act_of (m.ask x) u)) (act_of (m.ask x) u, u)) (shared_steps_with_reply_added m (m.take x u) vs v)
-    ∙ keep_if_prepends_to_first_of_append (is_shared (act_of (m.ask x) u)) (act_of (m.ask x) u, u) (shared_steps m (m.take x u) vs) _
+shared_steps_with_reply_added m x (u ∷ vs) v = ap (join_if (is_shared (act_of (m.ask x) u)) (act_of (m.ask x) u, u)) (shared_steps_with_reply_added m (m.take x u) vs v)
+    ∙ conditional_cons_join_if_of_append (is_shared (act_of (m.ask x) u)) (act_of (m.ask x) u, u) (shared_steps m (m.take x u) vs) _
 
 own_act_label_ignores_labels : (q : Act) (ks ls : List Label) → is_shared q ≡ false → alone_label q ks ≡ alone_label q ls
 own_act_label_ignores_labels Silent ks ls e = refl
@@ -66,7 +62,7 @@ TrailWithReplyAdded m x vs v ks ls = alone_trail m x (vs ++ v ∷ []) (ks ++ ls)
 trail_with_reply_added_step : {T : Type 0} (m : Machine T) (x : T) (u : ℕ) (vs : List ℕ) (v : ℕ) (ls : List Label)
     → ((ks : List Label) → length ks ≡ length (shared_steps m (m.take x u) vs) → TrailWithReplyAdded m (m.take x u) vs v ks ls) → (b : Bool)
     → is_shared (act_of (m.ask x) u) ≡ b
-    → (ks : List Label) → length ks ≡ length (keep_if b (act_of (m.ask x) u, u) (shared_steps m (m.take x u) vs))
+    → (ks : List Label) → length ks ≡ length (join_if b (act_of (m.ask x) u, u) (shared_steps m (m.take x u) vs))
     → TrailWithReplyAdded m x (u ∷ vs) v ks ls
 trail_with_reply_added_step m x u vs v ls rest false is ks n =
     let q = act_of (m.ask x) u in
@@ -97,13 +93,13 @@ worked_by_no_replies m x = record { replies = []; may = tt; now = refl; steps_ar
 -- one step more: its object step, if it is one, with what it reported, and what is logged of it
 pub worked_with_reply_added : {T : Type 0} (m : Machine T) (x y : T) (steps : List Shared) (labels log : List Label) (v : ℕ) (ls : List Label)
     → Worked m x y steps labels log → length labels ≡ length steps → MayReply m (act_of (m.ask y) v) v
-    → Worked m x (m.take y v) (steps ++ keep_if (is_shared (act_of (m.ask y) v)) (act_of (m.ask y) v, v) []) (labels ++ ls)
+    → Worked m x (m.take y v) (steps ++ join_if (is_shared (act_of (m.ask y) v)) (act_of (m.ask y) v, v) []) (labels ++ ls)
     (log ++ logged (alone_label (act_of (m.ask y) v) ls) [])
 worked_with_reply_added m x y steps labels log v ls w n may = record {
   replies = w.replies ++ v ∷ [];
   may = may_run_with_reply_added m x w.replies v w.may (subst (λ z. MayReply m (act_of (m.ask z) v) v) (sym w.now) may);
-  now = alone_after_with_reply_added m x w.replies v ∙ ap (λ z. m.take z v) w.now;
-  steps_are = shared_steps_with_reply_added m x w.replies v ∙ (λ i. w.steps_are i ++ keep_if (is_shared (act_of (m.ask (w.now i)) v))
+  now = alone_after_with_reply_added_takes_reply m x w.replies v ∙ ap (λ z. m.take z v) w.now;
+  steps_are = shared_steps_with_reply_added m x w.replies v ∙ (λ i. w.steps_are i ++ join_if (is_shared (act_of (m.ask (w.now i)) v))
       (act_of (m.ask (w.now i)) v, v) []);
   logged = ap events (trail_with_reply_added m x w.replies v labels ls (n ∙ ap (λ z. length z) (sym w.steps_are)))
       ∙ events_append (alone_trail m x w.replies labels)
@@ -113,33 +109,33 @@ worked_with_reply_added m x y steps labels log v ls w n may = record {
 
 -- ---- what a thread holds is what it is inside of
 
-pub held_after_own_act : (q : Act) (h : ℕ → Option Access) (o : ℕ) → is_shared q ≡ false → held_after q h o ≡ h o
-held_after_own_act Silent h o e = refl
-held_after_own_act (Result k v) h o e = refl
-held_after_own_act (Entry i a v) h o e = absurd (cc e)
-held_after_own_act (Refusal i) h o e = refl
-held_after_own_act (Exit i a) h o e = absurd (cc e)
-held_after_own_act (Load i j) h o e = absurd (cc e)
-held_after_own_act (Store i j w) h o e = absurd (cc e)
-held_after_own_act Never h o e = refl
+pub held_after_own_act_is_unchanged : (q : Act) (h : ℕ → Option Access) (o : ℕ) → is_shared q ≡ false → held_after q h o ≡ h o
+held_after_own_act_is_unchanged Silent h o e = refl
+held_after_own_act_is_unchanged (Result k v) h o e = refl
+held_after_own_act_is_unchanged (Entry i a v) h o e = absurd (cc e)
+held_after_own_act_is_unchanged (Refusal i) h o e = refl
+held_after_own_act_is_unchanged (Exit i a) h o e = absurd (cc e)
+held_after_own_act_is_unchanged (Load i j) h o e = absurd (cc e)
+held_after_own_act_is_unchanged (Store i j w) h o e = absurd (cc e)
+held_after_own_act_is_unchanged Never h o e = refl
 
-cond_is_inside_if : (b : Bool) (q : Act) (x : Option Access) (y : Option Access) → inside_then q y ≡ x → cond b x y ≡ inside_if b q y
-cond_is_inside_if true q x y e = sym e
-cond_is_inside_if false q x y e = refl
+cond_is_inside_if_if_inside_then_is_first_branch : (b : Bool) (q : Act) (x : Option Access) (y : Option Access) → inside_then q y ≡ x → cond b x y ≡ inside_if b q y
+cond_is_inside_if_if_inside_then_is_first_branch true q x y e = sym e
+cond_is_inside_if_if_inside_then_is_first_branch false q x y e = refl
 
-unchanged_is_inside_if : (b : Bool) (q : Act) (y : Option Access) → inside_then q y ≡ y → y ≡ inside_if b q y
-unchanged_is_inside_if true q y e = sym e
-unchanged_is_inside_if false q y e = refl
+inside_if_changes_nothing_if_inside_then_does_not : (b : Bool) (q : Act) (y : Option Access) → inside_then q y ≡ y → y ≡ inside_if b q y
+inside_if_changes_nothing_if_inside_then_does_not true q y e = sym e
+inside_if_changes_nothing_if_inside_then_does_not false q y e = refl
 
 pub held_after_is_inside_if : (q : Act) (h : ℕ → Option Access) (o : ℕ) → is_shared q ≡ true → held_after q h o ≡ inside_if (eqb o (target q)) q (h o)
 unfolding upd
 held_after_is_inside_if Silent h o e = absurd (cc e)
 held_after_is_inside_if (Result k v) h o e = absurd (cc e)
-held_after_is_inside_if (Entry i a v) h o e = cond_is_inside_if (eqb o i) (Entry i a v) (Some a) (h o) refl
+held_after_is_inside_if (Entry i a v) h o e = cond_is_inside_if_if_inside_then_is_first_branch (eqb o i) (Entry i a v) (Some a) (h o) refl
 held_after_is_inside_if (Refusal i) h o e = absurd (cc e)
-held_after_is_inside_if (Exit i a) h o e = cond_is_inside_if (eqb o i) (Exit i a) None (h o) refl
-held_after_is_inside_if (Load i j) h o e = unchanged_is_inside_if (eqb o i) (Load i j) (h o) refl
-held_after_is_inside_if (Store i j w) h o e = unchanged_is_inside_if (eqb o i) (Store i j w) (h o) refl
+held_after_is_inside_if (Exit i a) h o e = cond_is_inside_if_if_inside_then_is_first_branch (eqb o i) (Exit i a) None (h o) refl
+held_after_is_inside_if (Load i j) h o e = inside_if_changes_nothing_if_inside_then_does_not (eqb o i) (Load i j) (h o) refl
+held_after_is_inside_if (Store i j w) h o e = inside_if_changes_nothing_if_inside_then_does_not (eqb o i) (Store i j w) (h o) refl
 held_after_is_inside_if Never h o e = absurd (cc e)
 
 -- ---- what is logged of object steps is no answer of the environment

@@ -1,7 +1,8 @@
 -- A recording in progress.
 use Rattle.std.specs.Prelude.{◌≡◌, ◌<◌, ◌≤◌, ◌+◌, ◌-◌, ℕ, zero, suc, List, [], ◌++◌, length, map, Option, Some, None, Bool, true, false, ⊤}
 use Rattle.std.specs.List.{slice_index_or, AllByRecursion}
-use Rattle.ir_thread.specs.Permitted.{most_closing, held_count}
+use Rattle.ir_image.specs.Guest.{most_objects}
+use Rattle.ir_thread.specs.Permitted.{held_count}
 use Rattle.ir_thread.specs.State.{most_events}
 use Rattle.ir_runs.specs.Machine.{Label}
 use Rattle.ir_thread.specs.State as thread
@@ -40,10 +41,15 @@ log_at logs t = slice_index_or logs t no_log
 abbrev pub labels_at : List Logged → ℕ → List Label
 labels_at logs t = map label_of (log_at logs t).events
 
--- how many steps a thread may still take at most, by how it ended
+-- how many steps a thread of a guest with at most this many objects may still take at most, by how it ended: what its budget leaves, its end,
+-- and a leave for each object
+abbrev pub steps_left_within : ℕ → Option End → thread.ThreadState → ℕ
+steps_left_within most None x = 1 + most + (x.budget - x.steps)
+steps_left_within most (Some e) x = held_count x.held
+
+-- the same of any guest
 abbrev pub steps_left : Option End → thread.ThreadState → ℕ
-steps_left None x = most_closing + (x.budget - x.steps)
-steps_left (Some e) x = held_count x.held
+steps_left ended x = steps_left_within most_objects ended x
 
 -- how many steps the first n threads may still take at most
 abbrev pub all_left : ℕ → (ℕ → thread.ThreadState) → ℕ

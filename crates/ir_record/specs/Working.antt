@@ -24,6 +24,7 @@ use Rattle.ir_flat.specs.Trails.{alone_trail}
 use Rattle.ir_log.specs.Logged.{Logged}
 use Rattle.ir_log.specs.Logging.{label_of}
 use Rattle.ir_trace.specs.Bounds.{IsEvent}
+use Rattle.ir_record.specs.Progress.{steps_left_within}
 use Rattle.ir_record.specs.Worlds.{Answered, answers_in}
 use Rattle.ir_record.specs.declared.by_threads.worker.Worker.{Worker}
 
@@ -83,6 +84,10 @@ IsOwn (ask.Put object index value) = ⊥
 IsOwn ask.Print = Unit {0}
 IsOwn (ask.End e) = Unit {0}
 IsOwn ask.Done = ⊥
+
+-- how many steps a thread may still take at most, with as many objects as its guest has
+abbrev pub own_steps_left : thread.ThreadState → ℕ
+own_steps_left x = steps_left_within (length x.held) x.ended x
 
 -- the seat's one thread is inside what this thread holds
 pub record IsInside (g : Guest) (me : M) (x : thread.ThreadState) : Type 0 where

@@ -9,7 +9,7 @@ use Rattle.std.proofs.lemmas.Str.Parse.{not_in_digits}
 use Rattle.ir_record_run.specs.Numerals.{number_within}
 use Rattle.ir_record.specs.Refusing.{Turn}
 use Rattle.ir_record_run.specs.Order.{most_turns, turn, turn_by, turn_of, turns, item_by, item_of}
-use Rattle.ir_record_run.proofs.Numerals.{decimal_numeral_model, number_within_none_unless_digits}
+use Rattle.ir_record_run.proofs.Numerals.{all_digits_and_digits_value_are_numeral_model, number_within_none_unless_digits}
 use Rattle.ir_record_run.proofs.Parts.{split_without_mark_is_one_part}
 
 turns_without_count_are_none : (one : Option Turn) → turns one None ≡ None
@@ -34,7 +34,7 @@ pub item_of_counted_parts_is_turns : (threads : ℕ) (item thread count : List �
     → item_of threads item ≡ turns (turn_of threads thread) (number_within 1 most_turns count)
 item_of_counted_parts_is_turns threads item thread count e = ap (item_by threads) e ∙ elim (cases_Bool (all_ascii_digits count)) [
   | inl all ↦ ap (λ (z : List (List ℕ)). item_by threads (thread ∷ z))
-      (split_without_mark_is_one_part 120 count (not_in_digits decimal_numeral_model count 120 all (λ r. omega (arith, r))))
+      (split_without_mark_is_one_part 120 count (not_in_digits all_digits_and_digits_value_are_numeral_model count 120 all (λ r. omega (arith, r))))
   | inr other ↦
       let none = number_within_none_unless_digits 1 most_turns count other in
       item_of_unspelled_parts_is_none threads thread count (slice_split (λ b. b == 120) count) none (join_with_byte-slice_split 120 count)

@@ -9,13 +9,13 @@ use Rattle.std.proofs.lemmas.Str.Parse.{IsNumeralModel, numerals_by_value, tells
 use Rattle.std.proofs.lemmas.Bool.{false≢true, le-leb, leb-true, lt-leb, cases_lt}
 use Rattle.ir_record_run.specs.Numerals.{number_within}
 
-pub decimal_numeral_model : IsNumeralModel (λ ds. all_ascii_digits ds ≡ true) (digits_value 10)
-decimal_numeral_model = numerals_by_value (λ ds. all_ascii_digits ds ≡ true) tells_all_ascii_digits
+pub all_digits_and_digits_value_are_numeral_model : IsNumeralModel (λ ds. all_ascii_digits ds ≡ true) (digits_value 10)
+all_digits_and_digits_value_are_numeral_model = numerals_by_value (λ ds. all_ascii_digits ds ≡ true) tells_all_ascii_digits
 
 -- a text without a plus in prefix that parses
 pub parsed_without_plus_is_number : {E : Type 0} (bs : List ℕ) (r : Result ℕ E) → ParsesUnsigned 64 10 bs r → get_or bs 0 0 ≢ 43
     → OkIff r ((all_ascii_digits bs ≡ true) × (0 < length bs) × (digits_value 10 bs < 2 ^ 64)) (digits_value 10 bs)
-parsed_without_plus_is_number bs r h plain = parse_plain decimal_numeral_model 64 bs r h plain
+parsed_without_plus_is_number bs r h plain = parse_plain all_digits_and_digits_value_are_numeral_model 64 bs r h plain
 
 conditional_none_unless_tests_true : (a d l h : Bool) (v : ℕ) → (a ≡ true → d ≡ true → h ≡ false)
     → ◌≡◌ {A = Option ℕ} None (if (a && d) && (l && h) then Some v else None)

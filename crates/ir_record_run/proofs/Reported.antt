@@ -14,11 +14,11 @@ reported_of_equal_fault e f image plan trace output w is by r = subst (λ (z : R
     (by (subst (λ (z : RecordFault). Reports w (fault_text (fault_words z))) is r))
 
 -- the line of its words reports a fault that names nothing
-pub reported_fault_without_name : (e : RecordFault) (image : List ℕ) (plan : Plan) (trace output : Unwritten) (w : Writer)
+pub fault_without_name_is_reported_if_its_words_are : (e : RecordFault) (image : List ℕ) (plan : Plan) (trace output : Unwritten) (w : Writer)
     → ((x : ImageErr) × (e ≡ Image x)) ⊎ ((e ≡ TooLarge) ⊎ ((e ≡ NoMem) ⊎ ((e ≡ Clock) ⊎ (e ≡ Lines))))
     → Reports w (fault_text (fault_words e)) → IsReported e image plan trace output w
-reported_fault_without_name e image plan trace output w (inl (x, is)) = reported_of_equal_fault e (Image x) image plan trace output w is (λ h. h)
-reported_fault_without_name e image plan trace output w (inr (inl is)) = reported_of_equal_fault e TooLarge image plan trace output w is (λ h. h)
-reported_fault_without_name e image plan trace output w (inr (inr (inl is))) = reported_of_equal_fault e NoMem image plan trace output w is (λ h. h)
-reported_fault_without_name e image plan trace output w (inr (inr (inr (inl is)))) = reported_of_equal_fault e Clock image plan trace output w is (λ h. h)
-reported_fault_without_name e image plan trace output w (inr (inr (inr (inr is)))) = reported_of_equal_fault e Lines image plan trace output w is (λ h. h)
+fault_without_name_is_reported_if_its_words_are e image plan trace output w (inl (x, is)) = reported_of_equal_fault e (Image x) image plan trace output w is (λ h. h)
+fault_without_name_is_reported_if_its_words_are e image plan trace output w (inr (inl is)) = reported_of_equal_fault e TooLarge image plan trace output w is (λ h. h)
+fault_without_name_is_reported_if_its_words_are e image plan trace output w (inr (inr (inl is))) = reported_of_equal_fault e NoMem image plan trace output w is (λ h. h)
+fault_without_name_is_reported_if_its_words_are e image plan trace output w (inr (inr (inr (inl is)))) = reported_of_equal_fault e Clock image plan trace output w is (λ h. h)
+fault_without_name_is_reported_if_its_words_are e image plan trace output w (inr (inr (inr (inr is)))) = reported_of_equal_fault e Lines image plan trace output w is (λ h. h)

@@ -19,8 +19,8 @@ use Rattle.ir_weave.specs.declared.plan.Plan.{Plan}
 use Rattle.ir_replay.specs.Rounds.{Goes, backwards, threads_of, seats_of, views_of, IsOfTable}
 use Rattle.ir_replay.specs.Workers.{IsReady, HasWorked, Pairs}
 use Rattle.ir_replay.specs.declared.worker.Worker.{Worker}
-use Rattle.ir_replay.proofs.Down.{AllByNumber, all_by_number_if_implied, all_by_number_of_both, all_if_all_by_number, property_at_number, all_by_number_through_pairs, length_of_backward_threads, threads_of_workers_by_number, seats_of_workers_by_number, IsSeatAtOpening}
-use Rattle.ir_replay.proofs.Gathered.{standing_of_ahead_threads, target_reached_if_no_thread_moves}
+use Rattle.ir_replay.proofs.Down.{AllByNumber, all_by_number_if_implied, all_by_number_of_both, all_if_implied_by_all_by_number, element_with_property_exists_at_number_if_all_by_number, all_by_number_have_related_element_with_property_if_pairs, length_of_backward_threads, each_worker_has_thread_of_its_number, each_worker_has_opening_seat_of_its_number, IsSeatAtOpening}
+use Rattle.ir_replay.proofs.Gathered.{state_of_ahead_threads_stands_at_own_positions, target_reached_if_each_thread_is_there_or_was_stopped}
 use Rattle.ir_weave.proofs.CallerLemmas.{state_thread_is_ahead_at_position}
 
 -- the guest at a cut below the target
@@ -70,12 +70,12 @@ workers_are_assigned id k target ws seats h are of_seats of_threads =
     all_by_number_if_implied (λ t w. IsSeatAtOpening id k t w.seat × (w.thread ≡ slice_index_or k.opened.value.threads t idle)) (IsAssigned id k target) ws
     (λ t w l x. worker_is_assigned id k target t w h (omega (arith, l, size)) x.0 x.1)
     (all_by_number_of_both (λ t w. IsSeatAtOpening id k t w.seat) (λ t w. w.thread ≡ slice_index_or k.opened.value.threads t idle) ws
-    (seats_of_workers_by_number id k ws [] (subst (AreSeats id k 0) (sym (append-nil (backwards (seats_of ws)) ∙ of_seats)) are))
-    (threads_of_workers_by_number ws [] k.opened.value.threads (append-nil (backwards (threads_of ws)) ∙ of_threads)))
+    (each_worker_has_opening_seat_of_its_number id k ws [] (subst (AreSeats id k 0) (sym (append-nil (backwards (seats_of ws)) ∙ of_seats)) are))
+    (each_worker_has_thread_of_its_number ws [] k.opened.value.threads (append-nil (backwards (threads_of ws)) ∙ of_threads)))
 
 pub assigned_workers_are_ready : (id : TableId) (k : Plan) (target : List ℕ) (ws : List Worker) → AllByNumber (IsAssigned id k target) ws
     → AllByRecursion (IsReady id k target) ws
-assigned_workers_are_ready id k target ws h = all_if_all_by_number (IsAssigned id k target) (IsReady id k target) ws (λ t w l m. m.ready) h
+assigned_workers_are_ready id k target ws h = all_if_implied_by_all_by_number (IsAssigned id k target) (IsReady id k target) ws (λ t w l m. m.ready) h
 
 -- ---- and after that
 
@@ -99,11 +99,11 @@ pub workers_are_after_round : (id : TableId) (k : Plan) (target : List ℕ) (vs 
     → Pairs (HasWorked id k target) vs ws → AllByNumber (IsAfterRound id k target) ws
 workers_are_after_round id k target vs ws h p = all_by_number_if_implied (λ t w. (v : Worker) × IsAssigned id k target t v × HasWorked id k target v w)
     (IsAfterRound id k target) ws (λ t w l x. worker_is_after_round id k target t x.0 w x.1 x.2)
-    (all_by_number_through_pairs (IsAssigned id k target) (HasWorked id k target) vs ws h p)
+    (all_by_number_have_related_element_with_property_if_pairs (IsAssigned id k target) (HasWorked id k target) vs ws h p)
 
 pub workers_after_round_are_of_table : (id : TableId) (k : Plan) (target : List ℕ) (ws : List Worker) → AllByNumber (IsAfterRound id k target) ws
     → AllByRecursion (IsOfTable id) ws
-workers_after_round_are_of_table id k target ws h = all_if_all_by_number (IsAfterRound id k target) (IsOfTable id) ws
+workers_after_round_are_of_table id k target ws h = all_if_implied_by_all_by_number (IsAfterRound id k target) (IsOfTable id) ws
     (λ t w l p. record { table = p.ready.table; slots = p.ready.slots }) h
 
 -- ---- where the threads are
@@ -151,8 +151,8 @@ thread_at_number_after_round id k target p ws h at t l =
     (λ n w less x. subst (IsThreadAfterRound k target p n) x.1 (thread_of_worker_after_round id k target p n w x.0.0 x.0.1))
     (all_by_number_of_both (λ n w. IsAfterRound id k target n w × AreAt p w.seat.me.0) (λ n w. w.thread ≡ slice_index_or xs n idle) ws
     (all_by_number_of_both (IsAfterRound id k target) (λ n w. AreAt p w.seat.me.0) ws h (worker_views_are_at_cut_if_joined_views_are p ws at))
-    (threads_of_workers_by_number ws [] xs (append-nil xs))) in
-    (property_at_number (λ n w. IsThreadAfterRound k target p n (slice_index_or xs n idle)) ws all t l).1
+    (each_worker_has_thread_of_its_number ws [] xs (append-nil xs))) in
+    (element_with_property_exists_at_number_if_all_by_number (λ n w. IsThreadAfterRound k target p n (slice_index_or xs n idle)) ws all t l).1
 
 steps_of_missing_thread_zero : (xs : List thread.ThreadState) (t : ℕ) → length xs ≤ t → (slice_index_or xs t idle).steps ≡ 0
 steps_of_missing_thread_zero xs t l = ap (λ (x : thread.ThreadState). x.steps) (get_or_past xs t idle l)
@@ -173,7 +173,7 @@ standing_after_round_is_between id k target ws cells h size p c =
     let left : (t : ℕ) → t < length ws → IsThreadAfterRound k target (positions c.state) t (slice_index_or xs t idle) =
     thread_at_number_after_round id k target (positions c.state) ws p c.view in
     record {
-      stands = standing_of_ahead_threads (trace_in k) c.state xs cells h.run c.flat c.at (λ t l. (left t (omega (arith, l, size, there, closed))).ahead)
+      stands = state_of_ahead_threads_stands_at_own_positions (trace_in k) c.state xs cells h.run c.flat c.at (λ t l. (left t (omega (arith, l, size, there, closed))).ahead)
           (omega (arith, back, size, there, closed)) c.objects;
       above = λ t. elim (cases_lt t (length ws)) [
         | inl l ↦ (left t l).up
@@ -199,10 +199,10 @@ equal_or_some_increase (suc n) a b up = elim (cases_lt (a n) (b n)) [
   ]
 ]
 
-standing_after_round_goes : (id : TableId) (k : Plan) (target : List ℕ) (ws : List Worker) (cells : List Cell) → StandsBelowTarget (trace_in k) target k.opened.value
+standing_after_round_progresses : (id : TableId) (k : Plan) (target : List ℕ) (ws : List Worker) (cells : List Cell) → StandsBelowTarget (trace_in k) target k.opened.value
     → length ws ≡ length k.opened.value.threads → AllByNumber (IsAfterRound id k target) ws → IsClosed k (views_of ws) cells
     → IsBetween (trace_in k) target k.opened.value (standing_after_round ws cells) → Goes (trace_in k) target k.opened.value (standing_after_round ws cells)
-standing_after_round_goes id k target ws cells h size p c b t less =
+standing_after_round_progresses id k target ws cells h size p c b t less =
     let new : Flat = flat_in (trace_in k) (standing_after_round ws cells) in
     let there = h.stands.at.threads in
     let whole = h.size in
@@ -213,18 +213,18 @@ standing_after_round_goes id k target ws cells h size p c b t less =
           let rests : (u : ℕ) → u < length target → (opened_at k u ≡ cut_of target u) ⊎ WasStopped k u (opened_at k u) =
           λ u l. subst (λ n. (n ≡ cut_of target u) ⊎ WasStopped k u n) (sym (same u l))
           (thread_at_number_after_round id k target (positions c.state) ws p c.view u (omega (arith, l, size, there, whole))).rests in
-          let at = target_reached_if_no_thread_moves k target h.run h.stands.at h.size h.consistent h.below rests t in
+          let at = target_reached_if_each_thread_is_there_or_was_stopped k target h.run h.stands.at h.size h.consistent h.below rests t in
           absurd (omega (arith, at, less))
     ]
 
-pub standing_after_round_is_between_and_goes : (id : TableId) (k : Plan) (f : FittedTrace) (target : List ℕ) (s new : Standing) (ws : List Worker) (cells : List Cell)
+pub standing_after_round_is_between_and_progresses : (id : TableId) (k : Plan) (f : FittedTrace) (target : List ℕ) (s new : Standing) (ws : List Worker) (cells : List Cell)
     → trace_in k ≡ f → k.opened.value ≡ s → StandsBelowTarget f target s → length ws ≡ length s.threads → AllByNumber (IsAfterRound id k target) ws
     → IsClosed k (views_of ws) cells → new ≡ record { threads = backwards (threads_of ws); objects = cells }
     → IsBetween f target s new × Goes f target s new
-standing_after_round_is_between_and_goes id k f target s new ws cells for is h size p c e =
+standing_after_round_is_between_and_progresses id k f target s new ws cells for is h size p c e =
     let start : StandsBelowTarget (trace_in k) target k.opened.value = stands_below_target_in_plan k f target s for is h in
     let long : length ws ≡ length k.opened.value.threads = size ∙ ap (λ (z : Standing). length z.threads) (sym is) in
     let b : IsBetween (trace_in k) target k.opened.value (standing_after_round ws cells) = standing_after_round_is_between id k target ws cells start long p c in
     subst (λ (z : FittedTrace × Standing). IsBetween z.0 target z.1 new × Goes z.0 target z.1 new) (λ i. (for i, is i))
     (subst (λ z. IsBetween (trace_in k) target k.opened.value z × Goes (trace_in k) target k.opened.value z) (sym e)
-    (b, standing_after_round_goes id k target ws cells start long p c b))
+    (b, standing_after_round_progresses id k target ws cells start long p c b))

@@ -71,8 +71,8 @@ counts_below_step_at_target target p n below h not = record {
 }
 
 -- of all threads at most one is below where no more were counted
-pub one_is_below_by_count : (target : List ℕ) (p : Cut) (n below : ℕ) → CountsBelow target p n below → length target ≡ n → below ≤ 1 → OneIsBelow target p
-one_is_below_by_count target p n below h size few t u a b = elim (cases_eq below 0) [
+pub at_most_one_thread_is_below_target_if_count_is : (target : List ℕ) (p : Cut) (n below : ℕ) → CountsBelow target p n below → length target ≡ n → below ≤ 1 → OneIsBelow target p
+at_most_one_thread_is_below_target_if_count_is target p n below h size few t u a b = elim (cases_eq below 0) [
   | inl e ↦ (let c = h.none e t (within t a) in absurd (omega (arith, a, c)))
   | inr ne ↦ (let one = h.one (omega (arith, ne, few)) in let x = one.3 t (within t a) a in let y = one.3 u (within u b) b in
       omega (arith, x, y))
@@ -85,8 +85,8 @@ one_is_below_by_count target p n below h size few t u a b = elim (cases_eq below
     ]
 
 -- and where more were, more than one is
-pub below_count_at_most_one : (target : List ℕ) (p : Cut) (n below : ℕ) → CountsBelow target p n below → OneIsBelow target p → below ≤ 1
-below_count_at_most_one target p n below h one = elim (cases_lt 1 below) [
+pub below_count_is_at_most_one_if_at_most_one_thread_is_below : (target : List ℕ) (p : Cut) (n below : ℕ) → CountsBelow target p n below → OneIsBelow target p → below ≤ 1
+below_count_is_at_most_one_if_at_most_one_thread_is_below target p n below h one = elim (cases_lt 1 below) [
   | inl many ↦ (let a = h.more many in let same = one a.0 a.1 a.3 a.4 in let l = a.2 in absurd (omega (arith, same, l)))
   | inr few ↦ few
 ]

@@ -20,40 +20,40 @@ seats_of_push : (ws : List Worker) (w : Worker) → seats_of (ws ++ w ∷ []) �
 seats_of_push [] w = refl
 seats_of_push (v ∷ ws) w = ap (λ z. v.seat ∷ z) (seats_of_push ws w)
 
-append_backwards_of_moved_element : {A : Type 0} (old new back all : List A) (x : A) → old ≡ new ++ x ∷ [] → old ++ backwards back ≡ all
+append_of_backwards_is_unchanged_by_moving_element : {A : Type 0} (old new back all : List A) (x : A) → old ≡ new ++ x ∷ [] → old ++ backwards back ≡ all
     → new ++ backwards (back ++ x ∷ []) ≡ all
-append_backwards_of_moved_element old new back all x taken h = ap (λ z. new ++ z) (backwards_of_push back x) ∙ sym (append_assoc new (x ∷ []) (backwards back))
+append_of_backwards_is_unchanged_by_moving_element old new back all x taken h = ap (λ z. new ++ z) (backwards_of_push back x) ∙ sym (append_assoc new (x ∷ []) (backwards back))
     ∙ ap (λ z. z ++ backwards back) (sym taken) ∙ h
 
-pub threads_with_moved_worker : (old new all : List thread.ThreadState) (ws ws' : List Worker) (w : Worker) → old ≡ new ++ w.thread ∷ [] → ws' ≡ ws ++ w ∷ []
+pub dealt_threads_stay_whole_if_worker_moved : (old new all : List thread.ThreadState) (ws ws' : List Worker) (w : Worker) → old ≡ new ++ w.thread ∷ [] → ws' ≡ ws ++ w ∷ []
     → old ++ backwards (threads_of ws) ≡ all → new ++ backwards (threads_of ws') ≡ all
-threads_with_moved_worker old new all ws ws' w taken made h = ap (λ z. new ++ backwards z) (ap threads_of made ∙ threads_of_push ws w)
-    ∙ append_backwards_of_moved_element old new (threads_of ws) all w.thread taken h
+dealt_threads_stay_whole_if_worker_moved old new all ws ws' w taken made h = ap (λ z. new ++ backwards z) (ap threads_of made ∙ threads_of_push ws w)
+    ∙ append_of_backwards_is_unchanged_by_moving_element old new (threads_of ws) all w.thread taken h
 
-pub seats_with_moved_worker : (old new all : List (Seat (Unit {0}) View)) (ws ws' : List Worker) (w : Worker) → old ≡ new ++ w.seat ∷ [] → ws' ≡ ws ++ w
+pub dealt_seats_stay_whole_if_worker_moved : (old new all : List (Seat (Unit {0}) View)) (ws ws' : List Worker) (w : Worker) → old ≡ new ++ w.seat ∷ [] → ws' ≡ ws ++ w
     ∷ [] → old ++ backwards (seats_of ws) ≡ all → new ++ backwards (seats_of ws') ≡ all
-seats_with_moved_worker old new all ws ws' w taken made h = ap (λ z. new ++ backwards z) (ap seats_of made ∙ seats_of_push ws w)
-    ∙ append_backwards_of_moved_element old new (seats_of ws) all w.seat taken h
+dealt_seats_stay_whole_if_worker_moved old new all ws ws' w taken made h = ap (λ z. new ++ backwards z) (ap seats_of made ∙ seats_of_push ws w)
+    ∙ append_of_backwards_is_unchanged_by_moving_element old new (seats_of ws) all w.seat taken h
 
 -- ---- and again
 
-views_of_push : (ws : List Worker) (w : Worker) → views_of (ws ++ w ∷ []) ≡ w.seat.me.0 ++ views_of ws
-views_of_push [] w = sym (append-nil w.seat.me.0)
-views_of_push (v ∷ ws) w = ap (λ z. z ++ v.seat.me.0) (views_of_push ws w) ∙ append_assoc w.seat.me.0 (views_of ws) v.seat.me.0
+views_of_push_have_last_view_in_front : (ws : List Worker) (w : Worker) → views_of (ws ++ w ∷ []) ≡ w.seat.me.0 ++ views_of ws
+views_of_push_have_last_view_in_front [] w = sym (append-nil w.seat.me.0)
+views_of_push_have_last_view_in_front (v ∷ ws) w = ap (λ z. z ++ v.seat.me.0) (views_of_push_have_last_view_in_front ws w) ∙ append_assoc w.seat.me.0 (views_of ws) v.seat.me.0
 
-pub view_before_views_of_others : (ws rest : List Worker) (w : Worker) → ws ≡ rest ++ w ∷ [] → w.seat.me.0 ++ views_of rest ≡ views_of ws
-view_before_views_of_others ws rest w e = sym (views_of_push rest w) ∙ ap views_of (sym e)
+pub views_are_last_view_then_views_of_rest : (ws rest : List Worker) (w : Worker) → ws ≡ rest ++ w ∷ [] → w.seat.me.0 ++ views_of rest ≡ views_of ws
+views_are_last_view_then_views_of_rest ws rest w e = sym (views_of_push_have_last_view_in_front rest w) ∙ ap views_of (sym e)
 
 -- a seat more is joined
-pub joined_views_with_next_seat : (old rest : List Worker) (w : Worker) (all new : Seat (Unit {0}) View) (whole : View) → all.me.0 ++ views_of old ≡ whole
+pub joined_views_stay_whole_if_next_seat_joined : (old rest : List Worker) (w : Worker) (all new : Seat (Unit {0}) View) (whole : View) → all.me.0 ++ views_of old ≡ whole
     → old ≡ rest ++ w ∷ [] → new.me ≡ (all.me.0 ++ w.seat.me.0, []) → new.me.0 ++ views_of rest ≡ whole
-joined_views_with_next_seat old rest w all new whole h e is = ap (λ z. z.0 ++ views_of rest) is ∙ append_assoc all.me.0 w.seat.me.0 (views_of rest)
-    ∙ ap (λ z. all.me.0 ++ z) (view_before_views_of_others old rest w e) ∙ h
+joined_views_stay_whole_if_next_seat_joined old rest w all new whole h e is = ap (λ z. z.0 ++ views_of rest) is ∙ append_assoc all.me.0 w.seat.me.0 (views_of rest)
+    ∙ ap (λ z. all.me.0 ++ z) (views_are_last_view_then_views_of_rest old rest w e) ∙ h
 
 -- a thread more rises
-pub joined_threads_with_next_worker : (old rest : List Worker) (w : Worker) (xs ys whole : List thread.ThreadState) → xs ++ backwards (threads_of old) ≡ whole
+pub joined_threads_stay_whole_if_next_worker_joined : (old rest : List Worker) (w : Worker) (xs ys whole : List thread.ThreadState) → xs ++ backwards (threads_of old) ≡ whole
     → old ≡ rest ++ w ∷ [] → ys ≡ xs ++ w.thread ∷ [] → ys ++ backwards (threads_of rest) ≡ whole
-joined_threads_with_next_worker old rest w xs ys whole h e is =
+joined_threads_stay_whole_if_next_worker_joined old rest w xs ys whole h e is =
     ap (λ z. z ++ backwards (threads_of rest)) is ∙ append_assoc xs (w.thread ∷ []) (backwards (threads_of rest))
     ∙ ap (λ z. xs ++ z) (sym (backwards_of_push (threads_of rest) w.thread) ∙ ap backwards (sym (threads_of_push rest w))
     ∙ ap (λ z. backwards (threads_of z)) (sym e)) ∙ h
@@ -62,6 +62,6 @@ pub length_after_push : {X : Type 0} (xs ys : List X) (x : X) → xs ≡ ys ++ x
 length_after_push xs ys x e = ap (λ z. length z) e ∙ length-append ys (x ∷ [])
 
 -- a list that was changed in place
-pub take_of_overwritten_list : {A : Type 0} (new old : List A) (n : ℕ) → n ≡ length old → length new ≡ length old
+pub take_of_append_of_dropped_old_is_new : {A : Type 0} (new old : List A) (n : ℕ) → n ≡ length old → length new ≡ length old
     → take n (new ++ drop (length new) old) ≡ new
-take_of_overwritten_list new old n e f = ap (λ k. take k (new ++ drop (length new) old)) (e ∙ sym f) ∙ take_length_of_append new (drop (length new) old)
+take_of_append_of_dropped_old_is_new new old n e f = ap (λ k. take k (new ++ drop (length new) old)) (e ∙ sym f) ∙ take_length_of_append new (drop (length new) old)

@@ -26,16 +26,16 @@ pub all_by_number_of_both : {A : Type 0} (P Q : ℕ → A → Type 0) (xs : List
 all_by_number_of_both P Q [] h k = tt
 all_by_number_of_both P Q (x ∷ xs) h k = ((h.0, k.0), all_by_number_of_both P Q xs h.1 k.1)
 
-pub all_if_all_by_number : {A : Type 0} (P : ℕ → A → Type 0) (Q : A → Type 0) (xs : List A) → ((t : ℕ) (x : A) → t < length xs → P t x → Q x)
+pub all_if_implied_by_all_by_number : {A : Type 0} (P : ℕ → A → Type 0) (Q : A → Type 0) (xs : List A) → ((t : ℕ) (x : A) → t < length xs → P t x → Q x)
     → AllByNumber P xs → AllByRecursion Q xs
-all_if_all_by_number P Q [] f h = tt
-all_if_all_by_number P Q (x ∷ xs) f h = (f (length xs) x (omega arith) h.0, all_if_all_by_number P Q xs (λ t y l. f t y (omega (arith, l))) h.1)
+all_if_implied_by_all_by_number P Q [] f h = tt
+all_if_implied_by_all_by_number P Q (x ∷ xs) f h = (f (length xs) x (omega arith) h.0, all_if_implied_by_all_by_number P Q xs (λ t y l. f t y (omega (arith, l))) h.1)
 
-pub property_at_number : {A : Type 0} (P : ℕ → A → Type 0) (xs : List A) → AllByNumber P xs → (t : ℕ) → t < length xs → (x : A) × P t x
-property_at_number P [] h t l = absurd (omega (arith, l))
-property_at_number P (x ∷ xs) h t l = elim (cases_eq t (length xs)) [
+pub element_with_property_exists_at_number_if_all_by_number : {A : Type 0} (P : ℕ → A → Type 0) (xs : List A) → AllByNumber P xs → (t : ℕ) → t < length xs → (x : A) × P t x
+element_with_property_exists_at_number_if_all_by_number P [] h t l = absurd (omega (arith, l))
+element_with_property_exists_at_number_if_all_by_number P (x ∷ xs) h t l = elim (cases_eq t (length xs)) [
   | inl e ↦ (x, subst (λ z. P z x) (sym e) h.0)
-  | inr ne ↦ property_at_number P xs h.1 t (omega (arith, l, ne))
+  | inr ne ↦ element_with_property_exists_at_number_if_all_by_number P xs h.1 t (omega (arith, l, ne))
 ]
 
 pub pairs_have_same_length : {A : Type 0} (R : A → A → Type 0) (xs ys : List A) → Pairs R xs ys → length ys ≡ length xs
@@ -44,12 +44,12 @@ pairs_have_same_length R [] (y ∷ ys) p = absurd p
 pairs_have_same_length R (x ∷ xs) [] p = absurd p
 pairs_have_same_length R (x ∷ xs) (y ∷ ys) p = ap suc (pairs_have_same_length R xs ys p.1)
 
-pub all_by_number_through_pairs : {A : Type 0} (P : ℕ → A → Type 0) (R : A → A → Type 0) (xs ys : List A) → AllByNumber P xs → Pairs R xs ys
+pub all_by_number_have_related_element_with_property_if_pairs : {A : Type 0} (P : ℕ → A → Type 0) (R : A → A → Type 0) (xs ys : List A) → AllByNumber P xs → Pairs R xs ys
     → AllByNumber (λ t y. (x : A) × P t x × R x y) ys
-all_by_number_through_pairs P R [] [] h p = tt
-all_by_number_through_pairs P R [] (y ∷ ys) h p = absurd p
-all_by_number_through_pairs P R (x ∷ xs) [] h p = absurd p
-all_by_number_through_pairs P R (x ∷ xs) (y ∷ ys) h p = ((x, subst (λ z. P z x) (sym (pairs_have_same_length R xs ys p.1)) h.0, p.0), all_by_number_through_pairs P R xs ys h.1 p.1)
+all_by_number_have_related_element_with_property_if_pairs P R [] [] h p = tt
+all_by_number_have_related_element_with_property_if_pairs P R [] (y ∷ ys) h p = absurd p
+all_by_number_have_related_element_with_property_if_pairs P R (x ∷ xs) [] h p = absurd p
+all_by_number_have_related_element_with_property_if_pairs P R (x ∷ xs) (y ∷ ys) h p = ((x, subst (λ z. P z x) (sym (pairs_have_same_length R xs ys p.1)) h.0, p.0), all_by_number_have_related_element_with_property_if_pairs P R xs ys h.1 p.1)
 
 pub pairs_if_elements_related : {A : Type 0} (R : A → A → Type 0) (xs ys : List A) → length ys ≡ length xs
     → ((i : ℕ) (d : A) → i < length xs → R (slice_index_or xs i d) (slice_index_or ys i d)) → Pairs R xs ys
@@ -80,15 +80,15 @@ pub length_of_backward_seats : (ws : List Worker) → length (backwards (seats_o
 length_of_backward_seats ws = length_of_backwards (seats_of ws) ∙ length_of_seats_of ws
 
 -- their threads
-pub threads_of_workers_by_number : (ws : List Worker) (rest xs : List thread.ThreadState) → backwards (threads_of ws) ++ rest ≡ xs
+pub each_worker_has_thread_of_its_number : (ws : List Worker) (rest xs : List thread.ThreadState) → backwards (threads_of ws) ++ rest ≡ xs
     → AllByNumber (λ t w. w.thread ≡ slice_index_or xs t idle) ws
-threads_of_workers_by_number [] rest xs e = tt
-threads_of_workers_by_number (w ∷ ws) rest xs e =
+each_worker_has_thread_of_its_number [] rest xs e = tt
+each_worker_has_thread_of_its_number (w ∷ ws) rest xs e =
     let parts : backwards (threads_of ws) ++ w.thread ∷ rest ≡ xs = sym (append_assoc (backwards (threads_of ws)) (w.thread ∷ []) rest)
     ∙ e in (
       sym (ap (λ z. slice_index_or z (length ws) idle) (sym parts)
           ∙ get_or_at (backwards (threads_of ws)) w.thread rest idle (length ws) (length_of_backward_threads ws)),
-      threads_of_workers_by_number ws (w.thread ∷ rest) xs
+      each_worker_has_thread_of_its_number ws (w.thread ∷ rest) xs
           parts,
     )
 
@@ -101,13 +101,13 @@ seat_at_number_is_opening_seat : (id : TableId) (k : Plan) (t m : ℕ) (xs rest 
 seat_at_number_is_opening_seat id k t m [] rest s e h = subst (λ z. IsSeatAtOpening id k z s) (let g : t ≡ m = omega (arith, e) in g) h.0
 seat_at_number_is_opening_seat id k t m (x ∷ xs) rest s e h = seat_at_number_is_opening_seat id k (suc t) m xs rest s (omega (arith, e)) h.1
 
-pub seats_of_workers_by_number : (id : TableId) (k : Plan) (ws : List Worker) (rest : List (Seat (Unit {0}) View))
+pub each_worker_has_opening_seat_of_its_number : (id : TableId) (k : Plan) (ws : List Worker) (rest : List (Seat (Unit {0}) View))
     → AreSeats id k 0 (backwards (seats_of ws) ++ rest) → AllByNumber (λ t w. IsSeatAtOpening id k t w.seat) ws
-seats_of_workers_by_number id k [] rest h = tt
-seats_of_workers_by_number id k (w ∷ ws) rest h =
+each_worker_has_opening_seat_of_its_number id k [] rest h = tt
+each_worker_has_opening_seat_of_its_number id k (w ∷ ws) rest h =
     let parts : AreSeats id k 0 (backwards (seats_of ws) ++ w.seat ∷ rest) =
     subst (AreSeats id k 0) (append_assoc (backwards (seats_of ws)) (w.seat ∷ []) rest) h in (
       seat_at_number_is_opening_seat id k 0 (length ws) (backwards (seats_of ws)) rest w.seat (let e = length_of_backward_seats ws in omega (arith, e)) parts,
-      seats_of_workers_by_number id k ws
+      each_worker_has_opening_seat_of_its_number id k ws
           (w.seat ∷ rest) parts,
     )

@@ -14,7 +14,7 @@ use Rattle.ir_weave.specs.Ahead.{IsAhead, AreAlone, thread_at}
 use Rattle.ir_weave.specs.Standing.{StandsAt, flat_in, IsStateAt, positions}
 use Rattle.ir_weave.specs.Woven.{trace_in, opened_in, opened_at, WasStopped}
 use Rattle.ir_weave.specs.declared.plan.Plan.{Plan}
-use Rattle.ir_weave.proofs.CallerLemmas.{guest_machine_is_lawful, state_invariant_at_guest_start, CaughtUp, state_catches_up_with_thread}
+use Rattle.ir_weave.proofs.CallerLemmas.{guest_machine_is_lawful, state_invariant_at_guest_start, CaughtUp, state_catches_up_with_thread_by_alone_steps}
 
 -- ---- threads that are ahead of the table's views by steps of their own
 
@@ -51,7 +51,7 @@ state_caught_up_with_threads (suc m) f s xs h flat at few ahead =
     let a : IsAhead f m (positions s m) x = ahead m (omega (arith, few)) in
     let here : positions g.state m ≡ positions s m = g.others m (omega arith) in
     let size = g.size in
-    let c : CaughtUp f g.state m x = state_catches_up_with_thread f g.state m x h g.flat g.at (omega (arith, few, size)) a.at
+    let c : CaughtUp f g.state m x = state_catches_up_with_thread_by_alone_steps f g.state m x h g.flat g.at (omega (arith, few, size)) a.at
     (subst (λ i. AreAlone f m i x.steps) (sym here) a.alone) (subst (λ i. i ≤ x.steps) (sym here) a.past) in
     record {
       state = c.state;
@@ -67,11 +67,11 @@ state_caught_up_with_threads (suc m) f s xs h flat at few ahead =
     }
 
 -- the state of these threads and of the objects at the end of the table
-pub standing_of_ahead_threads : (f : FittedTrace) (s : Flat) (xs : List thread.ThreadState) (cells : List Cell) → HasRun f → IsFlat s
+pub state_of_ahead_threads_stands_at_own_positions : (f : FittedTrace) (s : Flat) (xs : List thread.ThreadState) (cells : List Cell) → HasRun f → IsFlat s
     → IsStateAt f (positions s) s → ((t : ℕ) → t < length s.threads → IsAhead f t (positions s t) (slice_index_or xs t idle))
     → length xs ≡ length s.threads → cells ≡ s.objects
     → StandsAt f (positions (flat_in f (record { threads = xs; objects = cells }))) (record { threads = xs; objects = cells })
-standing_of_ahead_threads f s xs cells h flat at ahead size objects =
+state_of_ahead_threads_stands_at_own_positions f s xs cells h flat at ahead size objects =
     let g : HasCaughtUp f s xs (length s.threads) =
     state_caught_up_with_threads (length s.threads) f s xs h flat at (let e : length s.threads ≤ length s.threads = omega arith in e) ahead in
     let threads : g.state.threads ≡ xs = ext_get_or idle g.state.threads xs (g.size ∙ sym size)
@@ -83,11 +83,11 @@ standing_of_ahead_threads f s xs cells h flat at ahead size objects =
 -- ---- a round in which no thread moves
 
 -- if no thread has advanced and each rests, all are at their targets
-pub target_reached_if_no_thread_moves : (k : Plan) (target : List ℕ) → HasRun (trace_in k) → IsStateAt (trace_in k) (opened_at k) (opened_in k)
+pub target_reached_if_each_thread_is_there_or_was_stopped : (k : Plan) (target : List ℕ) → HasRun (trace_in k) → IsStateAt (trace_in k) (opened_at k) (opened_in k)
     → length target ≡ length (trace_in k).guest.entries → IsConsistentCut (trace_in k) target → ((t : ℕ) → opened_at k t ≤ cut_of target t)
     → ((t : ℕ) → t < length target → (opened_at k t ≡ cut_of target t) ⊎ WasStopped k t (opened_at k t)) → (t : ℕ)
     → opened_at k t ≡ cut_of target t
-target_reached_if_no_thread_moves k target h at size consistent below rests t = elim (cases_lt (opened_at k t) (cut_of target t)) [
+target_reached_if_each_thread_is_there_or_was_stopped k target h at size consistent below rests t = elim (cases_lt (opened_at k t) (cut_of target t)) [
   | inr past ↦ let b = below t in omega (arith, b, past)
   | inl less ↦
       let f : FittedTrace = trace_in k in

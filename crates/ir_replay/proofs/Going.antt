@@ -129,10 +129,10 @@ passes_after_pass f target old s new most left taken n k p few some = record {
 }
 
 -- where a pass takes no step, none was left to those before, or these took some
-pub fewer_steps_left_after_passes : (f : FittedTrace) (target : List ℕ) (old s new : Flat) (most left taken : ℕ) → IsTarget f target
+pub fewer_steps_left_after_passes_if_last_pass_took_none : (f : FittedTrace) (target : List ℕ) (old s new : Flat) (most left taken : ℕ) → IsTarget f target
     → ArePasses f target old s most left → IsPass f target s new taken left (length target) → taken ≡ 0 → 0 < left → (t : ℕ)
     → positions old t < cut_of target t → steps_left target new < steps_left target old
-fewer_steps_left_after_passes f target old s new most left taken aim k p none some t less = elim (cases_lt left most) [
+fewer_steps_left_after_passes_if_last_pass_took_none f target old s new most left taken aim k p none some t less = elim (cases_lt left most) [
   | inl l ↦ let a = k.fewer l in let b = steps_left_fall_if_positions_rise target s new p.above in omega (arith, a, b)
   | inr all ↦
       let at : positions new t ≡ cut_of target t = target_reached_if_all_rest f target new aim p.under (p.rest none some) t in

@@ -66,13 +66,15 @@ fn is_alone(threads: &[Thread], target: &Cut) -> bool
     below <= 1
 }
 
-// How many steps the threads have taken in all.
-fn steps_of(threads: &[Thread]) -> u64 {
-    let mut steps = 0u64;
-    for thread in threads {
-        steps = steps.saturating_add(thread.steps());
+// How many steps all threads are below their targets.
+fn steps_below(threads: &[Thread], target: &Cut) -> u64
+    requires { length target.now ≡ length threads.now }
+{
+    let mut left = 0u64;
+    for t in 0..threads.len() {
+        left = left.saturating_add(target.position(t).saturating_sub(threads[t].steps()));
     }
-    steps
+    left
 }
 
 // A round of workers; or a stretch on the caller, where it is faster than the workers' last round, and where one thread alone is below its
@@ -95,15 +97,18 @@ fn turn<H: Hands>(
     if is_alone(state.threads(), target) {
         return Ok(stretch(fitted, state, target, LONGEST_STRETCH, hands));
     }
-    let meter = Meter::start(hands, steps_of(state.threads()));
-    let most = pace.stretch();
+    let left = steps_below(state.threads(), target);
+    let meter = Meter::start(hands, left);
+    let most = pace.stretch(left);
     if most > 0 {
         let state = stretch(fitted, state, target, most, hands);
-        pace.after_stretch(meter.rate(hands, steps_of(state.threads())));
+        let taken = meter.taken(steps_below(state.threads(), target));
+        pace.after_stretch(taken, meter.rate(hands, taken));
         return Ok(state);
     }
     let state = round(hands, fitted, state, target, pace.millis())?;
-    pace.after_round(meter.rate(hands, steps_of(state.threads())));
+    let taken = meter.taken(steps_below(state.threads(), target));
+    pace.after_round(taken, meter.rate(hands, taken));
     Ok(state)
 }
 

@@ -3,12 +3,18 @@
 // How many steps the caller takes by itself to see how fast it is.
 const TRIAL: u64 = 1 << 18;
 
-// At most so many it takes before the workers are tried again, and at once: some tenths of a second.
+// A move of fewer steps begins with the workers, since it shows nothing of how fast the caller is.
+const FEWEST_FOR_TRIAL: u64 = 1 << 16;
+
+// A move that the caller ends in so many milliseconds is the caller's: a round of workers that wait would be a tenth of it.
+const SHORT_MOVE: u64 = 50;
+
+// At most so many steps it takes before the workers are tried again, and at once: some tenths of a second.
 pub(crate) const LONGEST_STRETCH: u64 = 1 << 25;
 
-// It takes as many as it takes in so many times as long as the workers' round, so that their rounds are a small part of a move that is
-// the caller's.
-const SHARE: u64 = 20;
+// Where it is faster it takes as many as it takes in so many milliseconds, and in twice as many each time that it is faster again, so that
+// the workers' rounds are a small part of a move that is the caller's.
+const FIRST_STRETCH: u64 = 100;
 
 // How long the first round of workers lasts in which some wait, in milliseconds. To start and to join them takes a small part of it.
 const FIRST_ROUND: u32 = 5;
@@ -22,6 +28,8 @@ const LONG_ROUND: u32 = 80;
 // Whose turn it is.
 #[derive(Clone, Copy)]
 enum Turn {
+    // Nobody has taken a step: by how many there are, the workers take a round, or the caller a stretch to see how fast it is.
+    First,
     // Workers take a round.
     Workers,
     // The caller takes a stretch to see how fast it is.
@@ -35,28 +43,40 @@ enum Turn {
 #[derive(Clone, Copy)]
 pub struct Pace {
     turn: Turn,
-    // How many milliseconds the workers' next round lasts.
-    millis: u32,
+    // How many steps the whole move has left, as far as it is known.
+    left: u64,
+    // How many milliseconds the workers' next round lasts, and the caller's next stretch.
+    round: u32,
+    stretch: u64,
     // How many steps the workers took in a millisecond of their last round, and the caller of its last stretch.
     together: Option<u64>,
     alone: Option<u64>,
 }
 
 impl Pace {
-    /// It is the workers' turn.
+    /// Of a move of one part.
     pub fn new() -> Pace {
+        Pace::of_move(0)
+    }
+
+    /// Of a move of so many steps of all threads, in parts.
+    pub fn of_move(steps: u64) -> Pace {
         Pace {
-            turn: Turn::Workers,
-            millis: FIRST_ROUND,
+            turn: Turn::First,
+            left: steps,
+            round: FIRST_ROUND,
+            stretch: FIRST_STRETCH,
             together: None,
             alone: None,
         }
     }
 
-    // How many steps the caller takes now; none where it is the workers' turn.
-    pub(crate) fn stretch(self) -> u64 {
+    // How many steps the caller takes now, where this part has so many left; none where it is the workers' turn.
+    pub(crate) fn stretch(&mut self, left: u64) -> u64 {
+        self.left = self.left.max(left);
         match self.turn {
-            Turn::Workers => 0,
+            Turn::First if self.left >= FEWEST_FOR_TRIAL => TRIAL,
+            Turn::First | Turn::Workers => 0,
             Turn::Trial => TRIAL,
             Turn::Caller(steps) => steps,
         }
@@ -64,26 +84,34 @@ impl Pace {
 
     // How many milliseconds the workers' turn may last, if some of them wait.
     pub(crate) fn millis(self) -> u32 {
-        self.millis
+        self.round
     }
 
-    // The caller's turn where it is faster, for a long stretch; else the workers', for twice as long as before.
+    // The caller's turn where it is faster, for twice as long as the last time; else the workers', for twice as long as before.
     fn choose(&mut self, together: u64, alone: u64) {
         if together < alone {
-            let steps = alone.saturating_mul(SHARE * FIRST_ROUND as u64);
+            let steps = alone.saturating_mul(self.stretch);
             self.turn = Turn::Caller(steps.clamp(TRIAL, LONGEST_STRETCH));
-            self.millis = FIRST_ROUND;
+            self.stretch = self.stretch.saturating_mul(2);
+            self.round = FIRST_ROUND;
         } else {
             self.turn = Turn::Workers;
-            self.millis = self.millis.saturating_mul(2).min(LONGEST_ROUND);
+            self.stretch = FIRST_STRETCH;
+            self.round = self.round.saturating_mul(2).min(LONGEST_ROUND);
         }
     }
 
-    // After a round of so many steps in a millisecond, if that is known.
-    pub(crate) fn after_round(&mut self, rate: Option<u64>) {
+    // Whether the caller ends the move in no time, if it takes so many steps in a millisecond.
+    fn is_short(self, alone: u64) -> bool {
+        self.left < alone.saturating_mul(SHORT_MOVE)
+    }
+
+    // After a round of so many steps, and of so many in a millisecond, if that is known.
+    pub(crate) fn after_round(&mut self, steps: u64, rate: Option<u64>) {
+        self.left = self.left.saturating_sub(steps);
         self.together = rate;
         match (rate, self.alone) {
-            (Some(together), Some(alone)) if self.millis < LONG_ROUND => {
+            (Some(together), Some(alone)) if self.round < LONG_ROUND => {
                 self.choose(together, alone)
             }
             (Some(_), _) => self.turn = Turn::Trial,
@@ -91,10 +119,14 @@ impl Pace {
         }
     }
 
-    // After a stretch of so many steps in a millisecond, if that is known.
-    pub(crate) fn after_stretch(&mut self, rate: Option<u64>) {
+    // After a stretch of so many steps, and of so many in a millisecond, if that is known.
+    pub(crate) fn after_stretch(&mut self, steps: u64, rate: Option<u64>) {
+        self.left = self.left.saturating_sub(steps);
         self.alone = rate;
         match (self.turn, self.together, rate) {
+            (Turn::First | Turn::Caller(_), None, Some(alone)) if self.is_short(alone) => {
+                self.turn = Turn::Caller(LONGEST_STRETCH)
+            }
             (Turn::Trial, Some(together), Some(alone)) => self.choose(together, alone),
             _ => self.turn = Turn::Workers,
         }

@@ -58,12 +58,12 @@ is_private_false_unless_private (ask.End e) n = refl
 is_private_false_unless_private ask.Done n = refl
 
 -- a call, where there is a step left
-what_if_at_call : (code : List ℕ) (o : ℕ) (fresh : List ℕ) (h : Hold) (left : ℕ) (x : ThreadState) (c : Exchange) (cs : List Exchange)
+what_if_at_call_is_difference_or_what_if_of_rest : (code : List ℕ) (o : ℕ) (fresh : List ℕ) (h : Hold) (left : ℕ) (x : ThreadState) (c : Exchange) (cs : List Exchange)
     → (ask_of code x ≡ ask.Private → ⊥)
     → what_if code o fresh h (suc left) x (c ∷ cs) ≡ or_later (difference h o (ask_of code x) c.asked)
     (what_if code o fresh (hold_after o c h) left (after_reply code x (answer h o fresh c)) cs)
 unfolding what_if
-what_if_at_call code o fresh h left x c cs not = ap (λ (b : Bool). if b then what_if code o fresh h left (step_of code x) (c ∷ cs)
+what_if_at_call_is_difference_or_what_if_of_rest code o fresh h left x c cs not = ap (λ (b : Bool). if b then what_if code o fresh h left (step_of code x) (c ∷ cs)
     else or_later (difference h o (ask_of code x) c.asked)
     (what_if code o fresh (hold_after o c h) left (after_reply code x (answer h o fresh c)) cs)) (is_private_false_unless_private (ask_of code x) not)
 
@@ -89,17 +89,17 @@ what_if_is_way_if_spent_on_private_steps code o fresh h n taken left x y cs c wh
     ∙ ap (λ (j : ℕ). what_if code o fresh h j y (get_or cs n c ∷ drop (n + 1) cs)) k
     ∙ what_if_is_way_without_fuel code o fresh h y (get_or cs n c) (drop (n + 1) cs))
 
-what_if_at_later_call : (code : List ℕ) (o : ℕ) (fresh : List ℕ) (h : Hold) (n taken left : ℕ) (x y : ThreadState) (cs : List Exchange) (c : Exchange)
+what_if_after_private_steps_is_difference_or_rest : (code : List ℕ) (o : ℕ) (fresh : List ℕ) (h : Hold) (n taken left : ℕ) (x y : ThreadState) (cs : List Exchange) (c : Exchange)
     (whole : Option Reason) → whole ≡ what_if code o fresh h left x (drop n cs) → n < length cs → PrivateSteps code taken x y → taken < left
     → (ask_of code y ≡ ask.Private → ⊥)
     → whole ≡ or_later (difference h o (ask_of code y) (get_or cs n c).asked) (what_if code o fresh (hold_after o (get_or cs n c) h)
     (left - (taken + 1)) (after_reply code y (answer h o fresh (get_or cs n c))) (drop (n + 1) cs))
-what_if_at_later_call code o fresh h n taken left x y cs c whole e l steps some not =
+what_if_after_private_steps_is_difference_or_rest code o fresh h n taken left x y cs c whole e l steps some not =
     let k : left - taken ≡ suc (left - (taken + 1)) = omega (arith, some) in
     e ∙ ap (what_if code o fresh h left x) (drop_more cs n c l)
     ∙ what_if_after_private_steps code o fresh h taken left x y (get_or cs n c) (drop (n + 1) cs) (omega (arith, some)) steps
     ∙ ap (λ (j : ℕ). what_if code o fresh h j y (get_or cs n c ∷ drop (n + 1) cs)) k
-    ∙ what_if_at_call code o fresh h (left - (taken + 1)) y (get_or cs n c) (drop (n + 1) cs) not
+    ∙ what_if_at_call_is_difference_or_what_if_of_rest code o fresh h (left - (taken + 1)) y (get_or cs n c) (drop (n + 1) cs) not
 
 -- the thread differs at a call
 pub what_if_differs_at_call : (code : List ℕ) (o : ℕ) (fresh : List ℕ) (h : Hold) (n taken left : ℕ) (x y : ThreadState) (cs : List Exchange) (c : Exchange)
@@ -107,7 +107,7 @@ pub what_if_differs_at_call : (code : List ℕ) (o : ℕ) (fresh : List ℕ) (h 
     → PrivateSteps code taken x y → taken < left → asked ≡ ask_of code y → (asked ≡ ask.Private → ⊥)
     → difference h o asked (get_or cs n c).asked ≡ Some r → Some r ≡ whole
 what_if_differs_at_call code o fresh h n taken left x y cs c asked whole r e l steps some is not differ =
-    sym (what_if_at_later_call code o fresh h n taken left x y cs c whole e l steps some (λ p. not (is ∙ p))
+    sym (what_if_after_private_steps_is_difference_or_rest code o fresh h n taken left x y cs c whole e l steps some (λ p. not (is ∙ p))
     ∙ ap (λ (d : Option Reason). or_later d (what_if code o fresh (hold_after o (get_or cs n c) h)
     (left - (taken + 1)) (after_reply code y (answer h o fresh (get_or cs n c))) (drop (n + 1) cs)))
     (ap (λ (q : Ask). difference h o q (get_or cs n c).asked) (sym is) ∙ differ))
@@ -120,7 +120,7 @@ pub what_if_goes_on_after_call : (code : List ℕ) (o : ℕ) (fresh : List ℕ) 
     → g ≡ hold_after o (get_or cs n c) h
     → whole ≡ what_if code o fresh g (left - (taken + 1)) z (drop (n + 1) cs)
 what_if_goes_on_after_call code o fresh h g n taken left x y z cs c asked reply whole e l steps some is not same answered next holds =
-    what_if_at_later_call code o fresh h n taken left x y cs c whole e l steps some (λ p. not (is ∙ p))
+    what_if_after_private_steps_is_difference_or_rest code o fresh h n taken left x y cs c whole e l steps some (λ p. not (is ∙ p))
     ∙ ap (λ (d : Option Reason). or_later d (what_if code o fresh (hold_after o (get_or cs n c) h)
     (left - (taken + 1)) (after_reply code y (answer h o fresh (get_or cs n c))) (drop (n + 1) cs)))
     (ap (λ (q : Ask). difference h o q (get_or cs n c).asked) (sym is) ∙ same)

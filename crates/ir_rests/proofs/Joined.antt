@@ -13,29 +13,29 @@ use Rattle.ir_rests.specs.declared.rest.Rest.{Rest}
 
 -- ---- how many
 
-pub kept_of_no_rest : (rests : List (Option Rest)) → 0 ≡ kept_of rests 0
+pub kept_of_first_zero_rests_is_zero : (rests : List (Option Rest)) → 0 ≡ kept_of rests 0
 unfolding kept_of
-kept_of_no_rest rests = refl
+kept_of_first_zero_rests_is_zero rests = refl
 
-pub kept_of_rests_step : (rests : List (Option Rest)) (n kept one : ℕ) → kept ≡ kept_of rests n → one ≡ one_if (slice_index_or rests n None)
+pub kept_of_one_more_rest : (rests : List (Option Rest)) (n kept one : ℕ) → kept ≡ kept_of rests n → one ≡ one_if (slice_index_or rests n None)
     → kept + one ≡ kept_of rests (n + 1)
 unfolding kept_of
-kept_of_rests_step rests n kept one a b =
+kept_of_one_more_rest rests n kept one a b =
     let on : suc n ≡ n + 1 = omega arith in
     ap (λ k. k + one) a ∙ ap (λ k. kept_of rests n + k) b ∙ ap (kept_of rests) on
 
 -- ---- lines
 
-pub text_of_no_first_lines : (f : FittedTrace) (rows : List StaleWrite) (rests : List (Option Rest)) (text first : List ℕ) → text ≡ first
+pub append_of_zero_first_lines_is_unchanged : (f : FittedTrace) (rows : List StaleWrite) (rests : List (Option Rest)) (text first : List ℕ) → text ≡ first
     → text ≡ first ++ first_lines f rows rests 0
 unfolding first_lines
-text_of_no_first_lines f rows rests text first e = e ∙ sym (append-nil first)
+append_of_zero_first_lines_is_unchanged f rows rests text first e = e ∙ sym (append-nil first)
 
-pub first_lines_step : (f : FittedTrace) (rows : List StaleWrite) (rests : List (Option Rest)) (n : ℕ) (x : StaleWrite) (r : Option Rest) (text new first : List ℕ)
+pub first_lines_are_appended_after_one_more_line : (f : FittedTrace) (rows : List StaleWrite) (rests : List (Option Rest)) (n : ℕ) (x : StaleWrite) (r : Option Rest) (text new first : List ℕ)
     → text ≡ first ++ first_lines f rows rests n → new ≡ text ++ line_if f (Some x) r → slice_get rows n ≡ Some x
     → r ≡ slice_index_or rests n None → new ≡ first ++ first_lines f rows rests (n + 1)
 unfolding first_lines
-first_lines_step f rows rests n x r text new first before made there same =
+first_lines_are_appended_after_one_more_line f rows rests n x r text new first before made there same =
     let on : suc n ≡ n + 1 = omega arith in
     let line : line_if f (Some x) r ≡ line_if f (slice_get rows n) (slice_index_or rests n None) = λ i. line_if f (sym there i) (same i) in
     made ∙ (λ i. before i ++ line i)

@@ -63,9 +63,9 @@ none_due_if_next_reads_elsewhere copies f rows t k w is other i d past l =
 
 -- ---- one fewer
 
-pub each_element_without_one : {X : Type 0} (P : X → Type 0) (xs ys : List X) (n : ℕ) → IsWithout xs ys n → ((i : ℕ) (d : X) → i < length xs → P (slice_index_or xs i d))
+pub each_element_satisfies_after_one_is_removed : {X : Type 0} (P : X → Type 0) (xs ys : List X) (n : ℕ) → IsWithout xs ys n → ((i : ℕ) (d : X) → i < length xs → P (slice_index_or xs i d))
     → (i : ℕ) (d : X) → i < length ys → P (slice_index_or ys i d)
-each_element_without_one P xs ys n out each i d l = elim (cases_eq i n) [
+each_element_satisfies_after_one_is_removed P xs ys n out each i d l = elim (cases_eq i n) [
   | inl at ↦ let s = out.size in subst (λ j. P (slice_index_or ys j d)) (sym at) (subst P (sym (out.moved d (omega (arith, s, l, at))))
       (each (length xs - 1) d (omega (arith, s, l))))
   | inr ne ↦ let s = out.size in subst P (sym (out.others i d ne (omega (arith, s, l)))) (each i d (omega (arith, s, l)))
@@ -79,13 +79,13 @@ watch_after_row_closed copies f rows t k n w new is spans next out = record {
   next = let m = ap (λ v. length v.items) spans in let a = is.next in omega (arith, a, next, m);
   pending = subst (λ v. (i : ℕ) (d : Span) → new.next ≤ i → i < length v.items → k ≤ (slice_index_or v.items i d).read) (sym spans)
       (λ i d past li. is.pending i d (omega (arith, past, next)) li);
-  opened = each_element_without_one (IsOpenAt copies f rows t k) w.opened.items new.opened.items n out is.opened;
+  opened = each_element_satisfies_after_one_is_removed (IsOpenAt copies f rows t k) w.opened.items new.opened.items n out is.opened;
 }
 
 -- those that were looked at still end later
-pub open_rows_still_end_later : (k n : ℕ) (xs ys : List Open) → IsWithout xs ys n → n < length xs → ((j : ℕ) (d : Open) → j < n → k < (slice_index_or xs j d).span.end)
+pub open_rows_still_end_later_after_one_is_removed : (k n : ℕ) (xs ys : List Open) → IsWithout xs ys n → n < length xs → ((j : ℕ) (d : Open) → j < n → k < (slice_index_or xs j d).span.end)
     → (j : ℕ) (d : Open) → j < n → k < (slice_index_or ys j d).span.end
-open_rows_still_end_later k n xs ys out l later j d less =
+open_rows_still_end_later_after_one_is_removed k n xs ys out l later j d less =
     subst (λ (o : Open). k < o.span.end) (sym (out.others j d (omega (arith, less)) (omega (arith, less, l)))) (later j d less)
 
 -- a row that was open is, or was closed
@@ -135,9 +135,9 @@ watched_or_found_after_row_closed copies f rows w new rests new_rests n row rest
     ]))
 
 -- one result more
-pub adds_rests_after_result : (copies : Bool) (f : FittedTrace) (rows : List StaleWrite) (first rests new : List Found) (row : ℕ) (rest : Found) → AddsRests copies f rows first rests
+pub adds_rests_after_found_rest_is_set : (copies : Bool) (f : FittedTrace) (rows : List StaleWrite) (first rests new : List Found) (row : ℕ) (rest : Found) → AddsRests copies f rows first rests
     → row < length rests → new ≡ set rests row rest → ((x : StaleWrite) → slice_get rows row ≡ Some x → IsFoundAs copies f x rest) → AddsRests copies f rows first new
-adds_rests_after_result copies f rows first rests new row rest adds within set_to judged = record {
+adds_rests_after_found_rest_is_set copies f rows first rests new row rest adds within set_to judged = record {
   size = ap length set_to ∙ length-set rests row rest ∙ adds.size;
   each = λ r x there. elim (cases_eq r row) [
     | inl same ↦ inr (subst (λ xs. IsFoundAs copies f x (slice_index_or xs r Unknown)) (sym set_to)

@@ -107,20 +107,20 @@ open_row_after_calls copies f rows t from k old mid new calls o more are up with
 }
 
 -- the words are those that are there behind the write entry
-pub words_behind_write_at_standing : (copies : Bool) (f : FittedTrace) (rows : List StaleWrite) (s : Standing) (t from k object : ℕ) (old : Open) (words : List ℕ) → HasRun f
+pub standing_words_are_words_behind_write_if_write_is_now : (copies : Bool) (f : FittedTrace) (rows : List StaleWrite) (s : Standing) (t from k object : ℕ) (old : Open) (words : List ℕ) → HasRun f
     → (o : IsOpenAt copies f rows t from old) → StandsAt f (positions (flat_in f s)) s → positions (flat_in f s) t ≡ k → old.span.write ≡ k
     → object ≡ old.span.object → words ≡ (slice_index_or s.objects object empty).words
     → AreWordsAt f o.of.row.thread (behind_write f o.of.row) o.of.row.object words
-words_behind_write_at_standing copies f rows s t from k object old words h o stands at here same is =
+standing_words_are_words_behind_write_if_write_is_now copies f rows s t from k object old words h o stands at here same is =
     words_of_held_object_at_standing f s o.of.row.thread (behind_write f o.of.row) o.of.row.object words stands
     (ap (positions (flat_in f s)) o.of.thread ∙ at ∙ sym here ∙ o.of.span.write) (row_object_held_behind_write f h o.of.row o.of.stale)
     (is ∙ ap (λ (p : ℕ). (slice_index_or s.objects p empty).words) (same ∙ o.of.span.object))
 
 -- or those that were kept before
-pub words_behind_write_kept : (copies : Bool) (f : FittedTrace) (rows : List StaleWrite) (t from k : ℕ) (old mid : Open) (calls : List Exchange)
+pub kept_words_are_words_behind_write_unless_write_is_now : (copies : Bool) (f : FittedTrace) (rows : List StaleWrite) (t from k : ℕ) (old mid : Open) (calls : List Exchange)
     → (o : IsOpenAt copies f rows t from old) → IsCallMore old mid calls → (from < old.span.write → k ≤ old.span.write) → (mid.span.write ≡ k → ⊥)
     → behind_write f o.of.row ≤ k → AreWordsAt f o.of.row.thread (behind_write f o.of.row) o.of.row.object mid.kept.now.items
-words_behind_write_kept copies f rows t from k old mid calls o more stop other past =
+kept_words_are_words_behind_write_unless_write_is_now copies f rows t from k old mid calls o more stop other past =
     subst (AreWordsAt f o.of.row.thread (behind_write f o.of.row) o.of.row.object) (sym more.now) (o.kept.now before)
   where
     before : behind_write f o.of.row ≤ from

@@ -20,10 +20,10 @@ use Rattle.ir_rests.specs.declared.watch.Watch.{Watch}
 -- ---- one thread goes on
 
 -- at most to the next stop
-pub watch_up_to_next_stop : (copies : Bool) (f : FittedTrace) (rows : List StaleWrite) (t from k stop : ℕ) (w new : Watch) → IsWatch copies f rows t from w → IsBeforeStops from stop w → k ≤ stop
+pub watch_stays_watch_up_to_next_stop : (copies : Bool) (f : FittedTrace) (rows : List StaleWrite) (t from k stop : ℕ) (w new : Watch) → IsWatch copies f rows t from w → IsBeforeStops from stop w → k ≤ stop
     → new.spans ≡ w.spans → new.next ≡ w.next → length new.opened.items ≡ length w.opened.items
     → ((i : ℕ) (d : Open) → i < length w.opened.items → IsOpenAt copies f rows t k (slice_index_or new.opened.items i d)) → IsWatch copies f rows t k new
-watch_up_to_next_stop copies f rows t from k stop w new is stops within spans next size each = record {
+watch_stays_watch_up_to_next_stop copies f rows t from k stop w new is stops within spans next size each = record {
   sorted = subst (λ v. IsNonDecreasingBy (λ (s : Span). s.read) v.items) (sym spans) is.sorted;
   spans = subst (λ v. (i : ℕ) (d : Span) → i < length v.items → IsSpanOf f rows t (slice_index_or v.items i d)) (sym spans) is.spans;
   next = let m = ap (λ v. length v.items) spans in let a = is.next in omega (arith, a, next, m);

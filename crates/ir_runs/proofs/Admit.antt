@@ -14,35 +14,35 @@ use Rattle.ir_runs.proofs.Same.{BeginsRun, run_with_beginning_logs_begins_run}
 use Rattle.ir_runs.proofs.Sort.{PartIsRun, part_in_consistent_cut_is_run}
 use Rattle.ir_runs.specs.Admitted.{further, Admitted}
 
-logged_splits_off_log : (k : Label) (es : List Label) → logged k es ≡ logged k [] ++ es
-logged_splits_off_log Quiet es = refl
-logged_splits_off_log (Answer i v) es = refl
-logged_splits_off_log (In o a v l) es = refl
-logged_splits_off_log (Refused o) es = refl
-logged_splits_off_log (Out o a v) es = refl
+logged_is_logged_of_empty_append_log : (k : Label) (es : List Label) → logged k es ≡ logged k [] ++ es
+logged_is_logged_of_empty_append_log Quiet es = refl
+logged_is_logged_of_empty_append_log (Answer i v) es = refl
+logged_is_logged_of_empty_append_log (In o a v l) es = refl
+logged_is_logged_of_empty_append_log (Refused o) es = refl
+logged_is_logged_of_empty_append_log (Out o a v) es = refl
 
 logged_same_if_same_on_empty : (k j : Label) (es : List Label) → logged k [] ≡ logged j [] → logged k es ≡ logged j es
-logged_same_if_same_on_empty k j es h = logged_splits_off_log k es ∙ ap (λ z. z ++ es) h ∙ sym (logged_splits_off_log j es)
+logged_same_if_same_on_empty k j es h = logged_is_logged_of_empty_append_log k es ∙ ap (λ z. z ++ es) h ∙ sym (logged_is_logged_of_empty_append_log j es)
 
 -- a list cut at a place
-drop_at_place : {A : Type 0} (xs : List A) (n : ℕ) (x : A) → At xs n x → drop n xs ≡ x ∷ drop (suc n) xs
-drop_at_place [] n x h = absurd h
-drop_at_place (y ∷ ys) zero x h = ap (λ z. z ∷ ys) h
-drop_at_place (y ∷ ys) (suc n) x h = drop_at_place ys n x h
+drop_at_element_is_cons_of_drop_suc : {A : Type 0} (xs : List A) (n : ℕ) (x : A) → At xs n x → drop n xs ≡ x ∷ drop (suc n) xs
+drop_at_element_is_cons_of_drop_suc [] n x h = absurd h
+drop_at_element_is_cons_of_drop_suc (y ∷ ys) zero x h = ap (λ z. z ∷ ys) h
+drop_at_element_is_cons_of_drop_suc (y ∷ ys) (suc n) x h = drop_at_element_is_cons_of_drop_suc ys n x h
 
-place_is_below_length : {A : Type 0} (xs : List A) (n : ℕ) (x : A) → At xs n x → n < length xs
-place_is_below_length [] n x h = absurd h
-place_is_below_length (y ∷ ys) zero x h = omega arith
-place_is_below_length (y ∷ ys) (suc n) x h = omega (arith, place_is_below_length ys n x h)
+index_of_element_is_below_length : {A : Type 0} (xs : List A) (n : ℕ) (x : A) → At xs n x → n < length xs
+index_of_element_is_below_length [] n x h = absurd h
+index_of_element_is_below_length (y ∷ ys) zero x h = omega arith
+index_of_element_is_below_length (y ∷ ys) (suc n) x h = omega (arith, index_of_element_is_below_length ys n x h)
 
 -- one more step, which logs what the step at place n logs
-events_same_if_step_logs_same : {T : Type 0} (xs : List (T × Label)) (n : ℕ) (y x : T) (j k : Label) → At xs n (x, k) → logged k [] ≡ logged j []
+events_unchanged_by_replacing_step_of_same_log : {T : Type 0} (xs : List (T × Label)) (n : ℕ) (y x : T) (j k : Label) → At xs n (x, k) → logged k [] ≡ logged j []
     → events (take n xs ++ (y, j) ∷ []) ++ events (drop (suc n) xs) ≡ events xs
-events_same_if_step_logs_same xs n y x j k h l =
+events_unchanged_by_replacing_step_of_same_log xs n y x j k h l =
     ap (λ z. z ++ events (drop (suc n) xs)) (events_append (take n xs) ((y, j) ∷ []))
     ∙ append_assoc (events (take n xs)) (logged j []) (events (drop (suc n) xs))
-    ∙ ap (λ z. events (take n xs) ++ z) (sym (logged_splits_off_log j (events (drop (suc n) xs))) ∙ sym (logged_same_if_same_on_empty k j (events (drop (suc n) xs)) l)
-    ∙ ap events (sym (drop_at_place xs n (x, k) h)))
+    ∙ ap (λ z. events (take n xs) ++ z) (sym (logged_is_logged_of_empty_append_log j (events (drop (suc n) xs))) ∙ sym (logged_same_if_same_on_empty k j (events (drop (suc n) xs)) l)
+    ∙ ap events (sym (drop_at_element_is_cons_of_drop_suc xs n (x, k) h)))
     ∙ sym (events_append (take n xs) (drop n xs)) ∙ ap events (take-append-drop n xs)
 
 pub moment_of_append_at_length : (run more : List Step) (t : ℕ) → moment (run ++ more) (length run) t ≡ moment run (length run) t
@@ -63,7 +63,7 @@ admitted_if_step_logs_as_run m law s good run ok p cut c t r k can emits l =
     ∙ ap (λ b. take (p t) (trail m s run t) ++ join_if b (s1.now t, label m s1 (t, r)) []) (eq-eqb t t refl) in
     let at_u : (u : ℕ) → u ≢ t → trail m s prefix u ≡ take (p u) (trail m s run u) = λ u ne. more u
     ∙ ap (λ b. take (p u) (trail m s run u) ++ join_if b (s1.now u, label m s1 (t, r)) []) (ne_eqb u t ne) ∙ append-nil _ in
-    let short : p t < count m s run t = place_is_below_length (trail m s run t) (p t) (emits.0, k) emits.1 in
+    let short : p t < count m s run t = index_of_element_is_below_length (trail m s run t) (p t) (emits.0, k) emits.1 in
     let counts : (u : ℕ) → count m s prefix u ≡ further p t u = λ u. elim (cases_eq u t) [
       | inl e ↦ subst (λ w. count m s prefix w ≡ further p t w) (sym e)
           (omega (
@@ -84,7 +84,7 @@ admitted_if_step_logs_as_run m law s good run ok p cut c t r k can emits l =
           (ap (λ y. events y ++ events (drop (further p t t) (trail m s run t))) at_t
           ∙ ap (λ y. events (take (p t) (trail m s run t) ++ (s1.now t, label m s1 (t, r)) ∷ []) ++ events (drop y (trail m s run t)))
           (further_at_own_thread p t)
-          ∙ events_same_if_step_logs_same (trail m s run t) (p t) (s1.now t) emits.0 (label m s1 (t, r)) k emits.1 l)
+          ∙ events_unchanged_by_replacing_step_of_same_log (trail m s run t) (p t) (s1.now t) emits.0 (label m s1 (t, r)) k emits.1 l)
       | inr ne ↦ ap (λ y. events y ++ events (drop (further p t u) (trail m s run u))) (at_u u ne)
           ∙ ap (λ y. events (take (p u) (trail m s run u)) ++ events (drop y (trail m s run u))) (further_at_other_thread p t u ne)
           ∙ sym (events_append (take (p u) (trail m s run u)) (drop (p u) (trail m s run u)))

@@ -14,9 +14,9 @@ use Rattle.ir_runs.proofs.Same.{thread_after_step_of_other}
 use Rattle.ir_runs.proofs.Steps.{Clashes, StepUnchanged, step_unchanged_after_other_step, steps_commute_unless_clash}
 use Rattle.ir_runs.proofs.Swap.{Clash}
 
-no_writer_inside_before_change : {T : Type 0} (m : Machine T) (b : Object) (t : ℕ) (x : Option Access) → (x ≡ Some Writing → ⊥) → b.inside t ≡ x
+no_writer_inside_if_none_after_update : {T : Type 0} (m : Machine T) (b : Object) (t : ℕ) (x : Option Access) → (x ≡ Some Writing → ⊥) → b.inside t ≡ x
     → (a : Option Access) → ((w : ℕ) → upd b.inside t a w ≢ Some Writing) → (w : ℕ) → b.inside w ≢ Some Writing
-no_writer_inside_before_change m b t x ne i a h w e = elim (cases_eq w t) [
+no_writer_inside_if_none_after_update m b t x ne i a h w e = elim (cases_eq w t) [
   | inl same ↦ ne (sym i ∙ ap b.inside (sym same) ∙ e)
   | inr other ↦ h w (upd_at_other_place b.inside t w a other ∙ e)
 ]
@@ -60,7 +60,7 @@ act_admitted_before_unless_needed m b t u (Entry o a ans) Never same i h h' free
 act_admitted_before_unless_needed m b t u (Exit o a) Silent same i h h' free = (tt, λ c. c)
 act_admitted_before_unless_needed m b t u (Exit o a) (Refusal _) same i h h' free = (tt, λ c. c)
 act_admitted_before_unless_needed m b t u (Exit o a) (Result k res) same i h h' free = (h', λ c. c)
-act_admitted_before_unless_needed m b t u (Exit o Reading) (Entry p Reading ans') same i h h' free = (no_writer_inside_before_change m b t (Some Reading) (λ z. cc z) i None h', λ c. c)
+act_admitted_before_unless_needed m b t u (Exit o Reading) (Entry p Reading ans') same i h h' free = (no_writer_inside_if_none_after_update m b t (Some Reading) (λ z. cc z) i None h', λ c. c)
 act_admitted_before_unless_needed m b t u (Exit o Reading) (Entry p Writing ans') same i h h' free = absurd (free (sym same, refl))
 act_admitted_before_unless_needed m b t u (Exit o Writing) (Entry p Reading ans') same i h h' free = absurd (free (sym same, refl))
 act_admitted_before_unless_needed m b t u (Exit o Writing) (Entry p Writing ans') same i h h' free = absurd (free (sym same, refl))

@@ -1,12 +1,12 @@
 -- What callers may cite of runs, cuts, traces and verdicts.
 -- tables of threads and objects
-pub use Rattle.ir_runs.proofs.Tables.{upd_at_own_place, upd_at_other_place, upd_by_cases, upd_with_old_value}
+pub use Rattle.ir_runs.proofs.Tables.{upd_at_own_place, upd_at_other_place, property_of_upd_by_cases, upd_with_old_value}
 -- what holds in each state that a run reaches
 pub use Rattle.ir_runs.proofs.Good.{StateInvariant, state_invariant_after_step, state_invariant_at_start}
 -- threads that are done stay so, and some thread has a step
 pub use Rattle.ir_runs.proofs.Stuck.{some_thread_can_step, idle_after_step, idle_after_run}
 -- runs one after the other
-pub use Rattle.ir_runs.proofs.Append.{join_if_of_append, trail_append, append_of_runs_is_run, end_append, events_append, log_append}
+pub use Rattle.ir_runs.proofs.Append.{conditional_cons_join_if_of_append, trail_append, append_of_runs_is_run, end_append, events_append, log_append}
 -- runs with one trace
 pub use Rattle.ir_runs.proofs.Same.{thread_after_step_of_other, same_logs_give_same_trails}
 -- the part of a run in a cut is a run
@@ -24,7 +24,7 @@ pub use Rattle.ir_runs.proofs.Own.{step_below_idle_keeps_idle, own_trace_is_cohe
 -- a run's last step, and its end
 pub use Rattle.ir_runs.proofs.Ending.{trail_of_cons_own_thread, trail_of_cons_other_thread, AfterThreadEnd, ended_thread_only_leaves, last_step_can_be_taken, complete_run_follows_own_trace}
 -- verdicts
-pub use Rattle.ir_runs.proofs.Judge.{done_is_decidable, agrees_is_decidable, follows_with_last_step_added, verdict_exists_at_maximal_run, judged_verdict_is_unique, runs_reaching_same_share_verdict, done_follower_is_whole_run, maximal_follower_done_if_whole_run}
+pub use Rattle.ir_runs.proofs.Judge.{ask_is_done_or_not, agrees_is_decidable, follows_with_last_step_added, verdict_exists_at_maximal_run, judged_verdict_is_unique, runs_reaching_same_share_verdict, done_follower_is_whole_run, maximal_follower_done_if_whole_run}
 -- the first steps of a run, and the one step of a thread that can follow
 pub use Rattle.ir_runs.proofs.OneResult.{prefix_of_run_is_run, last_step_fits, maximal_if_no_thread_goes_on}
 -- there is a run that follows as far as any can
@@ -42,7 +42,7 @@ pub use Rattle.ir_runs.proofs.Admit.{admitted_if_step_logs_as_run}
 -- cuts of a prefix of a run
 pub use Rattle.ir_runs.proofs.Prefixes.{IsPrefix, run_with_beginning_logs_is_prefix}
 -- runs by an order of the threads
-pub use Rattle.ir_runs.proofs.Turns.{turns_are_run, turns_append}
+pub use Rattle.ir_runs.proofs.Turns.{run_in_turn_is_run, in_turn_of_append}
 -- steps of different threads commute, unless both enter
 pub use Rattle.ir_runs.proofs.Swap.{Clash, IsEntry}
 pub use Rattle.ir_runs.proofs.Steps.{Clashes, StepUnchanged, step_unchanged_after_other_step, steps_commute_unless_clash}

@@ -11,7 +11,7 @@ use Rattle.ir_runs.proofs.Good.{StateInvariant, state_invariant_after_step}
 use Rattle.ir_runs.proofs.Append.{trail_append, append_of_runs_is_run}
 use Rattle.ir_runs.proofs.Follow.{prefix_of_fitting_steps_fits}
 use Rattle.ir_runs.proofs.Pull.{PulledFirst, thread_step_can_come_first}
-use Rattle.ir_runs.proofs.Same.{BeginsRun, FirstStepEmits, first_step_of_trail_emits, NonEmpty, thread_after_step_of_other, logs_of_same_ask_agree, append_to_join_if}
+use Rattle.ir_runs.proofs.Same.{BeginsRun, FirstStepEmits, first_step_of_trail_emits, NonEmpty, thread_after_step_of_other, logs_of_same_ask_agree, append_after_join_if_is_join_if_of_append}
 use Rattle.ir_runs.proofs.Steps.{Clashes, StepUnchanged, step_unchanged_after_other_step}
 use Rattle.ir_runs.proofs.Swap.{Clash}
 use Rattle.ir_runs.proofs.Tally.{Tally, tally_after_step, tally_at_start, sum_below_less_if_one_less, sum_below_of_zeros, one_if_reader, readers_inside, counted_read}
@@ -30,28 +30,28 @@ log_left rem e k u = cond (eqb u e.0) (unlogged k (rem u)) (rem u)
 abbrev pub FollowsRemainder : {T : Type 0} → (ℕ → Check T) → Machine T → State T → (ℕ → ℕ) → (ℕ → List Label) → List Step → Type 0
 FollowsRemainder E m s ns rem run = IsRun m s run × ((t : ℕ) → Fits (E t) (ns t) (rem t) (trail m s run t))
 
-joined_step_fits : {T : Type 0} (E : Check T) (n : ℕ) (es : List Label) (b : Bool) (x : T × Label) (xs : List (T × Label)) → b ≡ true
+fits_of_join_if_gives_first_check : {T : Type 0} (E : Check T) (n : ℕ) (es : List Label) (b : Bool) (x : T × Label) (xs : List (T × Label)) → b ≡ true
     → Fits E n es (join_if b x xs) → (0 < n) × (logged x.1 (unlogged x.1 es) ≡ es) × E x.0 n es
-joined_step_fits E n es true x xs p h = (h.0, h.1, h.2)
-joined_step_fits E n es false x xs p h = absurd (cc p)
+fits_of_join_if_gives_first_check E n es true x xs p h = (h.0, h.1, h.2)
+fits_of_join_if_gives_first_check E n es false x xs p h = absurd (cc p)
 
-steps_after_joined_step_fit : {T : Type 0} (E : Check T) (n : ℕ) (es : List Label) (b : Bool) (x : T × Label) (xs : List (T × Label))
+fits_of_join_if_gives_fits_of_rest : {T : Type 0} (E : Check T) (n : ℕ) (es : List Label) (b : Bool) (x : T × Label) (xs : List (T × Label))
     → Fits E n es (join_if b x xs) → (k : Label) → (b ≡ true → x.1 ≡ k) → Fits E (cond b (pred n) n) (cond b (unlogged k es) es) xs
-steps_after_joined_step_fit E n es true x xs h k same = subst (λ z. Fits E (pred n) (unlogged z es) xs) (same refl) h.3
-steps_after_joined_step_fit E n es false x xs h k same = h
+fits_of_join_if_gives_fits_of_rest E n es true x xs h k same = subst (λ z. Fits E (pred n) (unlogged z es) xs) (same refl) h.3
+fits_of_join_if_gives_fits_of_rest E n es false x xs h k same = h
 
 -- the first step's conditions, and the rest
 pub first_step_follows_remainder : {T : Type 0} (E : ℕ → Check T) (m : Machine T) (s : State T) (ns : ℕ → ℕ) (rem : ℕ → List Label) (e : Step) (run : List Step)
     → FollowsRemainder E m s ns rem (e ∷ run) → (0 < ns e.0) × (logged (label m s e) (unlogged (label m s e) (rem e.0)) ≡ rem e.0)
     × E e.0 (s.now e.0) (ns e.0) (rem e.0)
-first_step_follows_remainder E m s ns rem e run h = joined_step_fits (E e.0) (ns e.0) (rem e.0) (eqb e.0 e.0) (s.now e.0, label m s e)
+first_step_follows_remainder E m s ns rem e run h = fits_of_join_if_gives_first_check (E e.0) (ns e.0) (rem e.0) (eqb e.0 e.0) (s.now e.0, label m s e)
     (trail m (after m s e) run e.0) (eq-eqb e.0 e.0 refl) (h.1 e.0)
 
 pub later_steps_follow_remainder : {T : Type 0} (E : ℕ → Check T) (m : Machine T) (s : State T) (ns : ℕ → ℕ) (rem : ℕ → List Label) (e : Step) (run : List Step)
     → FollowsRemainder E m s ns rem (e ∷ run) → FollowsRemainder E m (after m s e) (steps_left ns e) (log_left rem e (label m s e)) run
 later_steps_follow_remainder E m s ns rem e run h = (
   h.0.1,
-  λ t. steps_after_joined_step_fit (E t) (ns t) (rem t) (eqb t e.0) (s.now t, label m s e)
+  λ t. fits_of_join_if_gives_fits_of_rest (E t) (ns t) (rem t) (eqb t e.0) (s.now t, label m s e)
       (trail m (after m s e) run t) (h.1 t) (label m s e) (λ _. refl),
 )
 
@@ -64,12 +64,12 @@ pub record FollowingInvariant (n : ℕ) {T : Type 0} (m : Machine T) (tr : Trace
   pub within : (t i : ℕ) (k : Label) → At (rem t) i k → (j : ℕ) × At (tr.logs t) j k
   pub idle : (t : ℕ) → n ≤ t → asked m s t ≡ Done
 
-reads_logged : (o v : ℕ) (k : Label) (es : List Label) → reads o v (logged k es) ≡ reads_one o v k + reads o v es
-reads_logged o v Quiet es = let g : reads o v es ≡ 0 + reads o v es = omega arith in g
-reads_logged o v (Answer i x) es = refl
-reads_logged o v (In p a w l) es = refl
-reads_logged o v (Refused p) es = refl
-reads_logged o v (Out p a w) es = let g : reads o v es ≡ 0 + reads o v es = omega arith in g
+reads_of_logged_adds_reads_one : (o v : ℕ) (k : Label) (es : List Label) → reads o v (logged k es) ≡ reads_one o v k + reads o v es
+reads_of_logged_adds_reads_one o v Quiet es = let g : reads o v es ≡ 0 + reads o v es = omega arith in g
+reads_of_logged_adds_reads_one o v (Answer i x) es = refl
+reads_of_logged_adds_reads_one o v (In p a w l) es = refl
+reads_of_logged_adds_reads_one o v (Refused p) es = refl
+reads_of_logged_adds_reads_one o v (Out p a w) es = let g : reads o v es ≡ 0 + reads o v es = omega arith in g
 
 event_stays_in_logged : (k : Label) (es : List Label) (i : ℕ) (j : Label) → At es i j → (h : ℕ) × At (logged k es) h j
 event_stays_in_logged Quiet es i j h = (i, h)
@@ -97,7 +97,7 @@ following_invariant_after_step n m law tr s rem f e can is =
             (cond b (unlogged (label m s e) (rem t)) (rem t)) ≡ reads o v (tr.logs t)) (sym (eq-eqb t e.0 same))
             (here (f.counts o v t) (reads_one o v (label m s e)) (reads o v (unlogged (label m s e) (rem t))) (reads o v (rem t))
             (reads o v (tr.logs t)) (f.total o v t)
-            (sym (reads_logged o v (label m s e) (unlogged (label m s e) (rem t)))
+            (sym (reads_of_logged_adds_reads_one o v (label m s e) (unlogged (label m s e) (rem t)))
             ∙ ap (reads o v) (subst (λ z. logged (label m s e) (unlogged (label m s e) (rem z)) ≡ rem z) (sym same) is)))
         | inr other ↦ subst (λ b. (f.counts o v t + cond b (reads_one o v (label m s e)) 0) + reads o v
             (cond b (unlogged (label m s e) (rem t)) (rem t)) ≡ reads o v (tr.logs t)) (sym (ne_eqb t e.0 other))
@@ -124,11 +124,11 @@ following_invariant_after_step n m law tr s rem f e can is =
     lt_ne a t n l g e = omega arith
 
 -- a writer that is admitted at its logged version has all its readers before it
-no_reader_next_beside_writer : (n : ℕ) {T : Type 0} (m : Machine T) (tr : Trace) → IsCoherent n tr → (s : State T) (rem : ℕ → List Label)
+write_and_read_entries_do_not_both_follow_trace : (n : ℕ) {T : Type 0} (m : Machine T) (tr : Trace) → IsCoherent n tr → (s : State T) (rem : ℕ → List Label)
     → FollowingInvariant n m tr s rem → (e d : Step) (o ans ans' : ℕ) → Can m s e → logged (label m s e) (unlogged (label m s e) (rem e.0)) ≡ rem e.0
     → act m s e ≡ Entry o Writing ans → act m s d ≡ Entry o Reading ans' → logged (label m s d) (unlogged (label m s d) (rem d.0)) ≡ rem d.0
     → d.0 < n → ⊥
-no_reader_next_beside_writer n m tr co s rem f e d o ans ans' can is a a' is' less =
+write_and_read_entries_do_not_both_follow_trace n m tr co s rem f e d o ans ans' can is a a' is' less =
     let b : Object = s.objects o in
     let v : ℕ = b.version in
     let k : label m s e ≡ In o Writing v b.left = ap (λ z. emitted z (s.objects (target z))) a in
@@ -169,10 +169,10 @@ next_steps_do_not_clash n m law tr co s rem f e d ne can can' is is' (Entry o Wr
     (ap (λ z. logged z (unlogged (label m s d) (rem d.0))) (sym k') ∙ is') refl) in
     ne (co.writer e.0 i.0 d.0 j.0 o (s.objects o).version (s.objects o).left (s.objects o).left i.1 j.1).0
 next_steps_do_not_clash n m law tr co s rem f e d ne can can' is is' (Entry o Writing ans) (Entry p Reading ans') a a' same c =
-    no_reader_next_beside_writer n m tr co s rem f e d o ans ans' can is a (subst (λ z. act m s d ≡ Entry z Reading ans') same a') is'
+    write_and_read_entries_do_not_both_follow_trace n m tr co s rem f e d o ans ans' can is a (subst (λ z. act m s d ≡ Entry z Reading ans') same a') is'
     (stepping_thread_is_below_idle m s n f.idle d can')
 next_steps_do_not_clash n m law tr co s rem f e d ne can can' is is' (Entry o Reading ans) (Entry p Writing ans') a a' same c =
-    no_reader_next_beside_writer n m tr co s rem f d e p ans' ans can' is' a' (subst (λ z. act m s e ≡ Entry z Reading ans) (sym same) a) is
+    write_and_read_entries_do_not_both_follow_trace n m tr co s rem f d e p ans' ans can' is' a' (subst (λ z. act m s e ≡ Entry z Reading ans) (sym same) a) is
     (stepping_thread_is_below_idle m s n f.idle e can)
 next_steps_do_not_clash n m law tr co s rem f e d ne can can' is is' (Entry o Reading ans) (Entry p Reading ans') a a' same c = c
 next_steps_do_not_clash n m law tr co s rem f e d ne can can' is is' (Entry o Reading ans) _ a a' same c = absurd c
@@ -258,7 +258,7 @@ pulled_rest_is_maximal E m s ns rem run ok e fits p top x h = top x (
   where
     whole : (t : ℕ) → join_if (eqb t e.0) (s.now t, label m s e) (trail m (after m s e) (p.rest ++ x ∷ []) t) ≡ trail m s (run ++ x ∷ []) t
     whole t = ap (join_if (eqb t e.0) (s.now t, label m s e)) (trail_append m (after m s e) p.rest (x ∷ []) t)
-        ∙ sym (append_to_join_if (eqb t e.0) (s.now t, label m s e) (trail m (after m s e) p.rest t)
+        ∙ sym (append_after_join_if_is_join_if_of_append (eqb t e.0) (s.now t, label m s e) (trail m (after m s e) p.rest t)
         (trail m (end m (after m s e) p.rest) (x ∷ []) t))
         ∙ ap (λ z. z ++ trail m (end m (after m s e) p.rest) (x ∷ []) t) (p.same_trail t)
         ∙ ap (λ z. trail m s run t ++ trail m z (x ∷ []) t) p.same_end
@@ -299,7 +299,7 @@ following_run_begins_maximal_run E n m law tr co s ns rem f (e ∷ run) run' h h
         rest = g.rest;
         ok = g.ok;
         same_end = g.same_end ∙ p.same_end;
-        same_trail = λ u. append_to_join_if (eqb u e.0) (s.now u, label m s e) (trail m (after m s e) run u)
+        same_trail = λ u. append_after_join_if_is_join_if_of_append (eqb u e.0) (s.now u, label m s e) (trail m (after m s e) run u)
             (trail m (end m (after m s e) run) g.rest u)
             ∙ ap (join_if (eqb u e.0) (s.now u, label m s e)) (g.same_trail u) ∙ p.same_trail u;
       }
@@ -319,7 +319,7 @@ nothing_left_after_maximal_run E m s ns rem run run' ok fits top (e ∷ rest) ok
   where
     whole : (t : ℕ) → trail m s run t ++ trail m (end m s run) (e ∷ rest) t ≡ trail m s (run ++ e ∷ []) t ++ trail m
         (after m (end m s run) e) rest t
-    whole t = ap (λ z. trail m s run t ++ z) (sym (append_to_join_if (eqb t e.0) ((end m s run).now t, label m (end m s run) e) []
+    whole t = ap (λ z. trail m s run t ++ z) (sym (append_after_join_if_is_join_if_of_append (eqb t e.0) ((end m s run).now t, label m (end m s run) e) []
         (trail m (after m (end m s run) e) rest t)))
         ∙ sym (append_assoc (trail m s run t) (trail m (end m s run) (e ∷ []) t) (trail m (after m (end m s run) e) rest t))
         ∙ ap (λ z. z ++ trail m (after m (end m s run) e) rest t) (sym (trail_append m s run (e ∷ []) t))

@@ -109,17 +109,17 @@ take_of_longer_take (suc n) zero xs h = absurd (omega arith)
 take_of_longer_take (suc n) (suc k) [] h = refl
 take_of_longer_take (suc n) (suc k) (x ∷ xs) h = ap (λ z. x ∷ z) (take_of_longer_take n k xs (omega arith))
 
-at_after_prefix : {A : Type 0} (xs ys : List A) (k n : ℕ) (x : A) → length xs ≡ n → At ys k x → At (xs ++ ys) (n + k) x
-at_after_prefix [] ys k n x h a = let e : k ≡ n + k = omega arith in subst (λ z. At ys z x) e a
-at_after_prefix (y ∷ xs) ys k zero x h a = absurd (omega arith)
-at_after_prefix (y ∷ xs) ys k (suc n) x h a = let e : suc (n + k) ≡ suc n + k = omega arith in
-    subst (λ z. At (y ∷ (xs ++ ys)) z x) e (at_after_prefix xs ys k n x (omega arith) a)
+at_of_append_right : {A : Type 0} (xs ys : List A) (k n : ℕ) (x : A) → length xs ≡ n → At ys k x → At (xs ++ ys) (n + k) x
+at_of_append_right [] ys k n x h a = let e : k ≡ n + k = omega arith in subst (λ z. At ys z x) e a
+at_of_append_right (y ∷ xs) ys k zero x h a = absurd (omega arith)
+at_of_append_right (y ∷ xs) ys k (suc n) x h a = let e : suc (n + k) ≡ suc n + k = omega arith in
+    subst (λ z. At (y ∷ (xs ++ ys)) z x) e (at_of_append_right xs ys k n x (omega arith) a)
 
-at_of_take : {A : Type 0} (n : ℕ) (xs : List A) (k : ℕ) (x : A) → At (take n xs) k x → At xs k x
-at_of_take zero xs k x h = absurd h
-at_of_take (suc n) [] k x h = absurd h
-at_of_take (suc n) (y ∷ xs) zero x h = h
-at_of_take (suc n) (y ∷ xs) (suc k) x h = at_of_take n xs k x h
+at_if_at_of_take : {A : Type 0} (n : ℕ) (xs : List A) (k : ℕ) (x : A) → At (take n xs) k x → At xs k x
+at_if_at_of_take zero xs k x h = absurd h
+at_if_at_of_take (suc n) [] k x h = absurd h
+at_if_at_of_take (suc n) (y ∷ xs) zero x h = h
+at_if_at_of_take (suc n) (y ∷ xs) (suc k) x h = at_if_at_of_take n xs k x h
 
 cut_below_further : (p : Cut) (t u : ℕ) → p u ≤ further p t u
 cut_below_further p t u = more (eqb u t) (p u)
@@ -177,10 +177,10 @@ state_at_consistent_cut m law s good run ok p cut c =
             (end m s (part run p)).now t,
             subst (λ i. At (trail m s run t) i ((end m s (part run p)).now t, label m (end m s (part run p)) (t, k.result)))
                 (add_zero (p t))
-                (at_of_take (q t) (trail m s run t) (p t + 0) _
+                (at_if_at_of_take (q t) (trail m s run t) (p t + 0) _
                 (subst (λ w. At w (p t + 0) ((end m s (part run p)).now t, label m (end m s (part run p)) (t, k.result)))
                 (g.same_trail t ∙ y.same_trail t)
-                (at_after_prefix (trail m s (part run p) t) (trail m (end m s (part run p)) g.rest t) 0 (p t) _
+                (at_of_append_right (trail m s (part run p) t) (trail m (end m s (part run p)) g.rest t) 0 (p t) _
                 (omega (arith, ap length (z.same_trail t), length-take (p t) (trail m s run t), cut t)) k.emits))),
           ),
         )

@@ -97,15 +97,15 @@ pub record PlacedLater {T : Type 0} (m : Machine T) (s : State T) (e : Step) (ru
   pub is : k ≡ cond (eqb t e.0) (suc place) place
   pub emits : Emits m (after m s e) run t place a
 
-at_of_join_if_with_place : {A : Type 0} (b : Bool) (x y : A) (xs : List A) (k : ℕ) → At (join_if b x xs) k y → ((b ≡ true) × (k ≡ 0) × (x ≡ y))
+at_of_join_if_place_cases : {A : Type 0} (b : Bool) (x y : A) (xs : List A) (k : ℕ) → At (join_if b x xs) k y → ((b ≡ true) × (k ≡ 0) × (x ≡ y))
     ⊎ ((j : ℕ) × (k ≡ cond b (suc j) j) × At xs j y)
-at_of_join_if_with_place true x y xs zero h = inl (refl, refl, h)
-at_of_join_if_with_place true x y xs (suc k) h = inr (k, refl, h)
-at_of_join_if_with_place false x y xs k h = inr (k, refl, h)
+at_of_join_if_place_cases true x y xs zero h = inl (refl, refl, h)
+at_of_join_if_place_cases true x y xs (suc k) h = inr (k, refl, h)
+at_of_join_if_place_cases false x y xs k h = inr (k, refl, h)
 
 pub emits_of_cons_cases : {T : Type 0} (m : Machine T) (s : State T) (e : Step) (run : List Step) (t k : ℕ) (a : Label) → Emits m s (e ∷ run) t k a
     → ((t ≡ e.0) × (k ≡ 0) × (a ≡ label m s e)) ⊎ PlacedLater m s e run t k a
-emits_of_cons_cases m s e run t k a h = elim (at_of_join_if_with_place (eqb t e.0) (s.now t, label m s e) (h.0, a) (trail m (after m s e) run t) k h.1) [
+emits_of_cons_cases m s e run t k a h = elim (at_of_join_if_place_cases (eqb t e.0) (s.now t, label m s e) (h.0, a) (trail m (after m s e) run t) k h.1) [
   | inl p ↦ inl (eqb-true t e.0 p.0, p.1, sym (ap (λ z. z.1) p.2))
   | inr p ↦ inr (record { place = p.0; is = p.1; emits = (h.0, p.2) })
 ]

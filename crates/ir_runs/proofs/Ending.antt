@@ -32,9 +32,9 @@ pub record AfterThreadEnd {T : Type 0} (m : Machine T) (s : State T) (run : List
   pub silent : events (trail m s run t) ≡ []
   pub ended : m.ended ((end m s run).now t) ≡ Some e
 
-after_thread_end_own_step : {T : Type 0} (m : Machine T) → IsClosing m → (s : State T) (d : Step) (run : List Step) → Can m s d → (e : ℕ × ℕ)
+after_thread_end_of_cons_own_step : {T : Type 0} (m : Machine T) → IsClosing m → (s : State T) (d : Step) (run : List Step) → Can m s d → (e : ℕ × ℕ)
     → m.ended (s.now d.0) ≡ Some e → AfterThreadEnd m (after m s d) run d.0 e → AfterThreadEnd m s (d ∷ run) d.0 e
-after_thread_end_own_step m c s d run can e h k =
+after_thread_end_of_cons_own_step m c s d run can e h k =
     let v : ℕ = reply (act m s d) (s.objects (target (act m s d))) in
     let g = c.leaves (s.now d.0) v e h (thread_that_steps_is_not_done m s d can) in
     let emitted_out : label m s d ≡ Out g.0 g.1 (s.objects g.0).version =
@@ -51,7 +51,7 @@ ended_thread_only_leaves m c s [] ok done t e h = record { steps = sym (c.done (
 ended_thread_only_leaves m c s (d ∷ run) ok done t e h = elim (cases_eq t d.0) [
   | inl same ↦
       let h' : m.ended (s.now d.0) ≡ Some e = ap (λ z. m.ended (s.now z)) (sym same) ∙ h in
-      subst (λ z. AfterThreadEnd m s (d ∷ run) z e) (sym same) (after_thread_end_own_step m c s d run ok.0 e h'
+      subst (λ z. AfterThreadEnd m s (d ∷ run) z e) (sym same) (after_thread_end_of_cons_own_step m c s d run ok.0 e h'
       (ended_thread_only_leaves m c (after m s d) run ok.1 done d.0 e
       (ap m.ended (thread_after_own_step m s d) ∙ c.stays (s.now d.0) (reply (act m s d) (s.objects (target (act m s d)))) e h')))
   | inr other ↦
@@ -63,9 +63,9 @@ ended_thread_only_leaves m c s (d ∷ run) ok done t e h = elim (cases_eq t d.0)
       }
 ]
 
-pub ends_at_some_is_new_end : (a b : Option (ℕ × ℕ)) (e : ℕ × ℕ) → ends_at a b ≡ Some e → (a ≡ None) × (b ≡ Some e)
-ends_at_some_is_new_end None b e h = (refl, h)
-ends_at_some_is_new_end (Some x) b e h = absurd (cc h)
+pub ends_at_is_some_only_from_none_to_some : (a b : Option (ℕ × ℕ)) (e : ℕ × ℕ) → ends_at a b ≡ Some e → (a ≡ None) × (b ≡ Some e)
+ends_at_is_some_only_from_none_to_some None b e h = (refl, h)
+ends_at_is_some_only_from_none_to_some (Some x) b e h = absurd (cc h)
 
 -- a thread's end, as a step of a run
 pub record EndingStep {T : Type 0} (m : Machine T) (s : State T) (d : Step) (e : ℕ × ℕ) : Type 0 where
@@ -77,7 +77,7 @@ pub ending_step_is_quiet : {T : Type 0} (m : Machine T) → IsClosing m → (s :
     → EndingStep m s d e
 ending_step_is_quiet m c s d e h =
     let x = s.now d.0 in
-    let g : (m.ended x ≡ None) × (m.ended (m.take x 0) ≡ Some e) = ends_at_some_is_new_end (m.ended x) (m.ended (m.take x 0)) e h in
+    let g : (m.ended x ≡ None) × (m.ended (m.take x 0) ≡ Some e) = ends_at_is_some_only_from_none_to_some (m.ended x) (m.ended (m.take x 0)) e h in
     let z : (m.ask x ≡ Private) × (m.size (m.take x 0) ≡ m.size x) = c.ends x 0 e g.0 g.1 in
     let p : (after m s d).now d.0 ≡ m.take x 0 = thread_after_own_step m s d
     ∙ ap (λ q. m.take x (reply (act_of q d.1) (s.objects (target (act_of q d.1))))) z.0 in
@@ -87,13 +87,13 @@ ending_step_is_quiet m c s d e h =
       size = ap m.size p ∙ z.1;
     }
 
-own_step_meets_end : {T : Type 0} (m : Machine T) → IsClosing m → (s : State T) (d : Step) (run : List Step) → IsRun m (after m s d) run
+meets_end_step_of_own_thread : {T : Type 0} (m : Machine T) → IsClosing m → (s : State T) (d : Step) (run : List Step) → IsRun m (after m s d) run
     → IsDone m (end m (after m s d) run) → (fin : Option (ℕ × ℕ)) → fin ≡ m.ended ((end m (after m s d) run).now d.0) → (q : Option (ℕ × ℕ))
     → ends_now m (s.now d.0) ≡ q
     → Meets q fin (m.size (s.now d.0)) (suc (length (trail m (after m s d) run d.0)))
     (logged (label m s d) (events (trail m (after m s d) run d.0)))
-own_step_meets_end m c s d run ok done fin is None h = tt
-own_step_meets_end m c s d run ok done fin is (Some e) h =
+meets_end_step_of_own_thread m c s d run ok done fin is None h = tt
+meets_end_step_of_own_thread m c s d run ok done fin is (Some e) h =
     let g : EndingStep m s d e = ending_step_is_quiet m c s d e h in
     let k : AfterThreadEnd m (after m s d) run d.0 e = ended_thread_only_leaves m c (after m s d) run ok done d.0 e g.ended in
     (is ∙ k.ended, ap suc (k.steps ∙ g.size), ap (λ z. logged z (events (trail m (after m s d) run d.0))) g.quiet ∙ k.silent)
@@ -107,7 +107,7 @@ trail_of_complete_run_meets_ends m c s (d ∷ run) ok done t fin is = elim (case
       let is' : fin ≡ m.ended ((end m (after m s d) run).now d.0) = is ∙ ap (λ z. m.ended ((end m (after m s d) run).now z)) same in
       subst (λ z. Ends (λ x n es. Meets (ends_now m x) fin (m.size x) n es) (trail m s (d ∷ run) z)) (sym same)
       (subst (Ends (λ x n es. Meets (ends_now m x) fin (m.size x) n es)) (sym (trail_of_cons_own_thread m s d run))
-      (own_step_meets_end m c s d run ok.1 done fin is' (ends_now m (s.now d.0)) refl, trail_of_complete_run_meets_ends m c (after m s d) run ok.1 done d.0 fin is'))
+      (meets_end_step_of_own_thread m c s d run ok.1 done fin is' (ends_now m (s.now d.0)) refl, trail_of_complete_run_meets_ends m c (after m s d) run ok.1 done d.0 fin is'))
   | inr other ↦ subst (Ends (λ x n es. Meets (ends_now m x) fin (m.size x) n es)) (sym (trail_of_cons_other_thread m s d run t other))
       (trail_of_complete_run_meets_ends m c (after m s d) run ok.1 done t fin is)
 ]

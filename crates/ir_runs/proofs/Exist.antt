@@ -9,7 +9,7 @@ use Rattle.ir_runs.specs.Bounds.{lower}
 use Rattle.ir_runs.proofs.Good.{StateInvariant, state_invariant_after_step}
 use Rattle.ir_runs.proofs.Determined.{count_of_cons}
 use Rattle.ir_runs.proofs.Early.{emits_of_cons_cases, needed_step_is_not_later}
-use Rattle.ir_runs.proofs.Sort.{emits_after_first_step, first_step_emits_own_label, consistent_cut_after_first_step, raised_place_below_number}
+use Rattle.ir_runs.proofs.Sort.{emits_of_cons_if_emits_later, first_step_emits_own_label, consistent_cut_after_first_step, raised_place_below_if_place_below_lowered}
 use Rattle.ir_runs.specs.Admitted.{further}
 
 pub needs_is_decidable : (a b : Label) → IsNeededBy a b ⊎ (IsNeededBy a b → ⊥)
@@ -39,8 +39,8 @@ needing_step_or_none m s (e ∷ run) q k = elim (needing_step_or_none m (after m
     place = cond (eqb w.thread e.0) (suc w.place) w.place;
     emitted = w.emitted;
     emits =
-        emits_after_first_step m s e run w.thread w.place w.emitted w.emits;
-    inside = raised_place_below_number (eqb w.thread e.0) w.place (q w.thread) w.inside;
+        emits_of_cons_if_emits_later m s e run w.thread w.place w.emitted w.emits;
+    inside = raised_place_below_if_place_below_lowered (eqb w.thread e.0) w.place (q w.thread) w.inside;
     needs =
         w.needs;
   })
@@ -187,8 +187,8 @@ least_above_exists m law s good (e ∷ run) ok b cut =
             further k.0 e.0,
             least_above_with_first_step m law s good e run ok b k.0 k.1 (λ c con up low.
                 con w.thread (cond (eqb w.thread e.0) (suc w.place) w.place) e.0 0 w.emitted (label m s e)
-                (emits_after_first_step m s e run w.thread w.place w.emitted w.emits) (first_step_emits_own_label m s e run) w.needs
-                (raised_place_below_number (eqb w.thread e.0) w.place (c w.thread) (omega (arith, w.inside, low w.thread)))),
+                (emits_of_cons_if_emits_later m s e run w.thread w.place w.emitted w.emits) (first_step_emits_own_label m s e run) w.needs
+                (raised_place_below_if_place_below_lowered (eqb w.thread e.0) w.place (c w.thread) (omega (arith, w.inside, low w.thread)))),
           )
           | inr free ↦ (k.0, least_above_without_first_step m s e run b k.0 k.1 (omega arith) (omega arith) free)
         ]

@@ -5,27 +5,27 @@ use Rattle.ir_runs.specs.Lawful.{IsLawful, Ends}
 use Rattle.ir_runs.specs.Run.{State, Step, after, IsRun, end, trail, events, log, count, label}
 use Rattle.ir_runs.specs.Bounds.{trace}
 use Rattle.ir_runs.proofs.Good.{StateInvariant}
-use Rattle.ir_runs.proofs.Append.{join_if_of_append, trail_append, append_of_runs_is_run}
+use Rattle.ir_runs.proofs.Append.{conditional_cons_join_if_of_append, trail_append, append_of_runs_is_run}
 use Rattle.ir_runs.proofs.Same.{BeginsRun, run_with_beginning_logs_begins_run}
 use Rattle.ir_runs.specs.Alike.{Reaches}
 use Rattle.ir_runs.specs.Verdicts.{left_log, Check, unlogged, Fits, Follows, IsMaximal}
 
-logged_keeps_prefix : (k : Label) (xs ys zs : List Label) → xs ++ ys ≡ zs → logged k xs ++ ys ≡ logged k zs
-logged_keeps_prefix Label.Quiet xs ys zs h = h
-logged_keeps_prefix (Label.Answer i v) xs ys zs h = ap (λ z. Label.Answer i v ∷ z) h
-logged_keeps_prefix (Label.In o a v l) xs ys zs h = ap (λ z. Label.In o a v l ∷ z) h
-logged_keeps_prefix (Label.Refused o) xs ys zs h = ap (λ z. Label.Refused o ∷ z) h
-logged_keeps_prefix (Label.Out o a v) xs ys zs h = h
+logged_prefix_append_rest_is_logged_whole : (k : Label) (xs ys zs : List Label) → xs ++ ys ≡ zs → logged k xs ++ ys ≡ logged k zs
+logged_prefix_append_rest_is_logged_whole Label.Quiet xs ys zs h = h
+logged_prefix_append_rest_is_logged_whole (Label.Answer i v) xs ys zs h = ap (λ z. Label.Answer i v ∷ z) h
+logged_prefix_append_rest_is_logged_whole (Label.In o a v l) xs ys zs h = ap (λ z. Label.In o a v l ∷ z) h
+logged_prefix_append_rest_is_logged_whole (Label.Refused o) xs ys zs h = ap (λ z. Label.Refused o ∷ z) h
+logged_prefix_append_rest_is_logged_whole (Label.Out o a v) xs ys zs h = h
 
 pub events_then_left_log_is_log : {T : Type 0} (E : Check T) (n : ℕ) (es : List Label) (xs : List (T × Label)) → Fits E n es xs
     → events xs ++ left_log xs es ≡ es
 events_then_left_log_is_log E n es [] h = refl
-events_then_left_log_is_log E n es (x ∷ xs) h = logged_keeps_prefix x.1 (events xs) (left_log xs (unlogged x.1 es)) (unlogged x.1 es)
+events_then_left_log_is_log E n es (x ∷ xs) h = logged_prefix_append_rest_is_logged_whole x.1 (events xs) (left_log xs (unlogged x.1 es)) (unlogged x.1 es)
     (events_then_left_log_is_log E (pred n) (unlogged x.1 es) xs h.3) ∙ h.1
 
-pub fits_bounds_length : {T : Type 0} (E : Check T) (n : ℕ) (es : List Label) (xs : List (T × Label)) → Fits E n es xs → length xs ≤ n
-fits_bounds_length E n es [] h = omega arith
-fits_bounds_length E n es (x ∷ xs) h = omega (arith, fits_bounds_length E (pred n) (unlogged x.1 es) xs h.3, h.0)
+pub length_at_most_bound_if_fits : {T : Type 0} (E : Check T) (n : ℕ) (es : List Label) (xs : List (T × Label)) → Fits E n es xs → length xs ≤ n
+length_at_most_bound_if_fits E n es [] h = omega arith
+length_at_most_bound_if_fits E n es (x ∷ xs) h = omega (arith, length_at_most_bound_if_fits E (pred n) (unlogged x.1 es) xs h.3, h.0)
 
 pub prefix_of_fitting_steps_fits : {T : Type 0} (E : Check T) (n : ℕ) (es : List Label) (xs ys : List (T × Label)) → Fits E n es (xs ++ ys) → Fits E n es xs
 prefix_of_fitting_steps_fits E n es [] ys h = tt
@@ -47,7 +47,7 @@ nothing_left_after_maximal_follower E m s run follower own ok top (e ∷ rest) o
     whole : (t : ℕ) → trail m s follower t ++ trail m (end m s follower) (e ∷ rest) t ≡ trail m s (follower ++ e ∷ []) t ++ trail m
         (after m (end m s follower) e) rest t
     whole t = ap (λ z. trail m s follower t ++ z)
-        (join_if_of_append (eqb t e.0) ((end m s follower).now t, label m (end m s follower) e) []
+        (conditional_cons_join_if_of_append (eqb t e.0) ((end m s follower).now t, label m (end m s follower) e) []
         (trail m (after m (end m s follower) e) rest t))
         ∙ sym (append_assoc (trail m s follower t) (trail m (end m s follower) (e ∷ []) t) (trail m (after m (end m s follower) e) rest t))
         ∙ ap (λ z. z ++ trail m (after m (end m s follower) e) rest t) (sym (trail_append m s follower (e ∷ []) t))
@@ -58,7 +58,7 @@ pub maximal_follower_reaches_own_run : {T : Type 0} (E : ℕ → Check T) (m : M
 maximal_follower_reaches_own_run E m law s good run own follower f top =
     let g : BeginsRun m s follower run = run_with_beginning_logs_begins_run m law s good follower run f.0 own.0 (λ t. left_log (trail m s follower t) (log m s run t))
     (λ t. events_then_left_log_is_log (E t) (count m s run t) (log m s run t) (trail m s follower t) (f.1 t))
-    (λ t. fits_bounds_length (E t) (count m s run t) (log m s run t) (trail m s follower t) (f.1 t)) in
+    (λ t. length_at_most_bound_if_fits (E t) (count m s run t) (log m s run t) (trail m s follower t) (f.1 t)) in
     let none : g.rest ≡ [] = nothing_left_after_maximal_follower E m s run follower own.1 f.0 top g.rest g.ok g.same_trail in
     record {
       trails = λ u. sym (append-nil _) ∙ ap (λ z. trail m s follower u ++ trail m (end m s follower) z u) (sym none) ∙ g.same_trail u;

@@ -5,7 +5,7 @@ use Rattle.ir_runs.specs.Machine.{Ask, Private, Env, Enter, Try, Leave, Get, Put
 use Rattle.ir_runs.specs.Lawful.{Holds, held_after, IsLawful}
 use Rattle.ir_runs.specs.declared.access.Access.{Access}
 use Rattle.ir_runs.specs.declared.access.Access.TheVariants.{Reading, Writing}
-use Rattle.ir_runs.proofs.Tables.{upd_at_own_place, upd_at_other_place, upd_by_cases}
+use Rattle.ir_runs.proofs.Tables.{upd_at_own_place, upd_at_other_place, property_of_upd_by_cases}
 use Rattle.ir_runs.specs.Run.{State, Step, asked, act, Can, after, IsRun, end}
 use Rattle.ir_runs.specs.Bounds.{IsStart}
 
@@ -42,18 +42,18 @@ inside_for_act_if_holds (Put o j w) r h i e k = e ∙ k
 inside_for_act_if_holds Done r h i e k = tt
 
 -- what the thread holds goes by the answer as by the result
-held_after_reply_as_after_result : (q : Ask) (r : ℕ) (b : Object) (h : ℕ → Option Access) (o : ℕ)
+held_after_reply_is_held_after_result : (q : Ask) (r : ℕ) (b : Object) (h : ℕ → Option Access) (o : ℕ)
     → held_after (act_of q (reply (act_of q r) b)) h o ≡ held_after (act_of q r) h o
-held_after_reply_as_after_result Private r b h o = refl
-held_after_reply_as_after_result (Env k) r b h o = refl
-held_after_reply_as_after_result (Enter i a) r b h o = refl
-held_after_reply_as_after_result (Try i) zero b h o = refl
-held_after_reply_as_after_result (Try i) (suc zero) b h o = refl
-held_after_reply_as_after_result (Try i) (suc (suc r)) b h o = refl
-held_after_reply_as_after_result (Leave i a) r b h o = refl
-held_after_reply_as_after_result (Get i j) r b h o = refl
-held_after_reply_as_after_result (Put i j w) r b h o = refl
-held_after_reply_as_after_result Done r b h o = refl
+held_after_reply_is_held_after_result Private r b h o = refl
+held_after_reply_is_held_after_result (Env k) r b h o = refl
+held_after_reply_is_held_after_result (Enter i a) r b h o = refl
+held_after_reply_is_held_after_result (Try i) zero b h o = refl
+held_after_reply_is_held_after_result (Try i) (suc zero) b h o = refl
+held_after_reply_is_held_after_result (Try i) (suc (suc r)) b h o = refl
+held_after_reply_is_held_after_result (Leave i a) r b h o = refl
+held_after_reply_is_held_after_result (Get i j) r b h o = refl
+held_after_reply_is_held_after_result (Put i j w) r b h o = refl
+held_after_reply_is_held_after_result Done r b h o = refl
 
 pub inside_for_act_of_step : {T : Type 0} (m : Machine T) → IsLawful m → (s : State T) → StateInvariant m s → (e : Step)
     → InsideForAct (act m s e) ((s.objects (target (act m s e))).inside e.0)
@@ -72,17 +72,17 @@ acted_inside_of_other_thread (Load o j) t b u ne = refl
 acted_inside_of_other_thread (Store o j w) t b u ne = refl
 acted_inside_of_other_thread Never t b u ne = refl
 
-acted_inside_of_own_thread : (q : Act) (t : ℕ) (b : Object) (h : ℕ → Option Access) → b.inside t ≡ h (target q)
+acted_inside_of_own_thread_is_held_after : (q : Act) (t : ℕ) (b : Object) (h : ℕ → Option Access) → b.inside t ≡ h (target q)
     → (acted q t b).inside t ≡ held_after q h (target q)
-acted_inside_of_own_thread Silent t b h e = e
-acted_inside_of_own_thread (Refusal _) t b h e = e
-acted_inside_of_own_thread (Result k res) t b h e = e
-acted_inside_of_own_thread (Entry o a ans) t b h e = upd_at_own_place b.inside t (Some a) ∙ sym (upd_at_own_place h o (Some a))
-acted_inside_of_own_thread (Exit o Reading) t b h e = upd_at_own_place b.inside t None ∙ sym (upd_at_own_place h o None)
-acted_inside_of_own_thread (Exit o Writing) t b h e = upd_at_own_place b.inside t None ∙ sym (upd_at_own_place h o None)
-acted_inside_of_own_thread (Load o j) t b h e = e
-acted_inside_of_own_thread (Store o j w) t b h e = e
-acted_inside_of_own_thread Never t b h e = e
+acted_inside_of_own_thread_is_held_after Silent t b h e = e
+acted_inside_of_own_thread_is_held_after (Refusal _) t b h e = e
+acted_inside_of_own_thread_is_held_after (Result k res) t b h e = e
+acted_inside_of_own_thread_is_held_after (Entry o a ans) t b h e = upd_at_own_place b.inside t (Some a) ∙ sym (upd_at_own_place h o (Some a))
+acted_inside_of_own_thread_is_held_after (Exit o Reading) t b h e = upd_at_own_place b.inside t None ∙ sym (upd_at_own_place h o None)
+acted_inside_of_own_thread_is_held_after (Exit o Writing) t b h e = upd_at_own_place b.inside t None ∙ sym (upd_at_own_place h o None)
+acted_inside_of_own_thread_is_held_after (Load o j) t b h e = e
+acted_inside_of_own_thread_is_held_after (Store o j w) t b h e = e
+acted_inside_of_own_thread_is_held_after Never t b h e = e
 
 held_after_at_other_object : (q : Act) (h : ℕ → Option Access) (o : ℕ) → o ≢ target q → held_after q h o ≡ h o
 held_after_at_other_object Silent h o ne = refl
@@ -94,28 +94,28 @@ held_after_at_other_object (Load i j) h o ne = refl
 held_after_at_other_object (Store i j w) h o ne = refl
 held_after_at_other_object Never h o ne = refl
 
-writing_entry_is_exclusive : (b : Object) (t : ℕ) → ((u : ℕ) → b.inside u ≡ None) → (v w : ℕ) → v ≢ w → upd b.inside t (Some Writing) v ≡ Some Writing
+exclusive_after_writing_entry : (b : Object) (t : ℕ) → ((u : ℕ) → b.inside u ≡ None) → (v w : ℕ) → v ≢ w → upd b.inside t (Some Writing) v ≡ Some Writing
     → upd b.inside t (Some Writing) w ≡ None
 unfolding upd
-writing_entry_is_exclusive b t h v w ne e = grind (arith, nat_tests, h v, h w)
+exclusive_after_writing_entry b t h v w ne e = grind (arith, nat_tests, h v, h w)
 
-reading_entry_is_exclusive : (b : Object) (t : ℕ) → ((u : ℕ) → b.inside u ≢ Some Writing) → (v w : ℕ) → v ≢ w
+exclusive_after_reading_entry : (b : Object) (t : ℕ) → ((u : ℕ) → b.inside u ≢ Some Writing) → (v w : ℕ) → v ≢ w
     → upd b.inside t (Some Reading) v ≡ Some Writing → upd b.inside t (Some Reading) w ≡ None
 unfolding upd
-reading_entry_is_exclusive b t h v w ne e = grind (arith, nat_tests, h v)
+exclusive_after_reading_entry b t h v w ne e = grind (arith, nat_tests, h v)
 
-leave_keeps_exclusive : (b : Object) (t : ℕ) → Exclusive b → (v w : ℕ) → v ≢ w → upd b.inside t None v ≡ Some Writing → upd b.inside t None w ≡ None
+exclusive_after_leave : (b : Object) (t : ℕ) → Exclusive b → (v w : ℕ) → v ≢ w → upd b.inside t None v ≡ Some Writing → upd b.inside t None w ≡ None
 unfolding upd
-leave_keeps_exclusive b t ex v w ne e = grind (arith, nat_tests, ex v w)
+exclusive_after_leave b t ex v w ne e = grind (arith, nat_tests, ex v w)
 
 exclusive_after_act : {T : Type 0} (m : Machine T) (q : Act) (t : ℕ) (b : Object) → Exclusive b → Admits m q b → Exclusive (acted q t b)
 exclusive_after_act m Silent t b ex h = ex
 exclusive_after_act m (Refusal _) t b ex h = ex
 exclusive_after_act m (Result k res) t b ex h = ex
-exclusive_after_act m (Entry o Reading ans) t b ex h = reading_entry_is_exclusive b t h
-exclusive_after_act m (Entry o Writing ans) t b ex h = writing_entry_is_exclusive b t h
-exclusive_after_act m (Exit o Reading) t b ex h = leave_keeps_exclusive b t ex
-exclusive_after_act m (Exit o Writing) t b ex h = leave_keeps_exclusive b t ex
+exclusive_after_act m (Entry o Reading ans) t b ex h = exclusive_after_reading_entry b t h
+exclusive_after_act m (Entry o Writing ans) t b ex h = exclusive_after_writing_entry b t h
+exclusive_after_act m (Exit o Reading) t b ex h = exclusive_after_leave b t ex
+exclusive_after_act m (Exit o Writing) t b ex h = exclusive_after_leave b t ex
 exclusive_after_act m (Load o j) t b ex h = ex
 exclusive_after_act m (Store o j w) t b ex h = ex
 exclusive_after_act m Never t b ex h = ex
@@ -129,14 +129,14 @@ inside_is_held_after_step m law s good e u o =
     let q : Act = act m s e in
     let b : Object = s.objects (target q) in
     let v : ℕ = reply q b in
-    let takes : held_after q (m.held x) o ≡ m.held (m.take x v) o = sym (held_after_reply_as_after_result (m.ask x) e.1 b (m.held x) o) ∙ sym (law.takes x v o) in
-    upd_by_cases s.now t (m.take x v) u (λ z. (upd s.objects (target q) (acted q t b) o).inside u ≡ m.held z o)
-    (λ same. upd_by_cases s.objects (target q) (acted q t b) o (λ c. c.inside u ≡ m.held (m.take x v) o)
+    let takes : held_after q (m.held x) o ≡ m.held (m.take x v) o = sym (held_after_reply_is_held_after_result (m.ask x) e.1 b (m.held x) o) ∙ sym (law.takes x v o) in
+    property_of_upd_by_cases s.now t (m.take x v) u (λ z. (upd s.objects (target q) (acted q t b) o).inside u ≡ m.held z o)
+    (λ same. property_of_upd_by_cases s.objects (target q) (acted q t b) o (λ c. c.inside u ≡ m.held (m.take x v) o)
     (λ here. subst (λ z. (acted q t b).inside z ≡ m.held (m.take x v) o) (sym same)
-    (acted_inside_of_own_thread q t b (m.held x) (good.linked t (target q)) ∙ ap (held_after q (m.held x)) (sym here) ∙ takes))
+    (acted_inside_of_own_thread_is_held_after q t b (m.held x) (good.linked t (target q)) ∙ ap (held_after q (m.held x)) (sym here) ∙ takes))
     (λ other. subst (λ z. (s.objects o).inside z ≡ m.held (m.take x v) o) (sym same)
     (good.linked t o ∙ sym (held_after_at_other_object q (m.held x) o other) ∙ takes)))
-    (λ differ. upd_by_cases s.objects (target q) (acted q t b) o (λ c. c.inside u ≡ m.held (s.now u) o)
+    (λ differ. property_of_upd_by_cases s.objects (target q) (acted q t b) o (λ c. c.inside u ≡ m.held (s.now u) o)
     (λ here. acted_inside_of_other_thread q t b u differ ∙ good.linked u (target q) ∙ ap (m.held (s.now u)) (sym here))
     (λ other. good.linked u o))
 
@@ -144,7 +144,7 @@ pub state_invariant_after_step : {T : Type 0} (m : Machine T) → IsLawful m →
 unfolding after
 state_invariant_after_step m law s good e can = record {
   linked = inside_is_held_after_step m law s good e;
-  exclusive = λ o. upd_by_cases s.objects (target (act m s e)) (acted (act m s e) e.0 (s.objects (target (act m s e)))) o Exclusive
+  exclusive = λ o. property_of_upd_by_cases s.objects (target (act m s e)) (acted (act m s e) e.0 (s.objects (target (act m s e)))) o Exclusive
       (λ _. exclusive_after_act m (act m s e) e.0 (s.objects (target (act m s e))) (good.exclusive _) can)
       (λ _. good.exclusive o);
 }

@@ -10,18 +10,18 @@ use Rattle.ir_runs.proofs.Good.{StateInvariant, state_invariant_after_step}
 use Rattle.ir_runs.proofs.Determined.{count_of_cons}
 use Rattle.ir_runs.proofs.Early.{emits_of_cons_cases, needed_step_is_not_later, suc_if_keeps_less, suc_if_reflects_less}
 use Rattle.ir_runs.proofs.Exist.{needs_is_decidable}
-use Rattle.ir_runs.proofs.Sort.{emits_after_first_step, first_step_emits_own_label, consistent_cut_after_first_step, raised_place_below_number}
+use Rattle.ir_runs.proofs.Sort.{emits_of_cons_if_emits_later, first_step_emits_own_label, consistent_cut_after_first_step, raised_place_below_if_place_below_lowered}
 use Rattle.ir_runs.specs.Admitted.{further}
 
 abbrev pub Among : Label → List Label → Type 0
 Among k [] = ⊥
 Among k (x ∷ xs) = (x ≡ k) ⊎ Among k xs
 
-needs_among_is_decidable : (out : List Label) (a : Label) → ((k : Label) × Among k out × IsNeededBy k a) ⊎ ((k : Label) → Among k out → IsNeededBy k a → ⊥)
-needs_among_is_decidable [] a = inr (λ k h n. h)
-needs_among_is_decidable (x ∷ xs) a = elim (needs_is_decidable x a) [
+some_label_among_is_needed_or_none : (out : List Label) (a : Label) → ((k : Label) × Among k out × IsNeededBy k a) ⊎ ((k : Label) → Among k out → IsNeededBy k a → ⊥)
+some_label_among_is_needed_or_none [] a = inr (λ k h n. h)
+some_label_among_is_needed_or_none (x ∷ xs) a = elim (needs_is_decidable x a) [
   | inl n ↦ inl (x, inl (λ i. x), n)
-  | inr free ↦ elim (needs_among_is_decidable xs a) [
+  | inr free ↦ elim (some_label_among_is_needed_or_none xs a) [
     | inl w ↦ inl (w.0, inr w.1, w.2)
     | inr none ↦ inr (λ k h n. elim h [ inl e ↦ free (subst (λ z. IsNeededBy z a) (sym e) n) | inr g ↦ none k g n ])
   ]
@@ -41,7 +41,7 @@ pub record GreatestAvoiding {T : Type 0} (m : Machine T) (s : State T) (run : Li
 avoids_after_first_step : {T : Type 0} (m : Machine T) (s : State T) (e : Step) (run : List Step) (c : Cut) (out : List Label)
     → Avoids m s (e ∷ run) c out → Avoids m (after m s e) run (lower c e.0) out
 avoids_after_first_step m s e run c out f t i a k h l g n =
-    f t (cond (eqb t e.0) (suc i) i) a k (emits_after_first_step m s e run t i a h) (raised_place_below_number (eqb t e.0) i (c t) l) g n
+    f t (cond (eqb t e.0) (suc i) i) a k (emits_of_cons_if_emits_later m s e run t i a h) (raised_place_below_if_place_below_lowered (eqb t e.0) i (c t) l) g n
 
 zero_below_suc : (n : ℕ) → 0 < suc n
 zero_below_suc n = omega arith
@@ -108,16 +108,16 @@ greatest_avoiding_without_first_step m s e run b q out never k = record {
   below = λ u. nothing_less (eqb u e.0) (q u) (b u) (k.below u);
   greatest = λ c con av down u. k.greatest c
       (λ t i w j a d h g n l. from_later c (never c av down) w j
-      (con t (cond (eqb t e.0) (suc i) i) w (cond (eqb w e.0) (suc j) j) a d (emits_after_first_step m s e run t i a h) (emits_after_first_step m s e run w j d g) n
+      (con t (cond (eqb t e.0) (suc i) i) w (cond (eqb w e.0) (suc j) j) a d (emits_of_cons_if_emits_later m s e run t i a h) (emits_of_cons_if_emits_later m s e run w j d g) n
       (to_later c (never c av down) t i l)))
       (λ t i a x h l g n. elim g [
         | inl same ↦ omega (
           arith,
           never c av down,
-          con t (cond (eqb t e.0) (suc i) i) e.0 0 a x (emits_after_first_step m s e run t i a h)
+          con t (cond (eqb t e.0) (suc i) i) e.0 0 a x (emits_of_cons_if_emits_later m s e run t i a h)
               (subst (Emits m s (e ∷ run) e.0 0) same (first_step_emits_own_label m s e run)) n (to_later c (never c av down) t i l),
         )
-        | inr among ↦ av t (cond (eqb t e.0) (suc i) i) a x (emits_after_first_step m s e run t i a h) (to_later c (never c av down) t i l) among n
+        | inr among ↦ av t (cond (eqb t e.0) (suc i) i) a x (emits_of_cons_if_emits_later m s e run t i a h) (to_later c (never c av down) t i l) among n
       ])
       (λ w. elim (cases_eq w e.0) [
         | inl same ↦ omega (arith, ap c same, never c av down)
@@ -181,7 +181,7 @@ greatest_avoiding_exists m law s good (e ∷ run) ok b out cut =
     (λ u. shorter (eqb u e.0) (b u) (count m (after m s e) run u) (subst (λ z. b u ≤ z) (count_of_cons m s e run u) (cut u))) in
     elim (cases_lt 0 (b e.0)) [
       | inr h ↦ (gone.0, greatest_avoiding_without_first_step m s e run b gone.0 out (λ c av down. omega (arith, h, down e.0)) gone.1)
-      | inl h ↦ elim (needs_among_is_decidable out (label m s e)) [
+      | inl h ↦ elim (some_label_among_is_needed_or_none out (label m s e)) [
         | inl w ↦ (
           gone.0,
           greatest_avoiding_without_first_step m s e run b gone.0 out

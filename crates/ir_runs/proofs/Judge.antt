@@ -22,15 +22,15 @@ use Rattle.ir_runs.specs.Verdicts.{Suits, Agrees, Awaits, Judged, IsVerdict, Che
 use Rattle.ir_runs.specs.Coherent.{IsCoherent}
 use Rattle.ir_runs.specs.Events.{IsEvent, HoldsEvents, IsLive}
 
-pub done_is_decidable : (q : Ask) → (q ≡ Done) ⊎ (q ≢ Done)
-done_is_decidable Private = inr (λ h. cc h)
-done_is_decidable (Env k) = inr (λ h. cc h)
-done_is_decidable (Enter o a) = inr (λ h. cc h)
-done_is_decidable (Try o) = inr (λ h. cc h)
-done_is_decidable (Leave o a) = inr (λ h. cc h)
-done_is_decidable (Get o i) = inr (λ h. cc h)
-done_is_decidable (Put o i w) = inr (λ h. cc h)
-done_is_decidable Done = inl refl
+pub ask_is_done_or_not : (q : Ask) → (q ≡ Done) ⊎ (q ≢ Done)
+ask_is_done_or_not Private = inr (λ h. cc h)
+ask_is_done_or_not (Env k) = inr (λ h. cc h)
+ask_is_done_or_not (Enter o a) = inr (λ h. cc h)
+ask_is_done_or_not (Try o) = inr (λ h. cc h)
+ask_is_done_or_not (Leave o a) = inr (λ h. cc h)
+ask_is_done_or_not (Get o i) = inr (λ h. cc h)
+ask_is_done_or_not (Put o i w) = inr (λ h. cc h)
+ask_is_done_or_not Done = inl refl
 
 pub access_equality_is_decidable : (a c : Access) → (a ≡ c) ⊎ (a ≢ c)
 access_equality_is_decidable Reading Reading = inl refl
@@ -38,16 +38,16 @@ access_equality_is_decidable Reading Writing = inr (λ h. cc h)
 access_equality_is_decidable Writing Reading = inr (λ h. cc h)
 access_equality_is_decidable Writing Writing = inl refl
 
-pub pair_is_decidable : {A B : Type 0} → (A ⊎ (A → ⊥)) → (B ⊎ (B → ⊥)) → ((A × B) ⊎ ((A × B) → ⊥))
-pair_is_decidable (inl a) (inl b) = inl (a, b)
-pair_is_decidable (inl a) (inr f) = inr (λ h. f h.1)
-pair_is_decidable (inr f) _ = inr (λ h. f h.0)
+pub conjunction_of_two_is_decidable : {A B : Type 0} → (A ⊎ (A → ⊥)) → (B ⊎ (B → ⊥)) → ((A × B) ⊎ ((A × B) → ⊥))
+conjunction_of_two_is_decidable (inl a) (inl b) = inl (a, b)
+conjunction_of_two_is_decidable (inl a) (inr f) = inr (λ h. f h.1)
+conjunction_of_two_is_decidable (inr f) _ = inr (λ h. f h.0)
 
-pub triple_is_decidable : {A B C : Type 0} → (A ⊎ (A → ⊥)) → (B ⊎ (B → ⊥)) → (C ⊎ (C → ⊥)) → ((A × B × C) ⊎ ((A × B × C) → ⊥))
-triple_is_decidable (inl a) (inl b) (inl c) = inl (a, b, c)
-triple_is_decidable (inl a) (inl b) (inr f) = inr (λ h. f h.2)
-triple_is_decidable (inl a) (inr f) _ = inr (λ h. f h.1)
-triple_is_decidable (inr f) _ _ = inr (λ h. f h.0)
+pub conjunction_of_three_is_decidable : {A B C : Type 0} → (A ⊎ (A → ⊥)) → (B ⊎ (B → ⊥)) → (C ⊎ (C → ⊥)) → ((A × B × C) ⊎ ((A × B × C) → ⊥))
+conjunction_of_three_is_decidable (inl a) (inl b) (inl c) = inl (a, b, c)
+conjunction_of_three_is_decidable (inl a) (inl b) (inr f) = inr (λ h. f h.2)
+conjunction_of_three_is_decidable (inl a) (inr f) _ = inr (λ h. f h.1)
+conjunction_of_three_is_decidable (inr f) _ _ = inr (λ h. f h.0)
 
 pub env_kind_equality_is_decidable : (j k : EnvKind) → (j ≡ k) ⊎ (j ≢ k)
 env_kind_equality_is_decidable Clock Clock = inl refl
@@ -71,13 +71,13 @@ suits_is_decidable (Env k) (Out p c v ∷ es) = inr (λ h. h)
 suits_is_decidable (Enter o a) [] = inr (λ h. h)
 suits_is_decidable (Enter o a) (Quiet ∷ es) = inr (λ h. h)
 suits_is_decidable (Enter o a) (Answer j v ∷ es) = inr (λ h. h)
-suits_is_decidable (Enter o a) (In p c v l ∷ es) = pair_is_decidable (cases_eq p o) (access_equality_is_decidable c a)
+suits_is_decidable (Enter o a) (In p c v l ∷ es) = conjunction_of_two_is_decidable (cases_eq p o) (access_equality_is_decidable c a)
 suits_is_decidable (Enter o a) (Refused p ∷ es) = inr (λ h. h)
 suits_is_decidable (Enter o a) (Out p c v ∷ es) = inr (λ h. h)
 suits_is_decidable (Try o) [] = inr (λ h. h)
 suits_is_decidable (Try o) (Quiet ∷ es) = inr (λ h. h)
 suits_is_decidable (Try o) (Answer j v ∷ es) = inr (λ h. h)
-suits_is_decidable (Try o) (In p c v l ∷ es) = pair_is_decidable (cases_eq p o) (access_equality_is_decidable c Writing)
+suits_is_decidable (Try o) (In p c v l ∷ es) = conjunction_of_two_is_decidable (cases_eq p o) (access_equality_is_decidable c Writing)
 suits_is_decidable (Try o) (Refused p ∷ es) = cases_eq p o
 suits_is_decidable (Try o) (Out p c v ∷ es) = inr (λ h. h)
 suits_is_decidable (Leave o a) es = inl tt
@@ -85,9 +85,9 @@ suits_is_decidable (Get o i) es = inl tt
 suits_is_decidable (Put o i w) es = inl tt
 suits_is_decidable Done es = inl tt
 
-empty_log_is_decidable : (es : List Label) → (es ≡ []) ⊎ (es ≢ [])
-empty_log_is_decidable [] = inl refl
-empty_log_is_decidable (k ∷ es) = inr (λ h. cc h)
+log_is_empty_or_not : (es : List Label) → (es ≡ []) ⊎ (es ≢ [])
+log_is_empty_or_not [] = inl refl
+log_is_empty_or_not (k ∷ es) = inr (λ h. cc h)
 
 end_equality_is_decidable : (fin : Option (ℕ × ℕ)) (e : ℕ × ℕ) → (fin ≡ Some e) ⊎ (fin ≢ Some e)
 end_equality_is_decidable None e = inr (λ h. cc h)
@@ -101,11 +101,11 @@ end_equality_is_decidable (Some (a, b)) (c, d) = elim (cases_eq a c) [
 
 pub meets_is_decidable : (q fin : Option (ℕ × ℕ)) (size n : ℕ) (es : List Label) → Meets q fin size n es ⊎ (Meets q fin size n es → ⊥)
 meets_is_decidable None fin size n es = inl tt
-meets_is_decidable (Some e) fin size n es = triple_is_decidable (end_equality_is_decidable fin e) (cases_eq n (suc size)) (empty_log_is_decidable es)
+meets_is_decidable (Some e) fin size n es = conjunction_of_three_is_decidable (end_equality_is_decidable fin e) (cases_eq n (suc size)) (log_is_empty_or_not es)
 
 pub agrees_is_decidable : {T : Type 0} (m : Machine T) (fin : Option (ℕ × ℕ)) (x : T) (n : ℕ) (es : List Label) → Agrees m fin x n es
     ⊎ (Agrees m fin x n es → ⊥)
-agrees_is_decidable m fin x n es = triple_is_decidable (positive n) (suits_is_decidable (m.ask x) es) (meets_is_decidable (ends_now m x) fin (m.size x) n es)
+agrees_is_decidable m fin x n es = conjunction_of_three_is_decidable (positive n) (suits_is_decidable (m.ask x) es) (meets_is_decidable (ends_now m x) fin (m.size x) n es)
   where
     positive : (n : ℕ) → (0 < n) ⊎ ((0 < n) → ⊥)
     positive zero = inr (λ h. omega arith)
@@ -140,19 +140,19 @@ follows_with_last_step_added m s tr run f t r can g = (
   ],
 )
 
-unlogged_is_within_log : (k : Label) (es : List Label) (i : ℕ) (j : Label) → At (unlogged k es) i j → (h : ℕ) × At es h j
-unlogged_is_within_log Quiet es i j h = (i, h)
-unlogged_is_within_log (Answer a v) [] i j h = absurd h
-unlogged_is_within_log (Answer a v) (e ∷ es) i j h = (suc i, h)
-unlogged_is_within_log (In o a v l) [] i j h = absurd h
-unlogged_is_within_log (In o a v l) (e ∷ es) i j h = (suc i, h)
-unlogged_is_within_log (Refused o) [] i j h = absurd h
-unlogged_is_within_log (Refused o) (e ∷ es) i j h = (suc i, h)
-unlogged_is_within_log (Out o a v) es i j h = (i, h)
+element_of_unlogged_is_in_log : (k : Label) (es : List Label) (i : ℕ) (j : Label) → At (unlogged k es) i j → (h : ℕ) × At es h j
+element_of_unlogged_is_in_log Quiet es i j h = (i, h)
+element_of_unlogged_is_in_log (Answer a v) [] i j h = absurd h
+element_of_unlogged_is_in_log (Answer a v) (e ∷ es) i j h = (suc i, h)
+element_of_unlogged_is_in_log (In o a v l) [] i j h = absurd h
+element_of_unlogged_is_in_log (In o a v l) (e ∷ es) i j h = (suc i, h)
+element_of_unlogged_is_in_log (Refused o) [] i j h = absurd h
+element_of_unlogged_is_in_log (Refused o) (e ∷ es) i j h = (suc i, h)
+element_of_unlogged_is_in_log (Out o a v) es i j h = (i, h)
 
-left_log_is_within_log : {T : Type 0} (xs : List (T × Label)) (es : List Label) (i : ℕ) (j : Label) → At (left_log xs es) i j → (h : ℕ) × At es h j
-left_log_is_within_log [] es i j h = (i, h)
-left_log_is_within_log (x ∷ xs) es i j h = let g = left_log_is_within_log xs (unlogged x.1 es) i j h in unlogged_is_within_log x.1 es g.0 j g.1
+element_of_left_log_is_in_log : {T : Type 0} (xs : List (T × Label)) (es : List Label) (i : ℕ) (j : Label) → At (left_log xs es) i j → (h : ℕ) × At es h j
+element_of_left_log_is_in_log [] es i j h = (i, h)
+element_of_left_log_is_in_log (x ∷ xs) es i j h = let g = element_of_left_log_is_in_log xs (unlogged x.1 es) i j h in element_of_unlogged_is_in_log x.1 es g.0 j g.1
 
 -- if no step continues the run, an entry is waited for
 awaits_if_no_step_continues : {T : Type 0} (m : Machine T) (q : Ask) (es : List Label) → Suits q es → q ≢ Done → ((i : ℕ) (k : Label) → At es i k → IsEvent m k)
@@ -194,7 +194,7 @@ verdict_exists_at_maximal_run n m law tr co ev s good st im run f top t =
     let x = (end m s run).now t in
     let k : ℕ = left_steps (trail m s run t) (tr.steps t) in
     let es : List Label = left_log (trail m s run t) (tr.logs t) in
-    elim (done_is_decidable (m.ask x)) [
+    elim (ask_is_done_or_not (m.ask x)) [
       | inl d ↦ (Same, d)
       | inr ne ↦ elim (agrees_is_decidable m (tr.ends t) x k es) [
         | inr no_more ↦ (Disagrees (length (log m s run t)) (count m s run t), (ne, no_more, refl, refl))
@@ -203,7 +203,7 @@ verdict_exists_at_maximal_run n m law tr co ev s good st im run f top t =
           (
             ne,
             yes_more,
-            awaits_if_no_step_continues m (m.ask x) es yes_more.1 ne (λ i j h. let g = left_log_is_within_log (trail m s run t) (tr.logs t) i j h in ev t g.0 j g.1)
+            awaits_if_no_step_continues m (m.ask x) es yes_more.1 ne (λ i j h. let g = element_of_left_log_is_in_log (trail m s run t) (tr.logs t) i j h in ev t g.0 j g.1)
                 (λ r can logs. top (t, r) (follows_with_last_step_added m s tr run f t r (can _) (yes_more.0, logs _, yes_more.2))),
             maximal_run_takes_thread_furthest n m law tr co s good st im run f top t,
             refl,
@@ -253,13 +253,13 @@ thread_is_live_unless_step_ends m c s d live h =
         ap (λ w. m.ended (m.take (s.now d.0) (reply (act_of w d.1) (s.objects (target (act_of w d.1)))))) (sym z.0) ∙ p in
         absurd (cc (h, ap (λ w. ends_at w (m.ended (m.take (s.now d.0) 0))) live ∙ q))
 
-trace_used_up_own_step : {T : Type 0} (m : Machine T) → IsClosing m → (s : State T) (d : Step) (run : List Step) → IsRun m (after m s d) run
+trace_used_up_step_of_own_thread : {T : Type 0} (m : Machine T) → IsClosing m → (s : State T) (d : Step) (run : List Step) → IsRun m (after m s d) run
     → IsDone m (end m (after m s d) run) → (fin : Option (ℕ × ℕ)) (n : ℕ) (es : List Label) → m.ended (s.now d.0) ≡ None
     → (w : Option (ℕ × ℕ)) → ends_now m (s.now d.0) ≡ w → 0 < n → logged (label m s d) (unlogged (label m s d) es) ≡ es
     → Meets w fin (m.size (s.now d.0)) n es
     → (m.ended ((after m s d).now d.0) ≡ None → TraceUsedUp m (after m s d) run d.0 fin (pred n) (unlogged (label m s d) es))
     → TraceUsedUp m s (d ∷ run) d.0 fin n es
-trace_used_up_own_step m c s d run ok done fin n es live None h l is meets ih =
+trace_used_up_step_of_own_thread m c s d run ok done fin n es live None h l is meets ih =
     let k : TraceUsedUp m (after m s d) run d.0 fin (pred n) (unlogged (label m s d) es) = ih (thread_is_live_unless_step_ends m c s d live h) in
     record {
       steps = ap length (trail_of_cons_own_thread m s d run)
@@ -267,7 +267,7 @@ trace_used_up_own_step m c s d run ok done fin n es live None h l is meets ih =
       silent = ap events (trail_of_cons_own_thread m s d run) ∙ ap (logged (label m s d)) k.silent ∙ is;
       ended = k.ended;
     }
-trace_used_up_own_step m c s d run ok done fin n es live (Some e) h l is meets ih =
+trace_used_up_step_of_own_thread m c s d run ok done fin n es live (Some e) h l is meets ih =
     let g : EndingStep m s d e = ending_step_is_quiet m c s d e h in
     let k : AfterThreadEnd m (after m s d) run d.0 e = ended_thread_only_leaves m c (after m s d) run ok done d.0 e g.ended in
     record {
@@ -277,21 +277,21 @@ trace_used_up_own_step m c s d run ok done fin n es live (Some e) h l is meets i
       ended = k.ended ∙ sym meets.0;
     }
 
-pub used : {T : Type 0} (m : Machine T) → IsClosing m → (s : State T) (run : List Step) → IsRun m s run → IsDone m (end m s run)
+pub trace_is_used_up_if_run_is_done : {T : Type 0} (m : Machine T) → IsClosing m → (s : State T) (run : List Step) → IsRun m s run → IsDone m (end m s run)
     → (t : ℕ) (fin : Option (ℕ × ℕ)) (n : ℕ) (es : List Label) → m.ended (s.now t) ≡ None
     → Fits (λ x n es. Meets (ends_now m x) fin (m.size x) n es) n es (trail m s run t) → TraceUsedUp m s run t fin n es
-used m c s [] ok done t fin n es live h = absurd (cc (live, (c.done (s.now t) (done t)).1))
-used m c s (d ∷ run) ok done t fin n es live h = elim (cases_eq t d.0) [
+trace_is_used_up_if_run_is_done m c s [] ok done t fin n es live h = absurd (cc (live, (c.done (s.now t) (done t)).1))
+trace_is_used_up_if_run_is_done m c s (d ∷ run) ok done t fin n es live h = elim (cases_eq t d.0) [
   | inl same ↦
       let h' : Fits (λ x n es. Meets (ends_now m x) fin (m.size x) n es) n es ((s.now d.0, label m s d) ∷ trail m (after m s d) run d.0) =
       subst (Fits (λ x n es. Meets (ends_now m x) fin (m.size x) n es) n es) (trail_of_cons_own_thread m s d run)
       (subst (λ z. Fits (λ x n es. Meets (ends_now m x) fin (m.size x) n es) n es (trail m s (d ∷ run) z)) same h) in
       subst (λ z. TraceUsedUp m s (d ∷ run) z fin n es) (sym same)
-      (trace_used_up_own_step m c s d run ok.1 done fin n es (ap (λ z. m.ended (s.now z)) (sym same) ∙ live) (ends_now m (s.now d.0)) refl h'.0 h'.1 h'.2
-      (λ live'. used m c (after m s d) run ok.1 done d.0 fin (pred n) (unlogged (label m s d) es) live' h'.3))
+      (trace_used_up_step_of_own_thread m c s d run ok.1 done fin n es (ap (λ z. m.ended (s.now z)) (sym same) ∙ live) (ends_now m (s.now d.0)) refl h'.0 h'.1 h'.2
+      (λ live'. trace_is_used_up_if_run_is_done m c (after m s d) run ok.1 done d.0 fin (pred n) (unlogged (label m s d) es) live' h'.3))
   | inr other ↦
       let k : TraceUsedUp m (after m s d) run t fin n es =
-      used m c (after m s d) run ok.1 done t fin n es (ap m.ended (thread_after_step_of_other m s d t other) ∙ live)
+      trace_is_used_up_if_run_is_done m c (after m s d) run ok.1 done t fin n es (ap m.ended (thread_after_step_of_other m s d t other) ∙ live)
       (subst (Fits (λ x n es. Meets (ends_now m x) fin (m.size x) n es) n es) (trail_of_cons_other_thread m s d run t other) h) in
       record {
         steps = ap length (trail_of_cons_other_thread m s d run t other) ∙ k.steps;
@@ -313,7 +313,7 @@ done_follower_is_whole_run n m c tr s live run f done = record {
 }
   where
     whole : (t : ℕ) → t < n → TraceUsedUp m s run t (tr.ends t) (tr.steps t) (tr.logs t)
-    whole t l = used m c s run f.0 done t (tr.ends t) (tr.steps t) (tr.logs t) (live t l) (f.1 t)
+    whole t l = trace_is_used_up_if_run_is_done m c s run f.0 done t (tr.ends t) (tr.steps t) (tr.logs t) (live t l) (f.1 t)
 
 empty_steps_fit : {T : Type 0} (E : Check T) (n : ℕ) (es : List Label) (xs : List (T × Label)) → length xs ≡ 0 → Fits E n es xs
 empty_steps_fit E n es [] h = tt

@@ -6,30 +6,30 @@ use Rattle.ir_runs.specs.Lawful.{IsLawful}
 use Rattle.ir_runs.specs.declared.access.Access.TheVariants.{Reading, Writing}
 use Rattle.ir_runs.specs.Run.{act, State, Step, asked, Can, after, label, trail}
 use Rattle.ir_runs.proofs.Good.{StateInvariant, state_invariant_after_step}
-use Rattle.ir_runs.proofs.Stuck.{search_for_value_below, writing_is_decidable, inside_is_decidable, done_thread_is_not_inside}
+use Rattle.ir_runs.proofs.Stuck.{some_value_has_first_or_all_below_have_second, access_is_writing_or_not, access_is_some_or_none, done_thread_is_not_inside}
 use Rattle.ir_runs.proofs.Confluent.{steps_left, log_left, FollowsRemainder, first_step_follows_remainder, later_steps_follow_remainder, join_if_fits, stepping_thread_is_below_idle}
-use Rattle.ir_runs.proofs.Judge.{env_kind_equality_is_decidable, pair_is_decidable, triple_is_decidable, meets_is_decidable, access_equality_is_decidable}
+use Rattle.ir_runs.proofs.Judge.{env_kind_equality_is_decidable, conjunction_of_two_is_decidable, conjunction_of_three_is_decidable, meets_is_decidable, access_equality_is_decidable}
 use Rattle.ir_runs.proofs.OneResult.{following_act_is_of_logged_result}
 use Rattle.ir_runs.proofs.Own.{step_below_idle_keeps_idle}
 use Rattle.ir_runs.proofs.Tally.{sum_below_less_if_one_less}
 use Rattle.ir_runs.specs.Verdicts.{sum_below, unlogged, ends_now, closing}
 use Rattle.ir_runs.specs.Events.{result_of}
 
-logged_unlogged_is_decidable : (k : Label) (es : List Label) → (logged k (unlogged k es) ≡ es) ⊎ ((logged k (unlogged k es) ≡ es) → ⊥)
-logged_unlogged_is_decidable Quiet es = inl refl
-logged_unlogged_is_decidable (Answer i v) [] = inr (λ h. cc h)
-logged_unlogged_is_decidable (Answer i v) (Quiet ∷ es) = inr (λ h. cc h)
-logged_unlogged_is_decidable (Answer i v) (Answer j w ∷ es) = elim (env_kind_equality_is_decidable i j) [
+logged_of_unlogged_is_log_or_not : (k : Label) (es : List Label) → (logged k (unlogged k es) ≡ es) ⊎ ((logged k (unlogged k es) ≡ es) → ⊥)
+logged_of_unlogged_is_log_or_not Quiet es = inl refl
+logged_of_unlogged_is_log_or_not (Answer i v) [] = inr (λ h. cc h)
+logged_of_unlogged_is_log_or_not (Answer i v) (Quiet ∷ es) = inr (λ h. cc h)
+logged_of_unlogged_is_log_or_not (Answer i v) (Answer j w ∷ es) = elim (env_kind_equality_is_decidable i j) [
   | inl p ↦ elim (cases_eq v w) [ inl q ↦ inl (λ z. Answer (p z) (q z) ∷ es) | inr f ↦ inr (λ h. f (cc h)) ]
   | inr f ↦ inr (λ h. f (cc h))
 ]
-logged_unlogged_is_decidable (Answer i v) (In p c w j ∷ es) = inr (λ h. cc h)
-logged_unlogged_is_decidable (Answer i v) (Refused p ∷ es) = inr (λ h. cc h)
-logged_unlogged_is_decidable (Answer i v) (Out p c w ∷ es) = inr (λ h. cc h)
-logged_unlogged_is_decidable (In o a v l) [] = inr (λ h. cc h)
-logged_unlogged_is_decidable (In o a v l) (Quiet ∷ es) = inr (λ h. cc h)
-logged_unlogged_is_decidable (In o a v l) (Answer j w ∷ es) = inr (λ h. cc h)
-logged_unlogged_is_decidable (In o a v l) (In p c w j ∷ es) = elim (cases_eq o p) [
+logged_of_unlogged_is_log_or_not (Answer i v) (In p c w j ∷ es) = inr (λ h. cc h)
+logged_of_unlogged_is_log_or_not (Answer i v) (Refused p ∷ es) = inr (λ h. cc h)
+logged_of_unlogged_is_log_or_not (Answer i v) (Out p c w ∷ es) = inr (λ h. cc h)
+logged_of_unlogged_is_log_or_not (In o a v l) [] = inr (λ h. cc h)
+logged_of_unlogged_is_log_or_not (In o a v l) (Quiet ∷ es) = inr (λ h. cc h)
+logged_of_unlogged_is_log_or_not (In o a v l) (Answer j w ∷ es) = inr (λ h. cc h)
+logged_of_unlogged_is_log_or_not (In o a v l) (In p c w j ∷ es) = elim (cases_eq o p) [
   | inl e ↦ elim (access_equality_is_decidable a c) [
     | inl f ↦ elim (cases_eq v w) [
       | inl g ↦ elim (cases_eq l j) [ inl k ↦ inl (λ z. In (e z) (f z) (g z) (k z) ∷ es) | inr ne ↦ inr (λ h. ne (cc h)) ]
@@ -39,30 +39,30 @@ logged_unlogged_is_decidable (In o a v l) (In p c w j ∷ es) = elim (cases_eq o
   ]
   | inr ne ↦ inr (λ h. ne (cc h))
 ]
-logged_unlogged_is_decidable (In o a v l) (Refused p ∷ es) = inr (λ h. cc h)
-logged_unlogged_is_decidable (In o a v l) (Out p c w ∷ es) = inr (λ h. cc h)
-logged_unlogged_is_decidable (Refused o) [] = inr (λ h. cc h)
-logged_unlogged_is_decidable (Refused o) (Quiet ∷ es) = inr (λ h. cc h)
-logged_unlogged_is_decidable (Refused o) (Answer j w ∷ es) = inr (λ h. cc h)
-logged_unlogged_is_decidable (Refused o) (In p c w j ∷ es) = inr (λ h. cc h)
-logged_unlogged_is_decidable (Refused o) (Refused p ∷ es) = elim (cases_eq o p) [ inl e ↦ inl (λ z. Refused (e z) ∷ es) | inr ne ↦ inr (λ h. ne (cc h)) ]
-logged_unlogged_is_decidable (Refused o) (Out p c w ∷ es) = inr (λ h. cc h)
-logged_unlogged_is_decidable (Out o a v) es = inl refl
+logged_of_unlogged_is_log_or_not (In o a v l) (Refused p ∷ es) = inr (λ h. cc h)
+logged_of_unlogged_is_log_or_not (In o a v l) (Out p c w ∷ es) = inr (λ h. cc h)
+logged_of_unlogged_is_log_or_not (Refused o) [] = inr (λ h. cc h)
+logged_of_unlogged_is_log_or_not (Refused o) (Quiet ∷ es) = inr (λ h. cc h)
+logged_of_unlogged_is_log_or_not (Refused o) (Answer j w ∷ es) = inr (λ h. cc h)
+logged_of_unlogged_is_log_or_not (Refused o) (In p c w j ∷ es) = inr (λ h. cc h)
+logged_of_unlogged_is_log_or_not (Refused o) (Refused p ∷ es) = elim (cases_eq o p) [ inl e ↦ inl (λ z. Refused (e z) ∷ es) | inr ne ↦ inr (λ h. ne (cc h)) ]
+logged_of_unlogged_is_log_or_not (Refused o) (Out p c w ∷ es) = inr (λ h. cc h)
+logged_of_unlogged_is_log_or_not (Out o a v) es = inl refl
 
-true_is_decidable : (b : Bool) → (b ≡ true) ⊎ ((b ≡ true) → ⊥)
-true_is_decidable true = inl refl
-true_is_decidable false = inr (λ h. cc h)
+bool_is_true_or_not : (b : Bool) → (b ≡ true) ⊎ ((b ≡ true) → ⊥)
+bool_is_true_or_not true = inl refl
+bool_is_true_or_not false = inr (λ h. cc h)
 
 admits_is_decidable : {T : Type 0} (m : Machine T) → IsLawful m → (s : State T) → StateInvariant m s → (n : ℕ) → ((t : ℕ) → n ≤ t → asked m s t ≡ Done)
     → (q : Act) → Admits m q (s.objects (target q)) ⊎ (Admits m q (s.objects (target q)) → ⊥)
 admits_is_decidable m law s good n idle Silent = inl tt
-admits_is_decidable m law s good n idle (Result k v) = true_is_decidable (m.fits k v)
+admits_is_decidable m law s good n idle (Result k v) = bool_is_true_or_not (m.fits k v)
 admits_is_decidable m law s good n idle (Entry o Reading v) =
-    elim (search_for_value_below (λ x. x ≡ Some Writing) (λ x. x ≢ Some Writing) writing_is_decidable (s.objects o).inside n) [
+    elim (some_value_has_first_or_all_below_have_second (λ x. x ≡ Some Writing) (λ x. x ≢ Some Writing) access_is_writing_or_not (s.objects o).inside n) [
       | inl w ↦ inr (λ h. h w.0 w.1)
       | inr none ↦ inl (λ u e. elim (cases_lt u n) [ inl l ↦ none u l e | inr g ↦ cc (done_thread_is_not_inside m law s good u o (idle u g), e) ])
     ]
-admits_is_decidable m law s good n idle (Entry o Writing v) = elim (search_for_value_below (λ x. x ≢ None) (λ x. x ≡ None) inside_is_decidable (s.objects o).inside n) [
+admits_is_decidable m law s good n idle (Entry o Writing v) = elim (some_value_has_first_or_all_below_have_second (λ x. x ≢ None) (λ x. x ≡ None) access_is_some_or_none (s.objects o).inside n) [
   | inl w ↦ inr (λ h. w.1 (h w.0))
   | inr none ↦ inl (λ u. elim (cases_lt u n) [ inl l ↦ none u l | inr g ↦ done_thread_is_not_inside m law s good u o (idle u g) ])
 ]
@@ -72,11 +72,11 @@ admits_is_decidable m law s good n idle (Load o i) = inl tt
 admits_is_decidable m law s good n idle (Store o i w) = inl tt
 admits_is_decidable m law s good n idle Never = inr (λ h. h)
 
-search_for_thread_below : (P : ℕ → Type 0) → ((t : ℕ) → P t ⊎ (P t → ⊥)) → (n : ℕ) → ((t : ℕ) × (t < n) × P t) ⊎ ((t : ℕ) → t < n → P t → ⊥)
-search_for_thread_below P decide zero = inr (λ t l h. omega arith)
-search_for_thread_below P decide (suc n) = elim (decide n) [
+some_below_satisfies_or_none_does : (P : ℕ → Type 0) → ((t : ℕ) → P t ⊎ (P t → ⊥)) → (n : ℕ) → ((t : ℕ) × (t < n) × P t) ⊎ ((t : ℕ) → t < n → P t → ⊥)
+some_below_satisfies_or_none_does P decide zero = inr (λ t l h. omega arith)
+some_below_satisfies_or_none_does P decide (suc n) = elim (decide n) [
   | inl p ↦ inl (n, omega arith, p)
-  | inr f ↦ elim (search_for_thread_below P decide n) [
+  | inr f ↦ elim (some_below_satisfies_or_none_does P decide n) [
     | inl w ↦ inl (w.0, omega (arith, w.1), w.2)
     | inr none ↦ inr (λ t l h. elim (cases_eq t n) [ inl e ↦ f (subst P e h) | inr ne ↦ none t (omega arith) h ])
   ]
@@ -103,9 +103,9 @@ pred_if_is_below false n p l = absurd (cc p)
 pub maximal_run_exists : {T : Type 0} (fuel n : ℕ) (m : Machine T) → IsLawful m → (tr : Trace) (s : State T) → StateInvariant m s
     → ((t : ℕ) → n ≤ t → asked m s t ≡ Done) → (ns : ℕ → ℕ) (rem : ℕ → List Label) → sum_below n ns < fuel → MaximalRun m tr s ns rem
 maximal_run_exists zero n m law tr s good idle ns rem less = absurd (omega (arith, less))
-maximal_run_exists (suc d) n m law tr s good idle ns rem less = elim (search_for_thread_below (λ t. NextStepFollows m tr s ns rem (t, result_of (asked m s t) (rem t)))
-    (λ t. pair_is_decidable (admits_is_decidable m law s good n idle (act m s (t, result_of (asked m s t) (rem t))))
-    (triple_is_decidable (positive (ns t)) (logged_unlogged_is_decidable (label m s (t, result_of (asked m s t) (rem t))) (rem t))
+maximal_run_exists (suc d) n m law tr s good idle ns rem less = elim (some_below_satisfies_or_none_does (λ t. NextStepFollows m tr s ns rem (t, result_of (asked m s t) (rem t)))
+    (λ t. conjunction_of_two_is_decidable (admits_is_decidable m law s good n idle (act m s (t, result_of (asked m s t) (rem t))))
+    (conjunction_of_three_is_decidable (positive (ns t)) (logged_of_unlogged_is_log_or_not (label m s (t, result_of (asked m s t) (rem t))) (rem t))
     (meets_is_decidable (ends_now m (s.now t)) (tr.ends t) (m.size (s.now t)) (ns t) (rem t)))) n) [
       | inl w ↦
           let e : Step = (w.0, result_of (asked m s w.0) (rem w.0)) in

@@ -119,13 +119,13 @@ progress_below_consistent_target m law s good run ok p q cp cq cut t lt = elim (
 ]
 
 -- a thread passes each of its positions
-pub moment_with_thread_at_position : {T : Type 0} (m : Machine T) (s : State T) (run : List Step) (t k : ℕ) → k ≤ count m s run t → (i : ℕ) × (moment run i t ≡ k)
-moment_with_thread_at_position m s run t zero h = (0, refl)
-moment_with_thread_at_position m s [] t (suc k) h = absurd (omega arith)
-moment_with_thread_at_position {T} m s (e ∷ run) t (suc k) h = elim (cases_eq t e.0) [
-  | inl same ↦ let g = moment_with_thread_at_position m (after m s e) run t k (inside (eqb t e.0) (eq-eqb t e.0 same) (trail m (after m s e) run t) h) in
+pub moment_with_thread_at_position_exists : {T : Type 0} (m : Machine T) (s : State T) (run : List Step) (t k : ℕ) → k ≤ count m s run t → (i : ℕ) × (moment run i t ≡ k)
+moment_with_thread_at_position_exists m s run t zero h = (0, refl)
+moment_with_thread_at_position_exists m s [] t (suc k) h = absurd (omega arith)
+moment_with_thread_at_position_exists {T} m s (e ∷ run) t (suc k) h = elim (cases_eq t e.0) [
+  | inl same ↦ let g = moment_with_thread_at_position_exists m (after m s e) run t k (inside (eqb t e.0) (eq-eqb t e.0 same) (trail m (after m s e) run t) h) in
       (suc g.0, hit (eqb t e.0) (eq-eqb t e.0 same) (moment run g.0 t) k g.1)
-  | inr other ↦ let g = moment_with_thread_at_position m (after m s e) run t (suc k) (outside (eqb t e.0) (ne_eqb t e.0 other) (trail m (after m s e) run t) h) in
+  | inr other ↦ let g = moment_with_thread_at_position_exists m (after m s e) run t (suc k) (outside (eqb t e.0) (ne_eqb t e.0 other) (trail m (after m s e) run t) h) in
       (suc g.0, miss (eqb t e.0) (ne_eqb t e.0 other) (moment run g.0 t) (suc k) g.1)
 ]
   where
@@ -159,7 +159,7 @@ moment_within_count m s (e ∷ run) (suc i) u = grow (eqb u e.0) (moment run i u
 pub least_cut_exact_at_thread : {T : Type 0} (m : Machine T) → IsLawful m → (s : State T) → StateInvariant m s → (run : List Step) → IsRun m s run
     → (p q : Cut) (t k : ℕ) → IsCut m s run p → Consistent m s run p → p t ≤ k → k ≤ count m s run t → IsLeast m s run p t k q → q t ≡ k
 least_cut_exact_at_thread m law s good run ok p q t k cut cp lo hi l =
-    let i = moment_with_thread_at_position m s run t k hi in
+    let i = moment_with_thread_at_position_exists m s run t k hi in
     let h : q t ≤ max (p t) (moment run i.0 t) =
     l.least (λ u. max (p u) (moment run i.0 u)) (λ u. omega (arith, cut u, moment_within_count m s run i.0 u))
     (max_of_cuts_is_consistent m s run p (moment run i.0) cp (moment_is_consistent_cut m law s good run ok i.0)) (λ u. omega arith) (omega (arith, i.1)) t in
@@ -168,7 +168,7 @@ least_cut_exact_at_thread m law s good run ok p q t k cut cp lo hi l =
 pub greatest_cut_exact_at_thread : {T : Type 0} (m : Machine T) → IsLawful m → (s : State T) → StateInvariant m s → (run : List Step) → IsRun m s run
     → (p q : Cut) (t k : ℕ) → IsCut m s run p → Consistent m s run p → k ≤ p t → IsGreatest m s run p t k q → q t ≡ k
 greatest_cut_exact_at_thread m law s good run ok p q t k cut cp lo g =
-    let i = moment_with_thread_at_position m s run t k (omega (arith, cut t)) in
+    let i = moment_with_thread_at_position_exists m s run t k (omega (arith, cut t)) in
     let h : min (p t) (moment run i.0 t) ≤ q t =
     g.greatest (λ u. min (p u) (moment run i.0 u)) (λ u. omega (arith, cut u))
     (min_of_cuts_is_consistent m s run p (moment run i.0) cp (moment_is_consistent_cut m law s good run ok i.0)) (λ u. omega arith) (omega (arith, i.1)) t in

@@ -6,7 +6,7 @@ use Rattle.ir_runs.specs.Machine.{Done, Act, act_of, Silent, Result, Entry, Refu
 use Rattle.ir_runs.specs.Lawful.{IsLawful}
 use Rattle.ir_runs.specs.declared.access.Access.{Access}
 use Rattle.ir_runs.specs.declared.access.Access.TheVariants.{Reading, Writing}
-use Rattle.ir_runs.proofs.Tables.{upd_at_own_place, upd_by_cases}
+use Rattle.ir_runs.proofs.Tables.{upd_at_own_place, property_of_upd_by_cases}
 use Rattle.ir_runs.specs.Run.{act, State, Step, asked, Can, after, label, IsRun, join_if, trail, events, log, At}
 use Rattle.ir_runs.specs.Bounds.{IsStart, IsIdle, trace}
 use Rattle.ir_runs.proofs.Good.{Exclusive, InsideForAct, StateInvariant, state_invariant_after_step, inside_for_act_of_step}
@@ -194,33 +194,33 @@ pub record VersionsMade {T : Type 0} (s : State T) (Q : ℕ → ℕ → Type 0) 
   pub inside : (o t : ℕ) → (s.objects o).inside t ≡ Some Writing → Q o (s.objects o).version
 
 writer_after_entry_cases : (b : Object) (t u : ℕ) (a : Access) → upd b.inside t (Some a) u ≡ Some Writing → (b.inside u ≡ Some Writing) ⊎ (a ≡ Writing)
-writer_after_entry_cases b t u a = upd_by_cases b.inside t (Some a) u (λ z. z ≡ Some Writing → (b.inside u ≡ Some Writing) ⊎ (a ≡ Writing)) (λ _ h. inr (cc h))
+writer_after_entry_cases b t u a = property_of_upd_by_cases b.inside t (Some a) u (λ z. z ≡ Some Writing → (b.inside u ≡ Some Writing) ⊎ (a ≡ Writing)) (λ _ h. inr (cc h))
     (λ _ h. inl h)
 
 writer_after_leave_was_inside : (b : Object) (t u : ℕ) → upd b.inside t None u ≡ Some Writing → b.inside u ≡ Some Writing
-writer_after_leave_was_inside b t u = upd_by_cases b.inside t None u (λ z. z ≡ Some Writing → b.inside u ≡ Some Writing) (λ _ h. absurd (cc h)) (λ _ h. h)
+writer_after_leave_was_inside b t u = property_of_upd_by_cases b.inside t None u (λ z. z ≡ Some Writing → b.inside u ≡ Some Writing) (λ _ h. absurd (cc h)) (λ _ h. h)
 
-versions_made_after_act : {T : Type 0} (m : Machine T) (q : Act) (t : ℕ) (b : Object) → Exclusive b → InsideForAct q (b.inside t) → (P : ℕ → Type 0)
+property_of_made_versions_holds_after_act : {T : Type 0} (m : Machine T) (q : Act) (t : ℕ) (b : Object) → Exclusive b → InsideForAct q (b.inside t) → (P : ℕ → Type 0)
     → ((v : ℕ) → v < b.version → P v) → ((u : ℕ) → b.inside u ≡ Some Writing → P b.version)
     → ((o ans : ℕ) → q ≡ Entry o Writing ans → P b.version)
     → ((v : ℕ) → v < (acted q t b).version → P v) × ((u : ℕ) → (acted q t b).inside u ≡ Some Writing → P (acted q t b).version)
-versions_made_after_act m Silent t b ex i P p w new = (p, w)
-versions_made_after_act m (Refusal _) t b ex i P p w new = (p, w)
-versions_made_after_act m (Result k res) t b ex i P p w new = (p, w)
-versions_made_after_act m (Entry o Reading ans) t b ex i P p w new = (p, λ u h. elim (writer_after_entry_cases b t u Reading h) [ inl g ↦ w u g | inr g ↦ absurd (cc g) ])
-versions_made_after_act m (Entry o Writing ans) t b ex i P p w new = (p, λ u h. new o ans refl)
-versions_made_after_act m (Exit o Reading) t b ex i P p w new = (p, λ u h. w u (writer_after_leave_was_inside b t u h))
-versions_made_after_act m (Exit o Writing) t b ex i P p w new = (
+property_of_made_versions_holds_after_act m Silent t b ex i P p w new = (p, w)
+property_of_made_versions_holds_after_act m (Refusal _) t b ex i P p w new = (p, w)
+property_of_made_versions_holds_after_act m (Result k res) t b ex i P p w new = (p, w)
+property_of_made_versions_holds_after_act m (Entry o Reading ans) t b ex i P p w new = (p, λ u h. elim (writer_after_entry_cases b t u Reading h) [ inl g ↦ w u g | inr g ↦ absurd (cc g) ])
+property_of_made_versions_holds_after_act m (Entry o Writing ans) t b ex i P p w new = (p, λ u h. new o ans refl)
+property_of_made_versions_holds_after_act m (Exit o Reading) t b ex i P p w new = (p, λ u h. w u (writer_after_leave_was_inside b t u h))
+property_of_made_versions_holds_after_act m (Exit o Writing) t b ex i P p w new = (
   λ v l. elim (cases_lt v b.version)
       [ inl g ↦ p v g | inr g ↦ let e : b.version ≡ v = omega arith in subst P e (w t i) ],
   λ u h. absurd (gone u h),
 )
   where
     gone : (u : ℕ) → upd b.inside t None u ≡ Some Writing → ⊥
-    gone u h = absurd (upd_by_cases b.inside t None u (λ z. z ≡ Some Writing → ⊥) (λ _ g. cc g) (λ ne g. cc (ex t u (λ e. ne (sym e)) i, g)) h)
-versions_made_after_act m (Load o j) t b ex i P p w new = (p, w)
-versions_made_after_act m (Store o j x) t b ex i P p w new = (p, w)
-versions_made_after_act m Never t b ex i P p w new = (p, w)
+    gone u h = absurd (property_of_upd_by_cases b.inside t None u (λ z. z ≡ Some Writing → ⊥) (λ _ g. cc g) (λ ne g. cc (ex t u (λ e. ne (sym e)) i, g)) h)
+property_of_made_versions_holds_after_act m (Load o j) t b ex i P p w new = (p, w)
+property_of_made_versions_holds_after_act m (Store o j x) t b ex i P p w new = (p, w)
+property_of_made_versions_holds_after_act m Never t b ex i P p w new = (p, w)
 
 versions_made_after_step : {T : Type 0} (m : Machine T) → IsLawful m → (s : State T) → StateInvariant m s → (Q : ℕ → ℕ → Type 0) → VersionsMade s Q → (e : Step)
     → ((o v l : ℕ) → label m s e ≡ In o Writing v l → Q o v) → VersionsMade (after m s e) Q
@@ -228,14 +228,14 @@ unfolding after
 versions_made_after_step m law s good Q made e new =
     let q : Act = act m s e in
     let b : Object = s.objects (target q) in
-    let z = versions_made_after_act m q e.0 b (good.exclusive (target q)) (inside_for_act_of_step m law s good e) (Q (target q)) (made.past (target q))
+    let z = property_of_made_versions_holds_after_act m q e.0 b (good.exclusive (target q)) (inside_for_act_of_step m law s good e) (Q (target q)) (made.past (target q))
     (made.inside (target q))
     (λ o ans is. subst (λ w. Q (target w) (s.objects (target w)).version) (sym is)
     (new o (s.objects o).version (s.objects o).left (ap (λ w. emitted w (s.objects (target w))) is))) in
     record {
-      past = λ o v. upd_by_cases s.objects (target q) (acted q e.0 b) o (λ d. v < d.version → Q o v)
+      past = λ o v. property_of_upd_by_cases s.objects (target q) (acted q e.0 b) o (λ d. v < d.version → Q o v)
           (λ here l. subst (λ w. Q w v) (sym here) (z.0 v l)) (λ _ l. made.past o v l);
-      inside = λ o t. upd_by_cases s.objects (target q) (acted q e.0 b) o (λ d. d.inside t ≡ Some Writing → Q o d.version)
+      inside = λ o t. property_of_upd_by_cases s.objects (target q) (acted q e.0 b) o (λ d. d.inside t ≡ Some Writing → Q o d.version)
           (λ here h. subst (λ w. Q w (acted q e.0 b).version) (sym here) (z.1 t h)) (λ _ h. made.inside o t h);
     }
 

@@ -29,9 +29,9 @@ positions_of_beginning_are_consistent m law s good run prefix ok g p is =
     (moment_is_consistent_cut m law s good (prefix ++ g.rest) (append_of_runs_is_run m s prefix g.rest ok g.ok) (length prefix)))
 
 -- its steps are those in the cut
-trail_of_beginning_is_taken : {T : Type 0} (m : Machine T) (s : State T) (run prefix : List Step) → BeginsRun m s prefix run → (p : Cut)
+trail_of_beginning_is_take_of_trail : {T : Type 0} (m : Machine T) (s : State T) (run prefix : List Step) → BeginsRun m s prefix run → (p : Cut)
     → ((t : ℕ) → count m s prefix t ≡ p t) → (u : ℕ) → trail m s prefix u ≡ take (p u) (trail m s run u)
-trail_of_beginning_is_taken m s run prefix g p is u =
+trail_of_beginning_is_take_of_trail m s run prefix g p is u =
     sym (take-append_seam (trail m s prefix u) (trail m (end m s prefix) g.rest u)) ∙ ap (take (count m s prefix u)) (g.same_trail u)
     ∙ ap (λ n. take n (trail m s run u)) (is u)
 
@@ -47,6 +47,6 @@ run_with_beginning_logs_is_prefix m law s good run prefix ok ok' left logs few p
       cut = λ u. let a = few u in let b = is u in omega (arith, a, b);
       consistent = c;
       same_end = (same_logs_give_same_trails m law s good prefix (part run p) ok' z.ok
-          (λ u. ap events (trail_of_beginning_is_taken m s run prefix g p is u ∙ sym (z.same_trail u)))
-          (λ u. ap length (trail_of_beginning_is_taken m s run prefix g p is u ∙ sym (z.same_trail u)))).same_end;
+          (λ u. ap events (trail_of_beginning_is_take_of_trail m s run prefix g p is u ∙ sym (z.same_trail u)))
+          (λ u. ap length (trail_of_beginning_is_take_of_trail m s run prefix g p is u ∙ sym (z.same_trail u)))).same_end;
     }

@@ -6,7 +6,7 @@ use Rattle.ir_runs.specs.Machine.{Act, Silent, Result, Entry, Refusal, Exit, Loa
 use Rattle.ir_runs.specs.Lawful.{IsLawful}
 use Rattle.ir_runs.specs.declared.access.Access.{Access}
 use Rattle.ir_runs.specs.declared.access.Access.TheVariants.{Reading, Writing}
-use Rattle.ir_runs.proofs.Tables.{upd_at_other_place, upd_by_cases}
+use Rattle.ir_runs.proofs.Tables.{upd_at_other_place, property_of_upd_by_cases}
 use Rattle.ir_runs.specs.Run.{act, State, Step, Can, after, label, IsRun, join_if, trail, At}
 use Rattle.ir_runs.proofs.Good.{Exclusive, InsideForAct, StateInvariant, inside_for_act_of_step, state_invariant_after_step}
 
@@ -18,7 +18,7 @@ pub kept_property_after_step : {T : Type 0} (m : Machine T) → IsLawful m → (
 unfolding after
 kept_property_after_step m law R kept s good e can o here =
     let q : Act = act m s e in
-    upd_by_cases s.objects (target q) (acted q e.0 (s.objects (target q))) o R
+    property_of_upd_by_cases s.objects (target q) (acted q e.0 (s.objects (target q))) o R
     (λ p. kept (s.objects (target q)) e.0 q (good.exclusive _) (inside_for_act_of_step m law s good e) can (subst (λ z. R (s.objects z)) p here))
     (λ _. here)
 
@@ -32,18 +32,18 @@ pub record TakenStep {T : Type 0} (m : Machine T) (R : Object → Type 0) (o t :
   pub emits : label m state step ≡ k
   pub kept : R (state.objects o)
 
-pub at_of_join_if : {A : Type 0} (b : Bool) (x y : A) (xs : List A) (k : ℕ) → At (join_if b x xs) k y → ((b ≡ true) × (x ≡ y))
+pub at_of_join_if_cases : {A : Type 0} (b : Bool) (x y : A) (xs : List A) (k : ℕ) → At (join_if b x xs) k y → ((b ≡ true) × (x ≡ y))
     ⊎ ((j : ℕ) × At xs j y)
-at_of_join_if true x y xs zero h = inl (refl, h)
-at_of_join_if true x y xs (suc k) h = inr (k, h)
-at_of_join_if false x y xs k h = inr (k, h)
+at_of_join_if_cases true x y xs zero h = inl (refl, h)
+at_of_join_if_cases true x y xs (suc k) h = inr (k, h)
+at_of_join_if_cases false x y xs k h = inr (k, h)
 
 pub step_of_trail_was_taken : {T : Type 0} (m : Machine T) → IsLawful m → (R : Object → Type 0) → IsKeptByActs m R → (s : State T) → StateInvariant m s → (run : List Step)
     → IsRun m s run → (o : ℕ) → R (s.objects o)
     → (t k : ℕ) (x : T) (μ : Label) → At (trail m s run t) k (x, μ) → TakenStep m R o t μ
 step_of_trail_was_taken m law R kept s good [] ok o here t k x μ h = absurd h
 step_of_trail_was_taken m law R kept s good (e ∷ run) ok o here t k x μ h =
-    elim (at_of_join_if (eqb t e.0) (s.now t, label m s e) (x, μ) (trail m (after m s e) run t) k h) [
+    elim (at_of_join_if_cases (eqb t e.0) (s.now t, label m s e) (x, μ) (trail m (after m s e) run t) k h) [
       | inl p ↦ record { state = s; good = good; step = e; can = ok.0; who = sym (eqb-true t e.0 p.0); emits = ap (λ z. z.1) p.1; kept = here }
       | inr p ↦ step_of_trail_was_taken m law R kept (after m s e) (state_invariant_after_step m law s good e ok.0) run ok.1 o (kept_property_after_step m law R kept s good e ok.0 o here) t p.0
           x μ p.1

@@ -83,9 +83,9 @@ length_order_cancels_join_if : {A : Type 0} (b : Bool) (x : A) (xs ys : List A) 
 length_order_cancels_join_if true x xs ys h = omega arith
 length_order_cancels_join_if false x xs ys h = h
 
-pub append_to_join_if : {A : Type 0} (b : Bool) (x : A) (xs ys : List A) → join_if b x xs ++ ys ≡ join_if b x (xs ++ ys)
-append_to_join_if true x xs ys = refl
-append_to_join_if false x xs ys = refl
+pub append_after_join_if_is_join_if_of_append : {A : Type 0} (b : Bool) (x : A) (xs ys : List A) → join_if b x xs ++ ys ≡ join_if b x (xs ++ ys)
+append_after_join_if_is_join_if_of_append true x xs ys = refl
+append_after_join_if_is_join_if_of_append false x xs ys = refl
 
 pub record NonEmpty {A : Type 0} (xs : List A) : Type 0 where
   pub head : A
@@ -136,7 +136,7 @@ run_with_beginning_logs_begins_run m law s good (e ∷ prefix) run ok ok' left l
       rest = g.rest;
       ok = g.ok;
       same_end = g.same_end ∙ p.same_end;
-      same_trail = λ u. append_to_join_if (eqb u e.0) (s.now u, label m s e) (trail m (after m s e) prefix u)
+      same_trail = λ u. append_after_join_if_is_join_if_of_append (eqb u e.0) (s.now u, label m s e) (trail m (after m s e) prefix u)
           (trail m (end m (after m s e) prefix) g.rest u)
           ∙ ap (join_if (eqb u e.0) (s.now u, label m s e)) (g.same_trail u) ∙ p.same_trail u;
     }

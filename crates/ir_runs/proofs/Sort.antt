@@ -8,14 +8,14 @@ use Rattle.ir_runs.specs.Bounds.{lower}
 use Rattle.ir_runs.proofs.Good.{StateInvariant, state_invariant_after_step}
 use Rattle.ir_runs.proofs.Back.{RunWithoutStep, run_without_unneeded_step}
 
-at_after_join_if : {A : Type 0} (b : Bool) (x y : A) (xs : List A) (k : ℕ) → At xs k y → At (join_if b x xs) (cond b (suc k) k) y
-at_after_join_if true x y xs k h = h
-at_after_join_if false x y xs k h = h
+at_of_join_if_is_shifted : {A : Type 0} (b : Bool) (x y : A) (xs : List A) (k : ℕ) → At xs k y → At (join_if b x xs) (cond b (suc k) k) y
+at_of_join_if_is_shifted true x y xs k h = h
+at_of_join_if_is_shifted false x y xs k h = h
 
 -- a step after the first
-pub emits_after_first_step : {T : Type 0} (m : Machine T) (s : State T) (e : Step) (run : List Step) (t k : ℕ) (a : Label) → Emits m (after m s e) run t k a
+pub emits_of_cons_if_emits_later : {T : Type 0} (m : Machine T) (s : State T) (e : Step) (run : List Step) (t k : ℕ) (a : Label) → Emits m (after m s e) run t k a
     → Emits m s (e ∷ run) t (cond (eqb t e.0) (suc k) k) a
-emits_after_first_step m s e run t k a h = (h.0, at_after_join_if (eqb t e.0) (s.now t, label m s e) (h.0, a) (trail m (after m s e) run t) k h.1)
+emits_of_cons_if_emits_later m s e run t k a h = (h.0, at_of_join_if_is_shifted (eqb t e.0) (s.now t, label m s e) (h.0, a) (trail m (after m s e) run t) k h.1)
 
 -- the first step
 pub first_step_emits_own_label : {T : Type 0} (m : Machine T) (s : State T) (e : Step) (run : List Step) → Emits m s (e ∷ run) e.0 0 (label m s e)
@@ -25,19 +25,19 @@ first_step_emits_own_label m s e run = (
       (s.now e.0, label m s e)) (sym (eq-eqb e.0 e.0 refl)) refl,
 )
 
-pub raised_place_below_number : (b : Bool) (k n : ℕ) → k < cond b (pred n) n → cond b (suc k) k < n
-raised_place_below_number true k n h = let h' : k < pred n = h in let g : suc k < n = omega arith in g
-raised_place_below_number false k n h = h
+pub raised_place_below_if_place_below_lowered : (b : Bool) (k n : ℕ) → k < cond b (pred n) n → cond b (suc k) k < n
+raised_place_below_if_place_below_lowered true k n h = let h' : k < pred n = h in let g : suc k < n = omega arith in g
+raised_place_below_if_place_below_lowered false k n h = h
 
-place_below_lowered_number : (b : Bool) (k n : ℕ) → cond b (suc k) k < n → k < cond b (pred n) n
-place_below_lowered_number true k n h = let h' : suc k < n = h in let g : k < pred n = omega arith in g
-place_below_lowered_number false k n h = h
+place_below_lowered_if_raised_below : (b : Bool) (k n : ℕ) → cond b (suc k) k < n → k < cond b (pred n) n
+place_below_lowered_if_raised_below true k n h = let h' : suc k < n = h in let g : k < pred n = omega arith in g
+place_below_lowered_if_raised_below false k n h = h
 
 pub consistent_cut_after_first_step : {T : Type 0} (m : Machine T) (s : State T) (e : Step) (run : List Step) (p : Cut) → Consistent m s (e ∷ run) p
     → Consistent m (after m s e) run (lower p e.0)
 consistent_cut_after_first_step m s e run p c t k u j a b h i n l =
-    place_below_lowered_number (eqb u e.0) j (p u) (c t (cond (eqb t e.0) (suc k) k) u (cond (eqb u e.0) (suc j) j) a b (emits_after_first_step m s e run t k a h)
-    (emits_after_first_step m s e run u j b i) n (raised_place_below_number (eqb t e.0) k (p t) l))
+    place_below_lowered_if_raised_below (eqb u e.0) j (p u) (c t (cond (eqb t e.0) (suc k) k) u (cond (eqb u e.0) (suc j) j) a b (emits_of_cons_if_emits_later m s e run t k a h)
+    (emits_of_cons_if_emits_later m s e run u j b i) n (raised_place_below_if_place_below_lowered (eqb t e.0) k (p t) l))
 
 at_of_take_is_below : {A : Type 0} (n : ℕ) (xs : List A) (k : ℕ) (x : A) → At (take n xs) k x → (k < n) × At xs k x
 at_of_take_is_below zero xs k x h = absurd h
@@ -84,8 +84,8 @@ part_without_first_step_is_run m law s good e run p can l c z =
     (z.same_trail e.0 ∙ take_zero (low e.0) (trail m (after m s e) run e.0)
     (subst (λ b. cond b (pred (p e.0)) (p e.0) ≡ 0) (sym (eq-eqb e.0 e.0 refl)) (ap pred l)))
     (λ u k x a h n. let w = at_of_take_is_below (low u) (trail m (after m s e) run u) k (x, a) (subst (λ y. At y k (x, a)) (z.same_trail u) h) in
-    not_less (p e.0) l (c u (cond (eqb u e.0) (suc k) k) e.0 0 a (label m s e) (emits_after_first_step m s e run u k a (x, w.1)) (first_step_emits_own_label m s e run) n
-    (raised_place_below_number (eqb u e.0) k (p u) w.0))) in
+    not_less (p e.0) l (c u (cond (eqb u e.0) (suc k) k) e.0 0 a (label m s e) (emits_of_cons_if_emits_later m s e run u k a (x, w.1)) (first_step_emits_own_label m s e run) n
+    (raised_place_below_if_place_below_lowered (eqb u e.0) k (p u) w.0))) in
     subst (λ b. IsRun m s (join_if b e (part run low))
     → ((u : ℕ) → trail m s (join_if b e (part run low)) u ≡ take (p u) (trail m s (e ∷ run) u)) → PartIsRun m s (e ∷ run) p)
     (le-ltb 0 (p e.0) (omega arith)) (λ x y. record { ok = x; same_trail = y })

@@ -31,11 +31,11 @@ pub record StepUnchanged {T : Type 0} (m : Machine T) (s : State T) (e e' : Step
   pub reply_same : reply (act m s e') ((after m s e).objects (target (act m s e'))) ≡ reply (act m s e') (s.objects (target (act m s e')))
 
 -- the object that q' is about, where another changes the one that q is about
-pub act_unchanged_beside_change : {T : Type 0} (m : Machine T) (f : ℕ → Object) (o : ℕ) (F : Object → Object) (u : ℕ) (q : Act) → Admits m q (f (target q))
+pub act_unaffected_by_commuting_change : {T : Type 0} (m : Machine T) (f : ℕ → Object) (o : ℕ) (F : Object → Object) (u : ℕ) (q : Act) → Admits m q (f (target q))
     → (target q ≡ o → Commutes m (f o) F u q)
     → Admits m q (upd f o (F (f o)) (target q)) × (emitted q (upd f o (F (f o)) (target q)) ≡ emitted q (f (target q)))
     × (reply q (upd f o (F (f o)) (target q)) ≡ reply q (f (target q)))
-act_unchanged_beside_change m f o F u q h same = elim (cases_eq (target q) o) [
+act_unaffected_by_commuting_change m f o F u q h same = elim (cases_eq (target q) o) [
   | inl e ↦ let c : Commutes m (f o) F u q = same e in
       let p : upd f o (F (f o)) (target q) ≡ F (f o) = ap (upd f o (F (f o))) e ∙ upd_at_own_place f o _ in (
         subst (Admits m q) (sym p) c.admits,
@@ -65,7 +65,7 @@ unfolding after
 step_unchanged_after_other_step m law s good e e' ne can can' free =
     let x = s.now e.0 in let q : Act = act m s e in
     let still : (after m s e).now e'.0 ≡ s.now e'.0 = upd_at_other_place s.now e.0 e'.0 _ (λ p. ne (sym p)) in
-    let z = act_unchanged_beside_change m s.objects (target q) (acted q e.0) e'.0 (act m s e') can' (acts_commute_on_target m law s good e e' ne can can' free) in
+    let z = act_unaffected_by_commuting_change m s.objects (target q) (acted q e.0) e'.0 (act m s e') can' (acts_commute_on_target m law s good e e' ne can can' free) in
     record {
       can = subst (λ y. Admits m (act_of (m.ask y) e'.1) ((after m s e).objects (target (act_of (m.ask y) e'.1)))) (sym still) z.0;
       label_same = ap (λ y. emitted (act_of (m.ask y) e'.1) ((after m s e).objects (target (act_of (m.ask y) e'.1)))) still ∙ z.1;

@@ -11,10 +11,10 @@ use Rattle.ir_runs.specs.Run.{State, Step, asked, Can, after, IsRun, end}
 use Rattle.ir_runs.specs.Bounds.{IsIdle, IsBounded}
 use Rattle.ir_runs.proofs.Good.{StateInvariant}
 
-pub search_for_value_below : (P Q : Option Access → Type 0) → ((x : Option Access) → P x ⊎ Q x) → (f : ℕ → Option Access) (n : ℕ)
+pub some_value_has_first_or_all_below_have_second : (P Q : Option Access → Type 0) → ((x : Option Access) → P x ⊎ Q x) → (f : ℕ → Option Access) (n : ℕ)
     → ((w : ℕ) × P (f w)) ⊎ ((w : ℕ) → w < n → Q (f w))
-search_for_value_below P Q decide f zero = inr (λ w h. absurd (omega arith))
-search_for_value_below P Q decide f (suc n) = elim (search_for_value_below P Q decide f n) [
+some_value_has_first_or_all_below_have_second P Q decide f zero = inr (λ w h. absurd (omega arith))
+some_value_has_first_or_all_below_have_second P Q decide f (suc n) = elim (some_value_has_first_or_all_below_have_second P Q decide f n) [
   | inl p ↦ inl p
   | inr h ↦ elim (decide (f n)) [
     | inl p ↦ inl (n, p)
@@ -22,14 +22,14 @@ search_for_value_below P Q decide f (suc n) = elim (search_for_value_below P Q d
   ]
 ]
 
-pub writing_is_decidable : (x : Option Access) → (x ≡ Some Writing) ⊎ (x ≢ Some Writing)
-writing_is_decidable None = inr (λ h. cc h)
-writing_is_decidable (Some Reading) = inr (λ h. cc h)
-writing_is_decidable (Some Writing) = inl refl
+pub access_is_writing_or_not : (x : Option Access) → (x ≡ Some Writing) ⊎ (x ≢ Some Writing)
+access_is_writing_or_not None = inr (λ h. cc h)
+access_is_writing_or_not (Some Reading) = inr (λ h. cc h)
+access_is_writing_or_not (Some Writing) = inl refl
 
-pub inside_is_decidable : (x : Option Access) → (x ≢ None) ⊎ (x ≡ None)
-inside_is_decidable None = inr refl
-inside_is_decidable (Some a) = inl (λ h. cc h)
+pub access_is_some_or_none : (x : Option Access) → (x ≢ None) ⊎ (x ≡ None)
+access_is_some_or_none None = inr refl
+access_is_some_or_none (Some a) = inl (λ h. cc h)
 
 -- some thread has a step with result 0
 abbrev pub SomeThreadCanStep : {T : Type 0} → Machine T → State T → Type 0
@@ -68,7 +68,7 @@ some_thread_can_step_by_bound m law s good n objects rest low zero_fits d t boun
 some_thread_can_step_by_bound m law s good n objects rest low zero_fits d t bound Done is ne = absurd (ne refl)
 some_thread_can_step_by_bound m law s good n objects rest low zero_fits zero t bound (Enter o a) is ne = absurd (omega (arith, bound o a is, low t o a is))
 some_thread_can_step_by_bound m law s good n objects rest low zero_fits (suc d) t bound (Enter o Reading) is ne =
-    elim (search_for_value_below (λ x. x ≡ Some Writing) (λ x. x ≢ Some Writing) writing_is_decidable (s.objects o).inside n) [
+    elim (some_value_has_first_or_all_below_have_second (λ x. x ≡ Some Writing) (λ x. x ≢ Some Writing) access_is_writing_or_not (s.objects o).inside n) [
       | inl w ↦ let h = holder_waits_for_greater_object m law s good w.0 o (λ e. cc (e, w.1)) in
           some_thread_can_step_by_bound m law s good n objects rest low zero_fits d w.0 (λ i b e. omega (arith, bound o Reading is, h.1 i b e)) (asked m s w.0) refl h.0
       | inr none ↦ (
@@ -78,7 +78,7 @@ some_thread_can_step_by_bound m law s good n objects rest low zero_fits (suc d) 
       )
     ]
 some_thread_can_step_by_bound m law s good n objects rest low zero_fits (suc d) t bound (Enter o Writing) is ne =
-    elim (search_for_value_below (λ x. x ≢ None) (λ x. x ≡ None) inside_is_decidable (s.objects o).inside n) [
+    elim (some_value_has_first_or_all_below_have_second (λ x. x ≢ None) (λ x. x ≡ None) access_is_some_or_none (s.objects o).inside n) [
       | inl w ↦ let h = holder_waits_for_greater_object m law s good w.0 o w.1 in
           some_thread_can_step_by_bound m law s good n objects rest low zero_fits d w.0 (λ i b e. omega (arith, bound o Writing is, h.1 i b e)) (asked m s w.0) refl h.0
       | inr none ↦ (t, can_step_if_ask_admits m s t _ is (λ u. elim (cases_lt u n) [ inl l ↦ none u l | inr g ↦ done_thread_is_not_inside m law s good u o (rest u g) ]))

@@ -5,7 +5,7 @@ use Rattle.ir_runs.specs.Machine.{Act, Silent, Result, Entry, Refusal, Exit, Loa
 use Rattle.ir_runs.specs.Lawful.{IsLawful}
 use Rattle.ir_runs.specs.declared.access.Access.{Access}
 use Rattle.ir_runs.specs.declared.access.Access.TheVariants.{Reading, Writing}
-use Rattle.ir_runs.proofs.Tables.{upd_at_own_place, upd_at_other_place, upd_by_cases}
+use Rattle.ir_runs.proofs.Tables.{upd_at_own_place, upd_at_other_place, property_of_upd_by_cases}
 use Rattle.ir_runs.specs.Run.{act, State, Step, Can, after, label}
 use Rattle.ir_runs.specs.Bounds.{IsStart}
 use Rattle.ir_runs.proofs.Good.{Exclusive, InsideForAct, StateInvariant, inside_for_act_of_step}
@@ -87,14 +87,14 @@ readers_inside_before_leave n t b l i = sum_below_with_one_greater n t (λ u. on
     (ap one_if_reader i ∙ ap (λ z. suc (one_if_reader z)) (sym (upd_at_own_place b.inside t None)))
     (λ u ne. ap one_if_reader (sym (upd_at_other_place b.inside t u None ne)))
 
-balance_after_act : {T : Type 0} (m : Machine T) (n t : ℕ) (q : Act) (b : Object) → t < n → Exclusive b → InsideForAct q (b.inside t) → Admits m q b
+left_and_inside_balance_reads_after_act : {T : Type 0} (m : Machine T) (n t : ℕ) (q : Act) (b : Object) → t < n → Exclusive b → InsideForAct q (b.inside t) → Admits m q b
     → (f : ℕ → ℕ → ℕ) → b.left + readers_inside n b ≡ sum_below n (f b.version) → ((v u : ℕ) → b.version < v → f v u ≡ 0)
     → (acted q t b).left + readers_inside n (acted q t b) ≡ sum_below n
     (λ u. f (acted q t b).version u + counted_read (target q) (acted q t b).version (emitted q b) t u)
-balance_after_act m n t Silent b l ex i h f bal later = bal ∙ sum_below_with_zero_added n t (f b.version)
-balance_after_act m n t (Refusal _) b l ex i h f bal later = bal ∙ sum_below_with_zero_added n t (f b.version)
-balance_after_act m n t (Result k res) b l ex i h f bal later = bal ∙ sum_below_with_zero_added n t (f b.version)
-balance_after_act m n t (Entry o Reading ans) b l ex i h f bal later =
+left_and_inside_balance_reads_after_act m n t Silent b l ex i h f bal later = bal ∙ sum_below_with_zero_added n t (f b.version)
+left_and_inside_balance_reads_after_act m n t (Refusal _) b l ex i h f bal later = bal ∙ sum_below_with_zero_added n t (f b.version)
+left_and_inside_balance_reads_after_act m n t (Result k res) b l ex i h f bal later = bal ∙ sum_below_with_zero_added n t (f b.version)
+left_and_inside_balance_reads_after_act m n t (Entry o Reading ans) b l ex i h f bal later =
     omega (
       arith,
       bal,
@@ -102,22 +102,22 @@ balance_after_act m n t (Entry o Reading ans) b l ex i h f bal later =
       sum_below_with_one_added n t (f b.version) (reads_one o b.version (In o Reading b.version 0)) l
           (reads_one_of_own_entry o b.version),
     )
-balance_after_act m n t (Entry o Writing ans) b l ex i h f bal later =
-    ap (λ z. b.left + z) (sum_below_of_equal_functions n _ _ (λ u _. upd_by_cases b.inside t (Some Writing) u (λ z. one_if_reader z ≡ one_if_reader (b.inside u))
+left_and_inside_balance_reads_after_act m n t (Entry o Writing ans) b l ex i h f bal later =
+    ap (λ z. b.left + z) (sum_below_of_equal_functions n _ _ (λ u _. property_of_upd_by_cases b.inside t (Some Writing) u (λ z. one_if_reader z ≡ one_if_reader (b.inside u))
     (λ e. ap one_if_reader (sym (h u))) (λ _. refl))) ∙ bal ∙ sum_below_with_zero_added n t (f b.version)
-balance_after_act m n t (Exit o Reading) b l ex i h f bal later = omega (arith, bal, readers_inside_before_leave n t b l i, sum_below_with_zero_added n t (f b.version))
-balance_after_act m n t (Exit o Writing) b l ex i h f bal later =
+left_and_inside_balance_reads_after_act m n t (Exit o Reading) b l ex i h f bal later = omega (arith, bal, readers_inside_before_leave n t b l i, sum_below_with_zero_added n t (f b.version))
+left_and_inside_balance_reads_after_act m n t (Exit o Writing) b l ex i h f bal later =
     omega (
       arith,
       sum_below_of_zeros n (λ u. one_if_reader (upd b.inside t None u))
-          (λ u _. upd_by_cases b.inside t None u (λ z. one_if_reader z ≡ 0) (λ _. refl) (λ ne. ap one_if_reader (ex t u (λ e. ne (sym e)) i))),
+          (λ u _. property_of_upd_by_cases b.inside t None u (λ z. one_if_reader z ≡ 0) (λ _. refl) (λ ne. ap one_if_reader (ex t u (λ e. ne (sym e)) i))),
       sum_below_with_zero_added n t
           (f (suc b.version)),
       sum_below_of_zeros n (f (suc b.version)) (λ u _. later (suc b.version) u (omega arith)),
     )
-balance_after_act m n t (Load o j) b l ex i h f bal later = bal ∙ sum_below_with_zero_added n t (f b.version)
-balance_after_act m n t (Store o j w) b l ex i h f bal later = bal ∙ sum_below_with_zero_added n t (f b.version)
-balance_after_act m n t Never b l ex i h f bal later = absurd h
+left_and_inside_balance_reads_after_act m n t (Load o j) b l ex i h f bal later = bal ∙ sum_below_with_zero_added n t (f b.version)
+left_and_inside_balance_reads_after_act m n t (Store o j w) b l ex i h f bal later = bal ∙ sum_below_with_zero_added n t (f b.version)
+left_and_inside_balance_reads_after_act m n t Never b l ex i h f bal later = absurd h
 
 -- what is emitted is of the object that is asked about, at its version
 no_read_emitted_of_other_object : (q : Act) (b : Object) (o v : ℕ) → o ≢ target q → reads_one o v (emitted q b) ≡ 0
@@ -169,16 +169,16 @@ tally_after_step m law n s good c tally e can l =
     let q : Act = act m s e in
     let b : Object = s.objects (target q) in
     record {
-      balance = λ o. upd_by_cases s.objects (target q) (acted q e.0 b) o
+      balance = λ o. property_of_upd_by_cases s.objects (target q) (acted q e.0 b) o
           (λ d. d.left + readers_inside n d ≡ sum_below n (λ u. c o d.version u + counted_read o d.version (label m s e) e.0 u))
           (λ here. subst (λ z. (acted q e.0 b).left + readers_inside n (acted q e.0 b) ≡ sum_below n
           (λ u. c z (acted q e.0 b).version u + counted_read z (acted q e.0 b).version (label m s e) e.0 u)) (sym here)
-          (balance_after_act m n e.0 q b l (good.exclusive (target q)) (inside_for_act_of_step m law s good e) can (c (target q)) (tally.balance (target q))
+          (left_and_inside_balance_reads_after_act m n e.0 q b l (good.exclusive (target q)) (inside_for_act_of_step m law s good e) can (c (target q)) (tally.balance (target q))
           (tally.later (target q))))
           (λ other. tally.balance o ∙ sum_below_of_equal_functions n _ _
           (λ u _. absent (c o (s.objects o).version u) (reads_one o (s.objects o).version (label m s e)) (eqb u e.0)
           (no_read_emitted_of_other_object q b o (s.objects o).version other)));
-      later = λ o v t. upd_by_cases s.objects (target q) (acted q e.0 b) o (λ d. d.version < v → c o v t + counted_read o v (label m s e) e.0 t ≡ 0)
+      later = λ o v t. property_of_upd_by_cases s.objects (target q) (acted q e.0 b) o (λ d. d.version < v → c o v t + counted_read o v (label m s e) e.0 t ≡ 0)
           (λ here less. let z : b.version < v = omega (arith, less, act_does_not_lower_version q e.0 b) in
           count_zero_if_both_zero (c o v t) (reads_one o v (label m s e)) (eqb t e.0)
           (subst (λ w. c w v t ≡ 0) (sym here) (tally.later (target q) v t z)) (no_read_emitted_of_later_version q b o v z))

@@ -5,32 +5,32 @@ use Rattle.ir_runs.specs.Run.{State, Step, Can, after, IsRun, end, EntersIfFree,
 use Rattle.ir_runs.specs.Orders.{InTurn}
 
 -- turns make a run
-pub turns_are_run : {T : Type 0} (m : Machine T) (s : State T) (order : List ℕ) (run : List Step) → InTurn m s order run → IsRun m s run
-turns_are_run m s [] run e = subst (IsRun m s) (sym e) tt
-turns_are_run m s (t ∷ order) run (inl none) = turns_are_run m s order run none.1
-turns_are_run m s (t ∷ order) run (inr some) = subst (IsRun m s) (sym some.2) (some.3, turns_are_run m (after m s (t, some.0)) order some.1 some.5)
+pub run_in_turn_is_run : {T : Type 0} (m : Machine T) (s : State T) (order : List ℕ) (run : List Step) → InTurn m s order run → IsRun m s run
+run_in_turn_is_run m s [] run e = subst (IsRun m s) (sym e) tt
+run_in_turn_is_run m s (t ∷ order) run (inl none) = run_in_turn_is_run m s order run none.1
+run_in_turn_is_run m s (t ∷ order) run (inr some) = subst (IsRun m s) (sym some.2) (some.3, run_in_turn_is_run m (after m s (t, some.0)) order some.1 some.5)
 
 -- turns, and then others
-pub turns_append : {T : Type 0} (m : Machine T) (s : State T) (order more : List ℕ) (run rest : List Step) → InTurn m s order run
+pub in_turn_of_append : {T : Type 0} (m : Machine T) (s : State T) (order more : List ℕ) (run rest : List Step) → InTurn m s order run
     → InTurn m (end m s run) more rest → InTurn m s (order ++ more) (run ++ rest)
-turns_append m s [] more run rest e h = subst (λ z. InTurn m s more (z ++ rest)) (sym e) (subst (λ z. InTurn m (end m s z) more rest) e h)
-turns_append m s (t ∷ order) more run rest (inl none) h = inl (none.0, turns_append m s order more run rest none.1 h)
-turns_append m s (t ∷ order) more run rest (inr some) h = inr (
+in_turn_of_append m s [] more run rest e h = subst (λ z. InTurn m s more (z ++ rest)) (sym e) (subst (λ z. InTurn m (end m s z) more rest) e h)
+in_turn_of_append m s (t ∷ order) more run rest (inl none) h = inl (none.0, in_turn_of_append m s order more run rest none.1 h)
+in_turn_of_append m s (t ∷ order) more run rest (inr some) h = inr (
   some.0,
   some.1 ++ rest,
   ap (λ z. z ++ rest) some.2,
   some.3,
   some.4,
-  turns_append m (after m s (t, some.0)) order more some.1 rest some.5 (subst (λ z. InTurn m (end m s z) more rest) some.2 h),
+  in_turn_of_append m (after m s (t, some.0)) order more some.1 rest some.5 (subst (λ z. InTurn m (end m s z) more rest) some.2 h),
 )
 
 -- an entry more: a step of its thread
-pub turns_with_step_taken : {T : Type 0} (m : Machine T) (s : State T) (order : List ℕ) (run : List Step) (t r : ℕ) → InTurn m s order run
+pub in_turn_after_step_taken : {T : Type 0} (m : Machine T) (s : State T) (order : List ℕ) (run : List Step) (t r : ℕ) → InTurn m s order run
     → Can m (end m s run) (t, r) → EntersIfFree m (end m s run) (t, r) → InTurn m s (order ++ t ∷ []) (run ++ (t, r) ∷ [])
-turns_with_step_taken m s order run t r h can free = turns_append m s order (t ∷ []) run ((t, r) ∷ []) h (inr (r, [], refl, can, free, refl))
+in_turn_after_step_taken m s order run t r h can free = in_turn_of_append m s order (t ∷ []) run ((t, r) ∷ []) h (inr (r, [], refl, can, free, refl))
 
 -- an entry more, of a thread that has no step
-pub turns_with_thread_skipped : {T : Type 0} (m : Machine T) (s : State T) (order : List ℕ) (run : List Step) (t : ℕ) → InTurn m s order run
+pub in_turn_after_thread_skipped : {T : Type 0} (m : Machine T) (s : State T) (order : List ℕ) (run : List Step) (t : ℕ) → InTurn m s order run
     → HasNone m (end m s run) t → InTurn m s (order ++ t ∷ []) run
-turns_with_thread_skipped m s order run t h none = subst (InTurn m s (order ++ t ∷ [])) (append-nil run)
-    (turns_append m s order (t ∷ []) run [] h (inl (none, refl)))
+in_turn_after_thread_skipped m s order run t h none = subst (InTurn m s (order ++ t ∷ [])) (append-nil run)
+    (in_turn_of_append m s order (t ∷ []) run [] h (inl (none, refl)))

@@ -17,11 +17,11 @@ use Rattle.ir_states.specs.Counting.{is_own, IsAtRest, entering}
 use Rattle.ir_states.specs.Outcomes.{IsFinished, Begins, Covers, switches}
 use Rattle.ir_states.specs.Sources.{Giving, sourced, by_source, plain}
 use Rattle.ir_states.specs.Views.{viewed, beside, IsLiveRun, IsUnspoilt}
-use Rattle.ir_states.proofs.CallerLemmas.{sourced_machine_is_lawful, looks_alike, seen_good, real_seen, real_all, real_shown, outcome_within_switches_is_done_node, told}
+use Rattle.ir_states.proofs.CallerLemmas.{sourced_machine_is_lawful, looks_alike, seen_good, real_seen, real_all, real_shown, outcome_within_switches_is_of_done_node, told}
 use Rattle.ir_seen.specs.Seen.{view, seen_machine, IsLive, IsSpoilt, Same, seen_start, IsCounted}
 use Rattle.ir_seen.proofs.Same.{look_same}
 use Rattle.ir_seen.proofs.Start.{start_view_ignores_budget}
-use Rattle.ir_seen.proofs.View.{recorded_end_number, seen_machine_is_lawful, seen_machine_is_view, thread_machine_spoils}
+use Rattle.ir_seen.proofs.View.{recorded_end_number, seen_machine_is_lawful, seen_machine_is_view, thread_is_live_or_next_step_spoils_it}
 
 pub state_invariant_at_start : (guest : Guest) (budget : ℕ) (profile : Profile) → StateInvariant (thread_machine guest.code) (tables (start_flat guest budget profile))
 state_invariant_at_start guest budget profile =
@@ -37,9 +37,9 @@ start_thread_is_unspoilt code guest budget profile from (suc n) zero (inl h) = c
 start_thread_is_unspoilt code guest budget profile from (suc n) zero (inr h) = cc (ap recorded_end_number h)
 start_thread_is_unspoilt code guest budget profile from (suc n) (suc t) h = start_thread_is_unspoilt code guest budget profile (suc from) n t h
 
-pub start_unspoilt : (guest : Guest) (budget : ℕ) (profile : Profile)
+pub start_state_is_unspoilt : (guest : Guest) (budget : ℕ) (profile : Profile)
     → IsUnspoilt (IsSpoilt guest.code) (tables (start_flat guest budget profile))
-start_unspoilt guest budget profile t h = start_thread_is_unspoilt guest.code guest budget profile 0 (length guest.entries) t h
+start_state_is_unspoilt guest budget profile t h = start_thread_is_unspoilt guest.code guest budget profile 0 (length guest.entries) t h
 
 module _ {K S X : Type 0} (guest : Guest) (profile : Profile) (given : Giving S) (sources : ℕ → S) (state_of : K → run.State (ThreadState × S))
     (Node : K → Type 0) (Next : Noted K) (first : K)
@@ -55,7 +55,7 @@ module _ {K S X : Type 0} (guest : Guest) (profile : Profile) (given : Giving S)
   good_start : (budget : ℕ) → StateInvariant (sourced (seen_machine guest.code) given)
       (beside (viewed view (tables (start_flat guest budget profile))) sources)
   good_start budget = seen_good (thread_machine guest.code) (seen_machine guest.code) view (IsLive guest.code) (IsSpoilt guest.code)
-      (seen_machine_is_view guest.code) (thread_machine_spoils guest.code) given (λ x o. refl) (tables (start_flat guest budget profile)) sources
+      (seen_machine_is_view guest.code) (thread_is_live_or_next_step_spoils_it guest.code) given (λ x o. refl) (tables (start_flat guest budget profile)) sources
       (state_invariant_at_start guest budget profile)
 
   -- what a complete run that counts comes to, whatever its budget, a done node comes to
@@ -65,7 +65,7 @@ module _ {K S X : Type 0} (guest : Guest) (profile : Profile) (given : Giving S)
       steps)))
   guest_all budget steps h =
       real_all (thread_machine guest.code) (seen_machine guest.code) view (IsLive guest.code) (IsSpoilt guest.code) (seen_machine_is_view guest.code)
-      (thread_machine_spoils guest.code) given (sourced_machine_is_lawful (seen_machine guest.code) given (seen_machine_is_lawful guest.code)) (Looks (Same guest.code))
+      (thread_is_live_or_next_step_spoils_it guest.code) given (sourced_machine_is_lawful (seen_machine guest.code) given (seen_machine_is_lawful guest.code)) (Looks (Same guest.code))
       (looks_alike (sourced (seen_machine guest.code) given) (by_source (seen_machine guest.code) given) (Same guest.code)
       (look_same guest.code given)) (tables (start_flat guest budget profile)) sources (good_start budget) state_of Node Next first
       (started budget) outcome same steps h.complete.0 h.answered h.complete.1 h.unspoilt
@@ -78,16 +78,16 @@ module _ {K S X : Type 0} (guest : Guest) (profile : Profile) (given : Giving S)
       ≡ outcome (plain (state_of v))))
   guest_shown budget v is done =
       let r = real_shown (thread_machine guest.code) (seen_machine guest.code) view (IsLive guest.code) (IsSpoilt guest.code)
-      (seen_machine_is_view guest.code) (thread_machine_spoils guest.code) given (sourced_machine_is_lawful (seen_machine guest.code) given (seen_machine_is_lawful guest.code))
+      (seen_machine_is_view guest.code) (thread_is_live_or_next_step_spoils_it guest.code) given (sourced_machine_is_lawful (seen_machine guest.code) given (seen_machine_is_lawful guest.code))
       (Looks (Same guest.code)) (looks_alike (sourced (seen_machine guest.code) given) (by_source (seen_machine guest.code) given)
       (Same guest.code) (look_same guest.code given)) (tables (start_flat guest budget profile)) sources (good_start budget) state_of Node
-      Next first (started budget) outcome same (start_unspoilt guest budget profile) v is done in (
+      Next first (started budget) outcome same (start_state_is_unspoilt guest budget profile) v is done in (
         r.0,
         λ live. let k = r.1 live in (record { complete = (k.0, k.2); answered = k.1; unspoilt = k.3 }, k.4),
       )
 
 -- what a complete run that counts comes to with at most c switches, whatever its budget, a done node comes to, if c levels are gone over
-pub guest_outcome_within_is_done_node : {K S X : Type 0} (guest : Guest) (profile : Profile) (given : Giving S) (sources : ℕ → S)
+pub guest_outcome_within_switches_is_of_done_node : {K S X : Type 0} (guest : Guest) (profile : Profile) (given : Giving S) (sources : ℕ → S)
     (state_of : K → run.State (ThreadState × S)) (Open : ℕ → K → ℕ → Type 0) (first : K) (c : ℕ)
     → Covers (sourced (seen_machine guest.code) given) (by_source (seen_machine guest.code) given) (Looks (Same guest.code))
     (seen_start guest profile sources) state_of Open first c
@@ -98,16 +98,16 @@ pub guest_outcome_within_is_done_node : {K S X : Type 0} (guest : Guest) (profil
     → (k t : ℕ) × (v : K) × (k ≤ c) × Open k v t × IsDone (sourced (seen_machine guest.code) given) (state_of v)
     × (outcome (plain (state_of v)) ≡ outcome (viewed view (run.end (thread_machine guest.code) (tables (start_flat guest budget profile))
     steps)))
-guest_outcome_within_is_done_node {K} {S} {X} guest profile given sources state_of Open first c covers outcome same budget steps h few =
+guest_outcome_within_switches_is_of_done_node {K} {S} {X} guest profile given sources state_of Open first c covers outcome same budget steps h few =
     let s : run.State ThreadState = tables (start_flat guest budget profile) in
     let r = real_seen (thread_machine guest.code) (seen_machine guest.code) view (IsLive guest.code) (IsSpoilt guest.code)
-    (seen_machine_is_view guest.code) (thread_machine_spoils guest.code) given s sources steps h.complete.0 h.answered h.complete.1 h.unspoilt in
-    outcome_within_switches_is_done_node (sourced (seen_machine guest.code) given) (sourced_machine_is_lawful (seen_machine guest.code) given (seen_machine_is_lawful guest.code))
+    (seen_machine_is_view guest.code) (thread_is_live_or_next_step_spoils_it guest.code) given s sources steps h.complete.0 h.answered h.complete.1 h.unspoilt in
+    outcome_within_switches_is_of_done_node (sourced (seen_machine guest.code) given) (sourced_machine_is_lawful (seen_machine guest.code) given (seen_machine_is_lawful guest.code))
     (by_source (seen_machine guest.code) given) (Looks (Same guest.code))
     (looks_alike (sourced (seen_machine guest.code) given) (by_source (seen_machine guest.code) given) (Same guest.code)
     (look_same guest.code given)) (beside (viewed view s) sources)
     (seen_good (thread_machine guest.code) (seen_machine guest.code) view (IsLive guest.code) (IsSpoilt guest.code) (seen_machine_is_view guest.code)
-    (thread_machine_spoils guest.code) given (λ x o. refl) s sources (state_invariant_at_start guest budget profile)) state_of Open first c
+    (thread_is_live_or_next_step_spoils_it guest.code) given (λ x o. refl) s sources (state_invariant_at_start guest budget profile)) state_of Open first c
     (subst (λ z. Covers (sourced (seen_machine guest.code) given) (by_source (seen_machine guest.code) given) (Looks (Same guest.code))
     (beside z sources) state_of Open first c) (start_view_ignores_budget guest 1 budget profile) covers)
     (λ u. outcome (plain u)) same (outcome (viewed view (run.end (thread_machine guest.code) s steps)))
@@ -135,14 +135,14 @@ guest_outcome_is_path_end_outcome {K} {S} {X} guest profile given sources state_
     let s : run.State ThreadState = tables (start_flat guest budget profile) in
     let w : Machine (ThreadState × S) = sourced (seen_machine guest.code) given in
     let r = real_seen (thread_machine guest.code) (seen_machine guest.code) view (IsLive guest.code) (IsSpoilt guest.code)
-    (seen_machine_is_view guest.code) (thread_machine_spoils guest.code) given s sources steps h.complete.0 h.answered h.complete.1 h.unspoilt in
+    (seen_machine_is_view guest.code) (thread_is_live_or_next_step_spoils_it guest.code) given s sources steps h.complete.0 h.answered h.complete.1 h.unspoilt in
     let alike : Looks (Same guest.code) (run.end w (beside (viewed view s) sources) steps) (state_of v) =
     told w (sourced_machine_is_lawful (seen_machine guest.code) given (seen_machine_is_lawful guest.code))
     (by_source (seen_machine guest.code) given) (Looks (Same guest.code))
     (looks_alike w (by_source (seen_machine guest.code) given) (Same guest.code) (look_same guest.code given)) state_of Node Next at_rest
     no_tries leads (beside (viewed view s) sources) first
     (seen_good (thread_machine guest.code) (seen_machine guest.code) view (IsLive guest.code) (IsSpoilt guest.code)
-    (seen_machine_is_view guest.code) (thread_machine_spoils guest.code) given (λ x o. refl) s sources (state_invariant_at_start guest budget profile))
+    (seen_machine_is_view guest.code) (thread_is_live_or_next_step_spoils_it guest.code) given (λ x o. refl) s sources (state_invariant_at_start guest budget profile))
     (subst (λ z. Begins w (by_source (seen_machine guest.code) given) (Looks (Same guest.code)) (beside z sources) (state_of first))
     (start_view_ignores_budget guest 1 budget profile) begins) is steps r.0 (λ t. ap is_own (r.1 t)) v
     (subst (λ z. Path Next first z v) (sym r.3) path) in

@@ -31,45 +31,45 @@ seen_machine_is_lawful code = record { holds = (thread_machine_is_lawful code).h
 abbrev pub SameOrSpent : Ask → Ask → Type 0
 SameOrSpent q' q = (q' ≡ q) ⊎ ((q ≡ ask.End end.LogFull) ⊎ (q ≡ ask.End end.BudgetSpent))
 
-same_or_spent_for_full_log : (b : Bool) (q : Ask) → SameOrSpent q (cond b q (ask.End end.LogFull))
-same_or_spent_for_full_log true q = inl refl
-same_or_spent_for_full_log false q = inr (inl refl)
+ask_or_full_log_end_is_same_or_spent : (b : Bool) (q : Ask) → SameOrSpent q (cond b q (ask.End end.LogFull))
+ask_or_full_log_end_is_same_or_spent true q = inl refl
+ask_or_full_log_end_is_same_or_spent false q = inr (inl refl)
 
-same_or_spent_for_entry : (b c d : Bool) (q e f : Ask) → SameOrSpent (cond b (cond c q e) f) (cond b (cond c (cond d q (ask.End end.LogFull)) e) f)
-same_or_spent_for_entry true true d q e f = same_or_spent_for_full_log d q
-same_or_spent_for_entry true false d q e f = inl refl
-same_or_spent_for_entry false c d q e f = inl refl
+entry_ask_or_full_log_end_is_same_or_spent : (b c d : Bool) (q e f : Ask) → SameOrSpent (cond b (cond c q e) f) (cond b (cond c (cond d q (ask.End end.LogFull)) e) f)
+entry_ask_or_full_log_end_is_same_or_spent true true d q e f = ask_or_full_log_end_is_same_or_spent d q
+entry_ask_or_full_log_end_is_same_or_spent true false d q e f = inl refl
+entry_ask_or_full_log_end_is_same_or_spent false c d q e f = inl refl
 
-same_or_spent_for_call : (s : ThreadState) (c : Option Call) → SameOrSpent (call_ask c (view s)) (call_ask c s)
-same_or_spent_for_call s None = inl refl
-same_or_spent_for_call s (Some call.End) = inl refl
-same_or_spent_for_call s (Some call.PutByte) = inl refl
-same_or_spent_for_call s (Some call.PutNumber) = inl refl
-same_or_spent_for_call s (Some (call.Env kind)) = same_or_spent_for_full_log (nat_lt s.events most_events) (ask.Env kind)
-same_or_spent_for_call s (Some (call.Enter access)) =
-    same_or_spent_for_entry (is_object s (a0 s)) (is_above (highest s.held) (a0 s)) (nat_lt s.events most_events) (ask.Enter (a0 s) access) _ _
-same_or_spent_for_call s (Some call.Leave) = inl refl
-same_or_spent_for_call s (Some call.Get) = inl refl
-same_or_spent_for_call s (Some call.Put) = inl refl
-same_or_spent_for_call s (Some call.OwnNumber) = inl refl
-same_or_spent_for_call s (Some call.TryWrite) =
-    same_or_spent_for_entry (is_object s (a0 s)) (is_above (highest s.held) (a0 s)) (nat_lt s.events most_events) (ask.Try (a0 s)) _ _
+call_ask_of_view_is_same_or_spent : (s : ThreadState) (c : Option Call) → SameOrSpent (call_ask c (view s)) (call_ask c s)
+call_ask_of_view_is_same_or_spent s None = inl refl
+call_ask_of_view_is_same_or_spent s (Some call.End) = inl refl
+call_ask_of_view_is_same_or_spent s (Some call.PutByte) = inl refl
+call_ask_of_view_is_same_or_spent s (Some call.PutNumber) = inl refl
+call_ask_of_view_is_same_or_spent s (Some (call.Env kind)) = ask_or_full_log_end_is_same_or_spent (nat_lt s.events most_events) (ask.Env kind)
+call_ask_of_view_is_same_or_spent s (Some (call.Enter access)) =
+    entry_ask_or_full_log_end_is_same_or_spent (is_object s (a0 s)) (is_above (highest s.held) (a0 s)) (nat_lt s.events most_events) (ask.Enter (a0 s) access) _ _
+call_ask_of_view_is_same_or_spent s (Some call.Leave) = inl refl
+call_ask_of_view_is_same_or_spent s (Some call.Get) = inl refl
+call_ask_of_view_is_same_or_spent s (Some call.Put) = inl refl
+call_ask_of_view_is_same_or_spent s (Some call.OwnNumber) = inl refl
+call_ask_of_view_is_same_or_spent s (Some call.TryWrite) =
+    entry_ask_or_full_log_end_is_same_or_spent (is_object s (a0 s)) (is_above (highest s.held) (a0 s)) (nat_lt s.events most_events) (ask.Try (a0 s)) _ _
 
-same_or_spent_for_outcome : (s : ThreadState) (o : Outcome) → SameOrSpent (outcome_ask o (view s)) (outcome_ask o s)
-same_or_spent_for_outcome s (Goes core) = inl refl
-same_or_spent_for_outcome s (Ends f) = inl refl
-same_or_spent_for_outcome s Calls = same_or_spent_for_call s (call_at s)
+outcome_ask_of_view_is_same_or_spent : (s : ThreadState) (o : Outcome) → SameOrSpent (outcome_ask o (view s)) (outcome_ask o s)
+outcome_ask_of_view_is_same_or_spent s (Goes core) = inl refl
+outcome_ask_of_view_is_same_or_spent s (Ends f) = inl refl
+outcome_ask_of_view_is_same_or_spent s Calls = call_ask_of_view_is_same_or_spent s (call_at s)
 
-same_or_spent_for_budget : (b : Bool) (q' q : Ask) → SameOrSpent q' q → SameOrSpent q' (cond b (ask.End end.BudgetSpent) q)
-same_or_spent_for_budget true q' q h = inr (inr refl)
-same_or_spent_for_budget false q' q h = h
+ask_or_spent_budget_end_is_same_or_spent : (b : Bool) (q' q : Ask) → SameOrSpent q' q → SameOrSpent q' (cond b (ask.End end.BudgetSpent) q)
+ask_or_spent_budget_end_is_same_or_spent true q' q h = inr (inr refl)
+ask_or_spent_budget_end_is_same_or_spent false q' q h = h
 
 pub view_asks_same_or_spent : (code : List ℕ) (s : ThreadState) → SameOrSpent (ask_of code (view s)) (ask_of code s)
 view_asks_same_or_spent code s = by s.ended
   where
     by : (e : Option End) → SameOrSpent (ask_by code e (view s)) (ask_by code e s)
     by (Some e) = inl refl
-    by None = same_or_spent_for_budget (nat_le s.budget s.steps) _ _ (same_or_spent_for_outcome s (outcome_of code s.core))
+    by None = ask_or_spent_budget_end_is_same_or_spent (nat_le s.budget s.steps) _ _ (outcome_ask_of_view_is_same_or_spent s (outcome_of code s.core))
 
 call_output_ignores_view : (s : ThreadState) (c : Option Call) → call_output c (view s) ≡ call_output c s
 call_output_ignores_view s None = refl
@@ -97,9 +97,9 @@ view_after_ask_ignores_earlier_view code s ask.Print r = ap (λ p. view (record 
 view_after_ask_ignores_earlier_view code s (ask.End e) r = refl
 view_after_ask_ignores_earlier_view code s ask.Done r = refl
 
-seen_take_is_view_of_take : (code : List ℕ) (s : ThreadState) → IsLive code s → (r : ℕ) → (seen_machine code).take (view s) r ≡ view ((thread_machine code).take s r)
+seen_take_is_view_of_take_if_live : (code : List ℕ) (s : ThreadState) → IsLive code s → (r : ℕ) → (seen_machine code).take (view s) r ≡ view ((thread_machine code).take s r)
 unfolding after_reply
-seen_take_is_view_of_take code s live r =
+seen_take_is_view_of_take_if_live code s live r =
     ap (λ q. view (after_ask code (view s) q (reply_of q r))) live ∙ view_after_ask_ignores_earlier_view code s (ask_of code s) (reply_of (ask_of code s) r)
 
 -- who asks nothing has ended
@@ -134,7 +134,7 @@ done_iff_view_done code s = by s.ended refl
 pub seen_machine_is_view : (code : List ℕ) → IsView (thread_machine code) (seen_machine code) view (IsLive code)
 seen_machine_is_view code = record {
   asks = λ s live. ap shared_ask live;
-  takes = seen_take_is_view_of_take code;
+  takes = seen_take_is_view_of_take_if_live code;
   fits = refl;
   done = done_iff_view_done code;
 }
@@ -151,61 +151,61 @@ abbrev pub EndsFair : Ask → Type 0
 EndsFair (ask.End e) = IsFairEnd e
 EndsFair _ = Unit {0}
 
-ends_fair_for_condition : (b : Bool) (q q' : Ask) → EndsFair q → EndsFair q' → EndsFair (cond b q q')
-ends_fair_for_condition true q q' h h' = h
-ends_fair_for_condition false q q' h h' = h'
+conditional_ask_ends_fair : (b : Bool) (q q' : Ask) → EndsFair q → EndsFair q' → EndsFair (cond b q q')
+conditional_ask_ends_fair true q q' h h' = h
+conditional_ask_ends_fair false q q' h h' = h'
 
-ends_fair_for_call : (s : ThreadState) (c : Option Call) → EndsFair (call_ask c (view s))
-ends_fair_for_call s None = tt
-ends_fair_for_call s (Some call.End) = tt
-ends_fair_for_call s (Some call.PutByte) = ends_fair_for_condition _ ask.Print (ask.End end.OutputFull) tt tt
-ends_fair_for_call s (Some call.PutNumber) = ends_fair_for_condition _ ask.Print (ask.End end.OutputFull) tt tt
-ends_fair_for_call s (Some (call.Env kind)) = tt
-ends_fair_for_call s (Some (call.Enter access)) = ends_fair_for_condition (is_object s (a0 s)) _ (ask.End end.NoSuchObject)
-    (ends_fair_for_condition (is_above (highest s.held) (a0 s)) (ask.Enter (a0 s) access) (ask.End end.EntryOutOfOrder) tt tt) tt
-ends_fair_for_call s (Some call.Leave) =
-    ends_fair_for_condition (is_object s (a0 s)) (leave_held (a0 s) (held_at s.held (a0 s))) (ask.End end.NoSuchObject) (by (held_at s.held (a0 s))) tt
+call_ask_of_view_ends_fair : (s : ThreadState) (c : Option Call) → EndsFair (call_ask c (view s))
+call_ask_of_view_ends_fair s None = tt
+call_ask_of_view_ends_fair s (Some call.End) = tt
+call_ask_of_view_ends_fair s (Some call.PutByte) = conditional_ask_ends_fair _ ask.Print (ask.End end.OutputFull) tt tt
+call_ask_of_view_ends_fair s (Some call.PutNumber) = conditional_ask_ends_fair _ ask.Print (ask.End end.OutputFull) tt tt
+call_ask_of_view_ends_fair s (Some (call.Env kind)) = tt
+call_ask_of_view_ends_fair s (Some (call.Enter access)) = conditional_ask_ends_fair (is_object s (a0 s)) _ (ask.End end.NoSuchObject)
+    (conditional_ask_ends_fair (is_above (highest s.held) (a0 s)) (ask.Enter (a0 s) access) (ask.End end.EntryOutOfOrder) tt tt) tt
+call_ask_of_view_ends_fair s (Some call.Leave) =
+    conditional_ask_ends_fair (is_object s (a0 s)) (leave_held (a0 s) (held_at s.held (a0 s))) (ask.End end.NoSuchObject) (by (held_at s.held (a0 s))) tt
   where
     by : (h : Option Access) → EndsFair (leave_held (a0 s) h)
     by None = tt
     by (Some access) = tt
-ends_fair_for_call s (Some call.Get) =
-    ends_fair_for_condition (has_word s) (get_held (a0 s) (a1 s) (held_at s.held (a0 s))) (ask.End end.NoSuchObject) (by (held_at s.held (a0 s))) tt
+call_ask_of_view_ends_fair s (Some call.Get) =
+    conditional_ask_ends_fair (has_word s) (get_held (a0 s) (a1 s) (held_at s.held (a0 s))) (ask.End end.NoSuchObject) (by (held_at s.held (a0 s))) tt
   where
     by : (h : Option Access) → EndsFair (get_held (a0 s) (a1 s) h)
     by None = tt
     by (Some access) = tt
-ends_fair_for_call s (Some call.Put) =
-    ends_fair_for_condition (has_word s) (put_held (a0 s) (a1 s) (a2 s) (held_at s.held (a0 s))) (ask.End end.NoSuchObject) (by (held_at s.held (a0 s))) tt
+call_ask_of_view_ends_fair s (Some call.Put) =
+    conditional_ask_ends_fair (has_word s) (put_held (a0 s) (a1 s) (a2 s) (held_at s.held (a0 s))) (ask.End end.NoSuchObject) (by (held_at s.held (a0 s))) tt
   where
     by : (h : Option Access) → EndsFair (put_held (a0 s) (a1 s) (a2 s) h)
     by None = tt
     by (Some Reading) = tt
     by (Some Writing) = tt
-ends_fair_for_call s (Some call.OwnNumber) = tt
-ends_fair_for_call s (Some call.TryWrite) = ends_fair_for_condition (is_object s (a0 s)) _ (ask.End end.NoSuchObject)
-    (ends_fair_for_condition (is_above (highest s.held) (a0 s)) (ask.Try (a0 s)) (ask.End end.EntryOutOfOrder) tt tt) tt
+call_ask_of_view_ends_fair s (Some call.OwnNumber) = tt
+call_ask_of_view_ends_fair s (Some call.TryWrite) = conditional_ask_ends_fair (is_object s (a0 s)) _ (ask.End end.NoSuchObject)
+    (conditional_ask_ends_fair (is_above (highest s.held) (a0 s)) (ask.Try (a0 s)) (ask.End end.EntryOutOfOrder) tt tt) tt
 
-ends_fair_for_outcome : (s : ThreadState) (o : Outcome) → EndsFair (outcome_ask o (view s))
-ends_fair_for_outcome s (Goes core) = tt
-ends_fair_for_outcome s (Ends fault.Breakpoint) = tt
-ends_fair_for_outcome s (Ends fault.IllegalWord) = tt
-ends_fair_for_outcome s (Ends fault.TargetMisaligned) = tt
-ends_fair_for_outcome s (Ends fault.OutsideCode) = tt
-ends_fair_for_outcome s (Ends fault.BadLoad) = tt
-ends_fair_for_outcome s (Ends fault.BadStore) = tt
-ends_fair_for_outcome s Calls = ends_fair_for_call s (call_at s)
+outcome_ask_of_view_ends_fair : (s : ThreadState) (o : Outcome) → EndsFair (outcome_ask o (view s))
+outcome_ask_of_view_ends_fair s (Goes core) = tt
+outcome_ask_of_view_ends_fair s (Ends fault.Breakpoint) = tt
+outcome_ask_of_view_ends_fair s (Ends fault.IllegalWord) = tt
+outcome_ask_of_view_ends_fair s (Ends fault.TargetMisaligned) = tt
+outcome_ask_of_view_ends_fair s (Ends fault.OutsideCode) = tt
+outcome_ask_of_view_ends_fair s (Ends fault.BadLoad) = tt
+outcome_ask_of_view_ends_fair s (Ends fault.BadStore) = tt
+outcome_ask_of_view_ends_fair s Calls = call_ask_of_view_ends_fair s (call_at s)
 
-ends_fair_for_release : (h : Option (ℕ × Access)) → EndsFair (release_ask h)
-ends_fair_for_release None = tt
-ends_fair_for_release (Some top) = tt
+release_ask_ends_fair : (h : Option (ℕ × Access)) → EndsFair (release_ask h)
+release_ask_ends_fair None = tt
+release_ask_ends_fair (Some top) = tt
 
-view_ends_fair : (code : List ℕ) (s : ThreadState) → EndsFair (ask_of code (view s))
-view_ends_fair code s = by s.ended
+ask_of_view_ends_fair : (code : List ℕ) (s : ThreadState) → EndsFair (ask_of code (view s))
+ask_of_view_ends_fair code s = by s.ended
   where
     by : (e : Option End) → EndsFair (ask_by code e (view s))
-    by (Some e) = ends_fair_for_release (highest s.held)
-    by None = ends_fair_for_outcome s (outcome_of code s.core)
+    by (Some e) = release_ask_ends_fair (highest s.held)
+    by None = outcome_ask_of_view_ends_fair s (outcome_of code s.core)
 
 -- the number of an end, if there is one
 unfoldable pub recorded_end_number : Option (ℕ × ℕ) → ℕ
@@ -250,22 +250,22 @@ fair_end_spoils_nothing code s e r f (inl h) = fair_end_is_no_spent_budget e f (
 fair_end_spoils_nothing code s e r f (inr h) = fair_end_is_no_full_log e f (ap recorded_end_number h)
 
 -- a step that ends fairly leaves a thread's end, or gives it one that spoils nothing
-fair_step_spoils_nothing : (code : List ℕ) (s : ThreadState) (q : Ask) (r : Reply) → EndsFair q → IsSpoilt code (after_ask code s q r) → IsSpoilt code s
-fair_step_spoils_nothing code s ask.Private r f h = h
-fair_step_spoils_nothing code s (ask.Env kind) r f h = h
-fair_step_spoils_nothing code s (ask.Enter object access) r f h = h
-fair_step_spoils_nothing code s (ask.Try object) r f h = h
-fair_step_spoils_nothing code s (ask.Leave object access) r f h = h
-fair_step_spoils_nothing code s (ask.Get object index) r f h = h
-fair_step_spoils_nothing code s (ask.Put object index value) r f h = h
-fair_step_spoils_nothing code s ask.Print r f h = h
-fair_step_spoils_nothing code s (ask.End e) r f h = absurd (fair_end_spoils_nothing code s e r f h)
-fair_step_spoils_nothing code s ask.Done r f h = h
+spoilt_before_if_spoilt_after_fair_ask : (code : List ℕ) (s : ThreadState) (q : Ask) (r : Reply) → EndsFair q → IsSpoilt code (after_ask code s q r) → IsSpoilt code s
+spoilt_before_if_spoilt_after_fair_ask code s ask.Private r f h = h
+spoilt_before_if_spoilt_after_fair_ask code s (ask.Env kind) r f h = h
+spoilt_before_if_spoilt_after_fair_ask code s (ask.Enter object access) r f h = h
+spoilt_before_if_spoilt_after_fair_ask code s (ask.Try object) r f h = h
+spoilt_before_if_spoilt_after_fair_ask code s (ask.Leave object access) r f h = h
+spoilt_before_if_spoilt_after_fair_ask code s (ask.Get object index) r f h = h
+spoilt_before_if_spoilt_after_fair_ask code s (ask.Put object index value) r f h = h
+spoilt_before_if_spoilt_after_fair_ask code s ask.Print r f h = h
+spoilt_before_if_spoilt_after_fair_ask code s (ask.End e) r f h = absurd (fair_end_spoils_nothing code s e r f h)
+spoilt_before_if_spoilt_after_fair_ask code s ask.Done r f h = h
 
 -- a thread is live, or its next step spoils it
-pub thread_machine_spoils : (code : List ℕ) → Spoils (thread_machine code) (IsLive code) (IsSpoilt code)
+pub thread_is_live_or_next_step_spoils_it : (code : List ℕ) → Spoils (thread_machine code) (IsLive code) (IsSpoilt code)
 unfolding after_reply
-thread_machine_spoils code = record {
+thread_is_live_or_next_step_spoils_it code = record {
   decides = λ s. elim (view_asks_same_or_spent code s) [
     | inl live ↦ inl live
     | inr (inl full) ↦ inr (λ r. subst (λ q. IsSpoilt code (after_ask code s q (reply_of q r))) (sym full) (inr refl))
@@ -275,5 +275,5 @@ thread_machine_spoils code = record {
     | inl e ↦ inl ((thread_machine_is_closing code).stays s r (13, 0) e)
     | inr e ↦ inr ((thread_machine_is_closing code).stays s r (14, 0) e)
   ];
-  spares = λ s live r h. fair_step_spoils_nothing code s (ask_of code s) (reply_of (ask_of code s) r) (subst EndsFair live (view_ends_fair code s)) h;
+  spares = λ s live r h. spoilt_before_if_spoilt_after_fair_ask code s (ask_of code s) (reply_of (ask_of code s) r) (subst EndsFair live (ask_of_view_ends_fair code s)) h;
 }

@@ -10,10 +10,10 @@ use Rattle.ir_sources.specs.Sources.{MadeWith, made_with, is_counted, seed_of, o
 use Rattle.ir_sources.specs.declared.time.Time.{Time}
 
 -- one world more
-pub origins_step : {W : Type 0} (made : W → MadeWith) (old new : List W) (w : W) (counted : Bool) (random : ℕ) (file : List ℕ) (n : ℕ)
+pub map_made_is_origins_step : {W : Type 0} (made : W → MadeWith) (old new : List W) (w : W) (counted : Bool) (random : ℕ) (file : List ℕ) (n : ℕ)
     → map made old ≡ origins counted random file n → made w ≡ origin_of counted random file n → new ≡ old ++ w ∷ []
     → map made new ≡ origins counted random file (n + 1)
-origins_step made old new w counted random file n before here e =
+map_made_is_origins_step made old new w counted random file n before here e =
     ap (map made) e ∙ map_of_append_item made old w ∙ ap (λ (z : List MadeWith). z ++ made w ∷ []) before
     ∙ ap (λ (z : MadeWith). origins counted random file n ++ z ∷ []) here
     ∙ sym (map-range_with_len_more (origin_of counted random file) 0 n n (omega arith))
@@ -23,9 +23,9 @@ pub made_with_is_origin : (time before : Time) (seed random : ℕ) (of file : Li
     → made_with time seed of ≡ origin_of (is_counted before) random file n
 made_with_is_origin time before seed random of file n e s f = λ i. made_with (e i) (s i) (f i)
 
-pub fresh_answers_step : {W : Type 0} (answers : W → List Answered) (old new : List W) (w : W) (n : ℕ) → map answers old ≡ replicate n []
+pub map_answers_is_replicate_empty_step : {W : Type 0} (answers : W → List Answered) (old new : List W) (w : W) (n : ℕ) → map answers old ≡ replicate n []
     → answers w ≡ [] → new ≡ old ++ w ∷ [] → map answers new ≡ replicate (n + 1) []
-fresh_answers_step answers old new w n before s e =
+map_answers_is_replicate_empty_step answers old new w n before s e =
     ap (map answers) e ∙ map_of_append_item answers old w ∙ ap (λ (z : List (List Answered)). z ++ answers w ∷ []) before
     ∙ ap (λ (z : List Answered). replicate n [] ++ z ∷ []) s ∙ replicate_append_one n []
     ∙ ap (λ (k : ℕ). replicate k []) (sym (add-one n))

@@ -30,22 +30,22 @@ untimed_ignores_clock_answer ((Random, other) ∷ answers) value = ap (λ (z : L
 untimed_ignores_clock_answer ((Input, other) ∷ answers) value = ap (λ (z : List Answered). (Input, other) ∷ z) (untimed_ignores_clock_answer answers value)
 
 -- one answer more to another call
-untimed_after_other_answer : (answers : List Answered) (kind : EnvKind) (value : ℕ) → kind ≢ Clock
+untimed_keeps_last_answer_unless_clock : (answers : List Answered) (kind : EnvKind) (value : ℕ) → kind ≢ Clock
     → untimed (answers ++ (kind, value) ∷ []) ≡ untimed answers ++ (kind, value) ∷ []
-untimed_after_other_answer [] Clock value other = absurd (other refl)
-untimed_after_other_answer [] Random value other = refl
-untimed_after_other_answer [] Input value other = refl
-untimed_after_other_answer ((Clock, first) ∷ answers) kind value other = untimed_after_other_answer answers kind value other
-untimed_after_other_answer ((Random, first) ∷ answers) kind value other =
-    ap (λ (z : List Answered). (Random, first) ∷ z) (untimed_after_other_answer answers kind value other)
-untimed_after_other_answer ((Input, first) ∷ answers) kind value other =
-    ap (λ (z : List Answered). (Input, first) ∷ z) (untimed_after_other_answer answers kind value other)
+untimed_keeps_last_answer_unless_clock [] Clock value other = absurd (other refl)
+untimed_keeps_last_answer_unless_clock [] Random value other = refl
+untimed_keeps_last_answer_unless_clock [] Input value other = refl
+untimed_keeps_last_answer_unless_clock ((Clock, first) ∷ answers) kind value other = untimed_keeps_last_answer_unless_clock answers kind value other
+untimed_keeps_last_answer_unless_clock ((Random, first) ∷ answers) kind value other =
+    ap (λ (z : List Answered). (Random, first) ∷ z) (untimed_keeps_last_answer_unless_clock answers kind value other)
+untimed_keeps_last_answer_unless_clock ((Input, first) ∷ answers) kind value other =
+    ap (λ (z : List Answered). (Input, first) ∷ z) (untimed_keeps_last_answer_unless_clock answers kind value other)
 
 -- the sources after a clock was read
-pub gave_after_clock_read : (s t : Source) (time : Time) (start : _) (answers new : List Answered) (kind : EnvKind) (value : ℕ) → time ≡ Since start
+pub gave_ignores_clock_answer_if_time_is_since_start : (s t : Source) (time : Time) (start : _) (answers new : List Answered) (kind : EnvKind) (value : ℕ) → time ≡ Since start
     → kind ≡ Clock → Gave s (from_sources (is_counted time) answers) t → new ≡ answers ++ (kind, value) ∷ []
     → Gave s (from_sources (is_counted time) new) t
-gave_after_clock_read s t time start answers new kind value timed clock gave e =
+gave_ignores_clock_answer_if_time_is_since_start s t time start answers new kind value timed clock gave e =
     let by_clock : is_counted time ≡ false = ap is_counted timed in
     let same : untimed new ≡ untimed answers = ap untimed (e ∙ ap (λ (k : EnvKind). answers ++ (k, value) ∷ []) clock)
     ∙ untimed_ignores_clock_answer answers value in
@@ -53,14 +53,14 @@ gave_after_clock_read s t time start answers new kind value timed clock gave e =
     (subst (λ (z : List Answered). Gave s z t) (sym same) (subst (λ (c : Bool). Gave s (from_sources c answers) t) by_clock gave))
 
 -- the sources after one answer of theirs more
-pub gave_after_own_answer : (s t u : Source) (counted : Bool) (answers new : List Answered) (kind : EnvKind) (value : ℕ)
+pub gave_from_sources_after_given_answer : (s t u : Source) (counted : Bool) (answers new : List Answered) (kind : EnvKind) (value : ℕ)
     → (counted ≡ false → kind ≢ Clock) → Gave s (from_sources counted answers) t → new ≡ answers ++ (kind, value) ∷ []
     → ◌≡◌ {A = ℕ × Source} (value, u) (given kind t)
     → Gave s (from_sources counted new) u
-gave_after_own_answer s t u true answers new kind value other gave e h =
+gave_from_sources_after_given_answer s t u true answers new kind value other gave e h =
     subst (λ (z : List Answered). Gave s z u) (sym e) (gave_after_answer s t u answers kind value gave h)
-gave_after_own_answer s t u false answers new kind value other gave e h =
-    let more : untimed new ≡ untimed answers ++ (kind, value) ∷ [] = ap untimed e ∙ untimed_after_other_answer answers kind value (other refl) in
+gave_from_sources_after_given_answer s t u false answers new kind value other gave e h =
+    let more : untimed new ≡ untimed answers ++ (kind, value) ∷ [] = ap untimed e ∙ untimed_keeps_last_answer_unless_clock answers kind value (other refl) in
     subst (λ (z : List Answered). Gave s z u) (sym more) (gave_after_answer s t u (untimed answers) kind value gave h)
 
 pub ticks_bounded_after_answer : (t u : Source) (old new : ℕ) (kind : EnvKind) (value : ℕ) → t.ticks ≤ old → new ≡ old + 1

@@ -7,13 +7,13 @@ use Rattle.ir_runs.proofs.CallerLemmas.{StateInvariant}
 use Rattle.ir_states.specs.Counting.{Answers, IsAtRest, GoesAhead, entering, Brought}
 use Rattle.ir_states.specs.Nodes.{TellsNothing, LeadsTo, Noted, Path}
 use Rattle.ir_states.specs.Outcomes.{IsFinished}
-use Rattle.ir_states.proofs.Rest.{goes_ahead_counts, goes_ahead_enters_nothing, steps_ahead_may_come_first, ComesToRest}
-use Rattle.ir_states.proofs.Closed.{entering_of_step_at_rest}
+use Rattle.ir_states.proofs.Rest.{run_that_goes_ahead_counts, run_that_goes_ahead_enters_nothing, steps_ahead_may_come_first, ComesToRest}
+use Rattle.ir_states.proofs.Closed.{entering_of_cons_at_rest_begins_with_its_thread}
 use Rattle.ir_states.proofs.Within.{path_append}
 
 -- one state is alike to itself alone
-pub equality_tells_nothing : {T : Type 0} (m : Machine T) (answers : Answers T) → TellsNothing m answers (λ s v. s ≡ v)
-equality_tells_nothing m answers = record {
+pub equality_of_states_tells_nothing : {T : Type 0} (m : Machine T) (answers : Answers T) → TellsNothing m answers (λ s v. s ≡ v)
+equality_of_states_tells_nothing m answers = record {
   asks = λ s v h t. ap (λ z. asked m z t) h;
   answered = λ s v h t. ap (λ z. answers t (z.now t)) h;
   can = λ s v h e can. subst (λ z. Can m z e) h can;
@@ -54,17 +54,17 @@ pub nothing_goes_ahead_at_rest : {T : Type 0} (m : Machine T) (answers : Answers
 nothing_goes_ahead_at_rest m answers s at_rest [] goes = refl
 nothing_goes_ahead_at_rest m answers s at_rest (e ∷ left) goes = absurd (cc (at_rest e.0, goes.0))
 
-run_at_rest_empty_unless_entering : {T : Type 0} (m : Machine T) (s : State T) → IsAtRest m s → (run : List Step) → entering m s run ≡ [] → run ≡ []
-run_at_rest_empty_unless_entering m s at_rest [] h = refl
-run_at_rest_empty_unless_entering m s at_rest (e ∷ run) h = absurd (cc (sym (entering_of_step_at_rest m s at_rest e run) ∙ h))
+run_at_rest_is_empty_if_it_enters_nothing : {T : Type 0} (m : Machine T) (s : State T) → IsAtRest m s → (run : List Step) → entering m s run ≡ [] → run ≡ []
+run_at_rest_is_empty_if_it_enters_nothing m s at_rest [] h = refl
+run_at_rest_is_empty_if_it_enters_nothing m s at_rest (e ∷ run) h = absurd (cc (sym (entering_of_cons_at_rest_begins_with_its_thread m s at_rest e run) ∙ h))
 
 -- whatever the order in which threads go on, they come to rest in one state
-pub rest_state_is_unique : {T : Type 0} (m : Machine T) → IsLawful m → (answers : Answers T) (s : State T) → StateInvariant m s → (r r' : ComesToRest m answers s)
+pub ends_of_two_runs_to_rest_are_equal : {T : Type 0} (m : Machine T) → IsLawful m → (answers : Answers T) (s : State T) → StateInvariant m s → (r r' : ComesToRest m answers s)
     → end m s r.ahead ≡ end m s r'.ahead
-rest_state_is_unique m law answers s good r r' =
+ends_of_two_runs_to_rest_are_equal m law answers s good r r' =
     let b : Brought m answers s r.ahead r'.ahead =
-    steps_ahead_may_come_first m law answers s good r.ahead r.goes r'.ahead (goes_ahead_counts m answers s r'.ahead r'.goes) in
+    steps_ahead_may_come_first m law answers s good r.ahead r.goes r'.ahead (run_that_goes_ahead_counts m answers s r'.ahead r'.goes) in
     let none : b.left ≡ [] = nothing_goes_ahead_at_rest m answers (end m s r'.ahead) r'.at_rest b.left b.goes in
-    let none' : b.rest ≡ [] = run_at_rest_empty_unless_entering m (end m s r.ahead) r.at_rest b.rest
-    (b.same_entering ∙ goes_ahead_enters_nothing m answers s r'.ahead r'.goes) in
+    let none' : b.rest ≡ [] = run_at_rest_is_empty_if_it_enters_nothing m (end m s r.ahead) r.at_rest b.rest
+    (b.same_entering ∙ run_that_goes_ahead_enters_nothing m answers s r'.ahead r'.goes) in
     ap (end m (end m s r.ahead)) (sym none') ∙ b.same_end ∙ ap (end m (end m s r'.ahead)) none

@@ -7,25 +7,25 @@ use Rattle.ir_runs.proofs.CallerLemmas.{StateInvariant, end_append}
 use Rattle.ir_states.specs.Counting.{Answers, Counts, GoesAhead, entering, Brought}
 use Rattle.ir_states.specs.Nodes.{TellsNothing, Noted, Path, IsClosed, Chain, Arrives}
 use Rattle.ir_states.specs.Outcomes.{IsOutcome, Begins, IsFinished}
-use Rattle.ir_states.proofs.Rest.{goes_ahead_counts, goes_ahead_append, state_invariant_after_counting_run, steps_ahead_may_come_first, nothing_goes_ahead_if_done}
-use Rattle.ir_states.proofs.Closed.{arrives_along_chain, RunByEntries, shows}
+use Rattle.ir_states.proofs.Rest.{run_that_goes_ahead_counts, goes_ahead_append, state_invariant_after_counting_run, steps_ahead_may_come_first, nothing_goes_ahead_if_done}
+use Rattle.ir_states.proofs.Closed.{counting_run_arrives_along_chain, RunByEntries, shows}
 
 pub is_done_from_alike_state : {T : Type 0} (m : Machine T) (answers : Answers T) (Alike : State T → State T → Type 0) → TellsNothing m answers Alike
     → (s v : State T) → Alike s v → IsDone m s → IsDone m v
 is_done_from_alike_state m answers Alike tells s v alike done t = sym (tells.asks s v alike t) ∙ done t
 
 -- a run that counts, from the start, leads to a node
-pub counting_run_arrives : {T I K : Type 0} (m : Machine T) → IsLawful m → (answers : Answers T) (Alike : State T → State T → Type 0)
+pub counting_run_arrives_along_chain_of_its_entries : {T I K : Type 0} (m : Machine T) → IsLawful m → (answers : Answers T) (Alike : State T → State T → Type 0)
     → TellsNothing m answers Alike
     → (Moves : I → ℕ → I → Type 0) (state_of : K → State T) (Node : I → K → Type 0) (Next : Noted K)
     → IsClosed m answers Alike Moves state_of Node Next → (s : State T) (first : K) → StateInvariant m s
     → Begins m answers Alike s (state_of first) → (i j : I) → Node i first → (run : List Step) → Counts m answers s run
     → Chain Moves i (entering m s run) j → Arrives m answers Alike state_of Node Next s first run j
-counting_run_arrives m law answers Alike tells Moves state_of Node Next closed s first good begins i j is run ok chain =
+counting_run_arrives_along_chain_of_its_entries m law answers Alike tells Moves state_of Node Next closed s first good begins i j is run ok chain =
     let b : Brought m answers s begins.ahead run = steps_ahead_may_come_first m law answers s good begins.ahead begins.goes run ok in
     let a : Arrives m answers Alike state_of Node Next (end m s begins.ahead) first b.rest j =
-    arrives_along_chain m law answers Alike tells Moves state_of Node Next closed (entering m s run) i j chain (end m s begins.ahead) first
-    (state_invariant_after_counting_run m law answers s good begins.ahead (goes_ahead_counts m answers s begins.ahead begins.goes)) begins.alike is b.rest b.counts
+    counting_run_arrives_along_chain m law answers Alike tells Moves state_of Node Next closed (entering m s run) i j chain (end m s begins.ahead) first
+    (state_invariant_after_counting_run m law answers s good begins.ahead (run_that_goes_ahead_counts m answers s begins.ahead begins.goes)) begins.alike is b.rest b.counts
     b.same_entering in
     record {
       left = b.left ++ a.left;
@@ -38,10 +38,10 @@ counting_run_arrives m law answers Alike tells Moves state_of Node Next closed s
     }
 
 -- of a complete run that node is its end
-pub end_alike_to_arrived_node : {T I K : Type 0} (m : Machine T) (answers : Answers T) (Alike : State T → State T → Type 0) (state_of : K → State T)
+pub done_end_is_alike_to_arrived_node : {T I K : Type 0} (m : Machine T) (answers : Answers T) (Alike : State T → State T → Type 0) (state_of : K → State T)
     (Node : I → K → Type 0) (Next : Noted K) (s : State T) (v : K) (run : List Step) (j : I) → IsDone m (end m s run)
     → (a : Arrives m answers Alike state_of Node Next s v run j) → Alike (end m s run) (state_of a.node)
-end_alike_to_arrived_node m answers Alike state_of Node Next s v run j done a =
+done_end_is_alike_to_arrived_node m answers Alike state_of Node Next s v run j done a =
     subst (λ z. Alike (end m (end m s run) z) (state_of a.node)) (nothing_goes_ahead_if_done m answers (end m s run) done a.left a.goes) a.alike
 
 -- nodes that all stand at one place, where every thread may move
@@ -67,7 +67,7 @@ module _ {T K : Type 0} (m : Machine T) (law : IsLawful m) (answers : Answers T)
   -- a run that counts leads to a node
   pub finds : (run : List Step) → Counts m answers s run → Arrives m answers Alike state_of (AtOnePlace Node) Next s first run tt
   finds run ok =
-      counting_run_arrives m law answers Alike tells MovesFreely state_of (AtOnePlace Node) Next finished_closed s first good f.begins tt tt f.is run ok
+      counting_run_arrives_along_chain_of_its_entries m law answers Alike tells MovesFreely state_of (AtOnePlace Node) Next finished_closed s first good f.begins tt tt f.is run ok
       (chain_of_free_moves (entering m s run))
 
   -- each node has a run that leads to it
@@ -81,7 +81,7 @@ module _ {T K : Type 0} (m : Machine T) (law : IsLawful m) (answers : Answers T)
     λ h.
         let a : Arrives m answers Alike state_of (AtOnePlace Node) Next s first h.0 tt = finds h.0 h.1 in
         let alike : Alike (end m s h.0) (state_of a.node) =
-        end_alike_to_arrived_node m answers Alike state_of (AtOnePlace Node) Next s first h.0 tt h.2 a in (
+        done_end_is_alike_to_arrived_node m answers Alike state_of (AtOnePlace Node) Next s first h.0 tt h.2 a in (
           a.node,
           a.is,
           is_done_from_alike_state m answers Alike tells (end m s h.0) (state_of a.node) alike h.2,

@@ -7,9 +7,9 @@ use Rattle.ir_runs.proofs.CallerLemmas.{StateInvariant, end_append}
 use Rattle.ir_states.specs.Counting.{Answers, Counts, GoesAhead, entering, Brought}
 use Rattle.ir_states.specs.Nodes.{TellsNothing, Noted, Path, Arrives}
 use Rattle.ir_states.specs.Outcomes.{IsHang, IsFinished, HasWay}
-use Rattle.ir_states.proofs.Rest.{goes_ahead_counts, counts_append, state_invariant_after_counting_run, steps_ahead_may_come_first, nothing_goes_ahead_if_done}
-use Rattle.ir_states.proofs.Closed.{RunByEntries, walk, arrives_along_chain}
-use Rattle.ir_states.proofs.Finished.{end_alike_to_arrived_node, is_done_from_alike_state, finds, found, MovesFreely, AtOnePlace, chain_of_free_moves, finished_closed}
+use Rattle.ir_states.proofs.Rest.{run_that_goes_ahead_counts, counts_append, state_invariant_after_counting_run, steps_ahead_may_come_first, nothing_goes_ahead_if_done}
+use Rattle.ir_states.proofs.Closed.{RunByEntries, walk, counting_run_arrives_along_chain}
+use Rattle.ir_states.proofs.Finished.{done_end_is_alike_to_arrived_node, is_done_from_alike_state, finds, found, MovesFreely, AtOnePlace, chain_of_free_moves, finished_closed}
 
 -- some run that counts leads from here to the end of all threads
 abbrev pub Completes : {T : Type 0} → Machine T → Answers T → State T → Type 0
@@ -22,14 +22,14 @@ module _ {T K : Type 0} (m : Machine T) (law : IsLawful m) (answers : Answers T)
   node_way : (u : State T) (v : K) → StateInvariant m u → Alike u (state_of v) → Node v → Completes m answers u → HasWay m state_of Next v
   node_way u v good' alike is (more, ok, done) =
       let a : Arrives m answers Alike state_of (AtOnePlace Node) Next u v more tt =
-      arrives_along_chain m law answers Alike tells MovesFreely state_of (AtOnePlace Node) Next
+      counting_run_arrives_along_chain m law answers Alike tells MovesFreely state_of (AtOnePlace Node) Next
       (finished_closed m law answers Alike tells s good state_of Node Next first f) (entering m u more) tt tt
       (chain_of_free_moves (entering m u more)) u v good' alike is more ok refl in (
         entering m u more,
         a.node,
         a.path,
         is_done_from_alike_state m answers Alike tells (end m u more) (state_of a.node)
-            (end_alike_to_arrived_node m answers Alike state_of (AtOnePlace Node) Next u v more tt done a) done,
+            (done_end_is_alike_to_arrived_node m answers Alike state_of (AtOnePlace Node) Next u v more tt done a) done,
       )
 
   way_node : (u : State T) (v : K) → Alike u (state_of v) → Node v → HasWay m state_of Next v → Completes m answers u
@@ -52,12 +52,12 @@ module _ {T K : Type 0} (m : Machine T) (law : IsLawful m) (answers : Answers T)
         let same : end m (end m (end m s run) left) b.rest ≡ end m (end m s run) c.0 =
         b.same_end ∙ ap (end m (end m (end m s run) c.0)) none in
         node_way (end m (end m s run) left) v
-        (state_invariant_after_counting_run m law answers (end m s run) good' left (goes_ahead_counts m answers (end m s run) left goes)) alike is
+        (state_invariant_after_counting_run m law answers (end m s run) good' left (run_that_goes_ahead_counts m answers (end m s run) left goes)) alike is
         (b.rest, b.counts, subst (IsDone m) (sym same) c.2),
     λ h.
         let k = way_node (end m (end m s run) left) v alike is h in (
           left ++ k.0,
-          counts_append m answers (end m s run) left k.0 (goes_ahead_counts m answers (end m s run) left goes) k.1,
+          counts_append m answers (end m s run) left k.0 (run_that_goes_ahead_counts m answers (end m s run) left goes) k.1,
           subst (IsDone m) (sym (end_append m (end m s run) left k.0)) k.2,
         ),
   )

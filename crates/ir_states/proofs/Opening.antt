@@ -82,11 +82,11 @@ module _ {T : Type 0} (m : Machine T) (answers : Answers T) (Alike : State T →
   }
 
 -- the list of nodes grows: what was opened stays as it was
-pub covers_after_nodes_grown : {T : Type 0} (m : Machine T) (answers : Answers T) (Alike : State T → State T → Type 0) (s : State T)
+pub covers_if_states_of_open_nodes_unchanged : {T : Type 0} (m : Machine T) (answers : Answers T) (Alike : State T → State T → Type 0) (s : State T)
     (state_of grown : ℕ → State T) (Open : ℕ → ℕ → ℕ → Type 0) (first c : ℕ)
     → ((k v t : ℕ) → Open k v t → state_of v ≡ grown v) → Covers m answers Alike s state_of Open first c
     → Covers m answers Alike s grown Open first c
-covers_after_nodes_grown m answers Alike s state_of grown Open first c same h = record {
+covers_if_states_of_open_nodes_unchanged m answers Alike s state_of grown Open first c same h = record {
   begins = subst (Begins m answers Alike s) (same 0 first 0 (h.opens 0)) h.begins;
   opens = h.opens;
   at_rest = λ k t v o. subst (IsAtRest m) (same k v t o) (h.at_rest k t v o);
@@ -100,10 +100,10 @@ covers_after_nodes_grown m answers Alike s state_of grown Open first c same h = 
   turned = h.turned;
 }
 
-pub followed_after_nodes_grown : {T : Type 0} (m : Machine T) (answers : Answers T) (Alike : State T → State T → Type 0) (state_of grown : ℕ → State T)
+pub followed_if_states_of_opened_nodes_unchanged : {T : Type 0} (m : Machine T) (answers : Answers T) (Alike : State T → State T → Type 0) (state_of grown : ℕ → State T)
     (now : OpenedPairs) (x h : ℕ) → ((v t : ℕ) → now v t ≡ true → state_of v ≡ grown v)
     → IsFollowedBut m answers Alike state_of now x h → IsFollowedBut m answers Alike grown now x h
-followed_after_nodes_grown m answers Alike state_of grown now x h same f = record {
+followed_if_states_of_opened_nodes_unchanged m answers Alike state_of grown now x h same f = record {
   at_rest = λ v t o. subst (IsAtRest m) (same v t o) (f.at_rest v t o);
   followed = λ v e o free can.
       let n = f.followed v e o free (subst (λ z. Can m z e) (sym (same v e.0 o)) can) in (

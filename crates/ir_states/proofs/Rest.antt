@@ -16,10 +16,10 @@ counting_run_is_run m answers s [] ok = tt
 counting_run_is_run m answers s (e ∷ run) ok = (ok.0.0, counting_run_is_run m answers (after m s e) run ok.1)
 
 -- steps that no other can refuse count
-pub goes_ahead_counts : {T : Type 0} (m : Machine T) (answers : Answers T) (s : State T) (run : List Step) → GoesAhead m answers s run
+pub run_that_goes_ahead_counts : {T : Type 0} (m : Machine T) (answers : Answers T) (s : State T) (run : List Step) → GoesAhead m answers s run
     → Counts m answers s run
-goes_ahead_counts m answers s [] ok = tt
-goes_ahead_counts m answers s (e ∷ run) ok = (ok.1, goes_ahead_counts m answers (after m s e) run ok.2)
+run_that_goes_ahead_counts m answers s [] ok = tt
+run_that_goes_ahead_counts m answers s (e ∷ run) ok = (ok.1, run_that_goes_ahead_counts m answers (after m s e) run ok.2)
 
 -- runs one after the other
 pub counts_append : {T : Type 0} (m : Machine T) (answers : Answers T) (s : State T) (run more : List Step) → Counts m answers s run
@@ -46,12 +46,12 @@ entering_append m s (e ∷ run) more =
     join false ts = refl
 
 -- steps that no other can refuse enter nothing
-pub goes_ahead_enters_nothing : {T : Type 0} (m : Machine T) (answers : Answers T) (s : State T) (run : List Step) → GoesAhead m answers s run
+pub run_that_goes_ahead_enters_nothing : {T : Type 0} (m : Machine T) (answers : Answers T) (s : State T) (run : List Step) → GoesAhead m answers s run
     → entering m s run ≡ []
-goes_ahead_enters_nothing m answers s [] ok = refl
-goes_ahead_enters_nothing m answers s (e ∷ run) ok =
+run_that_goes_ahead_enters_nothing m answers s [] ok = refl
+run_that_goes_ahead_enters_nothing m answers s (e ∷ run) ok =
     ap (λ b. cond b (entering m (after m s e) run) (e.0 ∷ entering m (after m s e) run)) ok.0
-    ∙ goes_ahead_enters_nothing m answers (after m s e) run ok.2
+    ∙ run_that_goes_ahead_enters_nothing m answers (after m s e) run ok.2
 
 pub state_invariant_after_counting_run : {T : Type 0} (m : Machine T) → IsLawful m → (answers : Answers T) (s : State T) → StateInvariant m s → (run : List Step)
     → Counts m answers s run → StateInvariant m (end m s run)
@@ -110,9 +110,9 @@ pub record BroughtWhole {T : Type 0} (m : Machine T) (answers : Answers T) (s : 
   pub same_length : length ahead + length rest ≡ length run
 
 -- In a complete run that counts, what the threads do up to their next entries may come first: each of its steps is among the run's.
-pub steps_ahead_first_in_complete_run : {T : Type 0} (m : Machine T) → IsLawful m → (answers : Answers T) (s : State T) → StateInvariant m s → (ahead : List Step)
+pub steps_ahead_may_come_first_in_complete_run : {T : Type 0} (m : Machine T) → IsLawful m → (answers : Answers T) (s : State T) → StateInvariant m s → (ahead : List Step)
     → GoesAhead m answers s ahead → (run : List Step) → Counts m answers s run → IsDone m (end m s run) → BroughtWhole m answers s ahead run
-steps_ahead_first_in_complete_run m law answers s good ahead goes run ok done =
+steps_ahead_may_come_first_in_complete_run m law answers s good ahead goes run ok done =
     let b : Brought m answers s ahead run = steps_ahead_may_come_first m law answers s good ahead goes run ok in
     let none : b.left ≡ [] = nothing_goes_ahead_if_done m answers (end m s run) done b.left b.goes in
     record {
@@ -128,9 +128,9 @@ steps_ahead_first_in_complete_run m law answers s good ahead goes run ok done =
 abbrev pub AnswersFit : {T : Type 0} → Machine T → Answers T → Type 0
 AnswersFit {T} m answers = (t : ℕ) (x : T) (k : EnvKind) → m.ask x ≡ Env k → m.fits k (answers t x) ≡ true
 
-own_step_is_taken : {T : Type 0} (m : Machine T) (answers : Answers T) → AnswersFit m answers → (s : State T) (t : ℕ)
+own_step_with_fitting_answer_may_be_taken : {T : Type 0} (m : Machine T) (answers : Answers T) → AnswersFit m answers → (s : State T) (t : ℕ)
     → is_own (asked m s t) ≡ true → Takes m answers s (t, answers t (s.now t))
-own_step_is_taken m answers fit s t own = by_ask (asked m s t) (answers t (s.now t)) own (λ k is. fit t (s.now t) k is)
+own_step_with_fitting_answer_may_be_taken m answers fit s t own = by_ask (asked m s t) (answers t (s.now t)) own (λ k is. fit t (s.now t) k is)
   where
     by_ask : (q : Ask) (a : ℕ) → is_own q ≡ true → ((k : EnvKind) → q ≡ Env k → m.fits k a ≡ true)
         → Admits m (act_of q a) (s.objects (target (act_of q a))) × IsAnswered q a a
@@ -172,17 +172,17 @@ done_state_is_at_rest : {T : Type 0} (m : Machine T) (s : State T) → IsDone m 
 done_state_is_at_rest m s done t = ap is_own (done t)
 
 -- where a complete run counts, they can
-pub complete_run_comes_to_rest : {T : Type 0} (m : Machine T) → IsLawful m → (answers : Answers T) → AnswersFit m answers → (n count : ℕ) (s : State T) → StateInvariant m s
+pub state_comes_to_rest_if_a_run_completes : {T : Type 0} (m : Machine T) → IsLawful m → (answers : Answers T) → AnswersFit m answers → (n count : ℕ) (s : State T) → StateInvariant m s
     → IsIdle m s n → (run : List Step) → Counts m answers s run → IsDone m (end m s run) → length run ≤ count → ComesToRest m answers s
-complete_run_comes_to_rest m law answers fit n zero s good idle [] ok done few =
+state_comes_to_rest_if_a_run_completes m law answers fit n zero s good idle [] ok done few =
     record { ahead = []; goes = tt; at_rest = done_state_is_at_rest m s done }
-complete_run_comes_to_rest m law answers fit n zero s good idle (e ∷ run) ok done few = absurd (omega (arith, few))
-complete_run_comes_to_rest m law answers fit n (suc count) s good idle run ok done few = elim (own_ask_exists_or_none_below m s n) [
+state_comes_to_rest_if_a_run_completes m law answers fit n zero s good idle (e ∷ run) ok done few = absurd (omega (arith, few))
+state_comes_to_rest_if_a_run_completes m law answers fit n (suc count) s good idle run ok done few = elim (own_ask_exists_or_none_below m s n) [
   | inl own ↦
       let e : Step = (own.0, answers own.0 (s.now own.0)) in
-      let takes : Takes m answers s e = own_step_is_taken m answers fit s own.0 own.1 in
-      let b : BroughtWhole m answers s (e ∷ []) run = steps_ahead_first_in_complete_run m law answers s good (e ∷ []) (own.1, takes, tt) run ok done in
-      let r : ComesToRest m answers (after m s e) = complete_run_comes_to_rest m law answers fit n count (after m s e) (state_invariant_after_step m law s good e takes.0)
+      let takes : Takes m answers s e = own_step_with_fitting_answer_may_be_taken m answers fit s own.0 own.1 in
+      let b : BroughtWhole m answers s (e ∷ []) run = steps_ahead_may_come_first_in_complete_run m law answers s good (e ∷ []) (own.1, takes, tt) run ok done in
+      let r : ComesToRest m answers (after m s e) = state_comes_to_rest_if_a_run_completes m law answers fit n count (after m s e) (state_invariant_after_step m law s good e takes.0)
       (idle_after_step m s n idle e takes.0) b.rest b.counts (subst (IsDone m) (sym b.same_end) done)
       (let h = b.same_length in omega (arith, few, h)) in
       record { ahead = e ∷ r.ahead; goes = (own.1, takes, r.goes); at_rest = r.at_rest }

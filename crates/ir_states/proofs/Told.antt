@@ -7,7 +7,7 @@ use Rattle.ir_runs.proofs.CallerLemmas.{StateInvariant}
 use Rattle.ir_states.specs.Counting.{Answers, Counts, is_own, IsAtRest, entering}
 use Rattle.ir_states.specs.Nodes.{TellsNothing, LeadsTo, Noted, Path, IsClosed, Chain, Arrives}
 use Rattle.ir_states.specs.Outcomes.{Begins}
-use Rattle.ir_states.proofs.Finished.{counting_run_arrives}
+use Rattle.ir_states.proofs.Finished.{counting_run_arrives_along_chain_of_its_entries}
 use Rattle.ir_states.proofs.Orders.{leads_to_by_equal_act}
 use Rattle.ir_states.proofs.Every.{nothing_goes_ahead_at_rest}
 use Rattle.ir_states.proofs.Within.{Leading}
@@ -58,7 +58,7 @@ module _ {T K : Type 0} (m : Machine T) (law : IsLawful m) (answers : Answers T)
       → Alike (end m s run) (state_of v)
   told s first good begins is run ok rest v path =
       let a : Arrives m answers Alike state_of (Before v) (Leading m answers Alike state_of) s first run [] =
-      counting_run_arrives m law answers Alike tells MovesAlongOrder state_of (Before v) (Leading m answers Alike state_of) (before_closed v) s first good begins
+      counting_run_arrives_along_chain_of_its_entries m law answers Alike tells MovesAlongOrder state_of (Before v) (Leading m answers Alike state_of) (before_closed v) s first good begins
       (entering m s run) [] (is, path) run ok (chain_along_order (entering m s run)) in
       subst (λ z. Alike (end m s run) (state_of z)) a.is.1
       (subst (λ z. Alike (end m (end m s run) z) (state_of a.node)) (nothing_goes_ahead_at_rest m answers (end m s run) rest a.left a.goes) a.alike)

@@ -20,43 +20,43 @@ pub all_by_recursion_weaker : {X : Type 0} (P Q : X → Type 0) (xs : List X) �
 all_by_recursion_weaker P Q [] each all = tt
 all_by_recursion_weaker P Q (x ∷ xs) each all = (each x all.0, all_by_recursion_weaker P Q xs each all.1)
 
-pub all_by_recursion_after_put : {X : Type 0} (P : X → Type 0) (xs new : List X) (y : X) → AllByRecursion P xs → P y → (new ≡ xs) ⊎ (new ≡ xs ++ y ∷ [])
+pub all_by_recursion_if_unchanged_or_pushed : {X : Type 0} (P : X → Type 0) (xs new : List X) (y : X) → AllByRecursion P xs → P y → (new ≡ xs) ⊎ (new ≡ xs ++ y ∷ [])
     → AllByRecursion P new
-all_by_recursion_after_put P xs new y all is either = elim either [
+all_by_recursion_if_unchanged_or_pushed P xs new y all is either = elim either [
   | inl e ↦ subst (AllByRecursion P) (sym e) all
   | inr e ↦ subst (AllByRecursion P) (sym e) (all_by_recursion_after_push P xs y all is)
 ]
 
 -- one element more
-pub keeps_after_push : {X : Type 0} (old : List X) (s : X) → Keeps old (old ++ s ∷ [])
-keeps_after_push [] s n x e = absurd (cc e)
-keeps_after_push (y ∷ old) s zero x e = e
-keeps_after_push (y ∷ old) s (suc n) x e = keeps_after_push old s n x e
+pub push_keeps_old_elements : {X : Type 0} (old : List X) (s : X) → Keeps old (old ++ s ∷ [])
+push_keeps_old_elements [] s n x e = absurd (cc e)
+push_keeps_old_elements (y ∷ old) s zero x e = e
+push_keeps_old_elements (y ∷ old) s (suc n) x e = push_keeps_old_elements old s n x e
 
 -- what was kept stays
 pub kept_element_is_equal : {X : Type 0} (old new : List X) (d : X) → Keeps old new → (n : ℕ) → n < length old → get_or new n d ≡ get_or old n d
 kept_element_is_equal old new d keeps n lt = get_or_from_slice_get new n (get_or old n d) d (keeps n (get_or old n d) (slice_get-get_or old n d lt))
 
-pub place_below_length_kept : {X : Type 0} (old new : List X) (d : X) → Keeps old new → (n : ℕ) → n < length old → n < length new
-place_below_length_kept old new d keeps n lt = slice_get_within new n (get_or old n d) (keeps n (get_or old n d) (slice_get-get_or old n d lt))
+pub index_below_length_kept_if_elements_kept : {X : Type 0} (old new : List X) (d : X) → Keeps old new → (n : ℕ) → n < length old → n < length new
+index_below_length_kept_if_elements_kept old new d keeps n lt = slice_get_within new n (get_or old n d) (keeps n (get_or old n d) (slice_get-get_or old n d lt))
 
 -- elements found one by one
-pub mapped_elements_found_step : {X Y : Type 0} (f : X → Y) (xs : List X) (x : X) (ys : List Y) (i : ℕ) (d : Y) → i < length ys → map f xs ≡ take i ys
+pub map_of_push_is_take_of_one_more : {X Y : Type 0} (f : X → Y) (xs : List X) (x : X) (ys : List Y) (i : ℕ) (d : Y) → i < length ys → map f xs ≡ take i ys
     → f x ≡ get_or ys i d → map f (xs ++ x ∷ []) ≡ take (i + 1) ys
-mapped_elements_found_step f xs x ys i d lt before is =
+map_of_push_is_take_of_one_more f xs x ys i d lt before is =
     map_push f xs x ∙ (λ j. before j ++ is j ∷ []) ∙ sym (take_more ys i d lt)
 
 -- elements made one by one
-pub mapped_elements_made_step : {X Y : Type 0} (f : X → Y) (xs : List X) (ys : List Y) (y : Y) (i : ℕ) (d : X) → i < length xs → ys ≡ map f (take i xs)
+pub push_is_map_of_take_of_one_more : {X Y : Type 0} (f : X → Y) (xs : List X) (ys : List Y) (y : Y) (i : ℕ) (d : X) → i < length xs → ys ≡ map f (take i xs)
     → y ≡ f (get_or xs i d) → ys ++ y ∷ [] ≡ map f (take (i + 1) xs)
-mapped_elements_made_step f xs ys y i d lt before is =
+push_is_map_of_take_of_one_more f xs ys y i d lt before is =
     (λ j. before j ++ is j ∷ []) ∙ sym (map_push f (take i xs) (get_or xs i d)) ∙ ap (map f) (sym (take_more xs i d lt))
 
 -- the same function of each element
-pub map_equal_if_functions_equal : {X Y : Type 0} (f g : X → Y) (P : X → Type 0) (xs : List X) → ((x : X) → P x → f x ≡ g x) → AllByRecursion P xs
+pub map_equal_if_functions_equal_on_property_of_all : {X Y : Type 0} (f g : X → Y) (P : X → Type 0) (xs : List X) → ((x : X) → P x → f x ≡ g x) → AllByRecursion P xs
     → map f xs ≡ map g xs
-map_equal_if_functions_equal f g P [] each all = refl
-map_equal_if_functions_equal f g P (x ∷ xs) each all = λ i. each x all.0 i ∷ map_equal_if_functions_equal f g P xs each all.1 i
+map_equal_if_functions_equal_on_property_of_all f g P [] each all = refl
+map_equal_if_functions_equal_on_property_of_all f g P (x ∷ xs) each all = λ i. each x all.0 i ∷ map_equal_if_functions_equal_on_property_of_all f g P xs each all.1 i
 
 pub drop_begins_with_element : {X : Type 0} (xs : List X) (i : ℕ) (d : X) → i < length xs → drop i xs ≡ get_or xs i d ∷ drop (suc i) xs
 drop_begins_with_element [] i d lt = absurd (omega (arith, lt))

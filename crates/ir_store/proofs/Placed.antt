@@ -5,15 +5,15 @@ use Rattle.std.proofs.lemmas.List.{take-append-le, drop-append-le, length-drop, 
 use Rattle.std.proofs.Math.Seq.{drop-append_seam, take-length}
 use Rattle.ir_store.specs.declared.spot.Spot.{Spot}
 use Rattle.ir_store.specs.Places.{Place, part, node_at, IsPlaced}
-use Rattle.ir_store.proofs.Lists.{all_by_recursion_after_put, all_by_recursion_weaker}
+use Rattle.ir_store.proofs.Lists.{all_by_recursion_if_unchanged_or_pushed, all_by_recursion_weaker}
 
-part_after_growth : {X : Type 0} (xs more : List X) (first count : ℕ) → first + count ≤ length xs → part (xs ++ more) first count ≡ part xs first count
-part_after_growth xs more first count within =
+part_of_append_within_first_list : {X : Type 0} (xs more : List X) (first count : ℕ) → first + count ≤ length xs → part (xs ++ more) first count ≡ part xs first count
+part_of_append_within_first_list xs more first count within =
     let few : count ≤ length (drop first xs) = (let e = length-drop first xs in omega (arith, within, e)) in
     ap (take count) (drop-append-le first xs more (omega (arith, within))) ∙ take-append-le count (drop first xs) more few
 
-part_at_end : {X : Type 0} (xs more : List X) → part (xs ++ more) (length xs) (length more) ≡ more
-part_at_end xs more = ap (take (length more)) (drop-append_seam xs more) ∙ take-length more
+part_at_end_of_append_is_second_list : {X : Type 0} (xs more : List X) → part (xs ++ more) (length xs) (length more) ≡ more
+part_at_end_of_append_is_second_list xs more = ap (take (length more)) (drop-append_seam xs more) ∙ take-length more
 
 -- so many elements more
 abbrev pub Extends : {X : Type 0} → List X → List X → Type 0
@@ -26,8 +26,8 @@ module _ (threads threads' : List ℕ) (objects objects' : List Spot) (more : Ex
   node_after_growth : (place : Place) → IsPlaced (length threads) (length objects) place → node_at threads' objects' place ≡ node_at threads objects place
   node_after_growth place is = λ i. record {
     code = place.code;
-    threads = (ap (λ xs. part xs place.thread place.threads) more.1 ∙ part_after_growth threads more.0 place.thread place.threads is.threads) i;
-    objects = (ap (λ xs. part xs place.object place.objects) also.1 ∙ part_after_growth objects also.0 place.object place.objects is.objects) i;
+    threads = (ap (λ xs. part xs place.thread place.threads) more.1 ∙ part_of_append_within_first_list threads more.0 place.thread place.threads is.threads) i;
+    objects = (ap (λ xs. part xs place.object place.objects) also.1 ∙ part_of_append_within_first_list objects also.0 place.object place.objects is.objects) i;
   }
 
   pub nodes_after_growth : (places : List Place) → AllByRecursion (IsPlaced (length threads) (length objects)) places
@@ -50,8 +50,8 @@ module _ (threads us threads' : List ℕ) (objects spots objects' : List Spot) (
   node_at_end : node_at threads' objects' place ≡ record { code = place.code; threads = us; objects = spots }
   node_at_end = λ i. record {
     code = place.code;
-    threads = ((λ j. part (more j) (thread j) (many j)) ∙ part_at_end threads us) i;
-    objects = ((λ j. part (also j) (object j) (each j)) ∙ part_at_end objects spots) i;
+    threads = ((λ j. part (more j) (thread j) (many j)) ∙ part_at_end_of_append_is_second_list threads us) i;
+    objects = ((λ j. part (also j) (object j) (each j)) ∙ part_at_end_of_append_is_second_list objects spots) i;
   }
 
   placed_at_end : IsPlaced (length threads') (length objects') place
@@ -63,7 +63,7 @@ module _ (threads us threads' : List ℕ) (objects spots objects' : List Spot) (
   pub placed_after_push : (places new : List Place) → AllByRecursion (IsPlaced (length threads) (length objects)) places
       → (new ≡ places) ⊎ (new ≡ places ++ place ∷ []) → AllByRecursion (IsPlaced (length threads') (length objects')) new
   placed_after_push places new all either =
-      all_by_recursion_after_put (IsPlaced (length threads') (length objects')) places new place
+      all_by_recursion_if_unchanged_or_pushed (IsPlaced (length threads') (length objects')) places new place
       (placed_after_growth threads threads' objects objects' (us, more) (spots, also) places all) placed_at_end either
 
   pub nodes_after_push : (places new : List Place) → AllByRecursion (IsPlaced (length threads) (length objects)) places → new ≡ places ++ place ∷ []

@@ -9,7 +9,7 @@ use Rattle.ir_lemmas.proofs.CallerLemmas.{all_by_recursion_after_push, slice_get
 use Rattle.ir_sources.specs.Sources.{Source}
 use Rattle.ir_thread.specs.State.{ThreadState}
 use Rattle.ir_store.specs.Table.{Keeps, LooksLike, AreLooks}
-use Rattle.ir_store.proofs.Lists.{keeps_after_push}
+use Rattle.ir_store.proofs.Lists.{push_keeps_old_elements}
 
 pub looked_up_row_is_element_of_mapped_rows : {R X : Type 0} (f : R → X) (rows : List R) (row : R) (n : ℕ) (x : X) → n < length (map f rows) → row ≡ get_or rows n row
     → x ≡ f row → slice_get (map f rows) n ≡ Some x
@@ -19,9 +19,9 @@ looked_up_row_is_element_of_mapped_rows f rows row n x lt at is =
     ∙ ap Some (sym is)
 
 -- what is so of all rows, and of one more that is put or not
-pub all_by_recursion_after_row_put : {R X : Type 0} (f : R → X) (P : X → Type 0) (rows new : List R) (row : R) → AllByRecursion P (map f rows) → P (f row)
+pub all_by_recursion_of_map_if_rows_unchanged_or_pushed : {R X : Type 0} (f : R → X) (P : X → Type 0) (rows new : List R) (row : R) → AllByRecursion P (map f rows) → P (f row)
     → (new ≡ rows) ⊎ (new ≡ rows ++ row ∷ []) → AllByRecursion P (map f new)
-all_by_recursion_after_row_put f P rows new row all is either = elim either [
+all_by_recursion_of_map_if_rows_unchanged_or_pushed f P rows new row all is either = elim either [
   | inl e ↦ subst (λ l. AllByRecursion P (map f l)) (sym e) all
   | inr e ↦ subst (λ l. AllByRecursion P (map f l)) (sym e)
       (subst (AllByRecursion P) (sym (map_push f rows row)) (all_by_recursion_after_push P (map f rows) (f row) all is))
@@ -38,7 +38,7 @@ pub looks_after_thread_pushed : (start : List ℕ) (items : List (ThreadState ×
     → AreLooks start (items ++ x ∷ []) (looks ++ k ∷ [])
 looks_after_thread_pushed start items looks x k size all is n j y stands at = elim (slice_get_after_push_cases looks k n j stands) [
   | inl old ↦ elim (slice_get_after_push_cases items x n y at) [
-    | inl here ↦ looks_like_if_kept start items (items ++ x ∷ []) j y (keeps_after_push items x) (all n j y old here)
+    | inl here ↦ looks_like_if_kept start items (items ++ x ∷ []) j y (push_keeps_old_elements items x) (all n j y old here)
     | inr last ↦ absurd (old_less looks n j old (last.0 ∙ sym size))
   ]
   | inr last ↦ elim (slice_get_after_push_cases items x n y at) [
@@ -53,13 +53,13 @@ looks_after_thread_pushed start items looks x k size all is n j y stands at = el
 
     new_one : (k ≡ length items) ⊎ LooksLike start items k x → LooksLike start (items ++ x ∷ []) k x
     new_one (inl e) = record { kept = x; at = ap (slice_get (items ++ x ∷ [])) e ∙ added_element_is_last items x; bytes = refl; source = λ going. refl }
-    new_one (inr like) = looks_like_if_kept start items (items ++ x ∷ []) k x (keeps_after_push items x) like
+    new_one (inr like) = looks_like_if_kept start items (items ++ x ∷ []) k x (push_keeps_old_elements items x) like
 
-pub looks_after_row_put : {R : Type 0} (f : R → ThreadState × Source) (g : R → ℕ) (start : List ℕ) (rows new : List R) (row : R)
+pub are_looks_kept_if_rows_unchanged_or_pushed : {R : Type 0} (f : R → ThreadState × Source) (g : R → ℕ) (start : List ℕ) (rows new : List R) (row : R)
     → AreLooks start (map f rows) (map g rows)
     → (g row ≡ length (map f rows)) ⊎ LooksLike start (map f rows) (g row) (f row)
     → (new ≡ rows) ⊎ (new ≡ rows ++ row ∷ []) → AreLooks start (map f new) (map g new)
-looks_after_row_put f g start rows new row all is either = elim either [
+are_looks_kept_if_rows_unchanged_or_pushed f g start rows new row all is either = elim either [
   | inl e ↦ subst (λ l. AreLooks start (map f l) (map g l)) (sym e) all
   | inr e ↦ subst (λ l. AreLooks start (map f l) (map g l)) (sym e)
       (subst (λ l. AreLooks start l (map g (rows ++ row ∷ []))) (sym (map_push f rows row))

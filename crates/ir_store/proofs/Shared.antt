@@ -4,31 +4,31 @@ use Rattle.std.specs.List.{AllByRecursion}
 use Rattle.ir_store.specs.declared.spot.Spot.{Spot}
 use Rattle.ir_store.specs.Nodes.{Shared, Node, cell_in, sourced_in, IsSourced, IsWithin, IsNode, AreKept, Grows}
 use Rattle.ir_store.specs.Table.{idle_beside}
-use Rattle.ir_store.proofs.Lists.{kept_element_is_equal, place_below_length_kept, all_by_recursion_weaker, map_equal_if_functions_equal}
+use Rattle.ir_store.proofs.Lists.{kept_element_is_equal, index_below_length_kept_if_elements_kept, all_by_recursion_weaker, map_equal_if_functions_equal_on_property_of_all}
 
-pub numbers_within_after_growth : {X : Type 0} (old new : List X) (d : X) → ((n : ℕ) → n < length old → n < length new) → (numbers : List ℕ)
+pub numbers_below_length_after_growth : {X : Type 0} (old new : List X) (d : X) → ((n : ℕ) → n < length old → n < length new) → (numbers : List ℕ)
     → AllByRecursion (λ n. n < length old) numbers → AllByRecursion (λ n. n < length new) numbers
-numbers_within_after_growth old new d within numbers all = all_by_recursion_weaker (λ n. n < length old) (λ n. n < length new) numbers within all
+numbers_below_length_after_growth old new d within numbers all = all_by_recursion_weaker (λ n. n < length old) (λ n. n < length new) numbers within all
 
 module _ (old new : Shared) (grows : Grows old new) where
   pub within_grown : (node : Node) → IsWithin old node → IsWithin new node
   within_grown node is = record {
     threads = all_by_recursion_weaker (λ n. n < length old.threads) (λ n. n < length new.threads) node.threads
-        (place_below_length_kept old.threads new.threads idle_beside grows.threads) is.threads;
+        (index_below_length_kept_if_elements_kept old.threads new.threads idle_beside grows.threads) is.threads;
     words = all_by_recursion_weaker (λ (s : Spot). s.words < length old.words) (λ (s : Spot). s.words < length new.words) node.objects
-        (λ s. place_below_length_kept old.words new.words [] grows.words s.words) is.words;
+        (λ s. index_below_length_kept_if_elements_kept old.words new.words [] grows.words s.words) is.words;
   }
 
   pub sourced_grown : (node : Node) → IsWithin old node → sourced_in new node ≡ sourced_in old node
   sourced_grown node is = λ i. record {
     flat = record {
       code = node.code;
-      threads = map_equal_if_functions_equal (λ n. (get_or new.threads n idle_beside).0) (λ n. (get_or old.threads n idle_beside).0) (λ n. n < length old.threads)
+      threads = map_equal_if_functions_equal_on_property_of_all (λ n. (get_or new.threads n idle_beside).0) (λ n. (get_or old.threads n idle_beside).0) (λ n. n < length old.threads)
           node.threads (λ n lt j. (kept_element_is_equal old.threads new.threads idle_beside grows.threads n lt j).0) is.threads i;
-      objects = map_equal_if_functions_equal (cell_in new.words) (cell_in old.words) (λ (s : Spot). s.words < length old.words) node.objects
+      objects = map_equal_if_functions_equal_on_property_of_all (cell_in new.words) (cell_in old.words) (λ (s : Spot). s.words < length old.words) node.objects
           (λ s lt j. record { fields = (cell_in old.words s).fields; words = kept_element_is_equal old.words new.words [] grows.words s.words lt j }) is.words i;
     };
-    sources = map_equal_if_functions_equal (λ n. (get_or new.threads n idle_beside).1) (λ n. (get_or old.threads n idle_beside).1) (λ n. n < length old.threads)
+    sources = map_equal_if_functions_equal_on_property_of_all (λ n. (get_or new.threads n idle_beside).1) (λ n. (get_or old.threads n idle_beside).1) (λ n. n < length old.threads)
         node.threads (λ n lt j. (kept_element_is_equal old.threads new.threads idle_beside grows.threads n lt j).1) is.threads i;
   }
 
@@ -37,7 +37,7 @@ module _ (old new : Shared) (grows : Grows old new) where
       (λ node is. record { within = within_grown node is.within; sourced = subst IsSourced (sym (sourced_grown node is.within)) is.sourced }) all
 
   pub states_grown : (nodes : List Node) → AreKept old nodes → map (sourced_in new) nodes ≡ map (sourced_in old) nodes
-  states_grown nodes all = map_equal_if_functions_equal (sourced_in new) (sourced_in old) (IsNode old) nodes (λ node is. sourced_grown node is.within) all
+  states_grown nodes all = map_equal_if_functions_equal_on_property_of_all (sourced_in new) (sourced_in old) (IsNode old) nodes (λ node is. sourced_grown node is.within) all
 
 pub grows_transitive : (old new : Shared) (mid : Shared) → Grows old mid → Grows mid new → Grows old new
 grows_transitive old new mid a b = record {

@@ -5,7 +5,7 @@ use Rattle.std.specs.List.{AllByRecursion}
 use Rattle.std.specs.Option.{option_map}
 use Rattle.std.proofs.lemmas.List.{map-set}
 use Rattle.std.proofs.lemmas.Option.{same_Some, slice_get-map, slice_get-get_or}
-use Rattle.ir_lemmas.proofs.CallerLemmas.{element_of_all_by_recursion, length_of_map}
+use Rattle.ir_lemmas.proofs.CallerLemmas.{get_or_element_satisfies_all_by_recursion, length_of_map}
 use Rattle.ir_flat.specs.Flat.{idle, cell_of}
 use Rattle.ir_flat.specs.Room.{empty}
 use Rattle.ir_sources.specs.Sources.{Source}
@@ -16,9 +16,9 @@ use Rattle.ir_store.specs.Places.{no_node}
 use Rattle.ir_store.specs.Table.{no_source, idle_beside, beside_at}
 
 -- what is at a place of a list of what elements give
-pub mapped_element_at_place : {X Y : Type 0} (f : X → Y) (xs : List X) (i : ℕ) (x d : X) (y : Y) → i < length xs → x ≡ get_or xs i d
+pub element_of_map_is_function_of_element : {X Y : Type 0} (f : X → Y) (xs : List X) (i : ℕ) (x d : X) (y : Y) → i < length xs → x ≡ get_or xs i d
     → slice_get (map f xs) i ≡ Some y → f x ≡ y
-mapped_element_at_place f xs i x d y lt is at =
+element_of_map_is_function_of_element f xs i x d y lt is at =
     same_Some (f x) y (sym (slice_get-map f xs i ∙ ap (option_map f) (slice_get-get_or xs i d lt ∙ ap Some (sym is))) ∙ at)
 
 pub get_or_map : {X Y : Type 0} (f : X → Y) (xs : List X) (i : ℕ) (d : X) (e : Y) → i < length xs → get_or (map f xs) i e ≡ f (get_or xs i d)
@@ -35,9 +35,9 @@ beside_at_is_element items numbers t d lt = λ i. (
 )
 
 -- the state of a number
-pub state_at_place : (shared : Shared) (nodes : List Node) (v : ℕ) → v < length (map (sourced_in shared) nodes)
+pub slice_get_of_mapped_nodes_is_sourced_node : (shared : Shared) (nodes : List Node) (v : ℕ) → v < length (map (sourced_in shared) nodes)
     → slice_get (map (sourced_in shared) nodes) v ≡ Some (sourced_in shared (get_or nodes v no_node))
-state_at_place shared nodes v less =
+slice_get_of_mapped_nodes_is_sourced_node shared nodes v less =
     slice_get-map (sourced_in shared) nodes v
     ∙ ap (option_map (sourced_in shared)) (slice_get-get_or nodes v no_node (subst (λ k. v < k) (length_of_map (sourced_in shared) nodes) less))
 
@@ -49,10 +49,10 @@ module _ (shared : Shared) (nodes : List Node) (kept : AreKept shared nodes) (v 
   node_less = subst (λ k. v < k) (length_of_map (sourced_in shared) nodes) less
 
   pub node_is : IsNode shared node
-  node_is = subst (IsNode shared) (sym is) (element_of_all_by_recursion (IsNode shared) nodes v no_node kept node_less)
+  node_is = subst (IsNode shared) (sym is) (get_or_element_satisfies_all_by_recursion (IsNode shared) nodes v no_node kept node_less)
 
   pub state_is : sourced_in shared node ≡ s
-  state_is = mapped_element_at_place (sourced_in shared) nodes v node no_node s node_less is at
+  state_is = element_of_map_is_function_of_element (sourced_in shared) nodes v node no_node s node_less is at
 
   pub node_threads : length node.threads ≡ length s.flat.threads
   node_threads = sym (length_of_map (λ n. (get_or shared.threads n idle_beside).0) node.threads) ∙ ap (λ (z : SourcedFlat). length z.flat.threads) state_is

@@ -11,8 +11,8 @@ use Rattle.ir_stream.specs.declared.serving.Fault.TheVariants.{Read, Write, TooL
 use Rattle.ir_stream.specs.Answers.{SplitBytes, split_lines, last_line, lines_of, Replying, LinesAnswered, RepliedPrefix, through, some_quits, ReadsUpTo}
 use Rattle.ir_stream.specs.Written.{most_kept_bytes, Wrote, WroteInPart, Replied}
 use Rattle.ir_stream.specs.Endings.{served_after, IfEnded, LeadsTo}
-use Rattle.ir_stream.proofs.Cuts.{split_lines_of_line_feed, split_lines_of_other_byte, take_of_append_ignores_inner_take}
-use Rattle.ir_stream.proofs.Replies.{last_line_of_nonempty, answered_append, answered_no_lines, answered_one_line, answered_last_line_if_prefix_answered, some_quits_of_append_after_no_quit, some_quits_of_one_line, some_quits_of_no_lines, through_of_append_after_no_quit, through_keeps_last_line, through_of_one_line, some_quits_of_last_line_ignores_take}
+use Rattle.ir_stream.proofs.Cuts.{split_lines_ends_line_at_line_feed, split_lines_adds_other_byte_to_rest, take_of_append_ignores_inner_take}
+use Rattle.ir_stream.proofs.Replies.{last_line_of_nonempty_is_line_alone, lines_answered_of_append, answered_no_lines, answered_one_line, answered_last_line_if_prefix_answered, some_quits_of_append_after_no_quit, some_quits_of_one_line, some_quits_of_no_lines_is_false, through_of_append_after_no_quit, through_keeps_last_line, through_of_one_line, some_quits_of_last_line_ignores_take}
 use Rattle.ir_stream.proofs.Hearing.{input_has_property_if_each_continuation_has, leads_quit, leads_end, leads_long}
 
 -- after these bytes: what is left, what was written, the machine and the line that has begun
@@ -58,7 +58,7 @@ module _ {S : Type 0} (R : Replying S) (quits : List ℕ → Bool)
     grown =
         Appends-nil w0;
     begun = refl;
-    quiet = some_quits_of_no_lines quits;
+    quiet = some_quits_of_no_lines_is_false quits;
   }
 
   module _ (left left' written : Option (List ℕ)) (s : S) (line : List ℕ) (n : ℕ) (at : IsSessionAt R quits s0 input w0 left written s line n) where
@@ -66,7 +66,7 @@ module _ {S : Type 0} (R : Replying S) (quits : List ℕ → Bool)
     pub at_byte : (line' : List ℕ) (b : ℕ) → Consumes left left' (b ∷ []) → eqb b 10 ≡ false → line' ≡ take most_kept_bytes (line ++ b ∷ [])
         → IsSessionAt R quits s0 input w0 left' written s line' (n + 1)
     at_byte line' b took ne kept =
-        let k = split_lines_of_other_byte at.bytes b ne in
+        let k = split_lines_adds_other_byte_to_rest at.bytes b ne in
         let P : SplitBytes → Type 0 = λ c. LinesAnswered R s0 c.whole at.text s in
         record {
           bytes = at.bytes ++ b ∷ [];
@@ -91,7 +91,7 @@ module _ {S : Type 0} (R : Replying S) (quits : List ℕ → Bool)
     -- the answers with that to the line whose line feed comes
     fed : (text : List ℕ) (next : S) → R s line text next
         → LinesAnswered R s0 ((split_lines at.bytes).whole ++ (split_lines at.bytes).rest ∷ []) (at.text ++ text) next
-    fed text next is = answered_append R s0 (split_lines at.bytes).whole ((split_lines at.bytes).rest ∷ []) at.text text s next at.answered
+    fed text next is = lines_answered_of_append R s0 (split_lines at.bytes).whole ((split_lines at.bytes).rest ∷ []) at.text text s next at.answered
         (answered_one_line R s (split_lines at.bytes).rest text next (whole_reply text next is))
 
     fed_wrote : (next : S) (written' : Option (List ℕ)) → Replied R s line next written written'
@@ -120,7 +120,7 @@ module _ {S : Type 0} (R : Replying S) (quits : List ℕ → Bool)
         → quits line ≡ false → IsSessionAt R quits s0 input w0 left' written' s' [] (n + 1)
     unfolding split_lines
     at_feed written' s' took p q =
-        let k = split_lines_of_line_feed at.bytes [] in
+        let k = split_lines_ends_line_at_line_feed at.bytes [] in
         let P : SplitBytes → Type 0 = λ c. LinesAnswered R s0 c.whole (at.text ++ p.text) s' in
         record {
           bytes = at.bytes ++ 10 ∷ [];
@@ -162,7 +162,7 @@ module _ {S : Type 0} (R : Replying S) (quits : List ℕ → Bool)
           × (((split_lines consumed).rest ≡ [] → ⊥) → IsAtEnd left') × WroteInPart R s0 (lines_of consumed) w0 written')
       unfolding split_lines
       feed_failed written' took p =
-          let k = split_lines_of_line_feed at.bytes [] in
+          let k = split_lines_ends_line_at_line_feed at.bytes [] in
           let lines : lines_of (at.bytes ++ 10 ∷ []) ≡ (split_lines at.bytes).whole ++ (split_lines at.bytes).rest ∷ [] =
           ap (λ (c : SplitBytes). c.whole ++ last_line c.rest) k ∙ append-nil ((split_lines at.bytes).whole ++ (split_lines at.bytes).rest ∷ []) in
           let none : (split_lines (at.bytes ++ 10 ∷ [])).rest ≡ [] = ap (λ (c : SplitBytes). c.rest) k in
@@ -197,7 +197,7 @@ module _ {S : Type 0} (R : Replying S) (quits : List ℕ → Bool)
       all : (text : List ℕ) (last : S) → LinesAnswered R s (last_line line) text last → LinesAnswered R s0 (lines_of at.bytes) (at.text ++ text) last
       all text last done =
           let P : List ℕ → Type 0 = λ l. LinesAnswered R s (last_line l) text last in
-          answered_append R s0 (split_lines at.bytes).whole (last_line (split_lines at.bytes).rest) at.text text s last at.answered
+          lines_answered_of_append R s0 (split_lines at.bytes).whole (last_line (split_lines at.bytes).rest) at.text text s last at.answered
           (answered_last_line_if_prefix_answered R long_replies s (split_lines at.bytes).rest text last (subst P at.begun done))
 
       all_wrote : (written' : Option (List ℕ)) → Wrote R s (last_line line) written written' → Wrote R s0 (lines_of at.bytes) w0 written'
@@ -212,7 +212,7 @@ module _ {S : Type 0} (R : Replying S) (quits : List ℕ → Bool)
       -- what the input ended in isn't empty, as what was kept of it isn't
       ended_line : (line ≡ [] → ⊥) → lines_of at.bytes ≡ (split_lines at.bytes).whole ++ (split_lines at.bytes).rest ∷ []
       ended_line some = ap (λ (ls : List (List ℕ)). (split_lines at.bytes).whole ++ ls)
-          (last_line_of_nonempty (split_lines at.bytes).rest (λ none. some (at.begun ∙ ap (take most_kept_bytes) none)))
+          (last_line_of_nonempty_is_line_alone (split_lines at.bytes).rest (λ none. some (at.begun ∙ ap (take most_kept_bytes) none)))
 
       module _ (took : Consumes left left' []) where
         ended_bytes : Consumes input left' at.bytes

@@ -8,8 +8,8 @@ use Rattle.ir_stream.specs.Answers.{last_line, AppendsPrefix, Replying, LinesAns
 use Rattle.ir_stream.specs.Written.{most_kept_bytes, Wrote, Replied}
 
 -- a prefix of a text is one of a longer text
-pub prefix_of_longer_text : (a b : Option (List ℕ)) (text more : List ℕ) → AppendsPrefix a b text → AppendsPrefix a b (text ++ more)
-prefix_of_longer_text a b text more f = record {
+pub appends_prefix_of_longer_text : (a b : Option (List ℕ)) (text more : List ℕ) → AppendsPrefix a b text → AppendsPrefix a b (text ++ more)
+appends_prefix_of_longer_text a b text more f = record {
   part = f.part;
   more = f.more ++ more;
   splits = ap (λ (t : List ℕ). t ++ more) f.splits ∙ append_assoc f.part f.more more;
@@ -17,9 +17,9 @@ prefix_of_longer_text a b text more f = record {
 }
 
 -- a prefix of the next text is one of all that was written
-pub prefix_after_whole_text : (a b c : Option (List ℕ)) (done text : List ℕ) → Appends a b done → AppendsPrefix b c text
+pub appends_prefix_of_append_if_first_appended : (a b c : Option (List ℕ)) (done text : List ℕ) → Appends a b done → AppendsPrefix b c text
     → AppendsPrefix a c (done ++ text)
-prefix_after_whole_text a b c done text wrote f = record {
+appends_prefix_of_append_if_first_appended a b c done text wrote f = record {
   part = done ++ f.part;
   more = f.more;
   splits = ap (λ (t : List ℕ). done ++ t) f.splits ∙ sym (append_assoc done f.part f.more);
@@ -27,19 +27,19 @@ prefix_after_whole_text a b c done text wrote f = record {
 }
 
 -- the answers to lines, and then to others
-pub answered_append : {S : Type 0} (R : Replying S) (s : S) (ls ms : List (List ℕ)) (t u : List ℕ) (m last : S) → LinesAnswered R s ls t m
+pub lines_answered_of_append : {S : Type 0} (R : Replying S) (s : S) (ls ms : List (List ℕ)) (t u : List ℕ) (m last : S) → LinesAnswered R s ls t m
     → LinesAnswered R m ms u last → LinesAnswered R s (ls ++ ms) (t ++ u) last
 unfolding LinesAnswered
-answered_append {S} R s [] ms t u m last done more =
+lines_answered_of_append {S} R s [] ms t u m last done more =
     let P : S → Type 0 = λ x. LinesAnswered R x ms (t ++ u) last in
     let Q : List ℕ → Type 0 = λ x. LinesAnswered R m ms (x ++ u) last in
     subst P done.1 (subst Q (sym done.0) more)
-answered_append {S} R s (l ∷ ls) ms t u m last (first, next, rest, is, done, e) more = (
+lines_answered_of_append {S} R s (l ∷ ls) ms t u m last (first, next, rest, is, done, e) more = (
   first,
   next,
   rest ++ u,
   is,
-  answered_append R next ls ms rest u m last done more,
+  lines_answered_of_append R next ls ms rest u m last done more,
   ap (λ (x : List ℕ). x ++ u) e ∙ append_assoc first rest u,
 )
 
@@ -54,9 +54,9 @@ unfolding LinesAnswered
 answered_one_line R s l text next is = (text, next, [], is, (refl, refl), sym (append-nil text))
 
 -- the end of an input that isn't empty is a line
-pub last_line_of_nonempty : (r : List ℕ) → (r ≡ [] → ⊥) → last_line r ≡ r ∷ []
-last_line_of_nonempty [] some = absurd (some refl)
-last_line_of_nonempty (b ∷ r) some = refl
+pub last_line_of_nonempty_is_line_alone : (r : List ℕ) → (r ≡ [] → ⊥) → last_line r ≡ r ∷ []
+last_line_of_nonempty_is_line_alone [] some = absurd (some refl)
+last_line_of_nonempty_is_line_alone (b ∷ r) some = refl
 
 -- an empty end of an input has no answer
 pub wrote_nothing_for_empty_end : {S : Type 0} (R : Replying S) (s : S) (r : List ℕ) (w : Option (List ℕ)) → r ≡ [] → Wrote R s (last_line r) w w
@@ -110,36 +110,36 @@ pub some_quits_of_one_line : (quits : List ℕ → Bool) (l : List ℕ) → some
 unfolding some_quits
 some_quits_of_one_line quits l = disjunction_with_false (quits l)
 
-pub some_quits_of_no_lines : (quits : List ℕ → Bool) → some_quits quits [] ≡ false
+pub some_quits_of_no_lines_is_false : (quits : List ℕ → Bool) → some_quits quits [] ≡ false
 unfolding some_quits
-some_quits_of_no_lines quits = refl
+some_quits_of_no_lines_is_false quits = refl
 
 pub some_quits_if_first_quits : (quits : List ℕ → Bool) (l : List ℕ) (ls : List (List ℕ)) → quits l ≡ true → some_quits quits (l ∷ ls) ≡ true
 unfolding some_quits
 some_quits_if_first_quits quits l ls h = ap (λ (b : Bool). cond b true (some_quits quits ls)) h
 
-through_without_quitting_line : (b x : Bool) (l : List ℕ) (t u : List (List ℕ)) → cond b true x ≡ false → (x ≡ false → t ≡ u) → l ∷ cond b [] t ≡ l ∷ u
-through_without_quitting_line true x l t u h k = absurd cc
-through_without_quitting_line false x l t u h k = ap (λ (r : List (List ℕ)). l ∷ r) (k h)
+through_step_if_line_does_not_quit : (b x : Bool) (l : List ℕ) (t u : List (List ℕ)) → cond b true x ≡ false → (x ≡ false → t ≡ u) → l ∷ cond b [] t ≡ l ∷ u
+through_step_if_line_does_not_quit true x l t u h k = absurd cc
+through_step_if_line_does_not_quit false x l t u h k = ap (λ (r : List (List ℕ)). l ∷ r) (k h)
 
 pub through_of_append_after_no_quit : (quits : List ℕ → Bool) (ls ms : List (List ℕ)) → some_quits quits ls ≡ false
     → through quits (ls ++ ms) ≡ ls ++ through quits ms
 unfolding some_quits through
 through_of_append_after_no_quit quits [] ms h = refl
-through_of_append_after_no_quit quits (l ∷ ls) ms h = through_without_quitting_line (quits l) (some_quits quits ls) l (through quits (ls ++ ms)) (ls ++ through quits ms) h
+through_of_append_after_no_quit quits (l ∷ ls) ms h = through_step_if_line_does_not_quit (quits l) (some_quits quits ls) l (through quits (ls ++ ms)) (ls ++ through quits ms) h
     (through_of_append_after_no_quit quits ls ms)
 
 pub through_of_no_lines : (quits : List ℕ → Bool) → through quits [] ≡ []
 unfolding through
 through_of_no_lines quits = refl
 
-conditional_through_of_one_line : (b : Bool) (l : List ℕ) → l ∷ cond b [] [] ≡ l ∷ []
-conditional_through_of_one_line true l = refl
-conditional_through_of_one_line false l = refl
+cons_of_conditional_of_two_empties_is_singleton : (b : Bool) (l : List ℕ) → l ∷ cond b [] [] ≡ l ∷ []
+cons_of_conditional_of_two_empties_is_singleton true l = refl
+cons_of_conditional_of_two_empties_is_singleton false l = refl
 
 pub through_of_one_line : (quits : List ℕ → Bool) (l : List ℕ) → through quits (l ∷ []) ≡ l ∷ []
 unfolding through
-through_of_one_line quits l = conditional_through_of_one_line (quits l) l
+through_of_one_line quits l = cons_of_conditional_of_two_empties_is_singleton (quits l) l
 
 pub through_if_first_quits : (quits : List ℕ → Bool) (l : List ℕ) (ls : List (List ℕ)) → quits l ≡ true → through quits (l ∷ ls) ≡ l ∷ []
 unfolding through
@@ -158,10 +158,10 @@ pub some_quits_of_last_line_ignores_take : (quits : List ℕ → Bool) (m : ℕ)
 some_quits_of_last_line_ignores_take quits m [] h = refl
 some_quits_of_last_line_ignores_take quits m (b ∷ r) h = some_quits_of_one_line quits (b ∷ take m r) ∙ h (b ∷ r) ∙ sym (some_quits_of_one_line quits (b ∷ r))
 
-pub some_quits_of_empty_end : (quits : List ℕ → Bool) (r : List ℕ) → r ≡ [] → some_quits quits (last_line r) ≡ false
-some_quits_of_empty_end quits [] h = some_quits_of_no_lines quits
-some_quits_of_empty_end quits (b ∷ r) h = absurd cc
+pub some_quits_of_empty_end_is_false : (quits : List ℕ → Bool) (r : List ℕ) → r ≡ [] → some_quits quits (last_line r) ≡ false
+some_quits_of_empty_end_is_false quits [] h = some_quits_of_no_lines_is_false quits
+some_quits_of_empty_end_is_false quits (b ∷ r) h = absurd cc
 
-pub some_quits_of_nonempty_end : (quits : List ℕ → Bool) (r : List ℕ) → (r ≡ [] → ⊥) → some_quits quits (last_line r) ≡ quits r
-some_quits_of_nonempty_end quits [] h = absurd (h refl)
-some_quits_of_nonempty_end quits (b ∷ r) h = some_quits_of_one_line quits (b ∷ r)
+pub some_quits_of_nonempty_end_is_quits_of_end : (quits : List ℕ → Bool) (r : List ℕ) → (r ≡ [] → ⊥) → some_quits quits (last_line r) ≡ quits r
+some_quits_of_nonempty_end_is_quits_of_end quits [] h = absurd (h refl)
+some_quits_of_nonempty_end_is_quits_of_end quits (b ∷ r) h = some_quits_of_one_line quits (b ∷ r)

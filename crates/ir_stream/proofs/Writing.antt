@@ -4,7 +4,7 @@ use Rattle.std.proofs.KnownBytes.{Appends-trans}
 use Rattle.std.specs.Io.KnownBytes.{Appends}
 use Rattle.ir_stream.specs.Answers.{AppendsPrefix}
 use Rattle.ir_stream.specs.Writing.{WritesOrFails, WritesText}
-use Rattle.ir_stream.proofs.Replies.{prefix_after_whole_text}
+use Rattle.ir_stream.proofs.Replies.{appends_prefix_of_append_if_first_appended}
 
 -- a call that wrote all, and one that failed
 pub writes_or_fails_if_all_written : {D A E : Type 0} {broken : D → Bool} {old new : D} {all part : Type 0} {x : A} → all → broken new ≡ broken old
@@ -28,16 +28,16 @@ pub writes_text_after_first_part : {D A E : Type 0} (written : D → Option (Lis
 writes_text_after_first_part written {broken} {a} {b} {c} done text (Ok x) first same w =
     writes_or_fails_if_all_written (Appends-trans (written a) (written b) (written c) done text first w.ok) (w.stays ∙ same)
 writes_text_after_first_part written {broken} {a} {b} {c} done text (Err e) first same w =
-    writes_or_fails_if_part_written (prefix_after_whole_text (written a) (written b) (written c) done text first w.prefix) w.err
+    writes_or_fails_if_part_written (appends_prefix_of_append_if_first_appended (written a) (written b) (written c) done text first w.prefix) w.err
 
 -- what follows from all and from a part that a last call wrote, after calls that didn't fail
-pub writes_or_fails_after_call : {D A E : Type 0} {broken : D → Bool} {old mid new : D} {all part all_more part_more : Type 0} (r : Result A E)
+pub writes_or_fails_from_earlier_state_if_equally_broken : {D A E : Type 0} {broken : D → Bool} {old mid new : D} {all part all_more part_more : Type 0} (r : Result A E)
     → broken mid ≡ broken old → (all → all_more) → (part → part_more) → WritesOrFails broken mid new all part r
     → WritesOrFails broken old new all_more part_more r
-writes_or_fails_after_call (Ok x) same f h w = writes_or_fails_if_all_written (f w.ok) (w.stays ∙ same)
-writes_or_fails_after_call (Err e) same f h w = writes_or_fails_if_part_written (h w.prefix) w.err
+writes_or_fails_from_earlier_state_if_equally_broken (Ok x) same f h w = writes_or_fails_if_all_written (f w.ok) (w.stays ∙ same)
+writes_or_fails_from_earlier_state_if_equally_broken (Err e) same f h w = writes_or_fails_if_part_written (h w.prefix) w.err
 
 -- the same of one call
-pub writes_or_fails_weaker : {D A E : Type 0} {broken : D → Bool} {old new : D} {all part all_more part_more : Type 0} (r : Result A E) → (all → all_more)
+pub writes_or_fails_is_monotone : {D A E : Type 0} {broken : D → Bool} {old new : D} {all part all_more part_more : Type 0} (r : Result A E) → (all → all_more)
     → (part → part_more) → WritesOrFails broken old new all part r → WritesOrFails broken old new all_more part_more r
-writes_or_fails_weaker r f h w = writes_or_fails_after_call r refl f h w
+writes_or_fails_is_monotone r f h w = writes_or_fails_from_earlier_state_if_equally_broken r refl f h w

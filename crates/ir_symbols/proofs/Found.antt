@@ -19,9 +19,9 @@ last_of_counted_symbols symbols n last le some at =
     (more, at last ∙ ap (λ (k : ℕ). get_or (take n symbols) (k - 1) last) size ∙ get_or-take n symbols (n - 1) last (omega (arith, more)))
 
 -- fewer symbols than those are below the last of them
-pub fewer_symbols_below_last : (symbols : List Symbol) (n i : ℕ) (last : Symbol) → n ≤ length symbols → 0 < n → last ≡ get_or symbols (n - 1) last
+pub count_below_last_of_prefix_is_less_than_its_length : (symbols : List Symbol) (n i : ℕ) (last : Symbol) → n ≤ length symbols → 0 < n → last ≡ get_or symbols (n - 1) last
     → IsCountBelow (take n symbols) last.address i → i ≤ length (take n symbols) → i < n
-fewer_symbols_below_last symbols n i last le some at below most =
+count_below_last_of_prefix_is_less_than_its_length symbols n i last le some at below most =
     let size : length (take n symbols) ≡ n = length-take-le n symbols le in
     elim (cases_lt i n) [
       | inl under ↦ under
@@ -44,10 +44,10 @@ symbol_below_range_not_reaching address highest s h k other =
     grind (arith, nat_tests, apart)
 
 -- of symbols of which the last at or before the address is in other 64 KiB, none reaches it
-pub none_reaches_past_range : (symbols : List Symbol) (address n : ℕ) (last : Symbol) → IsNonDecreasingBy address_of symbols → n ≤ length symbols
+pub none_reaches_if_last_symbol_is_in_other_range : (symbols : List Symbol) (address n : ℕ) (last : Symbol) → IsNonDecreasingBy address_of symbols → n ≤ length symbols
     → IsCountUpTo symbols address n → 0 < n → last ≡ get_or symbols (n - 1) last
     → (last.address / 65536 ≡ address / 65536 → ⊥) → NoneReaches address symbols
-none_reaches_past_range symbols address n last rising le count some at other k d l =
+none_reaches_if_last_symbol_is_in_other_range symbols address n last rising le count some at other k d l =
     elim (cases_lt k n) [
       | inl under ↦
           let there : get_or symbols (n - 1) d ≡ last = get_or_default symbols (n - 1) d last (omega (arith, le, some)) ∙ sym at in

@@ -57,17 +57,17 @@ greater_of_is_second : (s t : Symbol) → s.address < t.address → greater_of s
 greater_of_is_second s t h = let e : ltb s.address t.address ≡ true = grind (arith, nat_tests) in rw e refl
 
 -- a symbol that is below one after it
-conditional_greater_keeps_greater : (s t : Symbol) (o : Option Symbol) (b : Bool) → (b ≡ true → t.address < s.address) → o ≡ Some s
+conditional_greater_is_second_if_first_is_lower : (s t : Symbol) (o : Option Symbol) (b : Bool) → (b ≡ true → t.address < s.address) → o ≡ Some s
     → cond b (Some (greater_of t o)) o ≡ Some s
-conditional_greater_keeps_greater s t o true h e = ap (λ (p : Option Symbol). Some (greater_of t p)) e ∙ ap Some (greater_of_is_second t s (h refl))
-conditional_greater_keeps_greater s t o false h e = e
+conditional_greater_is_second_if_first_is_lower s t o true h e = ap (λ (p : Option Symbol). Some (greater_of t p)) e ∙ ap Some (greater_of_is_second t s (h refl))
+conditional_greater_is_second_if_first_is_lower s t o false h e = e
 
 nearest_is_symbol_between_lower_and_not_higher : (address : ℕ) (s : Symbol) (before after : List Symbol) → IsTrue (reaches address s) → All (BelowIfReaching address s.address) before
     → All (AtMostIfReaching address s.address) after → nearest (before ++ s ∷ after) address ≡ Some s
 unfolding nearest
 nearest_is_symbol_between_lower_and_not_higher address s [] after here first rest = rw here (ap Some (greater_of_is_first s (nearest after address) (nearest_at_most_bound address s.address after rest)))
 nearest_is_symbol_between_lower_and_not_higher address s (t ∷ before) after here first rest =
-    conditional_greater_keeps_greater s t (nearest (before ++ s ∷ after) address) (reaches address t) (All-head (BelowIfReaching address s.address) t before first)
+    conditional_greater_is_second_if_first_is_lower s t (nearest (before ++ s ∷ after) address) (reaches address t) (All-head (BelowIfReaching address s.address) t before first)
     (nearest_is_symbol_between_lower_and_not_higher address s before after here (All-tail (BelowIfReaching address s.address) t before first) rest)
 
 pub nearest_is_some_if_is_nearest : (symbols : List Symbol) (address : ℕ) (s : Symbol) → IsNearest symbols address s → nearest symbols address ≡ Some s
@@ -102,11 +102,11 @@ pub not_nearest_if_not_found : {R : Type 0} (o : Option R) (now : R → Symbol) 
 not_nearest_if_not_found None now symbols address h = not_nearest_if_none_reaches symbols address h
 not_nearest_if_not_found (Some r) now symbols address h = tt
 
-pub look_up_is_nearest_by_cases : {R : Type 0} (o : Option R) (now : R → Symbol) (symbols : List Symbol) (address : ℕ)
+pub look_up_is_nearest_if_found_is_or_none_reaches : {R : Type 0} (o : Option R) (now : R → Symbol) (symbols : List Symbol) (address : ℕ)
     → MatchOption o (NoneReaches address symbols) (λ r. IsNearest symbols address (now r))
     → option_map now o ≡ nearest symbols address
-look_up_is_nearest_by_cases None now symbols address h = sym (nearest_is_none_if_none_reaches symbols address h)
-look_up_is_nearest_by_cases (Some r) now symbols address h = sym (nearest_is_some_if_is_nearest symbols address (now r) h)
+look_up_is_nearest_if_found_is_or_none_reaches None now symbols address h = sym (nearest_is_none_if_none_reaches symbols address h)
+look_up_is_nearest_if_found_is_or_none_reaches (Some r) now symbols address h = sym (nearest_is_some_if_is_nearest symbols address (now r) h)
 
 -- ---- from the definition to the symbol
 

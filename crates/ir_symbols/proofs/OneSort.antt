@@ -21,9 +21,9 @@ have_not_one_address_if_below : (s t : Symbol) → s.address < t.address → hav
 have_not_one_address_if_below s t l = grind (arith, nat_tests)
 
 -- of symbols that are all above another, none has its address
-no_symbol_at_lower_address : (s t : Symbol) (symbols : List Symbol) → IsNonDecreasingBy address_of (t ∷ symbols) → s.address < t.address
+filter_of_sorted_by_address_below_first_is_empty : (s t : Symbol) (symbols : List Symbol) → IsNonDecreasingBy address_of (t ∷ symbols) → s.address < t.address
     → filter (have_one_address s) (t ∷ symbols) ≡ []
-no_symbol_at_lower_address s t symbols rising l = filter_of_none_passing (have_one_address s) (t ∷ symbols)
+filter_of_sorted_by_address_below_first_is_empty s t symbols rising l = filter_of_none_passing (have_one_address s) (t ∷ symbols)
     (λ k d m. have_not_one_address_if_below s (get_or (t ∷ symbols) k d)
     (let up : t.address ≤ address_of (get_or (t ∷ symbols) k d) = rising 0 k d (omega arith) m in omega (arith, l, up)))
 
@@ -36,7 +36,7 @@ first_address_not_above_other_first : (s t : Symbol) (first second : List Symbol
 first_address_not_above_other_first s t first second rising same = elim (cases_lt s.address t.address) [
   | inl l ↦ absurd (some_none s (filter (have_one_address s) first)
       (ap (λ (b : Bool). cond b (s ∷ filter (have_one_address s) first) (filter (have_one_address s) first)) (sym (have_one_address_if_equal s s refl))
-      ∙ same ∙ no_symbol_at_lower_address s t second rising l))
+      ∙ same ∙ filter_of_sorted_by_address_below_first_is_empty s t second rising l))
   | inr le ↦ le
 ]
   where

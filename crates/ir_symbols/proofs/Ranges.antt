@@ -20,9 +20,9 @@ filter_of_none_passing p [] h = refl
 filter_of_none_passing p (x ∷ xs) h = rw (h 0 x (omega arith)) (filter_of_none_passing p xs (λ k d l. h (suc k) d (omega (arith, l))))
 
 -- those below the range, those in it and those above
-pub symbols_within_by_counts : (xs : List Symbol) (start end n i : ℕ) → n ≤ length xs → IsCountBelow xs end n → i ≤ length (take n xs)
+pub symbols_within_is_drop_of_take_by_counts : (xs : List Symbol) (start end n i : ℕ) → n ≤ length xs → IsCountBelow xs end n → i ≤ length (take n xs)
     → IsCountBelow (take n xs) start i → drop i (take n xs) ≡ symbols_within start end xs
-symbols_within_by_counts xs start end n i le high le2 low =
+symbols_within_is_drop_of_take_by_counts xs start end n i le high le2 low =
     let p : Symbol → Bool = is_within start end in
     let ys : List Symbol = take n xs in
     let size : length ys ≡ n = length-take-le n xs le in

@@ -80,8 +80,8 @@ line_without_feed_has_no_feed s h =
     (All-cons IsNoLineFeed 32 s.name refl name)))
 
 -- a name has a first byte and ends with a mark
-name_ends_with_mark : (name : List ℕ) → is_name name ≡ true → (0 < length name) × (is_mark (get_or name (length name - 1) 0) ≡ true)
-name_ends_with_mark name h =
+name_is_nonempty_and_its_last_byte_is_mark : (name : List ℕ) → is_name name ≡ true → (0 < length name) × (is_mark (get_or name (length name - 1) 0) ≡ true)
+name_is_nonempty_and_its_last_byte_is_mark name h =
     let ends = and_parts (is_mark (get_or name 0 0)) (is_mark (get_or name (length name - 1) 0))
     (and_parts (list_all is_printable name) _ h).1 in
     (some name ends.0, ends.1)
@@ -105,9 +105,9 @@ last_byte_of_line_is_that_of_name s some =
 mark_is_no_carriage_return : (b : ℕ) → is_mark b ≡ true → b == 13 ≡ false
 mark_is_no_carriage_return b h = grind (arith, nat_tests)
 
-strip_of_line_without_feed : (s : Symbol) → IsSymbol s → strip_carriage_return (line_without_feed s) ≡ line_without_feed s
-strip_of_line_without_feed s h =
-    let ends = name_ends_with_mark s.name h.name_is in
+strip_leaves_line_without_feed_unchanged : (s : Symbol) → IsSymbol s → strip_carriage_return (line_without_feed s) ≡ line_without_feed s
+strip_leaves_line_without_feed_unchanged s h =
+    let ends = name_is_nonempty_and_its_last_byte_is_mark s.name h.name_is in
     let last : get_or (line_without_feed s) (length (line_without_feed s) - 1) 0 == 13 ≡ false =
     ap (λ (b : ℕ). b == 13) (last_byte_of_line_is_that_of_name s ends.0) ∙ mark_is_no_carriage_return (get_or s.name (length s.name - 1) 0) ends.1 in
     rw last refl
@@ -133,14 +133,14 @@ symbol_in_line_without_feed s h =
 hex_digit_is_no_blank : (b : ℕ) → is_hex_digit b ≡ true → b == 32 ≡ false
 hex_digit_is_no_blank b h = grind (arith, nat_tests)
 
-leading_blanks_of_digits : (digits rest : List ℕ) → 0 < length digits → AllPass is_hex_digit digits → leading_blanks (digits ++ rest) ≡ 0
-leading_blanks_of_digits [] rest some h = absurd (omega arith)
-leading_blanks_of_digits (b ∷ digits) rest some h = let e = hex_digit_is_no_blank b (All-head (λ c. is_hex_digit c ≡ true) b digits h) in rw e refl
+leading_blanks_of_digits_are_zero : (digits rest : List ℕ) → 0 < length digits → AllPass is_hex_digit digits → leading_blanks (digits ++ rest) ≡ 0
+leading_blanks_of_digits_are_zero [] rest some h = absurd (omega arith)
+leading_blanks_of_digits_are_zero (b ∷ digits) rest some h = let e = hex_digit_is_no_blank b (All-head (λ c. is_hex_digit c ≡ true) b digits h) in rw e refl
 
 symbol_line_is_not_undefined : (s : Symbol) → is_undefined (line_without_feed s) ≡ false
 symbol_line_is_not_undefined s =
     let size = length_of_hex_word s.address in
-    let none : leading_blanks (line_without_feed s) ≡ 0 = leading_blanks_of_digits (hex_word s.address) (32 ∷ s.kind ∷ 32 ∷ s.name) (omega (arith, size)) (hex_word_is_hex_digits s.address) in
+    let none : leading_blanks (line_without_feed s) ≡ 0 = leading_blanks_of_digits_are_zero (hex_word s.address) (32 ∷ s.kind ∷ 32 ∷ s.name) (omega (arith, size)) (hex_word_is_hex_digits s.address) in
     rw none refl
 
 entry_of_symbol_line : (s : Symbol) → IsSymbol s → is_passed_over s.kind ≡ false → entry_of (line_without_feed s) ≡ Names s
@@ -159,7 +159,7 @@ lines_of_symbol_line s rest h =
     ap lines_of (line_of_splits_off_line_feed s rest)
     ∙ ap (λ (parts : List (List ℕ)). map strip_carriage_return parts)
     (slice_split_at (λ b. b == 10) (line_without_feed s) 10 rest (line_without_feed_has_no_feed s h) refl)
-    ∙ ap (λ (line : List ℕ). line ∷ lines_of rest) (strip_of_line_without_feed s h)
+    ∙ ap (λ (line : List ℕ). line ∷ lines_of rest) (strip_leaves_line_without_feed_unchanged s h)
 
 -- a symbol that names a place
 abbrev pub NamesPlace : Symbol → Type 0

@@ -2,7 +2,7 @@
 use Rattle.std.proofs.Common.{◌≡◌, ℕ, List, [], ◌++◌, Option, Bool, Result, Ok, Err, refl, sym, ap, ◌∙◌, subst, append_assoc, append-nil}
 use Rattle.std.specs.Io.KnownBytes.{Appends}
 use Rattle.std.proofs.KnownBytes.{Appends-nil, Appends-trans}
-use Rattle.ir_stream.proofs.CallerLemmas.{prefix_after_whole_text, prefix_of_longer_text, writes_or_fails_if_all_written, writes_or_fails_if_part_written}
+use Rattle.ir_stream.proofs.CallerLemmas.{appends_prefix_of_append_if_first_appended, appends_prefix_of_longer_text, writes_or_fails_if_all_written, writes_or_fails_if_part_written}
 use Rattle.ir_stream.specs.Answers.{AppendsPrefix}
 use Rattle.ir_stream.specs.Writing.{WritesText}
 use Rattle.ir_text.specs.Buffered.{Buffered}
@@ -60,7 +60,7 @@ pub prefix_written_if_write_fails : (a b c : Option (List ℕ)) (buffer left tex
     → AppendsPrefix a c text
 prefix_written_if_write_fails a b c buffer left text f prefix =
     subst (AppendsPrefix a c) (append_assoc f.part buffer left ∙ f.others)
-    (prefix_of_longer_text a c (f.part ++ buffer) left (prefix_after_whole_text a b c f.part buffer f.written prefix))
+    (appends_prefix_of_longer_text a c (f.part ++ buffer) left (appends_prefix_of_append_if_first_appended a b c f.part buffer f.written prefix))
 
 -- the write of a line failed
 pub prefix_written_if_line_fails : (a b c : Option (List ℕ)) (left line more text : List ℕ) → Buffered a b left text → left ≡ line ++ more

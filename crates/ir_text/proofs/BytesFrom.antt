@@ -26,6 +26,6 @@ bytes_from_step code memory n address =
     let e : n + 1 ≡ suc n = omega arith in
     ap (λ (k : ℕ). bytes_from code memory k address) e ∙ bytes_from_with_byte_after code memory n address
 
-pub bytes_from_of_none : (code memory : List ℕ) (address : ℕ) → bytes_from code memory 0 address ≡ []
+pub bytes_from_of_zero_count_is_empty : (code memory : List ℕ) (address : ℕ) → bytes_from code memory 0 address ≡ []
 unfolding bytes_from
-bytes_from_of_none code memory address = refl
+bytes_from_of_zero_count_is_empty code memory address = refl

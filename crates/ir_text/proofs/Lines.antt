@@ -45,9 +45,9 @@ event_lines_step events i d below =
     let F : List Event → List ℕ = λ xs. event_lines i (map label_of xs) in
     at_drop_more F events i d below
 
-pub event_lines_at_end : (events : List Event) (i : ℕ) → length events ≤ i → event_lines i (map label_of (drop i events)) ≡ []
+pub event_lines_at_end_are_empty : (events : List Event) (i : ℕ) → length events ≤ i → event_lines i (map label_of (drop i events)) ≡ []
 unfolding event_lines
-event_lines_at_end events i past =
+event_lines_at_end_are_empty events i past =
     let F : List Event → List ℕ = λ xs. event_lines i (map label_of xs) in
     at_drop_all F events i past
 
@@ -67,11 +67,11 @@ unfolding memory_lines
 memory_text_of_nothing address = refl
 
 -- a line more is put
-pub memory_text_step : (before after all line rest more : List ℕ) (at k : ℕ) → 0 < length rest → k ≡ min 16 (length rest) → line ≡ take k rest
+pub put_memory_text_is_whole_step : (before after all line rest more : List ℕ) (at k : ℕ) → 0 < length rest → k ≡ min 16 (length rest) → line ≡ take k rest
     → more ≡ drop k rest
     → after ≡ before ++ (hex_word at ++ codes ": " ++ encode_lower line ++ codes "\n") → before ++ memory_text at rest ≡ all
     → after ++ memory_text (at + 16) more ≡ all
-memory_text_step before after all line rest more at k some is prefix back put so_far =
+put_memory_text_is_whole_step before after all line rest more at k some is prefix back put so_far =
     let l : line ≡ take 16 rest = prefix ∙ ap (λ (n : ℕ). take n rest) is ∙ take_min 16 rest in
     let m : more ≡ drop 16 rest = back ∙ ap (λ (n : ℕ). drop n rest) is ∙ drop_min 16 rest in
     let first : List ℕ = hex_word at ++ codes ": " ++ encode_lower line ++ codes "\n" in
@@ -83,9 +83,9 @@ memory_text_step before after all line rest more at k some is prefix back put so
     ∙ so_far
 
 -- no byte is left
-pub memory_text_at_end : (before all rest : List ℕ) (at : ℕ) → length rest ≡ 0 → before ++ memory_text at rest ≡ all → before ≡ all
-memory_text_at_end before all [] at none so_far = sym (append-nil before) ∙ ap (λ (x : List ℕ). before ++ x) (sym (memory_text_of_nothing at)) ∙ so_far
-memory_text_at_end before all (b ∷ rest) at none so_far = absurd cc
+pub put_memory_text_is_whole_at_end : (before all rest : List ℕ) (at : ℕ) → length rest ≡ 0 → before ++ memory_text at rest ≡ all → before ≡ all
+put_memory_text_is_whole_at_end before all [] at none so_far = sym (append-nil before) ∙ ap (λ (x : List ℕ). before ++ x) (sym (memory_text_of_nothing at)) ∙ so_far
+put_memory_text_is_whole_at_end before all (b ∷ rest) at none so_far = absurd cc
 
 -- a line of 43 bytes fits for each 16 bytes that are left
 pub room_for_memory_line_step : (before after rest more at k : ℕ) → k ≡ min 16 rest → more + k ≡ rest → after ≤ before + 43

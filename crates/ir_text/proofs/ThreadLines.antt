@@ -21,13 +21,13 @@ threads_text_step t vs d first line some none same =
     let is : line ≡ thread_line t (slice_index_or vs t d) = same ∙ ap (λ (x : List ℕ). x ++ thread_line t (slice_index_or vs t d)) none in
     threads_text_by_first_line t vs d some ∙ ap (λ (x : List ℕ). x ++ rest) (sym is)
 
-drop_of_all_verdicts : (n : ℕ) (vs : List ThreadVerdict) → n ≡ length vs → drop n vs ≡ []
-drop_of_all_verdicts zero [] e = refl
-drop_of_all_verdicts zero (v ∷ vs) e = absurd cc
-drop_of_all_verdicts (suc n) [] e = absurd cc
-drop_of_all_verdicts (suc n) (v ∷ vs) e = drop_of_all_verdicts n vs (omega (arith, e))
+drop_of_whole_length_is_empty : (n : ℕ) (vs : List ThreadVerdict) → n ≡ length vs → drop n vs ≡ []
+drop_of_whole_length_is_empty zero [] e = refl
+drop_of_whole_length_is_empty zero (v ∷ vs) e = absurd cc
+drop_of_whole_length_is_empty (suc n) [] e = absurd cc
+drop_of_whole_length_is_empty (suc n) (v ∷ vs) e = drop_of_whole_length_is_empty n vs (omega (arith, e))
 
 -- no line is left after the last
-pub threads_text_at_end : (t : ℕ) (vs : List ThreadVerdict) → t ≡ length vs → threads_text t (drop t vs) ≡ []
+pub threads_text_at_end_is_empty : (t : ℕ) (vs : List ThreadVerdict) → t ≡ length vs → threads_text t (drop t vs) ≡ []
 unfolding threads_text
-threads_text_at_end t vs end = ap (λ (x : List ThreadVerdict). threads_text t x) (drop_of_all_verdicts t vs end)
+threads_text_at_end_is_empty t vs end = ap (λ (x : List ThreadVerdict). threads_text t x) (drop_of_whole_length_is_empty t vs end)

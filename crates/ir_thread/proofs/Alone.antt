@@ -28,10 +28,10 @@ lone_reply_of_suiting_reply Print r vs e = go_reply_takes_no_value r vs e
 lone_reply_of_suiting_reply (End x) r vs e = go_reply_takes_no_value r vs e
 lone_reply_of_suiting_reply Done r vs e = absurd e
 
-pub lone_run_by_reply_values : (code : List ℕ) (s : ThreadState) (replies : List Reply) → AllSuit code s replies
+pub lone_run_of_reply_values_is_after_replies : (code : List ℕ) (s : ThreadState) (replies : List Reply) → AllSuit code s replies
     → lone_run code (length replies) (record { thread = s; values = values_of replies }) ≡ Some
     (record { thread = after_replies code s replies; values = [] })
-lone_run_by_reply_values code s [] ok = refl
-lone_run_by_reply_values code s (r ∷ rs) ok =
+lone_run_of_reply_values_is_after_replies code s [] ok = refl
+lone_run_of_reply_values_is_after_replies code s (r ∷ rs) ok =
     ap (λ next. option_and_then (lone_run code (length rs)) (lone_after code s next)) (lone_reply_of_suiting_reply (ask_of code s) r (values_of rs) ok.0)
-    ∙ lone_run_by_reply_values code (after_reply code s r) rs ok.1
+    ∙ lone_run_of_reply_values_is_after_replies code (after_reply code s r) rs ok.1

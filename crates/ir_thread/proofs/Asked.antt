@@ -26,27 +26,27 @@ use Rattle.ir_thread.proofs.Highest.{highest_is_highest_held}
 conditional_ask_permitted : (s : ThreadState) (b : Bool) (q : Ask) (e : End) → s.ended ≡ None → (b ≡ true → Permits s q) → Permits s (cond b q (ask.End e))
 conditional_ask_permitted s b q e lives asks = cond_both b q (ask.End e) (Permits s) asks (λ _. lives)
 
-less_if_nat_lt : (a b : ℕ) → nat_lt a b ≡ true → a < b
-less_if_nat_lt a b e = grind (arith, nat_tests)
+less_if_nat_lt_is_true : (a b : ℕ) → nat_lt a b ≡ true → a < b
+less_if_nat_lt_is_true a b e = grind (arith, nat_tests)
 
-at_most_if_nat_le : (a b : ℕ) → nat_le a b ≡ true → a ≤ b
-at_most_if_nat_le a b e = grind (arith, nat_tests)
+at_most_if_nat_le_is_true : (a b : ℕ) → nat_le a b ≡ true → a ≤ b
+at_most_if_nat_le_is_true a b e = grind (arith, nat_tests)
 
 logged_ask_permitted : (s : ThreadState) (q : Ask) → IsRunning s → (CanLog s → Permits s q) → Permits s (logged_ask s q)
-logged_ask_permitted s q runs asks = conditional_ask_permitted s (nat_lt s.events most_events) q end.LogFull runs.lives (λ e. asks (less_if_nat_lt _ _ e))
+logged_ask_permitted s q runs asks = conditional_ask_permitted s (nat_lt s.events most_events) q end.LogFull runs.lives (λ e. asks (less_if_nat_lt_is_true _ _ e))
 
 print_ask_permitted : (s : ThreadState) (count : ℕ) → IsRunning s → count ≡ length (next_output s) → Permits s (print_ask s count)
 print_ask_permitted s count runs same = conditional_ask_permitted s (nat_le (length s.output + count) most_output) ask.Print end.OutputFull runs.lives
-    (λ e. (runs, subst (λ n. length s.output + n ≤ most_output) same (at_most_if_nat_le _ _ e)))
+    (λ e. (runs, subst (λ n. length s.output + n ≤ most_output) same (at_most_if_nat_le_is_true _ _ e)))
 
 entry_ask_permitted : (s : ThreadState) (q : Ask) → IsRunning s
     → (CanLog s → a0 s < length s.held → is_above (highest s.held) (a0 s) ≡ true → Permits s q) → Permits s (entry_ask s q)
 entry_ask_permitted s q runs asks = conditional_ask_permitted s (is_object s (a0 s)) _ end.NoSuchObject runs.lives
     (λ here. conditional_ask_permitted s (is_above (highest s.held) (a0 s)) _ end.EntryOutOfOrder runs.lives
-    (λ above. logged_ask_permitted s q runs (λ room. asks room (less_if_nat_lt _ _ here) above)))
+    (λ above. logged_ask_permitted s q runs (λ room. asks room (less_if_nat_lt_is_true _ _ here) above)))
 
 leave_ask_permitted : (s : ThreadState) → IsRunning s → Permits s (leave_ask s)
-leave_ask_permitted s runs = conditional_ask_permitted s (is_object s (a0 s)) _ end.NoSuchObject runs.lives (λ here. by (less_if_nat_lt _ _ here) (held_at s.held (a0 s)) refl)
+leave_ask_permitted s runs = conditional_ask_permitted s (is_object s (a0 s)) _ end.NoSuchObject runs.lives (λ here. by (less_if_nat_lt_is_true _ _ here) (held_at s.held (a0 s)) refl)
   where
     by : a0 s < length s.held → (h : Option Access) → held_at s.held (a0 s) ≡ h → Permits s (leave_held (a0 s) h)
     by l None e = runs.lives
@@ -54,7 +54,7 @@ leave_ask_permitted s runs = conditional_ask_permitted s (is_object s (a0 s)) _ 
 
 -- a word that objects have in the thread's form is one of the most that they have in any
 form_word_below_most_object_words : (s : ThreadState) → nat_lt (a1 s) (limits_of s.form).words ≡ true → a1 s < most_object_words
-form_word_below_most_object_words s is = let small = less_if_nat_lt _ _ is in let most = words_of_form_at_most_limit s.form in omega (arith, small, most)
+form_word_below_most_object_words s is = let small = less_if_nat_lt_is_true _ _ is in let most = words_of_form_at_most_limit s.form in omega (arith, small, most)
 
 get_ask_permitted : (s : ThreadState) → IsRunning s → Permits s (get_ask s)
 get_ask_permitted s runs = conditional_ask_permitted s (has_word s) _ end.NoSuchObject runs.lives (λ here. by (conjuncts_are_true _ _ here) (held_at s.held (a0 s)) refl)
@@ -62,7 +62,7 @@ get_ask_permitted s runs = conditional_ask_permitted s (has_word s) _ end.NoSuch
     by : (is_object s (a0 s) ≡ true) × (nat_lt (a1 s) (limits_of s.form).words ≡ true) → (h : Option Access) → held_at s.held (a0 s) ≡ h
         → Permits s (get_held (a0 s) (a1 s) h)
     by p None e = runs.lives
-    by p (Some access) e = (runs, less_if_nat_lt _ _ p.0, form_word_below_most_object_words s p.1, λ none. cc (e, none))
+    by p (Some access) e = (runs, less_if_nat_lt_is_true _ _ p.0, form_word_below_most_object_words s p.1, λ none. cc (e, none))
 
 put_ask_permitted : (s : ThreadState) → IsRunning s → Permits s (put_ask s)
 put_ask_permitted s runs = conditional_ask_permitted s (has_word s) _ end.NoSuchObject runs.lives (λ here. by (conjuncts_are_true _ _ here) (held_at s.held (a0 s)) refl)
@@ -71,7 +71,7 @@ put_ask_permitted s runs = conditional_ask_permitted s (has_word s) _ end.NoSuch
         → Permits s (put_held (a0 s) (a1 s) (a2 s) h)
     by p None e = runs.lives
     by p (Some Reading) e = runs.lives
-    by p (Some Writing) e = (runs, less_if_nat_lt _ _ p.0, form_word_below_most_object_words s p.1, e)
+    by p (Some Writing) e = (runs, less_if_nat_lt_is_true _ _ p.0, form_word_below_most_object_words s p.1, e)
 
 conditional_call_not_try : (b : Bool) (x y : Option Call) → x ≢ Some call.TryWrite → y ≢ Some call.TryWrite → cond b x y ≢ Some call.TryWrite
 conditional_call_not_try true x y p q = p

@@ -40,34 +40,34 @@ permitted_ask_holds s (End e) p = tt
 permitted_ask_holds s Done p = nothing_held_if_no_highest s.held p.1
 
 -- any other value than 1 leaves what is held
-pub held_after_other_try_answer : (held : List (Option Access)) (object value : ℕ) → held_after_try (Value (suc (suc value))) object held ≡ held
-held_after_other_try_answer held object value = ap (λ b. cond b (set held object (Some Writing)) held) (ne_eqb (suc (suc value)) 1 (λ e. omega (arith, e)))
+pub held_is_unchanged_by_other_try_answer : (held : List (Option Access)) (object value : ℕ) → held_after_try (Value (suc (suc value))) object held ≡ held
+held_is_unchanged_by_other_try_answer held object value = ap (λ b. cond b (set held object (Some Writing)) held) (ne_eqb (suc (suc value)) 1 (λ e. omega (arith, e)))
 
 -- a try that is answered 1 enters, any other leaves what is held
-held_after_try_by_act : (s : ThreadState) (object r i : ℕ) → object < length s.held
+held_at_after_try_is_held_after_act : (s : ThreadState) (object r i : ℕ) → object < length s.held
     → held_at (held_after_try (Value r) object s.held) i ≡ held_after (act_of (machine.Try object) r) (held_at s.held) i
-held_after_try_by_act s object zero i l = refl
-held_after_try_by_act s object (suc zero) i l = held_at_after_set s.held object (Some Writing) i l
-held_after_try_by_act s object (suc (suc r)) i l = ap (λ held. held_at held i) (held_after_other_try_answer s.held object r)
+held_at_after_try_is_held_after_act s object zero i l = refl
+held_at_after_try_is_held_after_act s object (suc zero) i l = held_at_after_set s.held object (Some Writing) i l
+held_at_after_try_is_held_after_act s object (suc (suc r)) i l = ap (λ held. held_at held i) (held_is_unchanged_by_other_try_answer s.held object r)
 
-held_after_ask_by_act : (code : List ℕ) (s : ThreadState) (r i : ℕ) (q : Ask) → Permits s q
+held_at_after_ask_is_held_after_act : (code : List ℕ) (s : ThreadState) (r i : ℕ) (q : Ask) → Permits s q
     → held_at (after_ask code s q (reply_of q r)).held i ≡ held_after (act_of (shared_ask q) r) (held_at s.held) i
-held_after_ask_by_act code s r i Private p = refl
-held_after_ask_by_act code s r i (Env kind) p = refl
-held_after_ask_by_act code s r i (Enter object access) p = held_at_after_set s.held object (Some access) i p.2
-held_after_ask_by_act code s r i (Try object) p = held_after_try_by_act s object r i p.2
-held_after_ask_by_act code s r i (Leave object access) p = held_at_after_set s.held object None i p.1
-held_after_ask_by_act code s r i (Get object index) p = refl
-held_after_ask_by_act code s r i (Put object index value) p = refl
-held_after_ask_by_act code s r i Print p = refl
-held_after_ask_by_act code s r i (End e) p = refl
-held_after_ask_by_act code s r i Done p = refl
+held_at_after_ask_is_held_after_act code s r i Private p = refl
+held_at_after_ask_is_held_after_act code s r i (Env kind) p = refl
+held_at_after_ask_is_held_after_act code s r i (Enter object access) p = held_at_after_set s.held object (Some access) i p.2
+held_at_after_ask_is_held_after_act code s r i (Try object) p = held_at_after_try_is_held_after_act s object r i p.2
+held_at_after_ask_is_held_after_act code s r i (Leave object access) p = held_at_after_set s.held object None i p.1
+held_at_after_ask_is_held_after_act code s r i (Get object index) p = refl
+held_at_after_ask_is_held_after_act code s r i (Put object index value) p = refl
+held_at_after_ask_is_held_after_act code s r i Print p = refl
+held_at_after_ask_is_held_after_act code s r i (End e) p = refl
+held_at_after_ask_is_held_after_act code s r i Done p = refl
 
 pub thread_machine_is_lawful : (code : List ℕ) → IsLawful (thread_machine code)
 unfolding after_reply
 thread_machine_is_lawful code = record {
   holds = λ s. permitted_ask_holds s (ask_of code s) (ask_of_permitted code s);
-  takes = λ s r i. held_after_ask_by_act code s r i (ask_of code s) (ask_of_permitted code s);
+  takes = λ s r i. held_at_after_ask_is_held_after_act code s r i (ask_of code s) (ask_of_permitted code s);
 }
 
 -- the end's number and code, once there is one

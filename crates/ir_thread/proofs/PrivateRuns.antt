@@ -120,11 +120,11 @@ private_steps_after_steps code first more s middle t before after = record {
         ap (λ u. ask_of code u) there ∙ after.each (k - first) (omega (arith, past, below))
 
 -- a private step more
-pub private_step_after_steps : (code : List ℕ) (first : ℕ) (s middle t : ThreadState) → PrivateSteps code first s middle → ask_of code middle ≡ ask.Private
+pub private_steps_after_one_more : (code : List ℕ) (first : ℕ) (s middle t : ThreadState) → PrivateSteps code first s middle → ask_of code middle ≡ ask.Private
     → t ≡ after_reply code middle Go
     → PrivateSteps code (first + 1) s t
 unfolding run_of step_of
-private_step_after_steps code first s middle t before advanced_thread_asks_private goes =
+private_steps_after_one_more code first s middle t before advanced_thread_asks_private goes =
     let here : middle ≡ run_of code first s = before.steps in
     record {
       steps = goes ∙ ap (λ m. after_reply code m Go) here ∙ ap (λ (n : ℕ). run_of code n s) (sym (add-one first));
@@ -179,8 +179,8 @@ private_step_keeps_parts code s is = record {
   ended = ap (λ a. (after_ask code s a Go).ended) is;
 }
 
-kept_parts_transitive : (s m t : ThreadState) → KeepsOwnParts s m → KeepsOwnParts m t → KeepsOwnParts s t
-kept_parts_transitive s m t a b = record {
+keeps_own_parts_is_transitive : (s m t : ThreadState) → KeepsOwnParts s m → KeepsOwnParts m t → KeepsOwnParts s t
+keeps_own_parts_is_transitive s m t a b = record {
   number = b.number ∙ a.number;
   held = b.held ∙ a.held;
   budget = b.budget ∙ a.budget;
@@ -196,7 +196,7 @@ private_run_keeps_parts : (code : List ℕ) (n : ℕ) (s : ThreadState) → ((k 
 unfolding run_of
 private_run_keeps_parts code zero s each = record { number = refl; held = refl; budget = refl; profile = refl; form = refl; events = refl; output = refl; ended = refl }
 private_run_keeps_parts code (suc n) s each =
-    kept_parts_transitive s (run_of code n s) (step_of code (run_of code n s)) (private_run_keeps_parts code n s (λ k l. each k (omega (arith, l))))
+    keeps_own_parts_is_transitive s (run_of code n s) (step_of code (run_of code n s)) (private_run_keeps_parts code n s (λ k l. each k (omega (arith, l))))
     (private_step_keeps_parts code (run_of code n s) (each n (omega arith)))
 
 pub private_steps_keep_parts : (code : List ℕ) (n : ℕ) (s t : ThreadState) → PrivateSteps code n s t → KeepsOwnParts s t

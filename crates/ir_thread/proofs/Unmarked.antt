@@ -5,7 +5,7 @@ use Rattle.ir_mach.specs.Core.{Core, Goes}
 use Rattle.ir_mach.specs.Execution.{outcome_of}
 use Rattle.ir_mach.specs.Marks.{Marked, is_marked, AreStoresMarked}
 use Rattle.ir_mach.specs.Run.{unmarked_after, unmarked_next}
-use Rattle.ir_mach.proofs.CallerLemmas.{HasUnmarkedPrefix, unmarked_are_steps, unmarked_steps_have_prefix, unmarked_step_begins_unmarked, memory_after_unmarked_steps, unmarked_next_is_outcome}
+use Rattle.ir_mach.proofs.CallerLemmas.{HasUnmarkedPrefix, unmarked_steps_are_core_steps, unmarked_steps_have_prefix, unmarked_step_begins_unmarked, memory_is_unchanged_by_unmarked_steps, unmarked_next_is_outcome}
 use Rattle.ir_thread.specs.State.{ThreadState, ask_of, after_ask, after_reply, core_after}
 use Rattle.ir_thread.specs.Permitted.{step_of, run_of}
 use Rattle.ir_thread.specs.Private.{PrivateSteps, UnmarkedSteps}
@@ -20,7 +20,7 @@ zero_unmarked_steps code s = record { steps = zero_private_steps code.words s; c
 pub unmarked_steps_of_machine_steps : (code : Marked) (s : ThreadState) (n : ℕ) (core : Core) → s.ended ≡ None → s.steps + n ≤ s.budget
     → unmarked_after n code.words code.marks s.core ≡ Some core → UnmarkedSteps code n s (thread_after_private_steps s core n)
 unmarked_steps_of_machine_steps code s n core running le e = record {
-  steps = private_steps_of_machine_steps code.words s n core running le (unmarked_are_steps n code.words code.marks s.core core e);
+  steps = private_steps_of_machine_steps code.words s n core running le (unmarked_steps_are_core_steps n code.words code.marks s.core core e);
   cores = e;
 }
 
@@ -60,6 +60,6 @@ thread_unmarked_step_begins_unmarked code k n s t less u =
     unmarked_step_begins_unmarked k n code.words code.marks s.core t.core (run_of code.words k s).core less u.cores first.cores
 
 -- where every store is marked, private memory is as it was
-pub thread_memory_after_unmarked_steps : (code : Marked) (n : ℕ) (s t : ThreadState) → AreStoresMarked code.words code.marks → UnmarkedSteps code n s t
+pub thread_memory_is_unchanged_by_unmarked_steps : (code : Marked) (n : ℕ) (s t : ThreadState) → AreStoresMarked code.words code.marks → UnmarkedSteps code n s t
     → t.core.memory ≡ s.core.memory
-thread_memory_after_unmarked_steps code n s t stores u = memory_after_unmarked_steps n code.words code.marks s.core t.core stores u.cores
+thread_memory_is_unchanged_by_unmarked_steps code n s t stores u = memory_is_unchanged_by_unmarked_steps n code.words code.marks s.core t.core stores u.cores

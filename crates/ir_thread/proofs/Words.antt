@@ -7,7 +7,7 @@ use Rattle.ir_mach.specs.Core.{Core, Outcome, Goes, Calls, Ends}
 use Rattle.ir_mach.specs.Execution.{outcome_of}
 use Rattle.ir_mach.specs.declared.outcome.Fault.{Fault}
 use Rattle.ir_mach.specs.declared.outcome.Fault.TheVariants as fault
-use Rattle.ir_mach.proofs.CallerLemmas.{HasWords, LeavesWords, register_is_word, outcome_leaves_words, past_call_has_words}
+use Rattle.ir_mach.proofs.CallerLemmas.{HasWords, LeavesWords, register_is_word, outcome_of_core_has_words, past_call_has_words}
 use Rattle.ir_thread.specs.State.{end_code, end_of_fault, ThreadState, held_at, highest, is_above, a0, a1, a2, call_at, is_object, has_word, entry_ask, leave_held, get_held, put_held, call_ask, outcome_ask, release_ask, ask_by, ask_of, core_after, core_left, after_ask, most_output, most_events, reply_of}
 use Rattle.ir_runs.specs.declared.access.Access.{Access}
 use Rattle.ir_runs.specs.declared.access.Access.TheVariants.{Reading, Writing}
@@ -90,7 +90,7 @@ ask_of_has_words code s h = by s.ended
 
 private_step_has_words : (code : List ℕ) (s : ThreadState) → HasWords s.core → IsWord s.number
     → HasWords (core_after s.number (outcome_of code s.core) s.core)
-private_step_has_words code s h k = by (outcome_of code s.core) (outcome_leaves_words code s.core h)
+private_step_has_words code s h k = by (outcome_of code s.core) (outcome_of_core_has_words code s.core h)
   where
     by : (o : Outcome) → LeavesWords o → HasWords (core_after s.number o s.core)
     by (Goes core) left = left

@@ -42,11 +42,11 @@ pub length_of_last_positions : (f : FittedTrace) (from n : ℕ) → length (last
 length_of_last_positions f from zero = refl
 length_of_last_positions f from (suc n) = ap suc (length_of_last_positions f (from + 1) n)
 
-last_position_of_thread : (f : FittedTrace) (from n t : ℕ) → t < n → cut_of (last_positions f from n) t ≡ last_of f (from + t)
-last_position_of_thread f from zero t l = absurd (omega (arith, l))
-last_position_of_thread f from (suc n) zero l = ap (last_of f) (let e : from ≡ from + 0 = omega arith in e)
-last_position_of_thread f from (suc n) (suc t) l =
-    last_position_of_thread f (from + 1) n t (omega (arith, l)) ∙ ap (last_of f) (let e : from + 1 + t ≡ from + suc t = omega arith in e)
+last_positions_at_thread_is_its_last_position : (f : FittedTrace) (from n t : ℕ) → t < n → cut_of (last_positions f from n) t ≡ last_of f (from + t)
+last_positions_at_thread_is_its_last_position f from zero t l = absurd (omega (arith, l))
+last_positions_at_thread_is_its_last_position f from (suc n) zero l = ap (last_of f) (let e : from ≡ from + 0 = omega arith in e)
+last_positions_at_thread_is_its_last_position f from (suc n) (suc t) l =
+    last_positions_at_thread_is_its_last_position f (from + 1) n t (omega (arith, l)) ∙ ap (last_of f) (let e : from + 1 + t ≡ from + suc t = omega arith in e)
 
 pub empty_is_last_positions_of_no_threads : (f : FittedTrace) (xs : List ℕ) → xs ≡ [] → xs ≡ last_positions f 0 0
 empty_is_last_positions_of_no_threads f xs is = is
@@ -69,7 +69,7 @@ last_positions_after_push f n xs ys last is more so_far =
 last_cut_position_is_step_count : (f : FittedTrace) (run : List Step) → IsRunOf f.guest f.recorded run → (t : ℕ)
     → cut_of (last_cut f) t ≡ count (machine_of f) (start_of f) run t
 last_cut_position_is_step_count f run whole t = elim (cases_lt t (threads_of f)) [
-  | inl l ↦ last_position_of_thread f 0 (threads_of f) t l ∙ ap (last_of f) (let e : 0 + t ≡ t = omega arith in e) ∙ sym (whole.1.steps t l)
+  | inl l ↦ last_positions_at_thread_is_its_last_position f 0 (threads_of f) t l ∙ ap (last_of f) (let e : 0 + t ≡ t = omega arith in e) ∙ sym (whole.1.steps t l)
   | inr past ↦ get_or_past (last_cut f) t 0 (let n = length_of_last_positions f 0 (threads_of f) in omega (arith, n, past)) ∙
       sym (ap length (idle_thread_has_empty_trail (machine_of f) (start_of f) (threads_of f) (guest_start_is_idle f.guest f.recorded.budget f.recorded.profile) run whole.1.runs t past))
 ]

@@ -6,7 +6,7 @@ use Rattle.ir_thread.specs.State.{is_result}
 use Rattle.std.proofs.lemmas.Bool.{ltb-true, lt-ltb, eqb-true}
 use Rattle.byteorder.specs.Endian.{little_bytes}
 use Rattle.ir_bytes.specs.Reading.{number_at, field_at}
-use Rattle.ir_bytes.proofs.CallerLemmas.{two_steps_succeed, three_steps_succeed, four_steps_succeed, conditional_cases, ok_is_injective, test_true_if_no_fault, no_fault_if_test_true, IsBytes, Takes, takes_after_takes, number_at_takes_number, number_at_of_little_bytes, field_at_takes_field, field_at_of_little_bytes, number_of_one_byte_takes_byte, number_at_takes_byte, number_at_of_byte, field_at_of_byte}
+use Rattle.ir_bytes.proofs.CallerLemmas.{each_of_two_is_ok_if_bind_is_ok, each_of_three_is_ok_if_binds_are_ok, each_of_four_is_ok_if_binds_are_ok, conditional_cases, ok_is_injective, test_true_if_no_fault, no_fault_if_test_true, IsBytes, Takes, takes_append_of_successive_takes, number_at_takes_number, number_at_of_little_bytes, field_at_takes_field, field_at_of_little_bytes, takes_byte_if_takes_its_little_bytes, number_at_takes_byte, number_at_of_byte, field_at_of_byte}
 use Rattle.ir_runs.specs.declared.env_kind.EnvKind.{EnvKind}
 use Rattle.ir_runs.specs.declared.env_kind.EnvKind.TheVariants.{Clock, Random, Input}
 use Rattle.ir_thread.specs.declared.profile.Profile.{Profile}
@@ -25,11 +25,11 @@ abbrev pub TakesEvent : Profile → ℕ → List ℕ → Event × List ℕ → T
 TakesEvent profile objects bytes x = Takes bytes (event_encoding x.0) x.1 × IsEvent profile objects x.0
 
 -- the object of an entry, and what follows its tag
-object_field_takes : (objects : ℕ) (bytes : List ℕ) (n : ℕ × List ℕ) → IsBytes bytes → field_at Short (object_field objects) bytes ≡ Ok n
+object_field_takes_byte_below_objects : (objects : ℕ) (bytes : List ℕ) (n : ℕ × List ℕ) → IsBytes bytes → field_at Short (object_field objects) bytes ≡ Ok n
     → Takes bytes (n.0 ∷ []) n.1 × (n.0 < objects)
-object_field_takes objects bytes n fits e =
+object_field_takes_byte_below_objects objects bytes n fits e =
     let t = field_at_takes_field Short (object_field objects) bytes n fits e in
-    (number_of_one_byte_takes_byte bytes n t.takes t.fits, ltb-true n.0 objects (test_true_if_no_fault (ltb n.0 objects) Count t.passes))
+    (takes_byte_if_takes_its_little_bytes bytes n t.takes t.fits, ltb-true n.0 objects (test_true_if_no_fault (ltb n.0 objects) Count t.passes))
 
 object_field_of_encoding : (objects n : ℕ) (rest : List ℕ) → n < objects → field_at Short (object_field objects) (n ∷ rest) ≡ Ok (n, rest)
 object_field_of_encoding objects n rest lt = field_at_of_byte Short (object_field objects) n rest refl
@@ -41,46 +41,46 @@ answer_at_takes_event : (profile : Profile) (objects : ℕ) (all rest : List ℕ
     → ((v : ℕ) → IsWord v → is_result kind v ≡ true) → answer_at kind rest ≡ Ok x → TakesEvent profile objects all x
 unfolding answer_at event_encoding
 answer_at_takes_event profile objects all rest kind x prefix is e =
-    two_steps_succeed (number_at Short 4 rest) (λ n. Ok (Answer kind n.0, n.1)) x e (λ n e0 e1.
+    each_of_two_is_ok_if_bind_is_ok (number_at Short 4 rest) (λ n. Ok (Answer kind n.0, n.1)) x e (λ n e0 e1.
     let t = number_at_takes_number Short 4 rest n prefix.rest_fits e0 in
     subst (TakesEvent profile objects all) (ok_is_injective TraceErr (Answer kind n.0, n.1) x e1)
-    (takes_after_takes all (kind_tag kind ∷ []) rest (little_bytes 4 n.0) n.1 prefix t.0, is n.0 t.1))
+    (takes_append_of_successive_takes all (kind_tag kind ∷ []) rest (little_bytes 4 n.0) n.1 prefix t.0, is n.0 t.1))
 
 input_at_takes_event : (profile : Profile) (objects : ℕ) (all rest : List ℕ) (x : Event × List ℕ) → Takes all (3 ∷ []) rest → input_at rest ≡ Ok x
     → TakesEvent profile objects all x
 unfolding input_at event_encoding
 input_at_takes_event profile objects all rest x prefix e =
-    two_steps_succeed (field_at Short input_field rest) (λ n. Ok (Answer Input n.0, n.1)) x e (λ n e0 e1.
+    each_of_two_is_ok_if_bind_is_ok (field_at Short input_field rest) (λ n. Ok (Answer Input n.0, n.1)) x e (λ n e0 e1.
     let t = field_at_takes_field Short input_field rest n prefix.rest_fits e0 in
     subst (TakesEvent profile objects all) (ok_is_injective TraceErr (Answer Input n.0, n.1) x e1)
-    (takes_after_takes all (3 ∷ []) rest (little_bytes 4 n.0) n.1 prefix t.takes, test_true_if_no_fault (is_result Input n.0) Range t.passes))
+    (takes_append_of_successive_takes all (3 ∷ []) rest (little_bytes 4 n.0) n.1 prefix t.takes, test_true_if_no_fault (is_result Input n.0) Range t.passes))
 
 read_at_takes_event : (profile : Profile) (objects : ℕ) (all rest : List ℕ) (x : Event × List ℕ) → Takes all (4 ∷ []) rest → read_at objects rest ≡ Ok x
     → TakesEvent profile objects all x
 unfolding read_at event_encoding
 read_at_takes_event profile objects all rest x prefix e =
-    three_steps_succeed (field_at Short (object_field objects) rest) (λ object. number_at Short 4 object.1)
+    each_of_three_is_ok_if_binds_are_ok (field_at Short (object_field objects) rest) (λ object. number_at Short 4 object.1)
     (λ object version. Ok (Read object.0 version.0, version.1)) x e (λ object version e0 e1 e2.
-    let t0 = object_field_takes objects rest object prefix.rest_fits e0 in
+    let t0 = object_field_takes_byte_below_objects objects rest object prefix.rest_fits e0 in
     let t1 = number_at_takes_number Short 4 object.1 version t0.0.rest_fits e1 in
-    let own = takes_after_takes rest (object.0 ∷ []) object.1 (little_bytes 4 version.0) version.1 t0.0 t1.0 in
+    let own = takes_append_of_successive_takes rest (object.0 ∷ []) object.1 (little_bytes 4 version.0) version.1 t0.0 t1.0 in
     subst (TakesEvent profile objects all) (ok_is_injective TraceErr (Read object.0 version.0, version.1) x e2)
-    (takes_after_takes all (4 ∷ []) rest (object.0 ∷ little_bytes 4 version.0) version.1 prefix own, (t0.1, t1.1)))
+    (takes_append_of_successive_takes all (4 ∷ []) rest (object.0 ∷ little_bytes 4 version.0) version.1 prefix own, (t0.1, t1.1)))
 
 write_at_takes_event : (profile : Profile) (objects : ℕ) (all rest : List ℕ) (x : Event × List ℕ) → Takes all (5 ∷ []) rest → write_at objects rest ≡ Ok x
     → TakesEvent profile objects all x
 unfolding write_at event_encoding
 write_at_takes_event profile objects all rest x prefix e =
-    four_steps_succeed (field_at Short (object_field objects) rest) (λ object. number_at Short 4 object.1)
+    each_of_four_is_ok_if_binds_are_ok (field_at Short (object_field objects) rest) (λ object. number_at Short 4 object.1)
     (λ object version. number_at Short 4 version.1) (λ object version readers. Ok (Write object.0 version.0 readers.0, readers.1)) x e
     (λ object version readers e0 e1 e2 e3.
-    let t0 = object_field_takes objects rest object prefix.rest_fits e0 in
+    let t0 = object_field_takes_byte_below_objects objects rest object prefix.rest_fits e0 in
     let t1 = number_at_takes_number Short 4 object.1 version t0.0.rest_fits e1 in
     let t2 = number_at_takes_number Short 4 version.1 readers t1.0.rest_fits e2 in
-    let both = takes_after_takes object.1 (little_bytes 4 version.0) version.1 (little_bytes 4 readers.0) readers.1 t1.0 t2.0 in
-    let own = takes_after_takes rest (object.0 ∷ []) object.1 (little_bytes 4 version.0 ++ little_bytes 4 readers.0) readers.1 t0.0 both in
+    let both = takes_append_of_successive_takes object.1 (little_bytes 4 version.0) version.1 (little_bytes 4 readers.0) readers.1 t1.0 t2.0 in
+    let own = takes_append_of_successive_takes rest (object.0 ∷ []) object.1 (little_bytes 4 version.0 ++ little_bytes 4 readers.0) readers.1 t0.0 both in
     subst (TakesEvent profile objects all) (ok_is_injective TraceErr (Write object.0 version.0 readers.0, readers.1) x e3) (
-      takes_after_takes all (5 ∷ []) rest (object.0 ∷ (little_bytes 4 version.0 ++ little_bytes 4 readers.0)) readers.1 prefix own,
+      takes_append_of_successive_takes all (5 ∷ []) rest (object.0 ∷ (little_bytes 4 version.0 ++ little_bytes 4 readers.0)) readers.1 prefix own,
       (t0.1, t1.1, t2.1),
     ))
 
@@ -88,10 +88,10 @@ try_at_takes_event : (objects : ℕ) (all rest : List ℕ) (x : Event × List �
     → TakesEvent Two objects all x
 unfolding try_at event_encoding
 try_at_takes_event objects all rest x prefix e =
-    two_steps_succeed (field_at Short (object_field objects) rest) (λ object. Ok (Try object.0, object.1)) x e (λ object e0 e1.
-    let t = object_field_takes objects rest object prefix.rest_fits e0 in
+    each_of_two_is_ok_if_bind_is_ok (field_at Short (object_field objects) rest) (λ object. Ok (Try object.0, object.1)) x e (λ object e0 e1.
+    let t = object_field_takes_byte_below_objects objects rest object prefix.rest_fits e0 in
     subst (TakesEvent Two objects all) (ok_is_injective TraceErr (Try object.0, object.1) x e1)
-    (takes_after_takes all (6 ∷ []) rest (object.0 ∷ []) object.1 prefix t.0, (refl, t.1)))
+    (takes_append_of_successive_takes all (6 ∷ []) rest (object.0 ∷ []) object.1 prefix t.0, (refl, t.1)))
 
 try_by_takes_event : (profile : Profile) (objects : ℕ) (all rest : List ℕ) (x : Event × List ℕ) → Takes all (6 ∷ []) rest
     → try_by profile objects rest ≡ Ok x → TakesEvent profile objects all x
@@ -129,7 +129,7 @@ pub event_at_takes_event : (profile : Profile) (objects : ℕ) (bytes : List ℕ
     → TakesEvent profile objects bytes x
 unfolding event_at
 event_at_takes_event profile objects bytes x fits e =
-    two_steps_succeed (number_at Short 1 bytes) (λ n. event_by profile n.0 objects n.1) x e
+    each_of_two_is_ok_if_bind_is_ok (number_at Short 1 bytes) (λ n. event_by profile n.0 objects n.1) x e
     (λ n e0 e1. event_by_takes_event profile objects bytes n.1 n.0 x (number_at_takes_byte Short bytes n fits e0) e1)
 
 -- ---- and again

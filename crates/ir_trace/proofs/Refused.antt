@@ -67,23 +67,23 @@ header_at_follows_fields =
 
 -- ---- an end
 
-fault_after_end_choice : (o : Option End) (c : ℕ × List ℕ) (later : List ℕ → Option TraceErr)
+fault_after_end_test_is_fault_after_end_by : (o : Option End) (c : ℕ × List ℕ) (later : List ℕ → Option TraceErr)
     → after_reading (judged (if is_some o then None else Some Range) c) (λ x. later x.1) ≡ after_reading (end_by o c.1) (λ x. later x.1)
-fault_after_end_choice (Some e) c later = refl
-fault_after_end_choice None c later = refl
+fault_after_end_test_is_fault_after_end_by (Some e) c later = refl
+fault_after_end_test_is_fault_after_end_by None c later = refl
 
-fault_after_end_code : (n : ℕ) (r : Result (ℕ × List ℕ) TraceErr) (later : List ℕ → Option TraceErr)
+fault_after_code_field_is_fault_after_end_by : (n : ℕ) (r : Result (ℕ × List ℕ) TraceErr) (later : List ℕ → Option TraceErr)
     → after_reading (r >>= λ c. judged ((code_field n).fault c.0) c) (λ x. later x.1)
     ≡ after_reading (r >>= λ c. end_by (end_of n c.0) c.1) (λ x. later x.1)
-fault_after_end_code n (Ok c) later = fault_after_end_choice (end_of n c.0) c later
-fault_after_end_code n (Err e) later = refl
+fault_after_code_field_is_fault_after_end_by n (Ok c) later = fault_after_end_test_is_fault_after_end_by (end_of n c.0) c later
+fault_after_code_field_is_fault_after_end_by n (Err e) later = refl
 
 abbrev code_at : ℕ → Reader End TraceErr
 code_at n bytes = number_at Short 4 bytes >>= λ code. end_by (end_of n code.0) code.1
 
 code_at_begins_with_code_field : (n : ℕ) → Begins Short Trailing (code_at n) (before (code_field n))
 unfolding field_at
-code_at_begins_with_code_field n rest bytes = field_at_begins_with_field Short Trailing (code_field n) rest bytes ∙ fault_after_end_code n (number_at Short 4 bytes)
+code_at_begins_with_code_field n rest bytes = field_at_begins_with_field Short Trailing (code_field n) rest bytes ∙ fault_after_code_field_is_fault_after_end_by n (number_at Short 4 bytes)
     (first_refused Short Trailing rest)
 
 end_at_begins_with_end_fields : Begins Short Trailing end_at (λ rest. next end_field λ n. before (code_field n) rest)
@@ -232,10 +232,10 @@ threads_fields h = repeated h.threads (thread_fields h.profile h.objects) finish
 abbrev recorded_by : Header → List RecordedThread → Recorded
 recorded_by h threads = record { objects = h.objects; budget = h.budget; profile = h.profile; threads = threads }
 
-threads_reader_refuses : (h : Header)
+threads_reader_refuses_threads_format : (h : Header)
     → Refuses Short Trailing (λ bytes. fields_at (thread_part_at h.profile h.objects) h.threads bytes >>= λ threads. if length threads.1 == 0 then Ok
     (recorded_by h threads.0) else Err Trailing) (threads_fields h)
-threads_reader_refuses h =
+threads_reader_refuses_threads_format h =
     independent_sequence_refuses_format Short Trailing (fields_at (thread_part_at h.profile h.objects) h.threads) (repeated h.threads (thread_fields h.profile h.objects))
     (λ threads rest. if length rest == 0 then Ok (recorded_by h threads) else Err Trailing) finished
     (fields_at_begins_with_repeated Short Trailing (thread_part_at h.profile h.objects) (thread_fields h.profile h.objects) h.threads (thread_at_begins_with_thread_fields h.profile h.objects))
@@ -247,4 +247,4 @@ fault_of_recorded_is_trace_fault =
     sequence_refuses_format Short Trailing header_at header_fields
     (λ h bytes. fields_at (thread_part_at h.profile h.objects) h.threads bytes >>= λ threads. if length threads.1 == 0 then Ok (recorded_by h threads.0)
     else Err Trailing)
-    threads_fields header_at_follows_fields threads_reader_refuses
+    threads_fields header_at_follows_fields threads_reader_refuses_threads_format

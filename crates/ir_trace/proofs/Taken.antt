@@ -4,7 +4,7 @@ use Rattle.std.specs.Prelude.{◌&&◌, ◌||◌, find, Bool}
 use Rattle.std.proofs.lemmas.Bool.{eqb-true, eq-eqb, and_parts}
 use Rattle.byteorder.specs.Endian.{little_bytes}
 use Rattle.ir_bytes.specs.Reading.{number_at, field_at}
-use Rattle.ir_bytes.proofs.CallerLemmas.{two_steps_succeed, three_steps_succeed, ok_is_injective, test_true_if_no_fault, no_fault_if_test_true, number_equal_if_no_fault, no_fault_of_fixed_number, IsBytes, Takes, takes_after_takes, number_at_takes_number, number_at_of_little_bytes, field_at_takes_field, field_at_of_little_bytes, number_of_one_byte_takes_byte, field_at_of_byte}
+use Rattle.ir_bytes.proofs.CallerLemmas.{each_of_two_is_ok_if_bind_is_ok, each_of_three_is_ok_if_binds_are_ok, ok_is_injective, test_true_if_no_fault, no_fault_if_test_true, number_equal_if_no_fault, no_fault_of_fixed_number, IsBytes, Takes, takes_append_of_successive_takes, number_at_takes_number, number_at_of_little_bytes, field_at_takes_field, field_at_of_little_bytes, takes_byte_if_takes_its_little_bytes, field_at_of_byte}
 use Rattle.ir_thread.specs.State.{end_number, end_code, end_of}
 use Rattle.ir_thread.specs.Permitted.{ends_with}
 use Rattle.ir_thread.specs.declared.end.End.{End}
@@ -31,7 +31,7 @@ magic_bytes_are_of_profile n h = magic_bytes_by_profile_tests n (eqb n 0x3154524
 pub profile_at_takes_magic : (bytes : List ℕ) (x : Profile × List ℕ) → IsBytes bytes → profile_at bytes ≡ Ok x → Takes bytes (trace_magic x.0) x.1
 unfolding profile_at
 profile_at_takes_magic bytes x fits e =
-    two_steps_succeed (field_at Short trace_magic_field bytes) (λ n. Ok (profile_of n.0, n.1)) x e (λ n e0 e1.
+    each_of_two_is_ok_if_bind_is_ok (field_at Short trace_magic_field bytes) (λ n. Ok (profile_of n.0, n.1)) x e (λ n e0 e1.
     let t = field_at_takes_field Short trace_magic_field bytes n fits e0 in
     let own : Takes bytes (trace_magic (profile_of n.0)) n.1 = subst (λ (k : List ℕ). Takes bytes k n.1)
     (magic_bytes_are_of_profile n.0 (test_true_if_no_fault (is_magic n.0) Magic t.passes)) t.takes in
@@ -75,8 +75,8 @@ found_element_passes_test p (x ∷ xs) y e = found_element_passes_test_step p (p
 abbrev HasNumbers : ℕ → ℕ → End → Type 0
 HasNumbers number code e = (end_number e ≡ number) × (end_code e ≡ code)
 
-end_of_has_numbers : (number code : ℕ) (e : End) → end_of number code ≡ Some e → HasNumbers number code e
-end_of_has_numbers number code e h =
+end_of_numbers_has_those_numbers : (number code : ℕ) (e : End) → end_of number code ≡ Some e → HasNumbers number code e
+end_of_numbers_has_those_numbers number code e h =
     let test = found_element_passes_test (λ x. (eqb (end_number x) number) && (eqb (end_code x) code)) (ends_with code) e h in
     let both = and_parts (eqb (end_number e) number) (eqb (end_code e) code) test in
     (eqb-true _ _ both.0, eqb-true _ _ both.1)
@@ -138,12 +138,12 @@ end_by_takes_end bytes n code None x t w is h = absurd cc
 pub end_at_takes_end : (bytes : List ℕ) (x : End × List ℕ) → IsBytes bytes → end_at bytes ≡ Ok x → TakesEnd bytes x
 unfolding end_at
 end_at_takes_end bytes x fits e =
-    three_steps_succeed (field_at Short end_field bytes) (λ n. number_at Short 4 n.1) (λ n code. end_by (end_of n.0 code.0) code.1) x e
+    each_of_three_is_ok_if_binds_are_ok (field_at Short end_field bytes) (λ n. number_at Short 4 n.1) (λ n code. end_by (end_of n.0 code.0) code.1) x e
     (λ n code e0 e1 e2.
     let t0 = field_at_takes_field Short end_field bytes n fits e0 in
     let t1 = number_at_takes_number Short 4 n.1 code t0.takes.rest_fits e1 in
     end_by_takes_end bytes n.0 code (end_of n.0 code.0) x
-    (takes_after_takes bytes (n.0 ∷ []) n.1 (little_bytes 4 code.0) code.1 (number_of_one_byte_takes_byte bytes n t0.takes t0.fits) t1.0) t1.1 (end_of_has_numbers n.0 code.0)
+    (takes_append_of_successive_takes bytes (n.0 ∷ []) n.1 (little_bytes 4 code.0) code.1 (takes_byte_if_takes_its_little_bytes bytes n t0.takes t0.fits) t1.0) t1.1 (end_of_numbers_has_those_numbers n.0 code.0)
     e2)
 
 pub end_at_of_encoding : (e : End) (rest : List ℕ) → IsWord (end_code e) → end_at (end_encoding e ++ rest) ≡ Ok (e, rest)

@@ -5,7 +5,7 @@ use Rattle.std.proofs.lemmas.Bool.{eqb-true}
 use Rattle.std.proofs.lemmas.List.{append-nil, nil_from_length}
 use Rattle.byteorder.specs.Endian.{little_bytes}
 use Rattle.ir_bytes.specs.Reading.{number_at, field_at, fields_at}
-use Rattle.ir_bytes.proofs.CallerLemmas.{three_steps_succeed, five_steps_succeed, six_steps_succeed, test_passed_if_ok, ok_is_injective, number_within_if_no_fault, no_fault_if_number_within, IsBytes, bytes_if_each_fits, Takes, takes_after_takes, number_at_takes_number, number_at_of_little_bytes, TakesField, field_at_takes_field, field_at_of_little_bytes, number_of_one_byte_takes_byte, field_at_of_byte, TakesFields, fields_at_takes_fields, fields_at_of_encodings}
+use Rattle.ir_bytes.proofs.CallerLemmas.{each_of_three_is_ok_if_binds_are_ok, each_of_five_is_ok_if_binds_are_ok, each_of_six_is_ok_if_binds_are_ok, test_passed_if_ok, ok_is_injective, number_within_if_no_fault, no_fault_if_number_within, IsBytes, is_bytes_if_each_below_256, Takes, takes_append_of_successive_takes, number_at_takes_number, number_at_of_little_bytes, TakesField, field_at_takes_field, field_at_of_little_bytes, takes_byte_if_takes_its_little_bytes, field_at_of_byte, TakesFields, fields_at_takes_fields, fields_at_of_encodings}
 use Rattle.ir_image.specs.Guest.{limits_of}
 use Rattle.ir_thread.specs.State.{largest, most_budget, most_events}
 use Rattle.ir_thread.specs.declared.end.End.{End}
@@ -44,12 +44,12 @@ header_fields_take_header all first threads objects reserved budget t0 t1 t2 t3 
     let n = number_within_if_no_fault 1 (limits_of (largest first.0)).threads threads.0 Count t1.passes in
     let m = number_within_if_no_fault 0 (limits_of (largest first.0)).objects objects.0 Count t2.passes in
     let b = number_within_if_no_fault 0 most_budget budget.0 Count t4.passes in
-    let counts = takes_after_takes first.1 (threads.0 ∷ []) threads.1 (objects.0 ∷ []) objects.1 (number_of_one_byte_takes_byte first.1 threads t1.takes t1.fits)
-    (number_of_one_byte_takes_byte threads.1 objects t2.takes t2.fits) in
-    let prefix = takes_after_takes all (trace_magic first.0) first.1 (threads.0 ∷ objects.0 ∷ []) objects.1 t0 counts in
-    let second = takes_after_takes all (trace_magic first.0 ++ (threads.0 ∷ objects.0 ∷ [])) objects.1 (little_bytes 2 0) reserved.1 prefix t3 in
+    let counts = takes_append_of_successive_takes first.1 (threads.0 ∷ []) threads.1 (objects.0 ∷ []) objects.1 (takes_byte_if_takes_its_little_bytes first.1 threads t1.takes t1.fits)
+    (takes_byte_if_takes_its_little_bytes threads.1 objects t2.takes t2.fits) in
+    let prefix = takes_append_of_successive_takes all (trace_magic first.0) first.1 (threads.0 ∷ objects.0 ∷ []) objects.1 t0 counts in
+    let second = takes_append_of_successive_takes all (trace_magic first.0 ++ (threads.0 ∷ objects.0 ∷ [])) objects.1 (little_bytes 2 0) reserved.1 prefix t3 in
     record {
-      takes = takes_after_takes all (trace_magic first.0 ++ (threads.0 ∷ objects.0 ∷ []) ++ little_bytes 2 0) reserved.1 (little_bytes 8 budget.0) budget.1
+      takes = takes_append_of_successive_takes all (trace_magic first.0 ++ (threads.0 ∷ objects.0 ∷ []) ++ little_bytes 2 0) reserved.1 (little_bytes 8 budget.0) budget.1
           second t4.takes;
       within = record { some_thread = n.0; few_threads = n.1; few_objects = m.1; budget_fits = b.1 };
     }
@@ -57,7 +57,7 @@ header_fields_take_header all first threads objects reserved budget t0 t1 t2 t3 
 header_at_takes_header : (all : List ℕ) (x : Header × List ℕ) → IsBytes all → header_at all ≡ Ok x → TakesHeader all x
 unfolding header_at
 header_at_takes_header all x fits e =
-    six_steps_succeed (profile_at all) (λ first. field_at Short (trace_threads_field first.0) first.1)
+    each_of_six_is_ok_if_binds_are_ok (profile_at all) (λ first. field_at Short (trace_threads_field first.0) first.1)
     (λ first threads. field_at Short (trace_objects_field first.0) threads.1)
     (λ first threads objects. field_at Short reserved_field objects.1)
     (λ first threads objects reserved. field_at Short budget_field reserved.1)
@@ -113,10 +113,10 @@ thread_fields_take_thread profile objects all steps ended count events fits e0 e
     t2.takes.rest_fits e3 in
     let counted : Takes ended.1 (little_bytes 4 (length events.0)) count.1 = subst (λ (k : ℕ). Takes ended.1 (little_bytes 4 k) count.1)
     (sym t3.count) t2.takes in
-    let first = takes_after_takes all (little_bytes 8 steps.0) steps.1 (end_encoding ended.0) ended.1 t0.0 t1.0 in
-    let second = takes_after_takes all (little_bytes 8 steps.0 ++ end_encoding ended.0) ended.1 (little_bytes 4 (length events.0)) count.1 first
+    let first = takes_append_of_successive_takes all (little_bytes 8 steps.0) steps.1 (end_encoding ended.0) ended.1 t0.0 t1.0 in
+    let second = takes_append_of_successive_takes all (little_bytes 8 steps.0 ++ end_encoding ended.0) ended.1 (little_bytes 4 (length events.0)) count.1 first
     counted in (
-      takes_after_takes all (little_bytes 8 steps.0 ++ end_encoding ended.0 ++ little_bytes 4 (length events.0)) count.1
+      takes_append_of_successive_takes all (little_bytes 8 steps.0 ++ end_encoding ended.0 ++ little_bytes 4 (length events.0)) count.1
           (flat_map event_encoding events.0) events.1 second t3.takes,
       record {
         steps_fit = t0.1;
@@ -131,7 +131,7 @@ thread_at_takes_thread : (profile : Profile) (objects : ℕ) (bytes : List ℕ) 
     → TakesThread profile objects bytes x
 unfolding thread_part_at
 thread_at_takes_thread profile objects bytes x fits e =
-    five_steps_succeed (number_at Short 8 bytes) (λ steps. end_at steps.1) (λ steps ended. field_at Short events_field ended.1)
+    each_of_five_is_ok_if_binds_are_ok (number_at Short 8 bytes) (λ steps. end_at steps.1) (λ steps ended. field_at Short events_field ended.1)
     (λ steps ended count. fields_at (event_at profile objects) count.0 count.1)
     (λ steps ended count events. Ok (record { steps = steps.0; end = ended.0; events = events.0 }, events.1)) x e
     (λ steps ended count events e0 e1 e2 e3 e4.
@@ -190,7 +190,7 @@ header_and_threads_take_recorded all x threads t u nothing =
 pub recorded_at_takes_encoding : (all : List ℕ) (r : Recorded) → IsBytes all → recorded_at all ≡ Ok r → IsRecorded r × (all ≡ encoding r)
 unfolding recorded_at
 recorded_at_takes_encoding all r fits e =
-    three_steps_succeed (header_at all) (λ h. fields_at (thread_part_at h.0.profile h.0.objects) h.0.threads h.1)
+    each_of_three_is_ok_if_binds_are_ok (header_at all) (λ h. fields_at (thread_part_at h.0.profile h.0.objects) h.0.threads h.1)
     (λ h threads. cond (eqb (length threads.1) 0) (Ok (recorded_by h.0 threads.0)) (Err Trailing)) r e (λ h threads e0 e1 e2.
     let t = header_at_takes_header all h fits e0 in
     let g = test_passed_if_ok (eqb (length threads.1) 0) Trailing (recorded_by h.0 threads.0) r e2 in
@@ -204,7 +204,7 @@ pub read_parts_take_encoding : (all : List ℕ) (h : Header) (rest : List ℕ) (
     → fields_at (thread_part_at h.profile h.objects) h.threads rest ≡ Ok (threads, after) → after ≡ []
     → IsRecorded (recorded_by h threads) × (all ≡ encoding (recorded_by h threads))
 read_parts_take_encoding all h rest threads after bytes e0 e1 nothing =
-    let fits = bytes_if_each_fits all bytes in
+    let fits = is_bytes_if_each_below_256 all bytes in
     let t = header_at_takes_header all (h, rest) fits e0 in
     header_and_threads_take_recorded all (h, rest) (threads, after) t (threads_reader_takes_threads h rest (threads, after) t.takes.rest_fits e1) nothing
 

@@ -10,7 +10,7 @@ use Rattle.ir_thread.specs.State as thread
 use Rattle.ir_runs.specs.Run.{State, Step, asked, act, after, IsRun, end, count, Cut, IsCut, Consistent, part, object_at}
 use Rattle.ir_runs.specs.Admitted.{further, Admitted, AtCut}
 use Rattle.ir_runs.specs.Verdicts.{sum_below}
-use Rattle.ir_runs.proofs.CallerLemmas.{upd_by_cases, StateInvariant, state_invariant_after_step, state_at_consistent_cut, progress_below_consistent_target, min_of_cuts_is_consistent, sum_below_less_if_one_less}
+use Rattle.ir_runs.proofs.CallerLemmas.{property_of_upd_by_cases, StateInvariant, state_invariant_after_step, state_at_consistent_cut, progress_below_consistent_target, min_of_cuts_is_consistent, sum_below_less_if_one_less}
 use Rattle.ir_fit.specs.Fit.{FittedTrace, IsRunOf}
 use Rattle.ir_cut.specs.Positions.{machine_of, start_of}
 use Rattle.ir_cut.proofs.CallerLemmas.{no_trail_of_missing_thread}
@@ -39,12 +39,12 @@ words_kept_unless_writer (Put o i w) r u b h k not = absurd (not k)
 words_kept_unless_writer Done r u b h k not = refl
 
 -- a step of another thread than one that is inside
-words_kept_by_step_of_other : {T : Type 0} (m : Machine T) → IsLawful m → (s : State T) → StateInvariant m s → (t o : ℕ) → ((s.objects o).inside t ≡ None → ⊥)
+words_of_entered_object_kept_by_step_of_other : {T : Type 0} (m : Machine T) → IsLawful m → (s : State T) → StateInvariant m s → (t o : ℕ) → ((s.objects o).inside t ≡ None → ⊥)
     → (e : Step) → e.0 ≢ t → ((after m s e).objects o).words ≡ (s.objects o).words
 unfolding after
-words_kept_by_step_of_other m guest_machine_is_lawful s state_invariant_at_guest_start t o inside e other =
+words_of_entered_object_kept_by_step_of_other m guest_machine_is_lawful s state_invariant_at_guest_start t o inside e other =
     let q = act m s e in
-    upd_by_cases s.objects (target q) (acted q e.0 (s.objects (target q))) o (λ b. b.words ≡ (s.objects o).words)
+    property_of_upd_by_cases s.objects (target q) (acted q e.0 (s.objects (target q))) o (λ b. b.words ≡ (s.objects o).words)
     (λ same. words_kept_unless_writer (asked m s e.0) e.1 e.0 (s.objects (target q)) (m.held (s.now e.0)) (guest_machine_is_lawful.holds (s.now e.0))
     (λ writes. inside (state_invariant_at_guest_start.exclusive o e.0 t other (subst (λ p. (s.objects p).inside e.0 ≡ Some Writing) (sym same)
     (state_invariant_at_guest_start.linked e.0 (target q) ∙ writes))))
@@ -129,7 +129,7 @@ held_words_kept_to_later_cut f run of t o (suc n) p q cp cq cut up same held sum
       λ none. held (sym (here.linked t o ∙ ap (λ x. m.held x o) (at.threads t)) ∙ none) in
       let one : (object_at m s run (further p u) o).words ≡ (object_at m s run p o).words =
       ap (λ (z : State thread.ThreadState). (z.objects o).words) (sym step.2)
-      ∙ words_kept_by_step_of_other m (guest_machine_is_lawful f) (end m s (part run p)) here t o inside (u, step.0) other in
+      ∙ words_of_entered_object_kept_by_step_of_other m (guest_machine_is_lawful f) (end m s (part run p)) here t o inside (u, step.0) other in
       let rise : ((w : ℕ) → further p u w ≤ q w) = λ w. elim (cases_eq w u) [
         | inl e ↦ subst (λ z. further p u z ≤ q z) (sym e) (let a = further_at_own_thread p u in omega (arith, a, further_below))
         | inr ne ↦ let a = further_at_other_thread p u w ne in let b = up w in omega (arith, a, b)

@@ -26,19 +26,19 @@ use Rattle.ir_walk.specs.declared.exchange.Exchange.{Exchange}
 -- ---- a step
 
 -- what is read after a word was set, which is 0 where there is no such place
-slice_index_after_set_cases : (xs : List ℕ) (i v : ℕ) → (slice_index (slice_set xs i v) i ≡ v) ⊎ (slice_index (slice_set xs i v) i ≡ 0)
-slice_index_after_set_cases xs i v = elim (cases_lt i (length xs)) [
+slice_index_after_set_is_value_or_zero : (xs : List ℕ) (i v : ℕ) → (slice_index (slice_set xs i v) i ≡ v) ⊎ (slice_index (slice_set xs i v) i ≡ 0)
+slice_index_after_set_is_value_or_zero xs i v = elim (cases_lt i (length xs)) [
   | inl l ↦ inl (get_or-set_same xs i v 0 l)
   | inr past ↦ inr (get_or_past (set xs i v) i 0 (let n = length-set xs i v in omega (arith, n, past)))
 ]
 
 -- an answer of 1 or 0 to a try is read as such
 try_reply_in_register_is_one_or_zero : (xs : List ℕ) (v a : ℕ) → (v ≡ 1) ⊎ (v ≡ 0) → a ≡ slice_index (slice_set xs 10 v) 10 → (Value a ≡ Value 1) ⊎ (Value a ≡ Value 0)
-try_reply_in_register_is_one_or_zero xs v a (inl one) e = elim (slice_index_after_set_cases xs 10 v) [
+try_reply_in_register_is_one_or_zero xs v a (inl one) e = elim (slice_index_after_set_is_value_or_zero xs 10 v) [
   | inl same ↦ inl (ap Value (e ∙ same ∙ one))
   | inr none ↦ inr (ap Value (e ∙ none))
 ]
-try_reply_in_register_is_one_or_zero xs v a (inr zeroed) e = elim (slice_index_after_set_cases xs 10 v) [
+try_reply_in_register_is_one_or_zero xs v a (inr zeroed) e = elim (slice_index_after_set_is_value_or_zero xs 10 v) [
   | inl same ↦ inr (ap Value (e ∙ same ∙ zeroed))
   | inr none ↦ inr (ap Value (e ∙ none))
 ]
@@ -200,9 +200,6 @@ calls_in_split_at_middle code at from mid to l l' =
     ap (calls_in code at from) on ∙ calls_in_sum_of_steps code at from (mid - from) (to - mid)
     ∙ ap (λ j. calls_in code at from (mid - from) ++ calls_in code at j (to - mid)) there
 
-all_suit_append : (xs ys : List Exchange) → AllSuit xs → AllSuit ys → AllSuit (xs ++ ys)
-all_suit_append [] ys a b = b
-all_suit_append (x ∷ xs) ys a b = (a.0, all_suit_append xs ys a.1 b)
-
 pub all_suit_in_append_if_in_both : (xs ys : List Exchange) → AllSuit xs → AllSuit ys → AllSuit (xs ++ ys)
-all_suit_in_append_if_in_both xs ys a b = all_suit_append xs ys a b
+all_suit_in_append_if_in_both [] ys a b = b
+all_suit_in_append_if_in_both (x ∷ xs) ys a b = (a.0, all_suit_in_append_if_in_both xs ys a.1 b)

@@ -4,13 +4,13 @@ pub use Rattle.ir_weave.proofs.Behind.{guest_machine_is_lawful, state_invariant_
 -- what the threads logged up to a cut is the first of what is recorded of them
 pub use Rattle.ir_weave.proofs.Before.{LogsBefore, logs_before_cut_are_recorded}
 -- a state that advances along the trace is a state at a later cut
-pub use Rattle.ir_weave.proofs.Onward.{under_target_after_step_if_result_ok, position_after_going_alone, position_of_other_after_going_alone, under_target_after_going_alone}
+pub use Rattle.ir_weave.proofs.Onward.{stepped_toward_target_if_ok_steps_and_error_means_cannot, position_after_going_alone, position_of_other_after_going_alone, under_target_after_going_alone}
 -- the result with which a thread takes its next step, by what it asks
-pub use Rattle.ir_weave.proofs.Results.{suited_call_logs_next, no_next_for_unsuited_call, open_entry_logs_next, no_next_for_shut_entry, no_next_for_unsuited_entry, refused_try_logs_next, open_try_logs_next, no_next_for_shut_try, no_next_for_unsuited_try, entered_object_is_within_objects, found_object_is_cell}
+pub use Rattle.ir_weave.proofs.Results.{suited_call_logs_next, no_result_logs_next_for_unsuited_call, open_entry_logs_next_with_result_zero, no_result_logs_next_for_shut_entry, no_result_logs_next_for_unsuited_entry, refused_try_logs_next_with_result_zero, open_try_logs_next_with_result_one, no_result_logs_next_for_shut_try, no_result_logs_next_for_unsuited_try, entered_object_index_is_below_length_of_objects, looked_up_entered_object_is_its_cell}
 -- what a step of a thread in a run emits, and the thread after it, by the thread before it
 pub use Rattle.ir_weave.proofs.Trails.{StepOf, emitting_step_is_step_of}
 -- a state advances by a step of a thread that is admitted
-pub use Rattle.ir_weave.proofs.Forth.{CaughtUp, state_catches_up_with_thread}
+pub use Rattle.ir_weave.proofs.Forth.{CaughtUp, state_catches_up_with_thread_by_alone_steps}
 -- a thread that advances by itself beside its trace
 pub use Rattle.ir_weave.proofs.Lone.{step_below_count_emits}
 -- after its last step a thread is as at the end

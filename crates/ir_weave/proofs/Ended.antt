@@ -6,7 +6,7 @@ use Rattle.ir_thread.specs.State as thread
 use Rattle.ir_thread.specs.declared.ask.Ask.TheVariants.{Done}
 use Rattle.ir_runs.specs.Machine.{Label}
 use Rattle.ir_runs.specs.Run.{Step, IsRun, trail, thread_in, count, end}
-use Rattle.ir_flat.proofs.CallerLemmas.{guest_start_is_idle, shared_done_is_done}
+use Rattle.ir_flat.proofs.CallerLemmas.{guest_start_is_idle, ask_is_done_if_shared_ask_is_done}
 use Rattle.ir_fit.specs.Fit.{FittedTrace, IsRunOf}
 use Rattle.ir_fit.proofs.CallerLemmas.{idle_thread_has_empty_trail}
 use Rattle.ir_cut.specs.Positions.{machine_of, start_of}
@@ -24,7 +24,7 @@ thread_not_done_has_step f t x at not run of = elim (cases_lt x.steps (count (ma
   | inl less ↦ less
   | inr past ↦ absurd (not (ap (ask_of f.guest.code) ((at run of).1
       ∙ thread_in_past_length_is_last (trail (machine_of f) (start_of f) run t) x.steps ((end (machine_of f) (start_of f) run).now t) past)
-      ∙ shared_done_is_done (ask_of f.guest.code ((end (machine_of f) (start_of f) run).now t)) (of.1.done t)))
+      ∙ ask_is_done_if_shared_ask_is_done (ask_of f.guest.code ((end (machine_of f) (start_of f) run).now t)) (of.1.done t)))
 ]
 
 -- runs with one trace have as many steps of each thread

@@ -23,14 +23,14 @@ use Rattle.ir_weave.specs.Ahead.{HasStep}
 use Rattle.ir_weave.specs.Standing.{IsStateAt, positions}
 use Rattle.ir_weave.specs.Woven.{AdmittedAt}
 use Rattle.ir_weave.proofs.Behind.{admitted_thread_logs_next}
-use Rattle.ir_weave.proofs.Forth.{StepGoesOn, step_goes_on_if_logs_next, state_thread_is_guest_thread, further_at_own_thread, further_at_other_thread}
+use Rattle.ir_weave.proofs.Forth.{StepGoesOn, step_goes_on_if_logs_next, state_thread_index_is_below_guest_thread_count, further_at_own_thread_is_successor, further_at_other_thread_is_unchanged}
 use Rattle.ir_fit.proofs.CallerLemmas.{GotIn, try_not_refused_got_in}
-use Rattle.ir_weave.proofs.Results.{open_entry_logs_next, no_next_for_shut_entry, open_try_logs_next, no_next_for_shut_try}
+use Rattle.ir_weave.proofs.Results.{open_entry_logs_next_with_result_zero, no_result_logs_next_for_shut_entry, open_try_logs_next_with_result_one, no_result_logs_next_for_shut_try}
 
 -- steps are left in the trace
-steps_are_left_ahead : (f : FittedTrace) (s : Flat) (t : ℕ) → HasRun f → IsStateAt f (positions s) s → t < length s.threads
+steps_ahead_are_positive_if_has_step : (f : FittedTrace) (s : Flat) (t : ℕ) → HasRun f → IsStateAt f (positions s) s → t < length s.threads
     → HasStep f t (positions s t) → 0 < steps_ahead f.recorded s t
-steps_are_left_ahead f s t h at l has = let steps = h.whole.1.steps t (state_thread_is_guest_thread f s t at l) in let more = has h.run h.whole in
+steps_ahead_are_positive_if_has_step f s t h at l has = let steps = h.whole.1.steps t (state_thread_index_is_below_guest_thread_count f s t at l) in let more = has h.run h.whole in
     omega (arith, steps, more)
 
 -- a thread whose next step leads on is admitted
@@ -40,8 +40,8 @@ admitted_if_step_goes_on f s t v q g has run of = (
   equal_cut_is_consistent (machine_of f) (start_of f) run (positions (next s t v q)) (further (positions s) t)
       (λ u. elim (cases_eq u t) [
         | inl same ↦ subst (λ z. positions (next s t v q) z ≡ further (positions s) t z) (sym same)
-            (let b = further_at_own_thread (positions s) t in let c = g.own in omega (arith, b, c))
-        | inr ne ↦ g.others u ne ∙ sym (further_at_other_thread (positions s) t u ne)
+            (let b = further_at_own_thread_is_successor (positions s) t in let c = g.own in omega (arith, b, c))
+        | inr ne ↦ g.others u ne ∙ sym (further_at_other_thread_is_unchanged (positions s) t u ne)
       ]) (g.at.each run of).consistent,
 )
 
@@ -54,12 +54,12 @@ pub open_entry_is_admitted : (f : FittedTrace) (s : Flat) (t o : ℕ) (a : Acces
     → slice_get (recorded_thread f.recorded t).events (thread_of s t).events ≡ Some e → Suits q e → event_ask e ≡ Enter o a
     → IsOpen (cell_of s o) e → AdmittedAt f (positions s) t
 open_entry_is_admitted f s t o a e q h flat at l is has event suits enters opens =
-    let left = steps_are_left_ahead f s t h at l has in
+    let left = steps_ahead_are_positive_if_has_step f s t h at l has in
     elim (entry_event_suits_enter_or_try q o a e suits enters) [
       | inl same ↦ admitted_if_step_goes_on f s t 0 (Enter o a) (step_goes_on_if_logs_next f s t 0 (Enter o a) flat at l (sym (is ∙ same)) has
-          (open_entry_logs_next f.recorded s t o a e flat l (is ∙ same) left event (subst (λ p. Suits p e) same suits) opens)) has
+          (open_entry_logs_next_with_result_zero f.recorded s t o a e flat l (is ∙ same) left event (subst (λ p. Suits p e) same suits) opens)) has
       | inr same ↦ admitted_if_step_goes_on f s t 1 (Try o) (step_goes_on_if_logs_next f s t 1 (Try o) flat at l (sym (is ∙ same.0)) has
-          (open_try_logs_next f.recorded s t o e flat l (is ∙ same.0) left event (subst (λ p. Suits p e) same.0 suits) opens)) has
+          (open_try_logs_next_with_result_one f.recorded s t o e flat l (is ∙ same.0) left event (subst (λ p. Suits p e) same.0 suits) opens)) has
     ]
 
 pub shut_entry_is_not_admitted : (f : FittedTrace) (s : Flat) (t o : ℕ) (a : Access) (e : Event) (q : Ask) → HasRun f → IsFlat s
@@ -67,13 +67,13 @@ pub shut_entry_is_not_admitted : (f : FittedTrace) (s : Flat) (t o : ℕ) (a : A
     → slice_get (recorded_thread f.recorded t).events (thread_of s t).events ≡ Some e → Suits q e → event_ask e ≡ Enter o a
     → (IsOpen (cell_of s o) e → ⊥) → EachRun f (λ run. Admitted (machine_of f) (start_of f) run (positions s) t → ⊥)
 shut_entry_is_not_admitted f s t o a e q h flat at l is has event suits enters shut run of ad =
-    let some = admitted_thread_logs_next f s at run of t (state_thread_is_guest_thread f s t at l) ad in
-    let left = steps_are_left_ahead f s t h at l has in
+    let some = admitted_thread_logs_next f s at run of t (state_thread_index_is_below_guest_thread_count f s t at l) ad in
+    let left = steps_ahead_are_positive_if_has_step f s t h at l has in
     elim (entry_event_suits_enter_or_try q o a e suits enters) [
-      | inl same ↦ no_next_for_shut_entry f.recorded s t o a e flat l (is ∙ same) left event (subst (λ p. Suits p e) same suits) shut some.0 some.1
+      | inl same ↦ no_result_logs_next_for_shut_entry f.recorded s t o a e flat l (is ∙ same) left event (subst (λ p. Suits p e) same suits) shut some.0 some.1
       | inr same ↦
           let tries : Suits (Try o) e = subst (λ p. Suits p e) same.0 suits in
-          no_next_for_shut_try f.recorded s t o e flat l (is ∙ same.0) left event tries (entering_try_got_in o o a e tries enters) shut some.0 some.1
+          no_result_logs_next_for_shut_try f.recorded s t o e flat l (is ∙ same.0) left event tries (entering_try_got_in o o a e tries enters) shut some.0 some.1
     ]
 
 -- it can be entered, or not
@@ -100,11 +100,11 @@ cell_is_open_or_not c (Write object version readers) = elim (cases_eq c.fields.v
 ]
 
 -- whether it is open is seen by its word
-pub open_depends_on_fields : (c d : Cell) (e : Event) → c.fields ≡ d.fields → IsOpen c e → IsOpen d e
-open_depends_on_fields c d (Answer kind value) same h = h
-open_depends_on_fields c d (Refused object) same h = h
-open_depends_on_fields c d (Read object version) same h = (sym (ap (λ z. z.version) same) ∙ h.0, sym (ap (λ z. z.writer) same) ∙ h.1)
-open_depends_on_fields c d (Write object version readers) same h = (
+pub cell_is_open_if_fields_of_open_cell : (c d : Cell) (e : Event) → c.fields ≡ d.fields → IsOpen c e → IsOpen d e
+cell_is_open_if_fields_of_open_cell c d (Answer kind value) same h = h
+cell_is_open_if_fields_of_open_cell c d (Refused object) same h = h
+cell_is_open_if_fields_of_open_cell c d (Read object version) same h = (sym (ap (λ z. z.version) same) ∙ h.0, sym (ap (λ z. z.writer) same) ∙ h.1)
+cell_is_open_if_fields_of_open_cell c d (Write object version readers) same h = (
   sym (ap (λ z. z.version) same) ∙ h.0,
   sym (ap (λ z. z.left) same)
       ∙ h.1,

@@ -18,7 +18,7 @@ use Rattle.ir_log.specs.declared.event.Event.{Event}
 use Rattle.ir_log.specs.declared.event.Event.TheVariants.{Answer as Answered, Read, Write, Try as Refused}
 use Rattle.ir_trace.specs.Recorded.{Recorded, recorded_thread}
 use Rattle.ir_fit.specs.Ahead.{log_ahead}
-use Rattle.ir_flat.proofs.CallerLemmas.{events_added_by, may_step_is_can_for_ask, tables_of_next_are_after, next_is_flat, next_keeps_thread_count, next_keeps_object_count}
+use Rattle.ir_flat.proofs.CallerLemmas.{events_added_by, may_step_iff_can_for_ask, tables_of_next_are_after, next_is_flat, next_keeps_thread_count, next_keeps_object_count}
 use Rattle.ir_runs.specs.Admitted.{further}
 use Rattle.ir_fit.specs.Fit.{FittedTrace, HasRun, IsRunOf}
 use Rattle.ir_runs.specs.Verdicts.{unlogged}
@@ -28,9 +28,9 @@ use Rattle.ir_weave.specs.Standing.{IsStateAt, positions}
 use Rattle.ir_weave.specs.Stepping.{LogsNext}
 use Rattle.ir_weave.specs.Woven.{AdmittedAt}
 use Rattle.ir_weave.proofs.Behind.{log_after_cut, log_ahead_is_log_after_cut, admitted_thread_logs_next}
-use Rattle.ir_weave.proofs.Onward.{is_at_after_leading_steps, step_logs_first_of_left, position_after_own_step, position_after_step_of_other}
-use Rattle.ir_fit.proofs.CallerLemmas.{labels_ahead_start_with_event}
-use Rattle.ir_weave.proofs.Lone.{logged_step_has_recorded_event, try_result, emitted_try_gives_result}
+use Rattle.ir_weave.proofs.Onward.{is_at_after_leading_steps, step_log_is_prefix_of_left, position_after_own_step, position_after_step_of_other}
+use Rattle.ir_fit.proofs.CallerLemmas.{drop_of_mapped_labels_is_label_then_drop}
+use Rattle.ir_weave.proofs.Lone.{logged_step_has_recorded_event, try_result, result_of_emitted_try_is_try_result_of_event}
 use Rattle.ir_weave.proofs.Trails.{StepOf, emitting_step_is_step_of, label_without_entry_needs_nothing}
 
 -- after the step of thread t that asks so
@@ -56,14 +56,14 @@ next_keeps_code s t v (End e) = refl
 next_keeps_code s t v Done = refl
 
 -- a thread of the state is one of the guest's
-pub state_thread_is_guest_thread : (f : FittedTrace) (s : Flat) (t : ℕ) → IsStateAt f (positions s) s → t < length s.threads → t < length f.guest.entries
-state_thread_is_guest_thread f s t at l = let e = at.threads in omega (arith, l, e)
+pub state_thread_index_is_below_guest_thread_count : (f : FittedTrace) (s : Flat) (t : ℕ) → IsStateAt f (positions s) s → t < length s.threads → t < length f.guest.entries
+state_thread_index_is_below_guest_thread_count f s t at l = let e = at.threads in omega (arith, l, e)
 
 -- by a step that logs what the trace emits next
 pub step_goes_on_if_logs_next : (f : FittedTrace) (s : Flat) (t v : ℕ) (q : Ask) → IsFlat s → IsStateAt f (positions s) s → t < length s.threads
     → q ≡ ask_of s.code (thread_of s t) → HasStep f t (positions s t) → LogsNext f.recorded s t v → StepGoesOn f s t v q
 step_goes_on_if_logs_next f s t v q flat at l is has logs =
-    let may : MayStep s v q = (may_step_is_can_for_ask s t v q flat l is).1 logs.0 in
+    let may : MayStep s v q = (may_step_iff_can_for_ask s t v q flat l is).1 logs.0 in
     let new : Flat = next s t v q in
     let taken : tables new ≡ after (machine_in s) (tables s) (t, v) = tables_of_next_are_after s t v q flat l is may in
     let own : positions new t ≡ positions s t + 1 = position_after_own_step s new t v logs.0 taken in
@@ -85,9 +85,9 @@ step_goes_on_if_logs_next f s t v q flat at l is has logs =
             (record {
               runs = (logs.0, tt);
               ends = taken;
-              logs = step_logs_first_of_left (machine_in s) (tables s) t v (log_after_cut f run (positions s))
+              logs = step_log_is_prefix_of_left (machine_in s) (tables s) t v (log_after_cut f run (positions s))
                   (subst (λ es. logged (label (machine_in s) (tables s) (t, v)) (unlogged (label (machine_in s) (tables s) (t, v)) es) ≡ es)
-                  (log_ahead_is_log_after_cut f (positions s) s run of (at.each run of) t (state_thread_is_guest_thread f s t at l)) logs.1);
+                  (log_ahead_is_log_after_cut f (positions s) s run of (at.each run of) t (state_thread_index_is_below_guest_thread_count f s t at l)) logs.1);
             });
       };
       own = own;
@@ -98,7 +98,7 @@ step_goes_on_if_logs_next f s t v q flat at l is has logs =
 pub step_goes_on_if_admitted : (f : FittedTrace) (s : Flat) (t : ℕ) (q : Ask) → HasRun f → IsFlat s → IsStateAt f (positions s) s → t < length s.threads
     → q ≡ ask_of s.code (thread_of s t) → AdmittedAt f (positions s) t → (v : ℕ) × StepGoesOn f s t v q
 step_goes_on_if_admitted f s t q h flat at l is ad =
-    let some = admitted_thread_logs_next f s at h.run h.whole t (state_thread_is_guest_thread f s t at l) (ad h.run h.whole) in
+    let some = admitted_thread_logs_next f s at h.run h.whole t (state_thread_index_is_below_guest_thread_count f s t at l) (ad h.run h.whole) in
     (some.0, step_goes_on_if_logs_next f s t some.0 q flat at l is (λ run of. (ad run of).0) some.1)
 
 -- ---- what is no entry is admitted
@@ -121,17 +121,17 @@ free_shared_ask_is_no_entry Print e free ne o a = λ h. cc h
 free_shared_ask_is_no_entry (End x) e free ne o a = λ h. cc h
 free_shared_ask_is_no_entry Done e free ne o a = λ h. cc h
 
-shared_ask_is_no_try : (q : Ask) → ((o : ℕ) → q ≢ Try o) → (o : ℕ) → shared_ask q ≢ machine.Try o
-shared_ask_is_no_try Private ne o = λ h. cc h
-shared_ask_is_no_try (Env kind) ne o = λ h. cc h
-shared_ask_is_no_try (Enter p b) ne o = λ h. cc h
-shared_ask_is_no_try (Try p) ne o = absurd (ne p refl)
-shared_ask_is_no_try (Leave p b) ne o = λ h. cc h
-shared_ask_is_no_try (Get p i) ne o = λ h. cc h
-shared_ask_is_no_try (Put p i w) ne o = λ h. cc h
-shared_ask_is_no_try Print ne o = λ h. cc h
-shared_ask_is_no_try (End x) ne o = λ h. cc h
-shared_ask_is_no_try Done ne o = λ h. cc h
+shared_ask_is_no_try_if_ask_is_no_try : (q : Ask) → ((o : ℕ) → q ≢ Try o) → (o : ℕ) → shared_ask q ≢ machine.Try o
+shared_ask_is_no_try_if_ask_is_no_try Private ne o = λ h. cc h
+shared_ask_is_no_try_if_ask_is_no_try (Env kind) ne o = λ h. cc h
+shared_ask_is_no_try_if_ask_is_no_try (Enter p b) ne o = λ h. cc h
+shared_ask_is_no_try_if_ask_is_no_try (Try p) ne o = absurd (ne p refl)
+shared_ask_is_no_try_if_ask_is_no_try (Leave p b) ne o = λ h. cc h
+shared_ask_is_no_try_if_ask_is_no_try (Get p i) ne o = λ h. cc h
+shared_ask_is_no_try_if_ask_is_no_try (Put p i w) ne o = λ h. cc h
+shared_ask_is_no_try_if_ask_is_no_try Print ne o = λ h. cc h
+shared_ask_is_no_try_if_ask_is_no_try (End x) ne o = λ h. cc h
+shared_ask_is_no_try_if_ask_is_no_try Done ne o = λ h. cc h
 
 -- what is asked is a try, or it isn't
 ask_is_try_or_not : (q : Ask) → ((o : ℕ) × (q ≡ Try o)) ⊎ ((o : ℕ) → q ≢ Try o)
@@ -163,21 +163,21 @@ refused_option_is_refused_event (Some (Read object version)) h = absurd h
 refused_option_is_refused_event (Some (Write object version readers)) h = absurd h
 refused_option_is_refused_event (Some (Refused object)) h = (object, refl)
 
-at_place_is_unique : {X : Type 0} (xs : List X) (k : ℕ) (a b : X) → At xs k a → At xs k b → a ≡ b
-at_place_is_unique [] k a b h g = absurd h
-at_place_is_unique (x ∷ xs) zero a b h g = sym h ∙ g
-at_place_is_unique (x ∷ xs) (suc k) a b h g = at_place_is_unique xs k a b h g
+element_at_index_is_unique : {X : Type 0} (xs : List X) (k : ℕ) (a b : X) → At xs k a → At xs k b → a ≡ b
+element_at_index_is_unique [] k a b h g = absurd h
+element_at_index_is_unique (x ∷ xs) zero a b h g = sym h ∙ g
+element_at_index_is_unique (x ∷ xs) (suc k) a b h g = element_at_index_is_unique xs k a b h g
 
-pub further_at_own_thread : (p : Cut) (t : ℕ) → further p t t ≡ suc (p t)
-further_at_own_thread p t = rw (eq-eqb t t refl) refl
+pub further_at_own_thread_is_successor : (p : Cut) (t : ℕ) → further p t t ≡ suc (p t)
+further_at_own_thread_is_successor p t = rw (eq-eqb t t refl) refl
 
-pub further_at_other_thread : (p : Cut) (t u : ℕ) → u ≢ t → further p t u ≡ p u
-further_at_other_thread p t u ne = rw (ne_eqb u t ne) refl
+pub further_at_other_thread_is_unchanged : (p : Cut) (t u : ℕ) → u ≢ t → further p t u ≡ p u
+further_at_other_thread_is_unchanged p t u ne = rw (ne_eqb u t ne) refl
 
 cut_below_further : (p : Cut) (t u : ℕ) → p u ≤ further p t u
 cut_below_further p t u = elim (cases_eq u t) [
-  | inl same ↦ subst (λ z. p z ≤ further p t z) (sym same) (let e = further_at_own_thread p t in omega (arith, e))
-  | inr ne ↦ let e = further_at_other_thread p t u ne in omega (arith, e)
+  | inl same ↦ subst (λ z. p z ≤ further p t z) (sym same) (let e = further_at_own_thread_is_successor p t in omega (arith, e))
+  | inr ne ↦ let e = further_at_other_thread_is_unchanged p t u ne in omega (arith, e)
 ]
 
 -- what a thread of the state asks
@@ -195,9 +195,9 @@ free_step_is_admitted f s t at has below free run of = (
     | inr past ↦ absurd (elim (cases_eq u t) [
       | inl same ↦ last run of u k w j a b same
           (let e : k ≡ positions s u = (let up : further (positions s) t u ≡ suc (positions s u) =
-          subst (λ z. further (positions s) t z ≡ suc (positions s z)) (sym same) (further_at_own_thread (positions s) t) in
+          subst (λ z. further (positions s) t z ≡ suc (positions s z)) (sym same) (further_at_own_thread_is_successor (positions s) t) in
           omega (arith, less, past, up)) in e) ha need
-      | inr other ↦ (let e = further_at_other_thread (positions s) t u other in omega (arith, e, less, past))
+      | inr other ↦ (let e = further_at_other_thread_is_unchanged (positions s) t u other in omega (arith, e, less, past))
     ])
   ],
 )
@@ -223,14 +223,14 @@ free_step_is_admitted f s t at has below free run of = (
                 ap (λ (y : thread.ThreadState). slice_get (recorded_thread f.recorded t).events y.events) (sym ((at.each run of).threads t))
                     ∙ refused.1,
               ) in
-              let label : label_of found.0 ≡ a = ap (λ y. y.1) (at_place_is_unique (trail (machine_of f) (start_of f) run t) (positions s t)
+              let label : label_of found.0 ≡ a = ap (λ y. y.1) (element_at_index_is_unique (trail (machine_of f) (start_of f) run t) (positions s t)
               (found.2.0, label_of found.0) (mine.0, a) found.2.1 mine.1) in
               refused_label_needs_nothing b refused.0 (subst (IsNeededBy b) (sym label ∙ ap label_of event) need)
           | inr other ↦
               let p : Ask = ask_of f.guest.code (th (machine_of f) (start_of f) run u k) in
               let none : (o : ℕ) → p ≢ Try o = λ o e. other o (sym asks ∙ e) in
               label_without_entry_needs_nothing b (shared_ask p) z.result z.object
-              (free_shared_ask_is_no_entry p (event_of f t x) (subst (λ y. IsFree y (event_of f t x)) (sym asks) free) none) (shared_ask_is_no_try p none)
+              (free_shared_ask_is_no_entry p (event_of f t x) (subst (λ y. IsFree y (event_of f t x)) (sym asks) free) none) (shared_ask_is_no_try_if_ask_is_no_try p none)
               (subst (IsNeededBy b) z.emits need)
         ]
 
@@ -261,38 +261,38 @@ alone_ask_is_free (End x) e h = tt
 alone_ask_is_free Done e h = tt
 
 -- a try logs its event with one result
-pub try_that_logs_has_result : (r : Recorded) (s : Flat) (t v o : ℕ) (e : Event) → ask_of s.code (thread_of s t) ≡ Try o
+pub value_of_logging_try_is_try_result : (r : Recorded) (s : Flat) (t v o : ℕ) (e : Event) → ask_of s.code (thread_of s t) ≡ Try o
     → slice_get (recorded_thread r t).events (thread_of s t).events ≡ Some e → LogsNext r s t v → v ≡ try_result e
-try_that_logs_has_result r s t v o e is event logs =
+value_of_logging_try_is_try_result r s t v o e is event logs =
     let obj = λ (q : Ask). (tables s).objects (target (act_of (shared_ask q) v)) in
     let can : Admits (machine_in s) (act_of (machine.Try o) v) (obj (Try o)) =
     subst (λ q. Admits (machine_in s) (act_of (shared_ask q) v) (obj q)) is logs.0 in
     let es : List Label = log_ahead r s t in
     let emits : logged (emitted (act_of (machine.Try o) v) (obj (Try o))) (unlogged (emitted (act_of (machine.Try o) v) (obj (Try o))) es) ≡ es =
     subst (λ q. logged (emitted (act_of (shared_ask q) v) (obj q)) (unlogged (emitted (act_of (shared_ask q) v) (obj q)) es) ≡ es) is logs.1 in
-    by v (obj (Try o)) es can (emits ∙ labels_ahead_start_with_event (recorded_thread r t).events (thread_of s t).events e event)
+    by v (obj (Try o)) es can (emits ∙ drop_of_mapped_labels_is_label_then_drop (recorded_thread r t).events (thread_of s t).events e event)
   where
     by : (v : ℕ) (b : Object) (es : List Label) → Admits (machine_in s) (act_of (machine.Try o) v) b
         → logged (emitted (act_of (machine.Try o) v) b) (unlogged (emitted (act_of (machine.Try o) v) b) es) ≡ label_of e
         ∷ drop (suc (thread_of s t).events) (map label_of (recorded_thread r t).events) → v ≡ try_result e
-    by zero b es can h = emitted_try_gives_result s o zero b e can (cc h)
-    by (suc zero) b es can h = emitted_try_gives_result s o (suc zero) b e can (cc h)
+    by zero b es can h = result_of_emitted_try_is_try_result_of_event s o zero b e can (cc h)
+    by (suc zero) b es can h = result_of_emitted_try_is_try_result_of_event s o (suc zero) b e can (cc h)
     by (suc (suc v)) b es can h = absurd can
 
 -- a step that touches no object
-step_goes_on_if_alone : (f : FittedTrace) (s : Flat) (t : ℕ) → HasRun f → IsFlat s → IsStateAt f (positions s) s → t < length s.threads
+alone_step_goes_on_and_keeps_objects : (f : FittedTrace) (s : Flat) (t : ℕ) → HasRun f → IsFlat s → IsStateAt f (positions s) s → t < length s.threads
     → HasStep f t (positions s t) → IsAlone (ask_of s.code (thread_of s t)) (event_of f t (thread_of s t))
     → (v : ℕ) × StepGoesOn f s t v (ask_of s.code (thread_of s t)) × ((next s t v (ask_of s.code (thread_of s t))).objects ≡ s.objects)
-step_goes_on_if_alone f s t h flat at l has alone =
+alone_step_goes_on_and_keeps_objects f s t h flat at l has alone =
     let x : thread.ThreadState = thread_of s t in
     let q : Ask = ask_of s.code x in
-    let below = state_thread_is_guest_thread f s t at l in
+    let below = state_thread_index_is_below_guest_thread_count f s t at l in
     let ad : AdmittedAt f (positions s) t = free_step_is_admitted f s t at has below (alone_ask_is_free q (event_of f t x) alone) in
     elim (ask_is_try_or_not q) [
       | inl is ↦
           let refused = refused_option_is_refused_event (event_of f t x) (subst (λ p. IsAlone p (event_of f t x)) is.1 alone) in
           let some = admitted_thread_logs_next f s at h.run h.whole t below (ad h.run h.whole) in
-          let none : some.0 ≡ 0 = try_that_logs_has_result f.recorded s t some.0 is.0 (Refused refused.0) is.1 refused.1 some.1 in
+          let none : some.0 ≡ 0 = value_of_logging_try_is_try_result f.recorded s t some.0 is.0 (Refused refused.0) is.1 refused.1 some.1 in
           let goes : StepGoesOn f s t 0 q = step_goes_on_if_logs_next f s t 0 q flat at l refl has (subst (LogsNext f.recorded s t) none some.1) in
           (0, goes, subst (λ p. (next s t 0 p).objects ≡ s.objects) (sym is.1) refl)
       | inr other ↦
@@ -310,9 +310,9 @@ pub record CaughtUp (f : FittedTrace) (s : Flat) (t : ℕ) (x : thread.ThreadSta
   pub own : thread_of state t ≡ x
   pub others : (u : ℕ) → u ≢ t → positions state u ≡ positions s u
 
-state_catches_up_in_steps : (n : ℕ) (f : FittedTrace) (s : Flat) (t i : ℕ) (x : thread.ThreadState) → HasRun f → IsFlat s → IsStateAt f (positions s) s
+state_catches_up_by_number_of_alone_steps : (n : ℕ) (f : FittedTrace) (s : Flat) (t i : ℕ) (x : thread.ThreadState) → HasRun f → IsFlat s → IsStateAt f (positions s) s
     → t < length s.threads → IsThreadAt f t x → AreAlone f t i x.steps → i ≤ positions s t → positions s t + n ≡ x.steps → CaughtUp f s t x
-state_catches_up_in_steps zero f s t i x h flat at l there alone past sum =
+state_catches_up_by_number_of_alone_steps zero f s t i x h flat at l there alone past sum =
     record {
       state = s;
       flat = flat;
@@ -323,18 +323,18 @@ state_catches_up_in_steps zero f s t i x h flat at l there alone past sum =
           ∙ sym (there h.run h.whole).1;
       others = λ u ne. refl;
     }
-state_catches_up_in_steps (suc n) f s t i x h flat at l there alone past sum =
+state_catches_up_by_number_of_alone_steps (suc n) f s t i x h flat at l there alone past sum =
     let q : Ask = ask_of s.code (thread_of s t) in
     let own : IsAlone q (event_of f t (thread_of s t)) = subst (λ c. IsAlone (ask_of c (thread_of s t)) (event_of f t (thread_of s t)))
     (sym at.code) (subst (GoesAlone f t) (sym ((at.each h.run h.whole).threads t))
     (alone h.run h.whole (positions s t) past (omega (arith, sum)))) in
     let has : HasStep f t (positions s t) = λ run of. (let within = (there run of).0 in omega (arith, within, sum)) in
-    let goes = step_goes_on_if_alone f s t h flat at l has own in
+    let goes = alone_step_goes_on_and_keeps_objects f s t h flat at l has own in
     let new : Flat = next s t goes.0 q in
     let g : StepGoesOn f s t goes.0 q = goes.1 in
     let more = g.own in
     let size : length new.threads ≡ length s.threads = next_keeps_thread_count s t goes.0 q in
-    let rest : CaughtUp f new t x = state_catches_up_in_steps n f new t i x h g.flat g.at (omega (arith, l, size)) there alone (omega (arith, more, past))
+    let rest : CaughtUp f new t x = state_catches_up_by_number_of_alone_steps n f new t i x h g.flat g.at (omega (arith, l, size)) there alone (omega (arith, more, past))
     (omega (arith, more, sum)) in
     record {
       state = rest.state;
@@ -346,7 +346,7 @@ state_catches_up_in_steps (suc n) f s t i x h flat at l there alone past sum =
       others = λ u ne. rest.others u ne ∙ g.others u ne;
     }
 
-pub state_catches_up_with_thread : (f : FittedTrace) (s : Flat) (t : ℕ) (x : thread.ThreadState) → HasRun f → IsFlat s → IsStateAt f (positions s) s
+pub state_catches_up_with_thread_by_alone_steps : (f : FittedTrace) (s : Flat) (t : ℕ) (x : thread.ThreadState) → HasRun f → IsFlat s → IsStateAt f (positions s) s
     → t < length s.threads → IsThreadAt f t x → AreAlone f t (positions s t) x.steps → positions s t ≤ x.steps → CaughtUp f s t x
-state_catches_up_with_thread f s t x h flat at l there alone past =
-    state_catches_up_in_steps (x.steps - positions s t) f s t (positions s t) x h flat at l there alone (le_refl (positions s t)) (omega (arith, past))
+state_catches_up_with_thread_by_alone_steps f s t x h flat at l there alone past =
+    state_catches_up_by_number_of_alone_steps (x.steps - positions s t) f s t (positions s t) x h flat at l there alone (le_refl (positions s t)) (omega (arith, past))

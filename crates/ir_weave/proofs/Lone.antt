@@ -24,30 +24,30 @@ use Rattle.ir_trace.specs.Recorded.{recorded_thread}
 use Rattle.ir_fit.specs.Fit.{FittedTrace, IsRunOf}
 use Rattle.ir_cut.specs.Positions.{machine_of, start_of, EachRun}
 use Rattle.ir_weave.specs.Ahead.{IsAlone, GoesAlone, HasStep, IsThreadAt, IsAhead, ask_at, event_of, thread_at}
-use Rattle.ir_weave.proofs.Trails.{StepOf, thread_at_position_zero, emitting_step_is_step_of}
+use Rattle.ir_weave.proofs.Trails.{StepOf, thread_at_position_zero_is_start_thread, emitting_step_is_step_of}
 
 -- ---- the next event
 
 -- a place of a list
-at_below_length_exists : {A : Type 0} (xs : List A) (k : ℕ) → k < length xs → (x : A) × At xs k x
-at_below_length_exists [] k l = absurd (omega arith)
-at_below_length_exists (x ∷ xs) zero l = (x, refl)
-at_below_length_exists (x ∷ xs) (suc k) l = at_below_length_exists xs k (omega (arith, l))
+element_exists_below_length : {A : Type 0} (xs : List A) (k : ℕ) → k < length xs → (x : A) × At xs k x
+element_exists_below_length [] k l = absurd (omega arith)
+element_exists_below_length (x ∷ xs) zero l = (x, refl)
+element_exists_below_length (x ∷ xs) (suc k) l = element_exists_below_length xs k (omega (arith, l))
 
-take_through_place : {A : Type 0} (xs : List A) (k : ℕ) (x : A) → At xs k x → take (suc k) xs ≡ take k xs ++ x ∷ []
-take_through_place [] k x h = absurd h
-take_through_place (y ∷ ys) zero x h = ap (λ z. z ∷ []) h
-take_through_place (y ∷ ys) (suc k) x h = ap (λ z. y ∷ z) (take_through_place ys k x h)
+take_suc_is_take_and_element : {A : Type 0} (xs : List A) (k : ℕ) (x : A) → At xs k x → take (suc k) xs ≡ take k xs ++ x ∷ []
+take_suc_is_take_and_element [] k x h = absurd h
+take_suc_is_take_and_element (y ∷ ys) zero x h = ap (λ z. z ∷ []) h
+take_suc_is_take_and_element (y ∷ ys) (suc k) x h = ap (λ z. y ∷ z) (take_suc_is_take_and_element ys k x h)
 
-drop_at_place : {A : Type 0} (xs : List A) (k : ℕ) (x : A) → At xs k x → drop k xs ≡ x ∷ drop (suc k) xs
-drop_at_place [] k x h = absurd h
-drop_at_place (y ∷ ys) zero x h = ap (λ z. z ∷ ys) h
-drop_at_place (y ∷ ys) (suc k) x h = drop_at_place ys k x h
+drop_splits_off_element_at_index : {A : Type 0} (xs : List A) (k : ℕ) (x : A) → At xs k x → drop k xs ≡ x ∷ drop (suc k) xs
+drop_splits_off_element_at_index [] k x h = absurd h
+drop_splits_off_element_at_index (y ∷ ys) zero x h = ap (λ z. z ∷ ys) h
+drop_splits_off_element_at_index (y ∷ ys) (suc k) x h = drop_splits_off_element_at_index ys k x h
 
 -- step k of thread t
 pub step_below_count_emits : (f : FittedTrace) (run : List Step) (t k : ℕ) → k < count (machine_of f) (start_of f) run t → (a : Label)
     × Emits (machine_of f) (start_of f) run t k a
-step_below_count_emits f run t k l = let z = at_below_length_exists (trail (machine_of f) (start_of f) run t) k l in (z.0.1, (z.0.0, z.1))
+step_below_count_emits f run t k l = let z = element_exists_below_length (trail (machine_of f) (start_of f) run t) k l in (z.0.1, (z.0.0, z.1))
 
 emitted_length_is_events_added : (f : FittedTrace) (q : Ask) (r : ℕ) (b : Object) → Admits (machine_of f) (act_of (shared_ask q) r) b
     → length (logged (emitted (act_of (shared_ask q) r) b) []) ≡ events_added_by q
@@ -65,19 +65,19 @@ emitted_length_is_events_added f Print r b can = refl
 emitted_length_is_events_added f (End e) r b can = refl
 emitted_length_is_events_added f Done r b can = refl
 
-take_is_after_ask : (code : List ℕ) (x : thread.ThreadState) (n : ℕ)
+pub machine_take_is_after_ask : (code : List ℕ) (x : thread.ThreadState) (n : ℕ)
     → (thread_machine code).take x n ≡ after_ask code x (ask_of code x) (reply_of (ask_of code x) n)
 unfolding after_reply
-take_is_after_ask code x n = refl
+machine_take_is_after_ask code x n = refl
 
-events_after_take : (code : List ℕ) (x : thread.ThreadState) (n : ℕ) → ((thread_machine code).take x n).events ≡ x.events + events_added_by (ask_of code x)
-events_after_take code x n = ap (λ (z : thread.ThreadState). z.events) (take_is_after_ask code x n)
+events_after_machine_take : (code : List ℕ) (x : thread.ThreadState) (n : ℕ) → ((thread_machine code).take x n).events ≡ x.events + events_added_by (ask_of code x)
+events_after_machine_take code x n = ap (λ (z : thread.ThreadState). z.events) (machine_take_is_after_ask code x n)
     ∙ events_after_ask code x (ask_of code x) (reply_of (ask_of code x) n)
 
 -- how many events it has logged
 thread_events_count_log_so_far : (f : FittedTrace) (run : List Step) → IsRunOf f.guest f.recorded run → (t k : ℕ) → k ≤ count (machine_of f) (start_of f) run t
     → (thread_at f run t k).events ≡ length (events (take k (trail (machine_of f) (start_of f) run t)))
-thread_events_count_log_so_far f run of t zero l = ap (λ (z : thread.ThreadState). z.events) (thread_at_position_zero (machine_of f) (start_of f) run t)
+thread_events_count_log_so_far f run of t zero l = ap (λ (z : thread.ThreadState). z.events) (thread_at_position_zero_is_start_thread (machine_of f) (start_of f) run t)
     ∙ (start_thread_is_fresh f.guest f.recorded.budget f.recorded.profile 0 (length f.guest.entries) t).events
 thread_events_count_log_so_far f run of t (suc k) l =
     let at = step_below_count_emits f run t k l in
@@ -85,12 +85,12 @@ thread_events_count_log_so_far f run of t (suc k) l =
     emitting_step_is_step_of (machine_of f) (start_of f) run of.1.runs t k at.0 at.1 in
     let q : Ask = ask_at f run t k in
     let more : (thread_at f run t (suc k)).events ≡ (thread_at f run t k).events + events_added_by q = ap (λ (x : thread.ThreadState). x.events) z.next
-    ∙ events_after_take f.guest.code (thread_at f run t k) (reply (act_of (shared_ask q) z.result) z.object) in
+    ∙ events_after_machine_take f.guest.code (thread_at f run t k) (reply (act_of (shared_ask q) z.result) z.object) in
     let one : length (logged at.0 []) ≡ events_added_by q = ap (λ a. length (logged a [])) z.emits ∙ emitted_length_is_events_added f q z.result z.object z.can in
     let before = thread_events_count_log_so_far f run of t k (omega (arith, l)) in
     let parts : events (take (suc k) (trail (machine_of f) (start_of f) run t)) ≡ events (take k (trail (machine_of f) (start_of f) run t))
     ++ logged at.0 [] =
-    ap events (take_through_place (trail (machine_of f) (start_of f) run t) k (at.1.0, at.0) at.1.1)
+    ap events (take_suc_is_take_and_element (trail (machine_of f) (start_of f) run t) k (at.1.0, at.0) at.1.1)
     ∙ events_append (take k (trail (machine_of f) (start_of f) run t)) ((at.1.0, at.0) ∷ []) in
     let sum = ap (λ (es : List Label). length es) parts
     ∙ length-append (events (take k (trail (machine_of f) (start_of f) run t))) (logged at.0 []) in
@@ -108,28 +108,28 @@ recorded_log_left_is_trail_log f run of t k l within =
     ∙ events_append (take k xs) (drop k xs))
     ∙ drop-append_seam (events (take k xs)) (events (drop k xs))
 
-first_label_is_of_event : (xs : List Event) (i : ℕ) (a : Label) (es : List Label) → drop i (map label_of xs) ≡ a ∷ es → (e : Event)
+first_of_dropped_labels_is_label_of_event : (xs : List Event) (i : ℕ) (a : Label) (es : List Label) → drop i (map label_of xs) ≡ a ∷ es → (e : Event)
     × (slice_get xs i ≡ Some e) × (label_of e ≡ a)
-first_label_is_of_event [] zero a es h = absurd (cc h)
-first_label_is_of_event [] (suc i) a es h = absurd (cc h)
-first_label_is_of_event (x ∷ xs) zero a es h = (x, refl, cc h)
-first_label_is_of_event (x ∷ xs) (suc i) a es h = first_label_is_of_event xs i a es h
+first_of_dropped_labels_is_label_of_event [] zero a es h = absurd (cc h)
+first_of_dropped_labels_is_label_of_event [] (suc i) a es h = absurd (cc h)
+first_of_dropped_labels_is_label_of_event (x ∷ xs) zero a es h = (x, refl, cc h)
+first_of_dropped_labels_is_label_of_event (x ∷ xs) (suc i) a es h = first_of_dropped_labels_is_label_of_event xs i a es h
 
-emitted_logs_itself : (f : FittedTrace) (q : Ask) (r : ℕ) (b : Object) (es : List Label) → Admits (machine_of f) (act_of (shared_ask q) r) b
+logged_conses_emitted_if_one_event_added : (f : FittedTrace) (q : Ask) (r : ℕ) (b : Object) (es : List Label) → Admits (machine_of f) (act_of (shared_ask q) r) b
     → events_added_by q ≡ 1 → logged (emitted (act_of (shared_ask q) r) b) es ≡ emitted (act_of (shared_ask q) r) b ∷ es
-emitted_logs_itself f Private r b es can h = absurd (omega (arith, h))
-emitted_logs_itself f (Env kind) r b es can h = refl
-emitted_logs_itself f (Enter o Reading) r b es can h = refl
-emitted_logs_itself f (Enter o Writing) r b es can h = refl
-emitted_logs_itself f (Try o) zero b es can h = refl
-emitted_logs_itself f (Try o) (suc zero) b es can h = refl
-emitted_logs_itself f (Try o) (suc (suc r)) b es can h = absurd can
-emitted_logs_itself f (Leave o a) r b es can h = absurd (omega (arith, h))
-emitted_logs_itself f (Get o i) r b es can h = absurd (omega (arith, h))
-emitted_logs_itself f (Put o i w) r b es can h = absurd (omega (arith, h))
-emitted_logs_itself f Print r b es can h = absurd (omega (arith, h))
-emitted_logs_itself f (End e) r b es can h = absurd (omega (arith, h))
-emitted_logs_itself f Done r b es can h = absurd (omega (arith, h))
+logged_conses_emitted_if_one_event_added f Private r b es can h = absurd (omega (arith, h))
+logged_conses_emitted_if_one_event_added f (Env kind) r b es can h = refl
+logged_conses_emitted_if_one_event_added f (Enter o Reading) r b es can h = refl
+logged_conses_emitted_if_one_event_added f (Enter o Writing) r b es can h = refl
+logged_conses_emitted_if_one_event_added f (Try o) zero b es can h = refl
+logged_conses_emitted_if_one_event_added f (Try o) (suc zero) b es can h = refl
+logged_conses_emitted_if_one_event_added f (Try o) (suc (suc r)) b es can h = absurd can
+logged_conses_emitted_if_one_event_added f (Leave o a) r b es can h = absurd (omega (arith, h))
+logged_conses_emitted_if_one_event_added f (Get o i) r b es can h = absurd (omega (arith, h))
+logged_conses_emitted_if_one_event_added f (Put o i w) r b es can h = absurd (omega (arith, h))
+logged_conses_emitted_if_one_event_added f Print r b es can h = absurd (omega (arith, h))
+logged_conses_emitted_if_one_event_added f (End e) r b es can h = absurd (omega (arith, h))
+logged_conses_emitted_if_one_event_added f Done r b es can h = absurd (omega (arith, h))
 
 -- the event of a step that is logged
 pub logged_step_has_recorded_event : (f : FittedTrace) (run : List Step) → IsRunOf f.guest f.recorded run → (t k : ℕ) → t < length f.guest.entries
@@ -143,9 +143,9 @@ logged_step_has_recorded_event f run of t k l within one =
     emitting_step_is_step_of (machine_of f) (start_of f) run of.1.runs t k at.0 at.1 in
     let es : List Label = events (drop (suc k) xs) in
     let first : drop (thread_at f run t k).events (map label_of (recorded_thread f.recorded t).events) ≡ at.0 ∷ es =
-    recorded_log_left_is_trail_log f run of t k l (omega (arith, within)) ∙ ap events (drop_at_place xs k (at.1.0, at.0) at.1.1) ∙ ap (λ a. logged a es) z.emits
-    ∙ emitted_logs_itself f (ask_at f run t k) z.result z.object es z.can one ∙ ap (λ a. a ∷ es) (sym z.emits) in
-    let found = first_label_is_of_event (recorded_thread f.recorded t).events (thread_at f run t k).events at.0 es first in
+    recorded_log_left_is_trail_log f run of t k l (omega (arith, within)) ∙ ap events (drop_splits_off_element_at_index xs k (at.1.0, at.0) at.1.1) ∙ ap (λ a. logged a es) z.emits
+    ∙ logged_conses_emitted_if_one_event_added f (ask_at f run t k) z.result z.object es z.can one ∙ ap (λ a. a ∷ es) (sym z.emits) in
+    let found = first_of_dropped_labels_is_label_of_event (recorded_thread f.recorded t).events (thread_at f run t k).events at.0 es first in
     (found.0, found.1, subst (Emits (machine_of f) (start_of f) run t k) (sym found.2) at.1)
 
 -- ---- the next step
@@ -170,26 +170,26 @@ reply_is_go_if_ask_has_no_value (End e) h n = refl
 reply_is_go_if_ask_has_no_value Done h n = refl
 
 -- where nothing is answered
-pub thread_after_step_without_value : (f : FittedTrace) (run : List Step) → IsRunOf f.guest f.recorded run → (t k : ℕ) (q : Ask)
+pub thread_after_step_without_value_gets_go : (f : FittedTrace) (run : List Step) → IsRunOf f.guest f.recorded run → (t k : ℕ) (q : Ask)
     → k < count (machine_of f) (start_of f) run t → ask_at f run t k ≡ q → HasNoValue q
     → thread_at f run t (suc k) ≡ after_ask f.guest.code (thread_at f run t k) q Go
-thread_after_step_without_value f run of t k q l is go =
+thread_after_step_without_value_gets_go f run of t k q l is go =
     let at = step_below_count_emits f run t k l in
     let z : StepOf (machine_of f) (thread_at f run t k) (thread_at f run t (suc k)) at.0 =
     emitting_step_is_step_of (machine_of f) (start_of f) run of.1.runs t k at.0 at.1 in
     let n : ℕ = reply (act_of (shared_ask (ask_at f run t k)) z.result) z.object in
-    z.next ∙ take_is_after_ask f.guest.code (thread_at f run t k) n ∙ ap (λ a. after_ask f.guest.code (thread_at f run t k) a (reply_of a n)) is
+    z.next ∙ machine_take_is_after_ask f.guest.code (thread_at f run t k) n ∙ ap (λ a. after_ask f.guest.code (thread_at f run t k) a (reply_of a n)) is
     ∙ ap (after_ask f.guest.code (thread_at f run t k) q) (reply_is_go_if_ask_has_no_value q go n)
 
 emitted_answer_is_result : (kind : EnvKind) (r : ℕ) (b : Object) (j : EnvKind) (v : ℕ) → emitted (act_of (shared_ask (Env kind)) r) b ≡ Answer j v → r ≡ v
 emitted_answer_is_result kind r b j v h = cc h
 
 -- where a call of the environment is answered as the trace emits
-pub thread_after_environment_call : (f : FittedTrace) (run : List Step) → IsRunOf f.guest f.recorded run → (t k : ℕ) (kind j : EnvKind) (v : ℕ)
+pub thread_after_environment_call_gets_logged_answer : (f : FittedTrace) (run : List Step) → IsRunOf f.guest f.recorded run → (t k : ℕ) (kind j : EnvKind) (v : ℕ)
     → t < length f.guest.entries → k < count (machine_of f) (start_of f) run t → ask_at f run t k ≡ Env kind
     → slice_get (recorded_thread f.recorded t).events (thread_at f run t k).events ≡ Some (Answered j v)
     → thread_at f run t (suc k) ≡ after_ask f.guest.code (thread_at f run t k) (Env kind) (Value v)
-thread_after_environment_call f run of t k kind j v l within is event =
+thread_after_environment_call_gets_logged_answer f run of t k kind j v l within is event =
     let found = logged_step_has_recorded_event f run of t k l within (ap events_added_by is) in
     let same : found.0 ≡ Answered j v = cc (found.1, event) in
     let z : StepOf (machine_of f) (thread_at f run t k) (thread_at f run t (suc k)) (label_of found.0) =
@@ -197,7 +197,7 @@ thread_after_environment_call f run of t k kind j v l within is event =
     let emits : emitted (act_of (shared_ask (Env kind)) z.result) z.object ≡ Answer j v =
     ap (λ a. emitted (act_of (shared_ask a) z.result) z.object) (sym is) ∙ sym z.emits ∙ ap label_of same in
     let r : z.result ≡ v = emitted_answer_is_result kind z.result z.object j v emits in
-    z.next ∙ take_is_after_ask f.guest.code (thread_at f run t k) (reply (act_of (shared_ask (ask_at f run t k)) z.result) z.object)
+    z.next ∙ machine_take_is_after_ask f.guest.code (thread_at f run t k) (reply (act_of (shared_ask (ask_at f run t k)) z.result) z.object)
     ∙ ap (λ a. after_ask f.guest.code (thread_at f run t k) a (reply_of a (reply (act_of (shared_ask a) z.result) z.object))) is
     ∙ ap (λ n. after_ask f.guest.code (thread_at f run t k) (Env kind) (Value n)) r
 
@@ -208,17 +208,17 @@ try_result (Read object version) = 0
 try_result (Write object version readers) = 1
 try_result (Refused object) = 0
 
-pub emitted_try_gives_result : (s : Flat) (o r : ℕ) (b : Object) (e : Event) → Admits (machine_in s) (act_of (machine.Try o) r) b
+pub result_of_emitted_try_is_try_result_of_event : (s : Flat) (o r : ℕ) (b : Object) (e : Event) → Admits (machine_in s) (act_of (machine.Try o) r) b
     → emitted (act_of (machine.Try o) r) b ≡ label_of e → r ≡ try_result e
-emitted_try_gives_result s o zero b (Answered j v) can h = refl
-emitted_try_gives_result s o zero b (Read p v) can h = refl
-emitted_try_gives_result s o zero b (Write p v l) can h = absurd (cc h)
-emitted_try_gives_result s o zero b (Refused p) can h = refl
-emitted_try_gives_result s o (suc zero) b (Answered j v) can h = absurd (cc h)
-emitted_try_gives_result s o (suc zero) b (Read p v) can h = absurd (cc h)
-emitted_try_gives_result s o (suc zero) b (Write p v l) can h = refl
-emitted_try_gives_result s o (suc zero) b (Refused p) can h = absurd (cc h)
-emitted_try_gives_result s o (suc (suc r)) b e can h = absurd can
+result_of_emitted_try_is_try_result_of_event s o zero b (Answered j v) can h = refl
+result_of_emitted_try_is_try_result_of_event s o zero b (Read p v) can h = refl
+result_of_emitted_try_is_try_result_of_event s o zero b (Write p v l) can h = absurd (cc h)
+result_of_emitted_try_is_try_result_of_event s o zero b (Refused p) can h = refl
+result_of_emitted_try_is_try_result_of_event s o (suc zero) b (Answered j v) can h = absurd (cc h)
+result_of_emitted_try_is_try_result_of_event s o (suc zero) b (Read p v) can h = absurd (cc h)
+result_of_emitted_try_is_try_result_of_event s o (suc zero) b (Write p v l) can h = refl
+result_of_emitted_try_is_try_result_of_event s o (suc zero) b (Refused p) can h = absurd (cc h)
+result_of_emitted_try_is_try_result_of_event s o (suc (suc r)) b e can h = absurd can
 
 reply_of_try_is_result : (f : FittedTrace) (o r : ℕ) (b : Object) → Admits (machine_of f) (act_of (machine.Try o) r) b
     → reply (act_of (machine.Try o) r) b ≡ r
@@ -227,11 +227,11 @@ reply_of_try_is_result f o (suc zero) b can = refl
 reply_of_try_is_result f o (suc (suc r)) b can = absurd can
 
 -- where a try is answered as the trace emits
-pub thread_after_try : (f : FittedTrace) (run : List Step) → IsRunOf f.guest f.recorded run → (t k o : ℕ) (e : Event)
+pub thread_after_try_gets_logged_result : (f : FittedTrace) (run : List Step) → IsRunOf f.guest f.recorded run → (t k o : ℕ) (e : Event)
     → t < length f.guest.entries → k < count (machine_of f) (start_of f) run t → ask_at f run t k ≡ Try o
     → slice_get (recorded_thread f.recorded t).events (thread_at f run t k).events ≡ Some e
     → thread_at f run t (suc k) ≡ after_ask f.guest.code (thread_at f run t k) (Try o) (Value (try_result e))
-thread_after_try f run of t k o e l within is event =
+thread_after_try_gets_logged_result f run of t k o e l within is event =
     let found = logged_step_has_recorded_event f run of t k l within (ap events_added_by is) in
     let same : found.0 ≡ e = cc (found.1, event) in
     let z : StepOf (machine_of f) (thread_at f run t k) (thread_at f run t (suc k)) (label_of found.0) =
@@ -241,8 +241,8 @@ thread_after_try f run of t k o e l within is event =
     let emits : emitted (act_of (machine.Try o) z.result) z.object ≡ label_of e =
     ap (λ a. emitted (act_of (shared_ask a) z.result) z.object) (sym is) ∙ sym z.emits ∙ ap label_of same in
     let r : reply (act_of (machine.Try o) z.result) z.object ≡ try_result e = reply_of_try_is_result f o z.result z.object can
-    ∙ emitted_try_gives_result (start_flat f.guest f.recorded.budget f.recorded.profile) o z.result z.object e can emits in
-    z.next ∙ take_is_after_ask f.guest.code (thread_at f run t k) (reply (act_of (shared_ask (ask_at f run t k)) z.result) z.object)
+    ∙ result_of_emitted_try_is_try_result_of_event (start_flat f.guest f.recorded.budget f.recorded.profile) o z.result z.object e can emits in
+    z.next ∙ machine_take_is_after_ask f.guest.code (thread_at f run t k) (reply (act_of (shared_ask (ask_at f run t k)) z.result) z.object)
     ∙ ap (λ a. after_ask f.guest.code (thread_at f run t k) a (reply_of a (reply (act_of (shared_ask a) z.result) z.object))) is
     ∙ ap (λ n. after_ask f.guest.code (thread_at f run t k) (Try o) (Value n)) r
 
@@ -252,29 +252,29 @@ abbrev pub IsNotDone : (q : Ask) → Type 0
 IsNotDone Done = ⊥
 IsNotDone _ = Unit {0}
 
-pub steps_after_ask : (code : List ℕ) (x : thread.ThreadState) (q : Ask) (r : Reply) → IsNotDone q → (after_ask code x q r).steps ≡ x.steps + 1
-steps_after_ask code x Private r h = refl
-steps_after_ask code x (Env kind) r h = refl
-steps_after_ask code x (Enter o a) r h = refl
-steps_after_ask code x (Try o) r h = refl
-steps_after_ask code x (Leave o a) r h = refl
-steps_after_ask code x (Get o i) r h = refl
-steps_after_ask code x (Put o i w) r h = refl
-steps_after_ask code x Print r h = refl
-steps_after_ask code x (End e) r h = refl
-steps_after_ask code x Done r h = absurd h
+pub steps_after_ask_are_one_more_if_not_done : (code : List ℕ) (x : thread.ThreadState) (q : Ask) (r : Reply) → IsNotDone q → (after_ask code x q r).steps ≡ x.steps + 1
+steps_after_ask_are_one_more_if_not_done code x Private r h = refl
+steps_after_ask_are_one_more_if_not_done code x (Env kind) r h = refl
+steps_after_ask_are_one_more_if_not_done code x (Enter o a) r h = refl
+steps_after_ask_are_one_more_if_not_done code x (Try o) r h = refl
+steps_after_ask_are_one_more_if_not_done code x (Leave o a) r h = refl
+steps_after_ask_are_one_more_if_not_done code x (Get o i) r h = refl
+steps_after_ask_are_one_more_if_not_done code x (Put o i w) r h = refl
+steps_after_ask_are_one_more_if_not_done code x Print r h = refl
+steps_after_ask_are_one_more_if_not_done code x (End e) r h = refl
+steps_after_ask_are_one_more_if_not_done code x Done r h = absurd h
 
-pub number_after_ask : (code : List ℕ) (x : thread.ThreadState) (q : Ask) (r : Reply) → (after_ask code x q r).number ≡ x.number
-number_after_ask code x Private r = refl
-number_after_ask code x (Env kind) r = refl
-number_after_ask code x (Enter o a) r = refl
-number_after_ask code x (Try o) r = refl
-number_after_ask code x (Leave o a) r = refl
-number_after_ask code x (Get o i) r = refl
-number_after_ask code x (Put o i w) r = refl
-number_after_ask code x Print r = refl
-number_after_ask code x (End e) r = refl
-number_after_ask code x Done r = refl
+pub number_after_ask_is_unchanged : (code : List ℕ) (x : thread.ThreadState) (q : Ask) (r : Reply) → (after_ask code x q r).number ≡ x.number
+number_after_ask_is_unchanged code x Private r = refl
+number_after_ask_is_unchanged code x (Env kind) r = refl
+number_after_ask_is_unchanged code x (Enter o a) r = refl
+number_after_ask_is_unchanged code x (Try o) r = refl
+number_after_ask_is_unchanged code x (Leave o a) r = refl
+number_after_ask_is_unchanged code x (Get o i) r = refl
+number_after_ask_is_unchanged code x (Put o i w) r = refl
+number_after_ask_is_unchanged code x Print r = refl
+number_after_ask_is_unchanged code x (End e) r = refl
+number_after_ask_is_unchanged code x Done r = refl
 
 -- x has taken the step that it asks
 pub record TakesStep (f : FittedTrace) (t : ℕ) (x : thread.ThreadState) (q : Ask) (r : Reply) : Type 0 where
@@ -283,10 +283,10 @@ pub record TakesStep (f : FittedTrace) (t : ℕ) (x : thread.ThreadState) (q : A
   pub has : HasStep f t x.steps
   pub next : EachRun f (λ run. thread_at f run t (suc x.steps) ≡ after_ask f.guest.code (thread_at f run t x.steps) q r)
 
-thread_after_step_is_thread_at : (f : FittedTrace) (t : ℕ) (x : thread.ThreadState) (q : Ask) (r : Reply) → IsThreadAt f t x → TakesStep f t x q r
+is_thread_at_after_taken_step : (f : FittedTrace) (t : ℕ) (x : thread.ThreadState) (q : Ask) (r : Reply) → IsThreadAt f t x → TakesStep f t x q r
     → IsThreadAt f t (after_ask f.guest.code x q r)
-thread_after_step_is_thread_at f t x q r at k run of =
-    let more = steps_after_ask f.guest.code x q r k.step in (
+is_thread_at_after_taken_step f t x q r at k run of =
+    let more = steps_after_ask_are_one_more_if_not_done f.guest.code x q r k.step in (
       (let a = k.has run of in omega (arith, more, a)),
       ap (λ z. after_ask f.guest.code z q r) (at run of).1 ∙ sym (k.next run of)
           ∙ ap (thread_at f run t) (let e : suc x.steps ≡ (after_ask f.guest.code x q r).steps = omega (arith, more) in e),
@@ -297,13 +297,13 @@ pub ahead_after_alone_step : (f : FittedTrace) (t i : ℕ) (x : thread.ThreadSta
     → IsAlone q (event_of f t x)
     → IsAhead f t i (after_ask f.guest.code x q r)
 ahead_after_alone_step f t i x q r ahead k alone =
-    let more = steps_after_ask f.guest.code x q r k.step in record {
+    let more = steps_after_ask_are_one_more_if_not_done f.guest.code x q r k.step in record {
       run = ahead.run;
       there = ahead.there;
-      number = number_after_ask f.guest.code x q r ∙ ahead.number;
+      number = number_after_ask_is_unchanged f.guest.code x q r ∙ ahead.number;
       held = length_of_held_after_ask f.guest.code x q r ∙ ahead.held;
       past = (let a = ahead.past in omega (arith, a, more));
-      at = thread_after_step_is_thread_at f t x q r ahead.at k;
+      at = is_thread_at_after_taken_step f t x q r ahead.at k;
       alone = λ run of j past less. elim (cases_lt j x.steps) [
         | inl before ↦ ahead.alone run of j past before
         | inr last ↦ subst (λ z. GoesAlone f t (thread_at f run t z)) (let e : x.steps ≡ j = omega (arith, last, less, more) in e)
@@ -312,16 +312,16 @@ ahead_after_alone_step f t i x q r ahead k alone =
     }
 
 -- where the step touched an object, nothing is ahead of it
-pub ahead_after_object_step : (f : FittedTrace) (t i : ℕ) (x : thread.ThreadState) (q : Ask) (r : Reply) → IsAhead f t i x → TakesStep f t x q r
+pub ahead_by_nothing_after_object_step : (f : FittedTrace) (t i : ℕ) (x : thread.ThreadState) (q : Ask) (r : Reply) → IsAhead f t i x → TakesStep f t x q r
     → IsAhead f t (suc x.steps) (after_ask f.guest.code x q r)
-ahead_after_object_step f t i x q r ahead k =
-    let more = steps_after_ask f.guest.code x q r k.step in record {
+ahead_by_nothing_after_object_step f t i x q r ahead k =
+    let more = steps_after_ask_are_one_more_if_not_done f.guest.code x q r k.step in record {
       run = ahead.run;
       there = ahead.there;
-      number = number_after_ask f.guest.code x q r ∙ ahead.number;
+      number = number_after_ask_is_unchanged f.guest.code x q r ∙ ahead.number;
       held = length_of_held_after_ask f.guest.code x q r ∙ ahead.held;
       past = omega (arith, more);
-      at = thread_after_step_is_thread_at f t x q r ahead.at k;
+      at = is_thread_at_after_taken_step f t x q r ahead.at k;
       alone = λ run of j past less. absurd (omega (arith, past, less, more));
     }
 
@@ -342,34 +342,34 @@ pub ahead_thread_asks_in_run : (f : FittedTrace) (t i : ℕ) (x : thread.ThreadS
     → ask_of f.guest.code x ≡ q → ask_at f run t x.steps ≡ q
 ahead_thread_asks_in_run f t i x q run of ahead is = ap (ask_of f.guest.code) (sym (ahead.at run of).1) ∙ is
 
-pub takes_step_without_value : (f : FittedTrace) (t i : ℕ) (x : thread.ThreadState) (q : Ask) → IsAhead f t i x → ask_of f.guest.code x ≡ q → HasStep f t x.steps
+pub takes_step_with_go_if_ask_has_no_value : (f : FittedTrace) (t i : ℕ) (x : thread.ThreadState) (q : Ask) → IsAhead f t i x → ask_of f.guest.code x ≡ q → HasStep f t x.steps
     → HasNoValue q → IsNotDone q → TakesStep f t x q Go
-takes_step_without_value f t i x q ahead is has go step = record {
+takes_step_with_go_if_ask_has_no_value f t i x q ahead is has go step = record {
   asks = is;
   step = step;
   has = has;
-  next = λ run of. thread_after_step_without_value f run of t x.steps q (has run of) (ahead_thread_asks_in_run f t i x q run of ahead is) go;
+  next = λ run of. thread_after_step_without_value_gets_go f run of t x.steps q (has run of) (ahead_thread_asks_in_run f t i x q run of ahead is) go;
 }
 
-pub takes_environment_call : (f : FittedTrace) (t i : ℕ) (x : thread.ThreadState) (kind j : EnvKind) (v : ℕ) → IsAhead f t i x
+pub takes_step_of_call_with_logged_answer : (f : FittedTrace) (t i : ℕ) (x : thread.ThreadState) (kind j : EnvKind) (v : ℕ) → IsAhead f t i x
     → ask_of f.guest.code x ≡ Env kind → HasStep f t x.steps
     → slice_get (recorded_thread f.recorded t).events x.events ≡ Some (Answered j v) → TakesStep f t x (Env kind) (Value v)
-takes_environment_call f t i x kind j v ahead is has event = record {
+takes_step_of_call_with_logged_answer f t i x kind j v ahead is has event = record {
   asks = is;
   step = tt;
   has = has;
-  next = λ run of. thread_after_environment_call f run of t x.steps kind j v ahead.there (has run of) (ahead_thread_asks_in_run f t i x (Env kind) run of ahead is)
+  next = λ run of. thread_after_environment_call_gets_logged_answer f run of t x.steps kind j v ahead.there (has run of) (ahead_thread_asks_in_run f t i x (Env kind) run of ahead is)
       (ap (λ (z : thread.ThreadState). slice_get (recorded_thread f.recorded t).events z.events) (sym (ahead.at run of).1) ∙ event);
 }
 
-pub takes_try : (f : FittedTrace) (t i : ℕ) (x : thread.ThreadState) (o : ℕ) (e : Event) → IsAhead f t i x → ask_of f.guest.code x ≡ Try o
+pub takes_step_of_try_with_logged_result : (f : FittedTrace) (t i : ℕ) (x : thread.ThreadState) (o : ℕ) (e : Event) → IsAhead f t i x → ask_of f.guest.code x ≡ Try o
     → HasStep f t x.steps → slice_get (recorded_thread f.recorded t).events x.events ≡ Some e
     → TakesStep f t x (Try o) (Value (try_result e))
-takes_try f t i x o e ahead is has event = record {
+takes_step_of_try_with_logged_result f t i x o e ahead is has event = record {
   asks = is;
   step = tt;
   has = has;
-  next = λ run of. thread_after_try f run of t x.steps o e ahead.there (has run of) (ahead_thread_asks_in_run f t i x (Try o) run of ahead is)
+  next = λ run of. thread_after_try_gets_logged_result f run of t x.steps o e ahead.there (has run of) (ahead_thread_asks_in_run f t i x (Try o) run of ahead is)
       (ap (λ (z : thread.ThreadState). slice_get (recorded_thread f.recorded t).events z.events) (sym (ahead.at run of).1) ∙ event);
 }
 

@@ -17,7 +17,7 @@ use Rattle.ir_runs.specs.Verdicts.{Check, Fits, Follows, closing, left_log, unlo
 use Rattle.ir_cut.specs.Positions.{machine_of, start_of, cut_of}
 use Rattle.ir_weave.specs.Standing.{IsAt, IsStateAt, positions}
 use Rattle.ir_weave.specs.Stepping.{LogsNext, IsTarget, IsUnder, HasGone}
-use Rattle.ir_weave.proofs.Behind.{guest_machine_is_lawful, state_invariant_at_guest_start, guest_part_in_cut_is_run, is_at_if_tables_are_end, thread_steps_are_count, log_after_cut, log_splits_at_cut, log_ahead_is_log_after_cut, property_moves_to_part_end}
+use Rattle.ir_weave.proofs.Behind.{guest_machine_is_lawful, state_invariant_at_guest_start, guest_part_below_consistent_cut_is_run, is_at_if_tables_are_end, thread_steps_at_run_end_are_its_count, log_after_cut, log_splits_at_cut, log_ahead_is_log_after_cut, property_of_state_at_cut_holds_of_part_end}
 
 -- ---- the end of a prefix
 
@@ -28,25 +28,25 @@ state_is_at_cut_if_tables_are_prefix_end : (f : FittedTrace) (s : Flat) (run pre
     → IsAt f (positions s) s run
 state_is_at_cut_if_tables_are_prefix_end f s run prefix is ok left logs ends within =
     let counted : (t : ℕ) → count (machine_of f) (start_of f) prefix t ≡ positions s t =
-    λ t. sym (ap (λ z. (z.now t).steps) ends ∙ thread_steps_are_count f prefix ok t) in
+    λ t. sym (ap (λ z. (z.now t).steps) ends ∙ thread_steps_at_run_end_are_its_count f prefix ok t) in
     let at : IsPrefix (machine_of f) (start_of f) run prefix (positions s) =
     run_with_beginning_logs_is_prefix (machine_of f) (guest_machine_is_lawful f) (start_of f) (state_invariant_at_guest_start f) run prefix is.1.runs ok left logs
     (λ t. subst (λ n. n ≤ count (machine_of f) (start_of f) run t) (sym (counted t)) (within t)) (positions s) counted in
     is_at_if_tables_are_end f (positions s) s run is at.cut at.consistent (ends ∙ at.same_end)
 
 -- no more steps follow than the trace has
-fits_bounds_length : {T : Type 0} (E : Check T) (n : ℕ) (es : List Label) (xs : List (T × Label)) → Fits E n es xs → length xs ≤ n
-fits_bounds_length E n es [] h = omega arith
-fits_bounds_length E n es (x ∷ xs) h = omega (arith, fits_bounds_length E (pred n) (unlogged x.1 es) xs h.3, h.0)
+length_is_at_most_bound_if_fits : {T : Type 0} (E : Check T) (n : ℕ) (es : List Label) (xs : List (T × Label)) → Fits E n es xs → length xs ≤ n
+length_is_at_most_bound_if_fits E n es [] h = omega arith
+length_is_at_most_bound_if_fits E n es (x ∷ xs) h = omega (arith, length_is_at_most_bound_if_fits E (pred n) (unlogged x.1 es) xs h.3, h.0)
 
 -- a run that follows the trace
 abbrev IsFollowing : FittedTrace → List Step → Type 0
 IsFollowing f prefix = Follows (closing (machine_of f) (trace_of f.recorded)) (machine_of f) (start_of f) (trace_of f.recorded) prefix
 
 -- what it logs of a thread is the first of what each complete run with the trace logs
-following_log_begins_run_log : (f : FittedTrace) (run prefix : List Step) → IsRunOf f.guest f.recorded run → IsFollowing f prefix → (t : ℕ)
+following_log_is_prefix_of_run_log : (f : FittedTrace) (run prefix : List Step) → IsRunOf f.guest f.recorded run → IsFollowing f prefix → (t : ℕ)
     → (left : List Label) × (log (machine_of f) (start_of f) prefix t ++ left ≡ log (machine_of f) (start_of f) run t)
-following_log_begins_run_log f run prefix is follows t =
+following_log_is_prefix_of_run_log f run prefix is follows t =
     let m = machine_of f in let s = start_of f in let tr = trace_of f.recorded in
     elim (cases_lt t (length f.guest.entries)) [
       | inl l ↦ (
@@ -66,23 +66,23 @@ following_counts_within_run : (f : FittedTrace) (run prefix : List Step) → IsR
 following_counts_within_run f run prefix is follows t =
     let m = machine_of f in let s = start_of f in let tr = trace_of f.recorded in
     elim (cases_lt t (length f.guest.entries)) [
-      | inl l ↦ let few = fits_bounds_length (closing m tr t) (tr.steps t) (tr.logs t) (trail m s prefix t) (follows.1 t) in
+      | inl l ↦ let few = length_is_at_most_bound_if_fits (closing m tr t) (tr.steps t) (tr.logs t) (trail m s prefix t) (follows.1 t) in
           let all = is.1.steps t l in omega (arith, few, all)
       | inr past ↦ let none = ap length (idle_thread_has_empty_trail m s (length f.guest.entries)
           (guest_start_is_idle f.guest f.recorded.budget f.recorded.profile) prefix follows.0 t past) in omega (arith, none)
     ]
 
 -- the guest after such a run is the guest at a cut of each complete run with the trace
-pub state_along_trace_is_state_at : (f : FittedTrace) (s : Flat) → IsAlong f.guest f.recorded s → IsStateAt f (positions s) s
-state_along_trace_is_state_at f s along = record {
+pub state_along_trace_is_state_at_own_positions : (f : FittedTrace) (s : Flat) → IsAlong f.guest f.recorded s → IsStateAt f (positions s) s
+state_along_trace_is_state_at_own_positions f s along = record {
   code = along.code;
   threads = along.threads;
   objects = along.objects;
   steps = λ t. refl;
-  each = λ run is. state_is_at_cut_if_tables_are_prefix_end f s run along.run is along.follows.0 (λ t. (following_log_begins_run_log f run along.run is along.follows t).0)
-      (λ t. (following_log_begins_run_log f run along.run is along.follows t).1) along.ends
+  each = λ run is. state_is_at_cut_if_tables_are_prefix_end f s run along.run is along.follows.0 (λ t. (following_log_is_prefix_of_run_log f run along.run is along.follows t).0)
+      (λ t. (following_log_is_prefix_of_run_log f run along.run is along.follows t).1) along.ends
       (λ t. let few = following_counts_within_run f run along.run is along.follows t in
-      let counted = ap (λ z. (z.now t).steps) along.ends ∙ thread_steps_are_count f along.run along.follows.0 t in omega (arith, few, counted));
+      let counted = ap (λ z. (z.now t).steps) along.ends ∙ thread_steps_at_run_end_are_its_count f along.run along.follows.0 t in omega (arith, few, counted));
 }
 
 -- ---- the start
@@ -116,9 +116,9 @@ pub is_at_after_leading_steps : (f : FittedTrace) (s new : Flat) (run more : Lis
     → Leads more (tables new) (log_after_cut f run (positions s)) (machine s) (tables s) → IsAt f (positions new) new run
 is_at_after_leading_steps f s new run more is code at within leads =
     let k : Leads more (tables new) (log_after_cut f run (positions s)) (machine_of f) (end (machine_of f) (start_of f) (part run (positions s))) =
-    property_moves_to_part_end f (positions s) s run is code at (Leads more (tables new) (log_after_cut f run (positions s))) leads in
+    property_of_state_at_cut_holds_of_part_end f (positions s) s run is code at (Leads more (tables new) (log_after_cut f run (positions s))) leads in
     state_is_at_cut_if_tables_are_prefix_end f new run (part run (positions s) ++ more) is
-    (append_of_runs_is_run (machine_of f) (start_of f) (part run (positions s)) more (guest_part_in_cut_is_run f run is (positions s) at.consistent).ok k.runs)
+    (append_of_runs_is_run (machine_of f) (start_of f) (part run (positions s)) more (guest_part_below_consistent_cut_is_run f run is (positions s) at.consistent).ok k.runs)
     (λ t. (k.logs t).0)
     (λ t. ap (λ z. z ++ (k.logs t).0) (log_append (machine_of f) (start_of f) (part run (positions s)) more t)
     ∙ append_assoc (log (machine_of f) (start_of f) (part run (positions s)) t)
@@ -155,10 +155,10 @@ append_to_logged_empty_is_logged (Refused o) es = refl
 append_to_logged_empty_is_logged (Out o a v) es = refl
 
 -- what a step of thread t logs
-pub step_logs_first_of_left : {T : Type 0} (m : Machine T) (s : State T) (t v : ℕ) (left : ℕ → List Label)
+pub step_log_is_prefix_of_left : {T : Type 0} (m : Machine T) (s : State T) (t v : ℕ) (left : ℕ → List Label)
     → logged (label m s (t, v)) (unlogged (label m s (t, v)) (left t)) ≡ left t → (u : ℕ) → (rest : List Label)
     × (log m s ((t, v) ∷ []) u ++ rest ≡ left u)
-step_logs_first_of_left m s t v left own u = elim (cases_eq u t) [
+step_log_is_prefix_of_left m s t v left own u = elim (cases_eq u t) [
   | inl same ↦ subst (λ w. (rest : List Label) × (log m s ((t, v) ∷ []) w ++ rest ≡ left w)) (sym same) (
     unlogged (label m s (t, v)) (left t),
     ap (λ z. events z ++ unlogged (label m s (t, v)) (left t)) (trail_of_cons_own_thread m s (t, v) [])
@@ -180,9 +180,9 @@ position_after_step_of_other s new t v can taken u ne = ap (λ z. (z.now u).step
     ∙ (let e : positions s u + 0 ≡ positions s u = omega arith in e)
 
 -- positions of which one is changed stay below the target
-positions_stay_below_target : (target : List ℕ) (s new : Flat) (t : ℕ) → ((u : ℕ) → positions s u ≤ cut_of target u) → positions new t ≤ cut_of target t
+positions_stay_below_target_if_only_changed_one_does : (target : List ℕ) (s new : Flat) (t : ℕ) → ((u : ℕ) → positions s u ≤ cut_of target u) → positions new t ≤ cut_of target t
     → ((u : ℕ) → u ≢ t → positions new u ≡ positions s u) → (u : ℕ) → positions new u ≤ cut_of target u
-positions_stay_below_target target s new t below own others u = elim (cases_eq u t) [
+positions_stay_below_target_if_only_changed_one_does target s new t below own others u = elim (cases_eq u t) [
   | inl same ↦ subst (λ w. positions new w ≤ cut_of target w) (sym same) own
   | inr ne ↦ let a = others u ne in let b = below u in omega (arith, a, b)
 ]
@@ -192,20 +192,20 @@ pub record Stepped (f : FittedTrace) (target : List ℕ) (s new : Flat) (t : ℕ
   pub under : IsUnder f target new
   pub gone : HasGone s new t 1
 
-under_target_after_step : (f : FittedTrace) (target : List ℕ) (s new : Flat) (t v : ℕ) → IsTarget f target → IsUnder f target s → t < length target
+stepped_toward_target_by_logged_step : (f : FittedTrace) (target : List ℕ) (s new : Flat) (t v : ℕ) → IsTarget f target → IsUnder f target s → t < length target
     → positions s t < cut_of target t → LogsNext f.recorded s t v
     → tables new ≡ after (machine s) (tables s) (t, v) → new.code ≡ s.code → length new.threads ≡ length s.threads
     → length new.objects ≡ length s.objects → Stepped f target s new t
-under_target_after_step f target s new t v aim under there_is before next taken code threads objects =
+stepped_toward_target_by_logged_step f target s new t v aim under there_is before next taken code threads objects =
     let own : positions new t ≡ positions s t + 1 = position_after_own_step s new t v next.0 taken in
     let others : (u : ℕ) → u ≢ t → positions new u ≡ positions s u = position_after_step_of_other s new t v next.0 taken in
     record {
       under = under_target_after_leading_steps f target s new ((t, v) ∷ []) aim under code threads objects
-          (positions_stay_below_target target s new t under.below (omega (arith, own, before)) others)
+          (positions_stay_below_target_if_only_changed_one_does target s new t under.below (omega (arith, own, before)) others)
           (λ run is. record {
             runs = (next.0, tt);
             ends = taken;
-            logs = step_logs_first_of_left (machine s) (tables s) t v (log_after_cut f run (positions s))
+            logs = step_log_is_prefix_of_left (machine s) (tables s) t v (log_after_cut f run (positions s))
                 (subst (λ es. logged (label (machine s) (tables s) (t, v)) (unlogged (label (machine s) (tables s) (t, v)) es) ≡ es)
                 (log_ahead_is_log_after_cut f (positions s) s run is (under.state.each run is) t (subst (λ n. t < n) aim.size there_is)) next.1);
           });
@@ -213,13 +213,13 @@ under_target_after_step f target s new t v aim under there_is before next taken 
     }
 
 -- the same by what the step answers
-pub under_target_after_step_if_result_ok : {X E : Type 0} (result : Result X E) (f : FittedTrace) (target : List ℕ) (s new : Flat) (t v : ℕ) → IsTarget f target
+pub stepped_toward_target_if_ok_steps_and_error_means_cannot : {X E : Type 0} (result : Result X E) (f : FittedTrace) (target : List ℕ) (s new : Flat) (t v : ℕ) → IsTarget f target
     → IsUnder f target s → t < length target → positions s t < cut_of target t → LogsNext f.recorded s t v
     → OnOk result (tables new ≡ after (machine s) (tables s) (t, v)) → new.code ≡ s.code → length new.threads ≡ length s.threads
     → length new.objects ≡ length s.objects → OnErr result (Can (machine s) (tables s) (t, v) → ⊥) → Stepped f target s new t
-under_target_after_step_if_result_ok (Ok x) f target s new t v aim under there_is before next taken code threads objects never =
-    under_target_after_step f target s new t v aim under there_is before next taken code threads objects
-under_target_after_step_if_result_ok (Err x) f target s new t v aim under there_is before next taken code threads objects never = absurd (never next.0)
+stepped_toward_target_if_ok_steps_and_error_means_cannot (Ok x) f target s new t v aim under there_is before next taken code threads objects never =
+    stepped_toward_target_by_logged_step f target s new t v aim under there_is before next taken code threads objects
+stepped_toward_target_if_ok_steps_and_error_means_cannot (Err x) f target s new t v aim under there_is before next taken code threads objects never = absurd (never next.0)
 
 -- ---- private steps
 
@@ -245,7 +245,7 @@ pub under_target_after_going_alone : (f : FittedTrace) (target : List ℕ) (s ne
     → n ≤ cut_of target t - positions s t → WentAlone s new t n → IsUnder f target new
 under_target_after_going_alone f target s new t n aim under few w =
     under_target_after_leading_steps f target s new (replicate n (t, 0)) aim under w.code w.threads w.objects
-    (positions_stay_below_target target s new t under.below (let own = position_after_going_alone s new t n w in let b = under.below t in omega (arith, own, few, b))
+    (positions_stay_below_target_if_only_changed_one_does target s new t under.below (let own = position_after_going_alone s new t n w in let b = under.below t in omega (arith, own, few, b))
     (position_of_other_after_going_alone s new t n w))
     (λ run is. record {
       runs = w.runs;

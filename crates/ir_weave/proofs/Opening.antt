@@ -32,7 +32,7 @@ use Rattle.ir_weave.specs.Standing.{Standing, StandsAt, flat_in, IsStateAt, posi
 use Rattle.ir_object.specs.Layout.{line_words, apart, table_length, word_place, content_place}
 use Rattle.ir_weave.specs.Table.{IsTable, IsLaid, laid, word_in, object_in}
 use Rattle.ir_weave.specs.Woven.{View, M, trace_in, opened_in, opened_at, progress, first_met, IsSeated, AreTracks, Woven, tracks_from, all_but_first, first_alone, AreSeats, AreAt, IsClosed, IsEnd, AreRead}
-use Rattle.ir_weave.proofs.Acts.{fields_of_word_of, cell_fields_fit}
+use Rattle.ir_weave.proofs.Acts.{fields_of_word_of, fields_of_object_cell_are_in_range}
 use Rattle.ir_weave.specs.declared.plan.Plan.{Plan}
 
 -- ---- opening
@@ -72,9 +72,9 @@ opening_is_woven k ws run flat at table = record {
     first (suc id) v e = absurd (some-ne-none v (sym e))
 
 -- the guest's state, as the plan knows it
-plan_state_stands : (k : Plan) (f : FittedTrace) (s : Standing) → k.fitted.value ≡ f → k.opened.value ≡ s → StandsAt f (positions (flat_in f s)) s
+opened_state_of_plan_stands_at_own_positions : (k : Plan) (f : FittedTrace) (s : Standing) → k.fitted.value ≡ f → k.opened.value ≡ s → StandsAt f (positions (flat_in f s)) s
     → StandsAt (trace_in k) (opened_at k) k.opened.value
-plan_state_stands k f s for is stands = subst (λ (z : FittedTrace × Standing). StandsAt z.0 (positions (flat_in z.0 z.1)) z.1)
+opened_state_of_plan_stands_at_own_positions k f s for is stands = subst (λ (z : FittedTrace × Standing). StandsAt z.0 (positions (flat_in z.0 z.1)) z.1)
     (λ i. (sym for i, sym is i)) stands
 
 -- the plan of a guest and its state
@@ -82,37 +82,37 @@ pub opening_for_plan_is_woven : (k : Plan) (f : FittedTrace) (s : Standing) (ws 
     → StandsAt f (positions (flat_in f s)) s → IsTable s.objects ws
     → Woven k (opening ws [] (tracks_from k 0 (length k.opened.value.threads)))
 opening_for_plan_is_woven k f s ws for is run stands table =
-    let both = plan_state_stands k f s for is stands in
+    let both = opened_state_of_plan_stands_at_own_positions k f s for is stands in
     opening_is_woven k ws (subst HasRun (sym for) run) both.flat both.at (subst (λ (z : Standing). IsTable z.objects ws) (sym is) table)
 
 -- the seat of a thread
-seat_of_thread_has_view : (id : TableId) (k : Plan) (t i u : ℕ) (xs : List (Seat (Unit {0}) View)) (x : Seat (Unit {0}) View) → AreSeats id k t xs
+seat_of_thread_has_its_opening_progress : (id : TableId) (k : Plan) (t i u : ℕ) (xs : List (Seat (Unit {0}) View)) (x : Seat (Unit {0}) View) → AreSeats id k t xs
     → slice_get xs i ≡ Some x → u ≡ t + i → x.me ≡ (progress k u (opened_at k u) false (first_met k) ∷ [], [])
-seat_of_thread_has_view id k t i u [] x h at e = absurd (cc at)
-seat_of_thread_has_view id k t zero u (y ∷ ys) x h at e =
+seat_of_thread_has_its_opening_progress id k t i u [] x h at e = absurd (cc at)
+seat_of_thread_has_its_opening_progress id k t zero u (y ∷ ys) x h at e =
     let same : y ≡ x = cc at in let here : t ≡ u = omega (arith, e) in
     ap (λ z. z.me) (sym same) ∙ h.0.1 ∙ (λ j. (progress k (here j) (opened_at k (here j)) false (first_met k) ∷ [], []))
-seat_of_thread_has_view id k t (suc i) u (y ∷ ys) x h at e = seat_of_thread_has_view id k (suc t) i u ys x h.1 at (omega (arith, e))
+seat_of_thread_has_its_opening_progress id k t (suc i) u (y ∷ ys) x h at e = seat_of_thread_has_its_opening_progress id k (suc t) i u ys x h.1 at (omega (arith, e))
 
 -- each thread can step at its seat
-pub each_thread_is_seated : (id : TableId) (k : Plan) (f : FittedTrace) (s : Standing) (xs : List (Seat (Unit {0}) View)) → k.fitted.value ≡ f
+pub each_opening_seat_is_seated_at_its_thread : (id : TableId) (k : Plan) (f : FittedTrace) (s : Standing) (xs : List (Seat (Unit {0}) View)) → k.fitted.value ≡ f
     → k.opened.value ≡ s → HasRun f → StandsAt f (positions (flat_in f s)) s → AreSeats id k 0 xs
     → (t : ℕ) (x : thread.ThreadState) (seat : Seat (Unit {0}) View) → slice_get s.threads t ≡ Some x → slice_get xs t ≡ Some seat
     → IsSeated k seat.me.0 x
-each_thread_is_seated id k f s xs for is run stands are t x seat at here =
-    let both = plan_state_stands k f s for is stands in
+each_opening_seat_is_seated_at_its_thread id k f s xs for is run stands are t x seat at here =
+    let both = opened_state_of_plan_stands_at_own_positions k f s for is stands in
     let there : slice_get k.opened.value.threads t ≡ Some x = ap (λ (z : Standing). slice_get z.threads t) is ∙ at in
     let ahead : IsAhead (trace_in k) t (opened_at k t) x =
     subst (IsAhead (trace_in k) t (opened_at k t)) (get_or_from_slice_get k.opened.value.threads t x idle there)
     (state_thread_is_ahead_at_position (trace_in k) (opened_in k) t (subst HasRun (sym for) run) both.flat both.at (slice_get_within k.opened.value.threads t x there)) in
-    subst (λ (v : View). IsSeated k v x) (sym (ap (λ (z : M). z.0) (seat_of_thread_has_view id k 0 t t xs seat are here (omega arith)))) (refl, ahead)
+    subst (λ (v : View). IsSeated k v x) (sym (ap (λ (z : M). z.0) (seat_of_thread_has_its_opening_progress id k 0 t t xs seat are here (omega arith)))) (refl, ahead)
 
 -- ---- cutting off the first thread
 
-later_tracks_stay_if_reseated : (k : Plan) (s : Flat) (seat : ℕ → ℕ) (t new id u m : ℕ) → t < u → AreTracks k s seat id (tracks_from k u m)
+later_tracks_stay_if_earlier_thread_is_reseated : (k : Plan) (s : Flat) (seat : ℕ → ℕ) (t new id u m : ℕ) → t < u → AreTracks k s seat id (tracks_from k u m)
     → AreTracks k s (λ z. if z == t then new else seat z) id (tracks_from k u m)
-later_tracks_stay_if_reseated k s seat t new id u zero lt h = tt
-later_tracks_stay_if_reseated k s seat t new id u (suc m) lt h = (
+later_tracks_stay_if_earlier_thread_is_reseated k s seat t new id u zero lt h = tt
+later_tracks_stay_if_earlier_thread_is_reseated k s seat t new id u (suc m) lt h = (
   record {
     plan = h.0.plan;
     there = h.0.there;
@@ -122,13 +122,13 @@ later_tracks_stay_if_reseated k s seat t new id u (suc m) lt h = (
     granted = h.0.granted;
     met = h.0.met;
   },
-  later_tracks_stay_if_reseated k s seat t new id (suc u) m (omega (arith, lt)) h.1,
+  later_tracks_stay_if_earlier_thread_is_reseated k s seat t new id (suc u) m (omega (arith, lt)) h.1,
 )
 
-other_tracks_stay_if_reseated : (k : Plan) (s : Flat) (seat : ℕ → ℕ) (t new j : ℕ) (v : View) → seat t ≢ j → AreTracks k s seat j v
+tracks_stay_if_thread_of_other_seat_is_reseated : (k : Plan) (s : Flat) (seat : ℕ → ℕ) (t new j : ℕ) (v : View) → seat t ≢ j → AreTracks k s seat j v
     → AreTracks k s (λ z. if z == t then new else seat z) j v
-other_tracks_stay_if_reseated k s seat t new j [] ne h = tt
-other_tracks_stay_if_reseated k s seat t new j (q ∷ qs) ne h = (
+tracks_stay_if_thread_of_other_seat_is_reseated k s seat t new j [] ne h = tt
+tracks_stay_if_thread_of_other_seat_is_reseated k s seat t new j (q ∷ qs) ne h = (
   record {
     plan = h.0.plan;
     there = h.0.there;
@@ -139,7 +139,7 @@ other_tracks_stay_if_reseated k s seat t new j (q ∷ qs) ne h = (
     granted = h.0.granted;
     met = h.0.met;
   },
-  other_tracks_stay_if_reseated k s seat t new j qs ne h.1,
+  tracks_stay_if_thread_of_other_seat_is_reseated k s seat t new j qs ne h.1,
 )
 
 pub tracks_split_off_first : (k : Plan) (id t m : ℕ) (v : View) → v ≡ tracks_from k t (suc m) → Splits (Woven k) id v (all_but_first v) (first_alone v)
@@ -164,8 +164,8 @@ tracks_split_off_first k id t m v is x h at =
       tracks = λ j u e. elim (get_of_append_item_cases (set x.views id (tracks_from k (suc t) m)) (progress k t (opened_at k t) false (first_met k) ∷ []) u j e) [
         | inl was ↦ elim (at_set x.views id j (tracks_from k (suc t) m) u was) [
           | inl r ↦ subst (λ (z : ℕ). AreTracks k h.state seat' z u) (sym r.0)
-              (subst (AreTracks k h.state seat' id) r.1 (later_tracks_stay_if_reseated k h.state h.seat t new id (suc t) m (omega arith) f.1))
-          | inr r ↦ other_tracks_stay_if_reseated k h.state h.seat t new j u (λ e'. r.0 (sym e' ∙ f.0.mine)) (h.tracks j u r.1)
+              (subst (AreTracks k h.state seat' id) r.1 (later_tracks_stay_if_earlier_thread_is_reseated k h.state h.seat t new id (suc t) m (omega arith) f.1))
+          | inr r ↦ tracks_stay_if_thread_of_other_seat_is_reseated k h.state h.seat t new j u (λ e'. r.0 (sym e' ∙ f.0.mine)) (h.tracks j u r.1)
         ]
         | inr q ↦ subst (AreTracks k h.state seat' j) q.1 (
           record {
@@ -252,9 +252,9 @@ woven_seats_join k id other v w x h at apart at' =
 
 -- ---- dealing
 
-pub seats_with_last_added : (id : TableId) (k : Plan) (t u : ℕ) (xs : List (Seat (Unit {0}) View)) (x : Seat (Unit {0}) View) → AreSeats id k t xs
+pub are_seats_after_next_seat_appended : (id : TableId) (k : Plan) (t u : ℕ) (xs : List (Seat (Unit {0}) View)) (x : Seat (Unit {0}) View) → AreSeats id k t xs
     → u ≡ t + length xs → x.table_id ≡ id → x.me ≡ (progress k u (opened_at k u) false (first_met k) ∷ [], []) → AreSeats id k t (xs ++ x ∷ [])
-seats_with_last_added id k t u [] x h e i m = (
+are_seats_after_next_seat_appended id k t u [] x h e i m = (
   (
     i,
     m ∙ (λ j.
@@ -262,15 +262,15 @@ seats_with_last_added id k t u [] x h e i m = (
   ),
   tt,
 )
-seats_with_last_added id k t u (y ∷ ys) x h e i m = (h.0, seats_with_last_added id k (suc t) u ys x h.1 (omega (arith, e)) i m)
+are_seats_after_next_seat_appended id k t u (y ∷ ys) x h e i m = (h.0, are_seats_after_next_seat_appended id k (suc t) u ys x h.1 (omega (arith, e)) i m)
 
-pub view_after_dealing_first : (k : Plan) (l m n : ℕ) (me w : M) → me ≡ (tracks_from k l (suc m), []) → w ≡ (all_but_first me.0, me.1) → n ≡ suc l
+pub view_after_dealing_first_has_later_tracks : (k : Plan) (l m n : ℕ) (me w : M) → me ≡ (tracks_from k l (suc m), []) → w ≡ (all_but_first me.0, me.1) → n ≡ suc l
     → w ≡ (tracks_from k n m, [])
-view_after_dealing_first k l m n me w is emitted long = emitted ∙ (λ i. (all_but_first (is i).0, (is i).1)) ∙ (λ i. (tracks_from k (sym long i) m, []))
+view_after_dealing_first_has_later_tracks k l m n me w is emitted long = emitted ∙ (λ i. (all_but_first (is i).0, (is i).1)) ∙ (λ i. (tracks_from k (sym long i) m, []))
 
-pub dealt_view_is_first_thread : (k : Plan) (l m : ℕ) (me w : M) → me ≡ (tracks_from k l (suc m), []) → w ≡ (first_alone me.0, [])
+pub dealt_first_view_is_opening_progress_of_first_thread : (k : Plan) (l m : ℕ) (me w : M) → me ≡ (tracks_from k l (suc m), []) → w ≡ (first_alone me.0, [])
     → w ≡ (progress k l (opened_at k l) false (first_met k) ∷ [], [])
-dealt_view_is_first_thread k l m me w is emitted = emitted ∙ (λ i. (first_alone (is i).0, []))
+dealt_first_view_is_opening_progress_of_first_thread k l m me w is emitted = emitted ∙ (λ i. (first_alone (is i).0, []))
 
 pub view_is_tracks_of_successor : (k : Plan) (l m n : ℕ) (me : M) → me ≡ (tracks_from k l m, []) → m ≡ suc n → me ≡ (tracks_from k l (suc n), [])
 view_is_tracks_of_successor k l m n me is e = is ∙ (λ i. (tracks_from k l (e i), []))
@@ -287,7 +287,7 @@ final_table_is_end k id v ws xs f =
       cells = h.state.objects;
       table = subst (IsTable h.state.objects) f.2 h.table;
       sizes = λ o l. (h.flat.objects o l).words;
-      fits = λ o l. fields_of_word_of (object_in h.state.objects o).fields (cell_fields_fit h.state o h.flat l);
+      fits = λ o l. fields_of_word_of (object_in h.state.objects o).fields (fields_of_object_cell_are_in_range h.state o h.flat l);
       closed = record {
         state = h.state;
         flat = h.flat;
@@ -307,15 +307,15 @@ place_quotient_is_object o r l = omega (arith, l)
 place_remainder_is_word : (o r : ℕ) → r < apart → (word_place o + r - line_words) % apart ≡ r
 place_remainder_is_word o r l = omega (arith, l)
 
-laid_word_of_object : (cells : List Cell) (o r : ℕ) → r < apart → laid cells (word_place o + r) ≡ word_in (object_in cells o) r
-laid_word_of_object cells o r l =
+laid_word_at_offset_in_object_is_word_in_object : (cells : List Cell) (o r : ℕ) → r < apart → laid cells (word_place o + r) ≡ word_in (object_in cells o) r
+laid_word_at_offset_in_object_is_word_in_object cells o r l =
     ap (λ (b : Bool). cond b 0 (word_in (object_in cells ((word_place o + r - line_words) / apart))
     ((word_place o + r - line_words) % apart)))
     (le-ltb (word_place o + r) line_words (omega arith))
     ∙ (λ i. word_in (object_in cells (place_quotient_is_object o r l i)) (place_remainder_is_word o r l i))
 
-word_in_content_place : (c : Cell) (i : ℕ) → i < most_object_words → word_in c (line_words + i) ≡ get_or c.words i 0
-word_in_content_place c i l =
+word_in_content_place_is_content_word : (c : Cell) (i : ℕ) → i < most_object_words → word_in c (line_words + i) ≡ get_or c.words i 0
+word_in_content_place_is_content_word c i l =
     ap (λ (b : Bool). cond b (word_of c.fields) (cond (ltb (line_words + i) line_words) 0
     (cond (ltb (line_words + i) (line_words + most_object_words)) (get_or c.words (line_words + i - line_words) 0) 0)))
     (ne_eqb (line_words + i) 0 (λ e. omega (arith, e)))
@@ -330,7 +330,7 @@ pub laid_words_are_table : (cells : List Cell) (ws : List ℕ) → IsLaid cells 
 laid_words_are_table cells ws h sizes = record {
   size = h.count;
   heads = λ o l. ap (λ z. get_or ws z 0) (let e : word_place o ≡ word_place o + 0 = omega arith in e)
-      ∙ h.each (word_place o + 0) (omega (arith, l)) ∙ laid_word_of_object cells o 0 (omega arith);
+      ∙ h.each (word_place o + 0) (omega (arith, l)) ∙ laid_word_at_offset_in_object_is_word_in_object cells o 0 (omega arith);
   places = placed;
   small = λ o i. elim (cases_lt o (length cells)) [
     | inl l ↦ elim (cases_lt i most_object_words) [
@@ -344,13 +344,13 @@ laid_words_are_table cells ws h sizes = record {
   where
     placed : (o i : ℕ) → o < length cells → i < most_object_words → get_or ws (content_place o i) 0 ≡ get_or (object_in cells o).words i 0
     placed o i l few = ap (λ z. get_or ws z 0) (let e : content_place o i ≡ word_place o + (line_words + i) = omega arith in e)
-        ∙ h.each (word_place o + (line_words + i)) (omega (arith, l, few)) ∙ laid_word_of_object cells o (line_words + i) (omega (arith, few))
-        ∙ word_in_content_place (object_in cells o) i few
+        ∙ h.each (word_place o + (line_words + i)) (omega (arith, l, few)) ∙ laid_word_at_offset_in_object_is_word_in_object cells o (line_words + i) (omega (arith, few))
+        ∙ word_in_content_place_is_content_word (object_in cells o) i few
 
 -- one word more
-pub laid_with_word_added : (cells : List Cell) (ws ws' : List ℕ) (k w : ℕ) → IsLaid cells ws k → w ≡ laid cells k
+pub is_laid_after_next_word_appended : (cells : List Cell) (ws ws' : List ℕ) (k w : ℕ) → IsLaid cells ws k → w ≡ laid cells k
     → ((o i : ℕ) → i < most_object_words → k ≡ content_place o i → w < 2 ^ 32) → ws' ≡ ws ++ w ∷ [] → IsLaid cells ws' (k + 1)
-laid_with_word_added cells ws ws' k w h is small same = subst (λ z. IsLaid cells z (k + 1)) (sym same) (record {
+is_laid_after_next_word_appended cells ws ws' k w h is small same = subst (λ z. IsLaid cells z (k + 1)) (sym same) (record {
   count = length-append ws (w ∷ []) ∙ (let c = h.count in omega (arith, c));
   each = λ j l. elim (cases_lt j k) [
     | inl less ↦ get_or-append ws (w ∷ []) 0 j (let c = h.count in omega (arith, c, less)) ∙ h.each j less
@@ -368,14 +368,14 @@ laid_with_word_added cells ws ws' k w h is small same = subst (λ z. IsLaid cell
     last = ap (λ z. get_or (ws ++ w ∷ []) z 0) (let c = h.count in let e : k ≡ length ws + 0 = omega (arith, c) in e)
         ∙ get_or-append-add ws (w ∷ []) 0 0
 
-pub no_words_are_laid : (cells : List Cell) (ws : List ℕ) → ws ≡ [] → IsLaid cells ws 0
-no_words_are_laid cells ws is = subst (λ z. IsLaid cells z 0) (sym is)
+pub empty_words_are_laid_at_start : (cells : List Cell) (ws : List ℕ) → ws ≡ [] → IsLaid cells ws 0
+empty_words_are_laid_at_start cells ws is = subst (λ z. IsLaid cells z 0) (sym is)
     (record { count = refl; each = λ j l. absurd (omega (arith, l)); small = λ o i l few. absurd (omega (arith, l)) })
 
 -- a guest has a thread
-pub guest_has_thread : (f : FittedTrace) (s : Standing) (ts : List thread.ThreadState) (g : Guest) → IsGuest g → g ≡ f.guest → ts ≡ s.threads
+pub thread_count_of_guest_is_positive : (f : FittedTrace) (s : Standing) (ts : List thread.ThreadState) (g : Guest) → IsGuest g → g ≡ f.guest → ts ≡ s.threads
     → length s.threads ≡ length f.guest.entries → 0 < length ts
-guest_has_thread f s ts g guest is same size = let some = guest.some_thread in let a = ap (λ (z : Guest). length z.entries) is in let b =
+thread_count_of_guest_is_positive f s ts g guest is same size = let some = guest.some_thread in let a = ap (λ (z : Guest). length z.entries) is in let b =
     ap (λ (z : List thread.ThreadState). length z) same in omega (arith, some, a, b, size)
 
 -- ---- the objects at the end
@@ -422,12 +422,12 @@ are_objects_step cells xs n c h inside is = record {
 pub objects_are_cells_if_count_reaches_length : (cells xs : List Cell) (n : ℕ) → AreObjects cells xs n → length xs ≤ n → xs ≡ cells
 objects_are_cells_if_count_reaches_length cells xs n h all = ext_get_or empty xs cells h.size (λ o l. h.each o (omega (arith, l, all)))
 
-pub end_cells_count_guest_objects : (k : Plan) (v : View) (ws : List ℕ) (e : IsEnd k v ws) → length e.cells ≡ object_count (trace_in k).guest
-end_cells_count_guest_objects k v ws e = ap (λ (cs : List Cell). length cs) e.closed.objects ∙ e.closed.at.objects
+pub end_cell_count_is_guest_object_count : (k : Plan) (v : View) (ws : List ℕ) (e : IsEnd k v ws) → length e.cells ≡ object_count (trace_in k).guest
+end_cell_count_is_guest_object_count k v ws e = ap (λ (cs : List Cell). length cs) e.closed.objects ∙ e.closed.at.objects
 
 pub are_objects_at_zero : (k : Plan) (v : View) (ws : List ℕ) (e : IsEnd k v ws) (xs : List Cell) → length xs ≡ object_count (trace_in k).guest
     → AreObjects e.cells xs 0
-are_objects_at_zero k v ws e xs room = record { size = room ∙ sym (end_cells_count_guest_objects k v ws e); each = λ o l. absurd (omega (arith, l)) }
+are_objects_at_zero k v ws e xs room = record { size = room ∙ sym (end_cell_count_is_guest_object_count k v ws e); each = λ o l. absurd (omega (arith, l)) }
 
 pub objects_are_closed_if_count_reaches_length : (k : Plan) (v : View) (ws : List ℕ) (e : IsEnd k v ws) (xs : List Cell) (n : ℕ) → AreObjects e.cells xs n → length xs ≤ n
     → IsClosed k v xs

@@ -27,7 +27,7 @@ use Rattle.ir_weave.specs.Woven.{View, M, trace_in, Met, progress, met_in, met_o
 use Rattle.ir_weave.specs.declared.plan.Plan.{Plan}
 use Rattle.ir_weave.specs.declared.plan.Progress.{Progress}
 use Rattle.ir_weave.proofs.Lone.{ahead_of_own_position}
-use Rattle.ir_weave.proofs.Acts.{word_added_by_entry, look_is_allowed, entry_is_allowed, read_leave_is_allowed, write_leave_is_allowed, version_load_is_allowed, get_is_allowed, put_is_allowed, step_is_next_on_object_if_not_alone, entering_ask_is_not_alone}
+use Rattle.ir_weave.proofs.Acts.{word_added_by_entry, look_at_word_is_allowed_if_thread_is_entering, entry_is_allowed_if_granted_and_thread_is_entering, read_leave_is_allowed, write_leave_is_allowed, version_load_is_allowed_before_write_leave, get_is_allowed, put_is_allowed, step_is_next_on_object_if_not_alone, entering_ask_is_not_alone}
 
 -- ---- the first step on an object
 
@@ -45,45 +45,45 @@ next_object_is_unique f t i j k h a b = elim (cases_lt j k) [
 thread_permits_own_ask : (f : FittedTrace) (x : thread.ThreadState) (q : Ask) → ask_of f.guest.code x ≡ q → Permits x q
 thread_permits_own_ask f x q is = subst (Permits x) is (ask_of_permitted f.guest.code x)
 
-pub entered_object_is_of_guest : (f : FittedTrace) (t i : ℕ) (x : thread.ThreadState) (o : ℕ) (a : Access) → IsAhead f t i x
+pub entered_object_index_is_below_object_count : (f : FittedTrace) (t i : ℕ) (x : thread.ThreadState) (o : ℕ) (a : Access) → IsAhead f t i x
     → ask_of f.guest.code x ≡ Enter o a → o < object_count f.guest
-entered_object_is_of_guest f t i x o a ahead is = let p = (thread_permits_own_ask f x (Enter o a) is).2 in let e = ahead.held in omega (arith, p, e)
+entered_object_index_is_below_object_count f t i x o a ahead is = let p = (thread_permits_own_ask f x (Enter o a) is).2 in let e = ahead.held in omega (arith, p, e)
 
-tried_object_is_of_guest : (f : FittedTrace) (t i : ℕ) (x : thread.ThreadState) (o : ℕ) → IsAhead f t i x → ask_of f.guest.code x ≡ Try o
+tried_object_index_is_below_object_count : (f : FittedTrace) (t i : ℕ) (x : thread.ThreadState) (o : ℕ) → IsAhead f t i x → ask_of f.guest.code x ≡ Try o
     → o < object_count f.guest
-tried_object_is_of_guest f t i x o ahead is = let p = (thread_permits_own_ask f x (Try o) is).2 in let e = ahead.held in omega (arith, p, e)
+tried_object_index_is_below_object_count f t i x o ahead is = let p = (thread_permits_own_ask f x (Try o) is).2 in let e = ahead.held in omega (arith, p, e)
 
-pub entering_object_is_of_guest : (f : FittedTrace) (t i : ℕ) (x : thread.ThreadState) (o : ℕ) (a : Access) (e : Event) → IsAhead f t i x
+pub object_index_of_entering_thread_is_below_object_count : (f : FittedTrace) (t i : ℕ) (x : thread.ThreadState) (o : ℕ) (a : Access) (e : Event) → IsAhead f t i x
     → IsEntering f x o a e → o < object_count f.guest
-entering_object_is_of_guest f t i x o a e ahead entering = elim (entry_event_suits_enter_or_try entering.asked o a e entering.suits entering.enters) [
-  | inl same ↦ entered_object_is_of_guest f t i x o a ahead (entering.asking.asks ∙ same)
-  | inr same ↦ tried_object_is_of_guest f t i x o ahead (entering.asking.asks ∙ same.0)
+object_index_of_entering_thread_is_below_object_count f t i x o a e ahead entering = elim (entry_event_suits_enter_or_try entering.asked o a e entering.suits entering.enters) [
+  | inl same ↦ entered_object_index_is_below_object_count f t i x o a ahead (entering.asking.asks ∙ same)
+  | inr same ↦ tried_object_index_is_below_object_count f t i x o ahead (entering.asking.asks ∙ same.0)
 ]
 
-pub left_object_is_of_guest : (f : FittedTrace) (t i : ℕ) (x : thread.ThreadState) (o : ℕ) (a : Access) → IsAhead f t i x → ask_of f.guest.code x ≡ Leave o a
+pub left_object_index_is_below_object_count : (f : FittedTrace) (t i : ℕ) (x : thread.ThreadState) (o : ℕ) (a : Access) → IsAhead f t i x → ask_of f.guest.code x ≡ Leave o a
     → o < object_count f.guest
-left_object_is_of_guest f t i x o a ahead is = let p = (thread_permits_own_ask f x (Leave o a) is).1 in let e = ahead.held in omega (arith, p, e)
+left_object_index_is_below_object_count f t i x o a ahead is = let p = (thread_permits_own_ask f x (Leave o a) is).1 in let e = ahead.held in omega (arith, p, e)
 
-pub get_place_is_of_guest : (f : FittedTrace) (t i : ℕ) (x : thread.ThreadState) (o j : ℕ) → IsAhead f t i x → ask_of f.guest.code x ≡ Get o j
+pub object_and_word_index_of_get_are_in_range : (f : FittedTrace) (t i : ℕ) (x : thread.ThreadState) (o j : ℕ) → IsAhead f t i x → ask_of f.guest.code x ≡ Get o j
     → (o < object_count f.guest) × (j < most_object_words)
-get_place_is_of_guest f t i x o j ahead is = let p = thread_permits_own_ask f x (Get o j) is in let e = ahead.held in (omega (arith, p.1, e), p.2)
+object_and_word_index_of_get_are_in_range f t i x o j ahead is = let p = thread_permits_own_ask f x (Get o j) is in let e = ahead.held in (omega (arith, p.1, e), p.2)
 
-pub put_place_is_of_guest : (f : FittedTrace) (t i : ℕ) (x : thread.ThreadState) (o j v : ℕ) → IsAhead f t i x → ask_of f.guest.code x ≡ Put o j v
+pub object_and_word_index_of_put_are_in_range : (f : FittedTrace) (t i : ℕ) (x : thread.ThreadState) (o j v : ℕ) → IsAhead f t i x → ask_of f.guest.code x ≡ Put o j v
     → (o < object_count f.guest) × (j < most_object_words)
-put_place_is_of_guest f t i x o j v ahead is = let p = thread_permits_own_ask f x (Put o j v) is in let e = ahead.held in (omega (arith, p.1, e), p.2)
+object_and_word_index_of_put_are_in_range f t i x o j v ahead is = let p = thread_permits_own_ask f x (Put o j v) is in let e = ahead.held in (omega (arith, p.1, e), p.2)
 
 -- ---- seats of one thread
 
 -- a fact of the table with the plan of the seat's view
-property_moves_to_plan : (k : Plan) (q : Progress) (P : Plan → Type 0) → q.plan ≡ k → P q.plan → P k
-property_moves_to_plan k q P same h = subst P same h
+property_of_plan_holds_of_equal_plan : (k : Plan) (q : Progress) (P : Plan → Type 0) → q.plan ≡ k → P q.plan → P k
+property_of_plan_holds_of_equal_plan k q P same h = subst P same h
 
-has_step_by_own_number : (f : FittedTrace) (t i : ℕ) (x : thread.ThreadState) → IsAhead f t i x → HasStep f x.number x.steps → HasStep f t x.steps
-has_step_by_own_number f t i x ahead has = subst (λ z. HasStep f z x.steps) ahead.number has
+has_step_at_index_if_thread_number_has_step : (f : FittedTrace) (t i : ℕ) (x : thread.ThreadState) → IsAhead f t i x → HasStep f x.number x.steps → HasStep f t x.steps
+has_step_at_index_if_thread_number_has_step f t i x ahead has = subst (λ z. HasStep f z x.steps) ahead.number has
 
 -- the step that the thread asks is asked of the plan of its view
-property_moves_to_view_trace : (k : Plan) (q : Progress) (P : FittedTrace → Type 0) → q.plan ≡ k → P (trace_in k) → P (trace_in q.plan)
-property_moves_to_view_trace k q P same h = subst (λ z. P (trace_in z)) (sym same) h
+property_of_trace_holds_of_trace_of_equal_plan : (k : Plan) (q : Progress) (P : FittedTrace → Type 0) → q.plan ≡ k → P (trace_in k) → P (trace_in q.plan)
+property_of_trace_holds_of_trace_of_equal_plan k q P same h = subst (λ z. P (trace_in z)) (sym same) h
 
 -- ---- what it may do
 
@@ -93,10 +93,10 @@ pub look_is_allowed_if_seated : (k : Plan) (slots id o : ℕ) (a : Access) (e : 
 look_is_allowed_if_seated k slots id o a e x ([], c) seated entering = absurd seated
 look_is_allowed_if_seated k slots id o a e x (q ∷ r ∷ qs, c) seated entering = absurd seated
 look_is_allowed_if_seated k slots id o a e x (q ∷ [], c) seated entering =
-    let ent : IsEntering (trace_in q.plan) x o a e = property_moves_to_view_trace k q (λ f. IsEntering f x o a e) seated.0 entering in
-    property_moves_to_plan k q (λ z. Allows (Woven z) slots id (q ∷ [], c) (word_place o) (λ n. n) (looked (step slots (word_place o) 0 0 none) (q ∷ [], c)))
+    let ent : IsEntering (trace_in q.plan) x o a e = property_of_trace_holds_of_trace_of_equal_plan k q (λ f. IsEntering f x o a e) seated.0 entering in
+    property_of_plan_holds_of_equal_plan k q (λ z. Allows (Woven z) slots id (q ∷ [], c) (word_place o) (λ n. n) (looked (step slots (word_place o) 0 0 none) (q ∷ [], c)))
     seated.0
-    (look_is_allowed slots id o a e x q c seated.1 (entering_object_is_of_guest (trace_in q.plan) q.thread q.position x o a e seated.1 ent) ent)
+    (look_at_word_is_allowed_if_thread_is_entering slots id o a e x q c seated.1 (object_index_of_entering_thread_is_below_object_count (trace_in q.plan) q.thread q.position x o a e seated.1 ent) ent)
 
 pub entry_is_allowed_if_granted : (k : Plan) (slots id o : ℕ) (a : Access) (e : Event) (x : thread.ThreadState) (me : M) → IsGranted k me.0 x
     → IsEntering (trace_in k) x o a e
@@ -104,10 +104,10 @@ pub entry_is_allowed_if_granted : (k : Plan) (slots id o : ℕ) (a : Access) (e 
 entry_is_allowed_if_granted k slots id o a e x ([], c) g entering = absurd g.seated
 entry_is_allowed_if_granted k slots id o a e x (q ∷ r ∷ qs, c) g entering = absurd g.seated
 entry_is_allowed_if_granted k slots id o a e x (q ∷ [], c) g entering =
-    let ent : IsEntering (trace_in q.plan) x o a e = property_moves_to_view_trace k q (λ f. IsEntering f x o a e) g.seated.0 entering in
-    property_moves_to_plan k q (λ z. Allows (Woven z) slots id (q ∷ [], c) (word_place o) (λ n. (n + word_added_by_entry a) % 2 ^ 64)
+    let ent : IsEntering (trace_in q.plan) x o a e = property_of_trace_holds_of_trace_of_equal_plan k q (λ f. IsEntering f x o a e) g.seated.0 entering in
+    property_of_plan_holds_of_equal_plan k q (λ z. Allows (Woven z) slots id (q ∷ [], c) (word_place o) (λ n. (n + word_added_by_entry a) % 2 ^ 64)
     (stepped_on (step slots (word_place o) (word_added_by_entry a) 0 none) (q ∷ [], c))) g.seated.0
-    (entry_is_allowed slots id o a e x q c g.seated.1 (entering_object_is_of_guest (trace_in q.plan) q.thread q.position x o a e g.seated.1 ent) ent
+    (entry_is_allowed_if_granted_and_thread_is_entering slots id o a e x q c g.seated.1 (object_index_of_entering_thread_is_below_object_count (trace_in q.plan) q.thread q.position x o a e g.seated.1 ent) ent
     (ap first_granted g.view) (ap first_position g.view))
   where
     first_granted : View → Bool
@@ -125,22 +125,22 @@ pub read_leave_is_allowed_if_seated : (k : Plan) (slots id o : ℕ) (x : thread.
 read_leave_is_allowed_if_seated k slots id o x ([], c) seated asking = absurd seated
 read_leave_is_allowed_if_seated k slots id o x (q ∷ r ∷ qs, c) seated asking = absurd seated
 read_leave_is_allowed_if_seated k slots id o x (q ∷ [], c) seated asking =
-    let ask : IsAsking (trace_in q.plan) x (Leave o Reading) = property_moves_to_view_trace k q (λ f. IsAsking f x (Leave o Reading)) seated.0 asking in
-    property_moves_to_plan k q (λ z. Allows (Woven z) slots id (q ∷ [], c) (word_place o) (λ n. (n + reader_leaves) % 2 ^ 64)
+    let ask : IsAsking (trace_in q.plan) x (Leave o Reading) = property_of_trace_holds_of_trace_of_equal_plan k q (λ f. IsAsking f x (Leave o Reading)) seated.0 asking in
+    property_of_plan_holds_of_equal_plan k q (λ z. Allows (Woven z) slots id (q ∷ [], c) (word_place o) (λ n. (n + reader_leaves) % 2 ^ 64)
     (stepped_on (step slots (word_place o) reader_leaves 0 none) (q ∷ [], c))) seated.0
-    (read_leave_is_allowed slots id o x q c seated.1 (left_object_is_of_guest (trace_in q.plan) q.thread q.position x o Reading seated.1 ask.asks) ask.asks
-    (has_step_by_own_number (trace_in q.plan) q.thread q.position x seated.1 ask.has))
+    (read_leave_is_allowed slots id o x q c seated.1 (left_object_index_is_below_object_count (trace_in q.plan) q.thread q.position x o Reading seated.1 ask.asks) ask.asks
+    (has_step_at_index_if_thread_number_has_step (trace_in q.plan) q.thread q.position x seated.1 ask.has))
 
 pub version_load_is_allowed_if_seated : (k : Plan) (slots id o : ℕ) (x : thread.ThreadState) (me : M) → IsSeated k me.0 x → IsAsking (trace_in k) x (Leave o Writing)
     → Allows (Woven k) slots id me (word_place o) (λ n. n) (read_version (step slots (word_place o) 0 0 none) me)
 version_load_is_allowed_if_seated k slots id o x ([], c) seated asking = absurd seated
 version_load_is_allowed_if_seated k slots id o x (q ∷ r ∷ qs, c) seated asking = absurd seated
 version_load_is_allowed_if_seated k slots id o x (q ∷ [], c) seated asking =
-    let ask : IsAsking (trace_in q.plan) x (Leave o Writing) = property_moves_to_view_trace k q (λ f. IsAsking f x (Leave o Writing)) seated.0 asking in
-    property_moves_to_plan k q (λ z. Allows (Woven z) slots id (q ∷ [], c) (word_place o) (λ n. n)
+    let ask : IsAsking (trace_in q.plan) x (Leave o Writing) = property_of_trace_holds_of_trace_of_equal_plan k q (λ f. IsAsking f x (Leave o Writing)) seated.0 asking in
+    property_of_plan_holds_of_equal_plan k q (λ z. Allows (Woven z) slots id (q ∷ [], c) (word_place o) (λ n. n)
     (read_version (step slots (word_place o) 0 0 none) (q ∷ [], c))) seated.0
-    (version_load_is_allowed slots id o x q c seated.1 (left_object_is_of_guest (trace_in q.plan) q.thread q.position x o Writing seated.1 ask.asks) ask.asks
-    (has_step_by_own_number (trace_in q.plan) q.thread q.position x seated.1 ask.has))
+    (version_load_is_allowed_before_write_leave slots id o x q c seated.1 (left_object_index_is_below_object_count (trace_in q.plan) q.thread q.position x o Writing seated.1 ask.asks) ask.asks
+    (has_step_at_index_if_thread_number_has_step (trace_in q.plan) q.thread q.position x seated.1 ask.has))
 
 pub write_leave_is_allowed_if_seated : (k : Plan) (slots id o v : ℕ) (x : thread.ThreadState) (me : M) → IsSeated k me.0 x
     → IsAsking (trace_in k) x (Leave o Writing)
@@ -150,27 +150,27 @@ pub write_leave_is_allowed_if_seated : (k : Plan) (slots id o v : ℕ) (x : thre
 write_leave_is_allowed_if_seated k slots id o v x ([], c) seated asking emits = absurd seated
 write_leave_is_allowed_if_seated k slots id o v x (q ∷ r ∷ qs, c) seated asking emits = absurd seated
 write_leave_is_allowed_if_seated k slots id o v x (q ∷ [], c) seated asking emits =
-    let ask : IsAsking (trace_in q.plan) x (Leave o Writing) = property_moves_to_view_trace k q (λ f. IsAsking f x (Leave o Writing)) seated.0 asking in
+    let ask : IsAsking (trace_in q.plan) x (Leave o Writing) = property_of_trace_holds_of_trace_of_equal_plan k q (λ f. IsAsking f x (Leave o Writing)) seated.0 asking in
     let emitted : EachRun (trace_in q.plan) (λ run. Emits (machine_of (trace_in q.plan)) (start_of (trace_in q.plan)) run q.thread x.steps
     (Out o Writing v)) =
     subst (λ z. EachRun (trace_in q.plan) (λ run. Emits (machine_of (trace_in q.plan)) (start_of (trace_in q.plan)) run z x.steps
     (Out o Writing v))) seated.1.number
-    (property_moves_to_view_trace k q (λ f. EachRun f (λ run. Emits (machine_of f) (start_of f) run x.number x.steps (Out o Writing v))) seated.0 emits) in
-    property_moves_to_plan k q (λ z. Allows (Woven z) slots id (q ∷ [], c) (word_place o) (λ _. (v + 1) * version_unit)
+    (property_of_trace_holds_of_trace_of_equal_plan k q (λ f. EachRun f (λ run. Emits (machine_of f) (start_of f) run x.number x.steps (Out o Writing v))) seated.0 emits) in
+    property_of_plan_holds_of_equal_plan k q (λ z. Allows (Woven z) slots id (q ∷ [], c) (word_place o) (λ _. (v + 1) * version_unit)
     (λ _. stepped_on (step slots (word_place o) ((v + 1) * version_unit) 0 none) (q ∷ [], c) ((v + 1) * version_unit))) seated.0
-    (write_leave_is_allowed slots id o v x q c seated.1 (left_object_is_of_guest (trace_in q.plan) q.thread q.position x o Writing seated.1 ask.asks) ask.asks
-    (has_step_by_own_number (trace_in q.plan) q.thread q.position x seated.1 ask.has) emitted)
+    (write_leave_is_allowed slots id o v x q c seated.1 (left_object_index_is_below_object_count (trace_in q.plan) q.thread q.position x o Writing seated.1 ask.asks) ask.asks
+    (has_step_at_index_if_thread_number_has_step (trace_in q.plan) q.thread q.position x seated.1 ask.has) emitted)
 
 pub get_is_allowed_if_seated : (k : Plan) (slots id o i : ℕ) (x : thread.ThreadState) (me : M) → IsSeated k me.0 x → IsAsking (trace_in k) x (Get o i)
     → Allows (Woven k) slots id me (content_place o i) (λ n. n) (stepped_on (step slots (content_place o i) 0 0 none) me)
 get_is_allowed_if_seated k slots id o i x ([], c) seated asking = absurd seated
 get_is_allowed_if_seated k slots id o i x (q ∷ r ∷ qs, c) seated asking = absurd seated
 get_is_allowed_if_seated k slots id o i x (q ∷ [], c) seated asking =
-    let ask : IsAsking (trace_in q.plan) x (Get o i) = property_moves_to_view_trace k q (λ f. IsAsking f x (Get o i)) seated.0 asking in
-    let inside = get_place_is_of_guest (trace_in q.plan) q.thread q.position x o i seated.1 ask.asks in
-    property_moves_to_plan k q (λ z. Allows (Woven z) slots id (q ∷ [], c) (content_place o i) (λ n. n)
+    let ask : IsAsking (trace_in q.plan) x (Get o i) = property_of_trace_holds_of_trace_of_equal_plan k q (λ f. IsAsking f x (Get o i)) seated.0 asking in
+    let inside = object_and_word_index_of_get_are_in_range (trace_in q.plan) q.thread q.position x o i seated.1 ask.asks in
+    property_of_plan_holds_of_equal_plan k q (λ z. Allows (Woven z) slots id (q ∷ [], c) (content_place o i) (λ n. n)
     (stepped_on (step slots (content_place o i) 0 0 none) (q ∷ [], c))) seated.0
-    (get_is_allowed slots id o i x q c seated.1 inside.0 inside.1 ask.asks (has_step_by_own_number (trace_in q.plan) q.thread q.position x seated.1 ask.has))
+    (get_is_allowed slots id o i x q c seated.1 inside.0 inside.1 ask.asks (has_step_at_index_if_thread_number_has_step (trace_in q.plan) q.thread q.position x seated.1 ask.has))
 
 pub put_is_allowed_if_seated : (k : Plan) (slots id o i v : ℕ) (x : thread.ThreadState) (me : M) → v < 2 ^ 32 → IsSeated k me.0 x
     → IsAsking (trace_in k) x (Put o i v)
@@ -178,12 +178,12 @@ pub put_is_allowed_if_seated : (k : Plan) (slots id o i v : ℕ) (x : thread.Thr
 put_is_allowed_if_seated k slots id o i v x ([], c) value seated asking = absurd seated
 put_is_allowed_if_seated k slots id o i v x (q ∷ r ∷ qs, c) value seated asking = absurd seated
 put_is_allowed_if_seated k slots id o i v x (q ∷ [], c) value seated asking =
-    let ask : IsAsking (trace_in q.plan) x (Put o i v) = property_moves_to_view_trace k q (λ f. IsAsking f x (Put o i v)) seated.0 asking in
-    let inside = put_place_is_of_guest (trace_in q.plan) q.thread q.position x o i v seated.1 ask.asks in
-    property_moves_to_plan k q (λ z. Allows (Woven z) slots id (q ∷ [], c) (content_place o i) (λ _. v)
+    let ask : IsAsking (trace_in q.plan) x (Put o i v) = property_of_trace_holds_of_trace_of_equal_plan k q (λ f. IsAsking f x (Put o i v)) seated.0 asking in
+    let inside = object_and_word_index_of_put_are_in_range (trace_in q.plan) q.thread q.position x o i v seated.1 ask.asks in
+    property_of_plan_holds_of_equal_plan k q (λ z. Allows (Woven z) slots id (q ∷ [], c) (content_place o i) (λ _. v)
     (λ _. stepped_on (step slots (content_place o i) v 0 none) (q ∷ [], c) v)) seated.0
     (put_is_allowed slots id o i v x q c value seated.1 inside.0 inside.1 ask.asks
-    (has_step_by_own_number (trace_in q.plan) q.thread q.position x seated.1 ask.has))
+    (has_step_at_index_if_thread_number_has_step (trace_in q.plan) q.thread q.position x seated.1 ask.has))
 
 -- ---- what is reported to it
 
@@ -204,13 +204,13 @@ pub record ObjectStepReport (k : Plan) (x : thread.ThreadState) (me w : M) (n : 
   pub view : ◌≡◌ {A = M} w (view_at k x (suc x.steps) false (met_of me.0), me.1)
   pub answers : Answers (trace_in k) x.number x.steps n
 
-pub stepped_on_gives_report : (k : Plan) (x : thread.ThreadState) (asked : Ask) (me w : M) (n : ℕ) → IsSeated k me.0 x
+pub stepped_on_gives_object_step_report : (k : Plan) (x : thread.ThreadState) (asked : Ask) (me w : M) (n : ℕ) → IsSeated k me.0 x
     → ask_of (trace_in k).guest.code x ≡ asked → (IsAlone asked (event_of (trace_in k) x.number x) → ⊥) → stepped_on any_step me n w → ObjectStepReport k x me w n
-stepped_on_gives_report k x asked ([], c) w n seated is touches emitted = absurd seated
-stepped_on_gives_report k x asked (q ∷ r ∷ qs, c) w n seated is touches emitted = absurd seated
-stepped_on_gives_report k x asked (q ∷ [], c) w n seated is touches emitted =
+stepped_on_gives_object_step_report k x asked ([], c) w n seated is touches emitted = absurd seated
+stepped_on_gives_object_step_report k x asked (q ∷ r ∷ qs, c) w n seated is touches emitted = absurd seated
+stepped_on_gives_object_step_report k x asked (q ∷ [], c) w n seated is touches emitted =
     let f : FittedTrace = trace_in q.plan in
-    let ask : ask_of f.guest.code x ≡ asked = property_moves_to_view_trace k q (λ f. ask_of f.guest.code x ≡ asked) seated.0 is in
+    let ask : ask_of f.guest.code x ≡ asked = property_of_trace_holds_of_trace_of_equal_plan k q (λ f. ask_of f.guest.code x ≡ asked) seated.0 is in
     let here : emitted.0 ≡ x.steps = next_object_is_unique f q.thread q.position emitted.0 x.steps seated.1.run emitted.1
     (step_is_next_on_object_if_not_alone f q.thread q.position x asked seated.1 ask
     (subst (λ (z : Plan × ℕ). IsAlone asked (event_of (trace_in z.0) z.1 x) → ⊥) (λ i. (sym seated.0 i, seated.1.number i)) touches)) in
@@ -232,13 +232,13 @@ pub record LookReport (k : Plan) (x : thread.ThreadState) (e : Event) (me w : M)
   pub shut : (Opens n e → ⊥) → (◌≡◌ {A = M} w (view_at k x x.steps false (met_of w.0), me.1)) × (s : WasStopped k x.number x.steps)
       × HasMet (met_of me.0) (met_of w.0) s.cut
 
-pub looked_gives_report : (k : Plan) (x : thread.ThreadState) (o : ℕ) (a : Access) (e : Event) (me w : M) (n : ℕ) → IsSeated k me.0 x
+pub looked_gives_look_report : (k : Plan) (x : thread.ThreadState) (o : ℕ) (a : Access) (e : Event) (me w : M) (n : ℕ) → IsSeated k me.0 x
     → IsEntering (trace_in k) x o a e → looked any_step me n w → LookReport k x e me w n
-looked_gives_report k x o a e ([], c) w n seated entering emitted = absurd seated
-looked_gives_report k x o a e (q ∷ r ∷ qs, c) w n seated entering emitted = absurd seated
-looked_gives_report k x o a e (q ∷ [], c) w n seated entering emitted =
+looked_gives_look_report k x o a e ([], c) w n seated entering emitted = absurd seated
+looked_gives_look_report k x o a e (q ∷ r ∷ qs, c) w n seated entering emitted = absurd seated
+looked_gives_look_report k x o a e (q ∷ [], c) w n seated entering emitted =
     let f : FittedTrace = trace_in q.plan in
-    let ent : IsEntering f x o a e = property_moves_to_view_trace k q (λ f. IsEntering f x o a e) seated.0 entering in
+    let ent : IsEntering f x o a e = property_of_trace_holds_of_trace_of_equal_plan k q (λ f. IsEntering f x o a e) seated.0 entering in
     let here : emitted.0 ≡ x.steps = next_object_is_unique f q.thread q.position emitted.0 x.steps seated.1.run emitted.2
     (step_is_next_on_object_if_not_alone f q.thread q.position x ent.asked seated.1 ent.asking.asks
     (entering_ask_is_not_alone ent.asked o a e (event_of f q.thread x)
@@ -274,13 +274,13 @@ pub record VersionReport (k : Plan) (x : thread.ThreadState) (o : ℕ) (me w : M
   pub version : EachRun (trace_in k) (λ run. Emits (machine_of (trace_in k)) (start_of (trace_in k)) run x.number x.steps
       (Out o Writing (n / version_unit)))
 
-pub read_version_gives_report : (k : Plan) (o : ℕ) (x : thread.ThreadState) (me w : M) (n : ℕ) → IsSeated k me.0 x → IsAsking (trace_in k) x (Leave o Writing)
+pub read_version_gives_version_report : (k : Plan) (o : ℕ) (x : thread.ThreadState) (me w : M) (n : ℕ) → IsSeated k me.0 x → IsAsking (trace_in k) x (Leave o Writing)
     → read_version (step 0 (word_place o) 0 0 none) me n w → VersionReport k x o me w n
-read_version_gives_report k o x ([], c) w n seated asking emitted = absurd seated
-read_version_gives_report k o x (q ∷ r ∷ qs, c) w n seated asking emitted = absurd seated
-read_version_gives_report k o x (q ∷ [], c) w n seated asking emitted =
+read_version_gives_version_report k o x ([], c) w n seated asking emitted = absurd seated
+read_version_gives_version_report k o x (q ∷ r ∷ qs, c) w n seated asking emitted = absurd seated
+read_version_gives_version_report k o x (q ∷ [], c) w n seated asking emitted =
     let f : FittedTrace = trace_in q.plan in
-    let ask : IsAsking f x (Leave o Writing) = property_moves_to_view_trace k q (λ f. IsAsking f x (Leave o Writing)) seated.0 asking in
+    let ask : IsAsking f x (Leave o Writing) = property_of_trace_holds_of_trace_of_equal_plan k q (λ f. IsAsking f x (Leave o Writing)) seated.0 asking in
     let here : emitted.0 ≡ x.steps = next_object_is_unique f q.thread q.position emitted.0 x.steps seated.1.run emitted.1
     (step_is_next_on_object_if_not_alone f q.thread q.position x (Leave o Writing) seated.1 ask.asks (λ b. b)) in
     let all : EachRun f (λ run. Emits (machine_of f) (start_of f) run q.thread emitted.0 (Out o Writing (n / version_unit))) =
@@ -300,8 +300,8 @@ word_of_get_is_32_bits k x [] o i n seated asking answers = absurd seated
 word_of_get_is_32_bits k x (q ∷ r ∷ qs) o i n seated asking answers = absurd seated
 word_of_get_is_32_bits k x (q ∷ []) o i n seated asking answers =
     let f : FittedTrace = trace_in q.plan in
-    let ask : IsAsking f x (Get o i) = property_moves_to_view_trace k q (λ f. IsAsking f x (Get o i)) seated.0 asking in
-    let all : Answers f x.number x.steps n = property_moves_to_view_trace k q (λ f. Answers f x.number x.steps n) seated.0 answers in
+    let ask : IsAsking f x (Get o i) = property_of_trace_holds_of_trace_of_equal_plan k q (λ f. IsAsking f x (Get o i)) seated.0 asking in
+    let all : Answers f x.number x.steps n = property_of_trace_holds_of_trace_of_equal_plan k q (λ f. Answers f x.number x.steps n) seated.0 answers in
     let run = seated.1.run.run in
     (all run seated.1.run.whole o i (subst (λ t. ask_at f run t x.steps ≡ Get o i) (sym seated.1.number)
     (ap (ask_of f.guest.code) (sym (seated.1.at run seated.1.run.whole).1) ∙ ask.asks))).0
@@ -312,8 +312,8 @@ pub entered_word_place_below_table : (k : Plan) (x : thread.ThreadState) (v : Vi
 entered_word_place_below_table k x [] o words a e seated entering size = absurd seated
 entered_word_place_below_table k x (p ∷ r ∷ ps) o words a e seated entering size = absurd seated
 entered_word_place_below_table k x (p ∷ []) o words a e seated entering size =
-    let inside = entering_object_is_of_guest (trace_in p.plan) p.thread p.position x o a e seated.1
-    (property_moves_to_view_trace k p (λ f. IsEntering f x o a e) seated.0 entering) in
+    let inside = object_index_of_entering_thread_is_below_object_count (trace_in p.plan) p.thread p.position x o a e seated.1
+    (property_of_trace_holds_of_trace_of_equal_plan k p (λ f. IsEntering f x o a e) seated.0 entering) in
     let same : object_count (trace_in p.plan).guest ≡ object_count (trace_in k).guest =
     ap (λ z. object_count (trace_in z).guest) seated.0 in
     omega (arith, inside, same, size)
@@ -323,8 +323,8 @@ pub left_word_place_below_table : (k : Plan) (x : thread.ThreadState) (v : View)
 left_word_place_below_table k x [] o words a seated asking size = absurd seated
 left_word_place_below_table k x (p ∷ r ∷ ps) o words a seated asking size = absurd seated
 left_word_place_below_table k x (p ∷ []) o words a seated asking size =
-    let inside = left_object_is_of_guest (trace_in p.plan) p.thread p.position x o a seated.1
-    (property_moves_to_view_trace k p (λ f. ask_of f.guest.code x ≡ Leave o a) seated.0 asking.asks) in
+    let inside = left_object_index_is_below_object_count (trace_in p.plan) p.thread p.position x o a seated.1
+    (property_of_trace_holds_of_trace_of_equal_plan k p (λ f. ask_of f.guest.code x ≡ Leave o a) seated.0 asking.asks) in
     let same : object_count (trace_in p.plan).guest ≡ object_count (trace_in k).guest =
     ap (λ z. object_count (trace_in z).guest) seated.0 in
     omega (arith, inside, same, size)
@@ -334,8 +334,8 @@ pub get_place_below_table : (k : Plan) (x : thread.ThreadState) (v : View) (o i 
 get_place_below_table k x [] o i words seated asking size = absurd seated
 get_place_below_table k x (p ∷ r ∷ ps) o i words seated asking size = absurd seated
 get_place_below_table k x (p ∷ []) o i words seated asking size =
-    let inside = get_place_is_of_guest (trace_in p.plan) p.thread p.position x o i seated.1
-    (property_moves_to_view_trace k p (λ f. ask_of f.guest.code x ≡ Get o i) seated.0 asking.asks) in
+    let inside = object_and_word_index_of_get_are_in_range (trace_in p.plan) p.thread p.position x o i seated.1
+    (property_of_trace_holds_of_trace_of_equal_plan k p (λ f. ask_of f.guest.code x ≡ Get o i) seated.0 asking.asks) in
     let same : object_count (trace_in p.plan).guest ≡ object_count (trace_in k).guest =
     ap (λ z. object_count (trace_in z).guest) seated.0 in
     omega (arith, inside.0, inside.1, same, size)
@@ -345,8 +345,8 @@ pub put_place_below_table : (k : Plan) (x : thread.ThreadState) (v : View) (o i 
 put_place_below_table k x [] o i n words seated asking size = absurd seated
 put_place_below_table k x (p ∷ r ∷ ps) o i n words seated asking size = absurd seated
 put_place_below_table k x (p ∷ []) o i n words seated asking size =
-    let inside = put_place_is_of_guest (trace_in p.plan) p.thread p.position x o i n seated.1
-    (property_moves_to_view_trace k p (λ f. ask_of f.guest.code x ≡ Put o i n) seated.0 asking.asks) in
+    let inside = object_and_word_index_of_put_are_in_range (trace_in p.plan) p.thread p.position x o i n seated.1
+    (property_of_trace_holds_of_trace_of_equal_plan k p (λ f. ask_of f.guest.code x ≡ Put o i n) seated.0 asking.asks) in
     let same : object_count (trace_in p.plan).guest ≡ object_count (trace_in k).guest =
     ap (λ z. object_count (trace_in z).guest) seated.0 in
     omega (arith, inside.0, inside.1, same, size)
@@ -369,20 +369,20 @@ granted_if_look_was_open k x e me w n seated shown on =
     let view : w.0 ≡ view_at k x x.steps true (met_of w.0) = ap (λ (z : M). z.0) (shown.opened on) in
     record { seated = subst (λ v. IsSeated k v x) (sym view) (seated_at_own_position k me.0 x true (met_of w.0) seated); view = view }
 
-pub true_test_proves : (b : Bool) (P : Type 0) → IsTrue b ↔ P → b ≡ true → P
-true_test_proves b P h e = h.0 e
+pub proposition_if_its_test_is_true : (b : Bool) (P : Type 0) → IsTrue b ↔ P → b ≡ true → P
+proposition_if_its_test_is_true b P h e = h.0 e
 
 -- after the second
-pub view_after_entry : (k : Plan) (x : thread.ThreadState) (e : Event) (me w u : M) (n m : ℕ) → LookReport k x e me w n → Opens n e → ObjectStepReport k x w u m
+pub view_after_entry_is_one_step_further : (k : Plan) (x : thread.ThreadState) (e : Event) (me w u : M) (n m : ℕ) → LookReport k x e me w n → Opens n e → ObjectStepReport k x w u m
     → ◌≡◌ {A = M} u (view_at k x (suc x.steps) false (met_of w.0), me.1)
-view_after_entry k x e me w u n m shown on emitted = emitted.view ∙ (λ i. (view_at k x (suc x.steps) false (met_of w.0), (shown.opened on i).1))
+view_after_entry_is_one_step_further k x e me w u n m shown on emitted = emitted.view ∙ (λ i. (view_at k x (suc x.steps) false (met_of w.0), (shown.opened on i).1))
 
 -- ---- a writer's leave in two steps
 
 pub seated_after_version_load : (k : Plan) (x : thread.ThreadState) (o : ℕ) (me w : M) (n : ℕ) → IsSeated k me.0 x → VersionReport k x o me w n → IsSeated k w.0 x
 seated_after_version_load k x o me w n seated seen = subst (λ (z : M). IsSeated k z.0 x) (sym seen.view) seated
 
-pub view_after_write_leave : (k : Plan) (x : thread.ThreadState) (o : ℕ) (me w u : M) (n m : ℕ) → VersionReport k x o me w n → ObjectStepReport k x w u m
+pub view_after_write_leave_is_one_step_further : (k : Plan) (x : thread.ThreadState) (o : ℕ) (me w u : M) (n m : ℕ) → VersionReport k x o me w n → ObjectStepReport k x w u m
     → ◌≡◌ {A = M} u (view_at k x (suc x.steps) false (met_of me.0), me.1)
-view_after_write_leave k x o me w u n m seen emitted =
+view_after_write_leave_is_one_step_further k x o me w u n m seen emitted =
     emitted.view ∙ (λ i. (view_at k x (suc x.steps) false (met_of (seen.view i).0), (seen.view i).1))

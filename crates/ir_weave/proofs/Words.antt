@@ -13,9 +13,9 @@ pub word_place_below_length : (cells : List Cell) (words : List ℕ) (o : ℕ) �
 word_place_below_length cells words o t l = let e = t.size in omega (arith, e, l)
 
 -- the word of an object
-pub table_after_object_word_set : (cells : List Cell) (words : List ℕ) (o w : ℕ) (c : Cell) → IsTable cells words → o < length cells → w ≡ word_of c.fields
+pub is_table_after_object_word_set : (cells : List Cell) (words : List ℕ) (o w : ℕ) (c : Cell) → IsTable cells words → o < length cells → w ≡ word_of c.fields
     → c.words ≡ (object_in cells o).words → IsTable (set cells o c) (set words (word_place o) w)
-table_after_object_word_set cells words o w c t l is same = record {
+is_table_after_object_word_set cells words o w c t l is same = record {
   size = length-set words (word_place o) w ∙ t.size ∙ ap table_length (sym (length-set cells o c));
   heads = λ p fits. elim (cases_eq p o) [
     | inl here ↦ subst (λ z. get_or (set words (word_place o) w) (word_place z) 0 ≡ word_of (object_in (set cells o c) z).fields) (sym here)
@@ -40,11 +40,11 @@ table_after_object_word_set cells words o w c t l is same = record {
 }
 
 -- a word of its contents
-pub table_after_content_word_set : (cells : List Cell) (words : List ℕ) (o i v : ℕ) (c : Cell) → IsTable cells words → o < length cells → i < most_object_words
+pub is_table_after_content_word_set : (cells : List Cell) (words : List ℕ) (o i v : ℕ) (c : Cell) → IsTable cells words → o < length cells → i < most_object_words
     → v < 2 ^ 32 → length (object_in cells o).words ≡ most_object_words → c.fields ≡ (object_in cells o).fields
     → c.words ≡ set (object_in cells o).words i v
     → IsTable (set cells o c) (set words (content_place o i) v)
-table_after_content_word_set cells words o i v c t l few value sizes same is = record {
+is_table_after_content_word_set cells words o i v c t l few value sizes same is = record {
   size = length-set words (content_place o i) v ∙ t.size ∙ ap table_length (sym (length-set cells o c));
   heads = λ p fits. get_or-set_other words (content_place o i) (word_place p) v 0 (λ e. omega (arith, e, few))
       ∙ t.heads p (let e = length-set cells o c in omega (arith, fits, e)) ∙ elim (cases_eq p o) [
@@ -84,5 +84,5 @@ table_after_content_word_set cells words o i v c t l few value sizes same is = r
     ]
 
 -- a word that is written as it was
-pub table_after_word_rewritten : (cells : List Cell) (words : List ℕ) (i : ℕ) → IsTable cells words → IsTable cells (set words i (get_or words i 0))
-table_after_word_rewritten cells words i t = subst (IsTable cells) (sym (set-get_or words i 0)) t
+pub is_table_after_word_set_to_itself : (cells : List Cell) (words : List ℕ) (i : ℕ) → IsTable cells words → IsTable cells (set words i (get_or words i 0))
+is_table_after_word_set_to_itself cells words i t = subst (IsTable cells) (sym (set-get_or words i 0)) t

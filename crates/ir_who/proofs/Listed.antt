@@ -110,9 +110,9 @@ listed_after_next_version r o v n m p rows new x makes h noted is made readers =
 -- ---- all rows
 
 -- a write entry at a version that nothing is noted of, or at a later one, isn't there
-no_write_from_unnoted_version : (r : Recorded) (o v n : ℕ) (m : Makers) → AreCoherent r → length r.threads ≤ n → Makes r n 0 m → maker_in m o v ≡ None
+no_write_at_or_above_version_without_noted_maker : (r : Recorded) (o v n : ℕ) (m : Makers) → AreCoherent r → length r.threads ≤ n → Makes r n 0 m → maker_in m o v ≡ None
     → (t i w l : ℕ) → IsWriteAt r t i o w l → v ≤ w → ⊥
-no_write_from_unnoted_version r o v n m coherent all makes none t i w l is above = elim (cases_eq v w) [
+no_write_at_or_above_version_without_noted_maker r o v n m coherent all makes none t i w l is above = elim (cases_eq v w) [
   | inl same ↦ at t i l (subst (λ z. IsWriteAt r t i o z l) (sym same) is)
   | inr ne ↦ let below = version_below_write_was_made r coherent w v t i o l (omega (arith, above, ne)) is in at below.0 below.1 below.2 below.3
 ]
@@ -133,7 +133,7 @@ listed_are_versions_if_none_noted r o v n m rows coherent all makes h none = rec
   read = λ t i w is. read_below t i w is;
   written = λ t i w l is. elim (cases_lt w v) [
     | inl less ↦ omega (arith, less, h.size)
-    | inr past ↦ absurd (no_write_from_unnoted_version r o v n m coherent all makes none t i w l is past)
+    | inr past ↦ absurd (no_write_at_or_above_version_without_noted_maker r o v n m coherent all makes none t i w l is past)
   ];
 }
   where
@@ -142,7 +142,7 @@ listed_are_versions_if_none_noted r o v n m rows coherent all makes h none = rec
     read_below t i (suc w) is = elim (cases_lt w v) [
       | inl less ↦ omega (arith, less, h.size)
       | inr past ↦ let made = read_version_has_write r coherent t i o w is in
-          absurd (no_write_from_unnoted_version r o v n m coherent all makes none made.0 made.1 w made.2 made.3 past)
+          absurd (no_write_at_or_above_version_without_noted_maker r o v n m coherent all makes none made.0 made.1 w made.2 made.3 past)
     ]
 
 -- all words are versions

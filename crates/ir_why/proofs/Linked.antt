@@ -170,10 +170,10 @@ latest_in_needs_is_latest_need r boxes t i needs p need h = record {
 }
 
 -- event k waits, and none after it up to event i
-pub link_from_waiting_event : (r : Recorded) (boxes : List PlacedBox) (t i k : ℕ) (needs : List Place) (l : Link) → AreNeeds r t k needs
+pub is_link_if_later_events_need_no_other : (r : Recorded) (boxes : List PlacedBox) (t i k : ℕ) (needs : List Place) (l : Link) → AreNeeds r t k needs
     → IsLatestIn boxes needs l.needed → l.waiting.thread ≡ t → l.waiting.event ≡ k → k ≤ i
     → ((m u j : ℕ) → k < m → m ≤ i → NeedsOther r t m u j → ⊥) → IsLink r boxes t i l
-link_from_waiting_event r boxes t i k needs l need latest thread event by last = record {
+is_link_if_later_events_need_no_other r boxes t i k needs l need latest thread event by last = record {
   thread = thread;
   waiting = subst (IsWaiting r t i) (sym event) (record {
     by = by;
@@ -184,9 +184,9 @@ link_from_waiting_event r boxes t i k needs l need latest thread event by last =
 }
 
 -- event k waits for none, as none after it
-pub no_need_from_event_on : (r : Recorded) (t i k : ℕ) (needs : List Place) → AreNeeds r t k needs → needs ≡ []
+pub none_needs_other_from_event_on_if_its_needs_are_empty : (r : Recorded) (t i k : ℕ) (needs : List Place) → AreNeeds r t k needs → needs ≡ []
     → ((m u j : ℕ) → k < m → m ≤ i → NeedsOther r t m u j → ⊥) → (m u j : ℕ) → k ≤ m → m ≤ i → NeedsOther r t m u j → ⊥
-no_need_from_event_on r t i k needs need none last m u j from to other = elim (cases_eq m k) [
+none_needs_other_from_event_on_if_its_needs_are_empty r t i k needs need none last m u j from to other = elim (cases_eq m k) [
   | inl here ↦ let own = need.complete u j (subst (λ z. NeedsOther r t z u j) here other) in
       none-some own.place (sym (ap (λ (z : List Place). slice_get z own.number) none) ∙ own.there)
   | inr ne ↦ last m u j (omega (arith, from, ne)) to other

@@ -29,19 +29,19 @@ is_other_is_true_if_other_thread t p ne = ap not (ne_eqb p.thread t ne)
 
 -- ---- what made a version
 
-listed_place_is_first : (x : Option Place) (k : ℕ) (p : Place) → slice_get (listed x) k ≡ Some p → (k ≡ 0) × (x ≡ Some p)
-listed_place_is_first None k p e = absurd (none-some p e)
-listed_place_is_first (Some q) zero p e = (refl, e)
-listed_place_is_first (Some q) (suc k) p e = absurd (none-some p e)
+get_of_listed_is_some_only_at_zero : (x : Option Place) (k : ℕ) (p : Place) → slice_get (listed x) k ≡ Some p → (k ≡ 0) × (x ≡ Some p)
+get_of_listed_is_some_only_at_zero None k p e = absurd (none-some p e)
+get_of_listed_is_some_only_at_zero (Some q) zero p e = (refl, e)
+get_of_listed_is_some_only_at_zero (Some q) (suc k) p e = absurd (none-some p e)
 
 listed_place_at_zero : (x : Option Place) (p : Place) → x ≡ Some p → slice_get (listed x) 0 ≡ Some p
 listed_place_at_zero None p e = absurd (none-some p e)
 listed_place_at_zero (Some q) p e = e
 
 -- what a filtered list of at most one has, it has first
-filtered_listed_place_is_first : (t : ℕ) (x : Option Place) (k : ℕ) (p : Place) → slice_get (others t (listed x)) k ≡ Some p → k ≡ 0
-filtered_listed_place_is_first t None k p e = absurd (none-some p e)
-filtered_listed_place_is_first t (Some q) k p e = by (is_other t q) refl k e
+get_of_filtered_listed_is_some_only_at_zero : (t : ℕ) (x : Option Place) (k : ℕ) (p : Place) → slice_get (others t (listed x)) k ≡ Some p → k ≡ 0
+get_of_filtered_listed_is_some_only_at_zero t None k p e = absurd (none-some p e)
+get_of_filtered_listed_is_some_only_at_zero t (Some q) k p e = by (is_other t q) refl k e
   where
     by : (c : Bool) → is_other t q ≡ c → (m : ℕ) → slice_get (others t (listed (Some q))) m ≡ Some p → m ≡ 0
     by c is zero at = refl
@@ -90,11 +90,11 @@ read_is_no_write r t i o v p w l a b =
     let same : variant.Read o v ≡ variant.Write p w l = same_Some (variant.Read o v) (variant.Write p w l) (sym a ∙ b) in cc
 
 -- the first part is what made the version, if it is of another thread
-noted_maker_is_maker : (r : Recorded) (tables : Tables) (t i o w k : ℕ) (p : Place) → HasTables r tables → IsEntryAt r t i o w
+noted_maker_of_other_thread_is_maker : (r : Recorded) (tables : Tables) (t i o w k : ℕ) (p : Place) → HasTables r tables → IsEntryAt r t i o w
     → slice_get (others t (listed (maker_at tables o w))) k ≡ Some p → IsMakerOf r t i p.thread p.event × (p.thread ≢ t)
-noted_maker_is_maker r tables t i o w k p has entry e =
+noted_maker_of_other_thread_is_maker r tables t i o w k p has entry e =
     let own = filter_sound (is_other t) (listed (maker_at tables o w)) k p e in
-    let noted = listed_place_is_first (maker_at tables o w) own.1.0 p own.1.1 in
+    let noted = get_of_listed_is_some_only_at_zero (maker_at tables o w) own.1.0 p own.1.1 in
     let made = noted_maker_is_write r tables o w p has noted.1 in (
       record {
         object = o;
@@ -106,9 +106,9 @@ noted_maker_is_maker r tables t i o w k p has entry e =
       other_thread_if_is_other_is_true t p own.0,
     )
 
-maker_is_noted : (r : Recorded) (tables : Tables) (t i o w u j : ℕ) → AreCoherent r → HasTables r tables → IsEntryAt r t i o w
+maker_of_other_thread_is_noted : (r : Recorded) (tables : Tables) (t i o w u j : ℕ) → AreCoherent r → HasTables r tables → IsEntryAt r t i o w
     → IsMakerOf r t i u j → u ≢ t → HasPlace (others t (listed (maker_at tables o w))) u j
-maker_is_noted r tables t i o w u j coherent has entry maker other =
+maker_of_other_thread_is_noted r tables t i o w u j coherent has entry maker other =
     let same = entry_at_is_unique r t i o w maker.object (suc maker.version) entry maker.entry in
     let noted = write_has_noted_maker r tables maker.object maker.version u j maker.readers coherent has maker.made in
     let p = noted.0 in
@@ -142,14 +142,14 @@ needs_of_no_entry_are_empty r t i e at read write = record {
 pub needs_of_read_entry_are_its_maker : (r : Recorded) (tables : Tables) (t i o w : ℕ) → AreCoherent r → HasTables r tables → IsReadAt r t i o w
     → AreNeeds r t i (others t (listed (maker_at tables o w)))
 needs_of_read_entry_are_its_maker r tables t i o w coherent has read = record {
-  sound = λ k p is. let own = noted_maker_is_maker r tables t i o w k p has (inl read) is in (inl own.0, own.1);
+  sound = λ k p is. let own = noted_maker_of_other_thread_is_maker r tables t i o w k p has (inl read) is in (inl own.0, own.1);
   complete = all;
-  first = λ k p is maker. filtered_listed_place_is_first t (maker_at tables o w) k p is;
-  rising = λ a b p q less first second reader. absurd (omega (arith, less, filtered_listed_place_is_first t (maker_at tables o w) b q second));
+  first = λ k p is maker. get_of_filtered_listed_is_some_only_at_zero t (maker_at tables o w) k p is;
+  rising = λ a b p q less first second reader. absurd (omega (arith, less, get_of_filtered_listed_is_some_only_at_zero t (maker_at tables o w) b q second));
 }
   where
     all : (u j : ℕ) → NeedsOther r t i u j → HasPlace (others t (listed (maker_at tables o w))) u j
-    all u j (inl maker, other) = maker_is_noted r tables t i o w u j coherent has (inl read) maker other
+    all u j (inl maker, other) = maker_of_other_thread_is_noted r tables t i o w u j coherent has (inl read) maker other
     all u j (inr reader, other) = absurd (read_is_no_write r t i o w reader.object reader.version reader.readers read reader.write)
 
 -- a write entry needs the read entries of its version too
@@ -170,7 +170,7 @@ needs_of_write_entry_are_its_maker_and_readers r tables t i o w l coherent has w
 
     sound : (k : ℕ) (p : Place) → slice_get (made ++ readers) k ≡ Some p → NeedsOther r t i p.thread p.event
     sound k p is = elim (slice_get_of_append_cases made readers k p is) [
-      | inl h ↦ let own = noted_maker_is_maker r tables t i o w k p has (inr (l, write)) h in (inl own.0, own.1)
+      | inl h ↦ let own = noted_maker_of_other_thread_is_maker r tables t i o w k p has (inr (l, write)) h in (inl own.0, own.1)
       | inr h ↦ let own = reader_at h.0 p h.2 in
           (inr (record { object = o; version = w; readers = l; write = write; read = own.0 }), own.1)
     ]
@@ -180,7 +180,7 @@ needs_of_write_entry_are_its_maker_and_readers r tables t i o w l coherent has w
 
     all : (u j : ℕ) → NeedsOther r t i u j → HasPlace (made ++ readers) u j
     all u j (inl maker, other) =
-        let own = maker_is_noted r tables t i o w u j coherent has (inr (l, write)) maker other in
+        let own = maker_of_other_thread_is_noted r tables t i o w u j coherent has (inr (l, write)) maker other in
         record {
           number = own.number;
           place = own.place;
@@ -205,17 +205,17 @@ needs_of_write_entry_are_its_maker_and_readers r tables t i o w l coherent has w
 
     first : (k : ℕ) (p : Place) → slice_get (made ++ readers) k ≡ Some p → IsMakerOf r t i p.thread p.event → k ≡ 0
     first k p is maker = elim (slice_get_of_append_cases made readers k p is) [
-      | inl h ↦ filtered_listed_place_is_first t (maker_at tables o w) k p h
+      | inl h ↦ get_of_filtered_listed_is_some_only_at_zero t (maker_at tables o w) k p h
       | inr h ↦ absurd (read_is_no_write r p.thread p.event o w maker.object maker.version maker.readers (reader_at h.0 p h.2).0 maker.made)
     ]
 
     rising : (a b : ℕ) (p q : Place) → a < b → slice_get (made ++ readers) a ≡ Some p → slice_get (made ++ readers) b ≡ Some q
         → IsReaderFor r t i p.thread p.event → IsBefore p.thread p.event q.thread q.event
     rising a b p q less one two reader = elim (slice_get_of_append_cases made readers a p one) [
-      | inl h ↦ let own = (noted_maker_is_maker r tables t i o w a p has (inr (l, write)) h).0 in
+      | inl h ↦ let own = (noted_maker_of_other_thread_is_maker r tables t i o w a p has (inr (l, write)) h).0 in
           absurd (read_is_no_write r p.thread p.event reader.object reader.version own.object own.version own.readers reader.read own.made)
       | inr h ↦ elim (slice_get_of_append_cases made readers b q two) [
-        | inl k ↦ absurd (omega (arith, less, filtered_listed_place_is_first t (maker_at tables o w) b q k))
+        | inl k ↦ absurd (omega (arith, less, get_of_filtered_listed_is_some_only_at_zero t (maker_at tables o w) b q k))
         | inr k ↦ let kept = filter_keeps_order (is_other t) (read_in tables.reads o w) h.0 k.0 p q (omega (arith, less, h.1, k.1)) h.2 k.2 in
             (has.reads o w).rising kept.0 kept.1 p q kept.2 kept.3 kept.4
       ]

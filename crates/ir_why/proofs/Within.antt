@@ -76,8 +76,8 @@ first_cut_is_consistent f run whole = (
 -- ---- circles
 
 -- a trace without a circle has none
-pub no_circle_at_event : (r : Recorded) (t e : ℕ) → HasNoCircle r → IsCircleAt r t e → ⊥
-no_circle_at_event r t e h c =
+pub no_event_has_circle_if_recorded_has_none : (r : Recorded) (t e : ℕ) → HasNoCircle r → IsCircleAt r t e → ⊥
+no_event_has_circle_if_recorded_has_none r t e h c =
     let all = h.2 t in
     let most = c.full.most h.0 h.1 t in
     let next = c.next in
@@ -87,7 +87,7 @@ no_circle_at_event r t e h c =
 -- the trace of a run has no circle
 pub run_trace_has_no_circle : RunsHaveNoCircle → (f : FittedTrace) → HasRun f → (r : Recorded) → r ≡ f.recorded → (t e : ℕ) → IsCircleAt r t e → ⊥
 run_trace_has_no_circle law f h r same t e c =
-    no_circle_at_event f.recorded t e
+    no_event_has_circle_if_recorded_has_none f.recorded t e
     (law f.guest.code (start_of f) (guest_start_is_start f.guest f.recorded.budget f.recorded.profile) h.run h.whole.1.runs f.recorded (λ u. elim (cases_lt u (length f.guest.entries)) [
       | inl l ↦ h.whole.1.logs u l
       | inr past ↦ ap events (no_trail_of_missing_thread f h.run h.whole u past)
@@ -106,9 +106,9 @@ flat_map_of_drop_step f (x ∷ xs) zero d l = refl
 flat_map_of_drop_step f (x ∷ xs) (suc n) d l = flat_map_of_drop_step f xs n d (omega (arith, l))
 
 -- the text of one element more
-pub flat_map_text_step : {X : Type 0} (f : X → List ℕ) (xs : List X) (n : ℕ) (d : X) (old new all : List ℕ) → n < length xs → new ≡ old ++ f (get_or xs n d)
+pub text_is_so_far_and_flat_map_of_rest_after_one_more : {X : Type 0} (f : X → List ℕ) (xs : List X) (n : ℕ) (d : X) (old new all : List ℕ) → n < length xs → new ≡ old ++ f (get_or xs n d)
     → old ++ flat_map f (drop n xs) ≡ all → new ++ flat_map f (drop (n + 1) xs) ≡ all
-flat_map_text_step f xs n d old new all l is h =
+text_is_so_far_and_flat_map_of_rest_after_one_more f xs n d old new all l is h =
     let same : n + 1 ≡ suc n = omega arith in
     ap (λ k. new ++ flat_map f (drop k xs)) same ∙ ap (λ t. t ++ flat_map f (drop (suc n) xs)) is
     ∙ append_assoc old (f (get_or xs n d)) (flat_map f (drop (suc n) xs)) ∙ ap (λ t. old ++ t) (sym (flat_map_of_drop_step f xs n d l)) ∙ h

@@ -20,16 +20,16 @@ use Rattle.ir_word.specs.declared.object_word.ObjectWord.{ObjectWord}
 use Rattle.ir_word.specs.declared.worded.Worded.{Worded}
 use Rattle.ir_word.proofs.Built.{some_version_injective}
 
-conditional_predecessor_of_zero : (b : Bool) (n : ℕ) → n ≡ 0 → cond b (pred n) n ≡ 0
-conditional_predecessor_of_zero true n e = ap pred e
-conditional_predecessor_of_zero false n e = e
+conditional_predecessor_of_zero_is_zero : (b : Bool) (n : ℕ) → n ≡ 0 → cond b (pred n) n ≡ 0
+conditional_predecessor_of_zero_is_zero true n e = ap pred e
+conditional_predecessor_of_zero_is_zero false n e = e
 
 -- no step is in the cut with no step
 part_below_zero_cut_is_empty : (run : List Step) (p : Cut) → ((t : ℕ) → p t ≡ 0) → part run p ≡ []
 part_below_zero_cut_is_empty [] p none = refl
 part_below_zero_cut_is_empty (e ∷ run) p none =
     ap (λ b. join_if (ltb 0 b) e (part run (lower p e.0))) (none e.0)
-    ∙ part_below_zero_cut_is_empty run (lower p e.0) (λ u. conditional_predecessor_of_zero (eqb u e.0) (p u) (none u))
+    ∙ part_below_zero_cut_is_empty run (lower p e.0) (λ u. conditional_predecessor_of_zero_is_zero (eqb u e.0) (p u) (none u))
 
 -- the words of an object of the state before the first step
 pub object_has_first_words_at_start : (f : FittedTrace) (s : Standing) → HasRun f → StandsAt f (λ t. 0) s → (o i : ℕ) → o < object_count f.guest

@@ -110,9 +110,9 @@ track_after_next_hold f rows w t k old new is l e = subst (IsTrack f rows w t k)
   put = λ some. is.put l;
 })
 
-pub pending_after_next_hold : (old new : Track) (h : Hold) → new ≡ record old { next = old.next + 1 }
+pub pending_row_stays_pending_or_is_of_hold_passed : (old new : Track) (h : Hold) → new ≡ record old { next = old.next + 1 }
     → ((d : Hold) → slice_index_or old.holds.items old.next d ≡ h) → (r : ℕ) → IsPending old r → IsPending new r ⊎ (h.row ≡ r)
-pending_after_next_hold old new h e here r is = elim (cases_eq is.0 old.next) [
+pending_row_stays_pending_or_is_of_hold_passed old new h e here r is = elim (cases_eq is.0 old.next) [
   | inl at ↦ inr (ap (λ (z : Hold). z.row) (sym (here h)) ∙ ap (λ j. (slice_index_or old.holds.items j h).row) (sym at) ∙ is.3 h)
   | inr ne ↦ inl (subst (λ (z : Track). IsPending z r) (sym e) (is.0, (let a = is.1 in omega (arith, a, ne)), is.2, is.3))
 ]

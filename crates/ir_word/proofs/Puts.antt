@@ -61,22 +61,22 @@ put_in_more_steps_without_put f w t from k to (Some s) up none is = record {
 }
 
 -- there is none before the steps that are looked at
-pub put_in_no_steps : (f : FittedTrace) (w : ObjectWord) (t from k to : ℕ) (put : Option ℕ) → k ≤ from → to ≤ from → IsPutIn f w t from k put
+pub put_in_empty_range_holds_for_other_empty_range : (f : FittedTrace) (w : ObjectWord) (t from k to : ℕ) (put : Option ℕ) → k ≤ from → to ≤ from → IsPutIn f w t from k put
     → IsPutIn f w t from to put
-put_in_no_steps f w t from k to None before within is = λ j past l. absurd (omega (arith, past, l, within))
-put_in_no_steps f w t from k to (Some s) before within is = absurd (let p = is.past in let l = is.before in omega (arith, before, p, l))
+put_in_empty_range_holds_for_other_empty_range f w t from k to None before within is = λ j past l. absurd (omega (arith, past, l, within))
+put_in_empty_range_holds_for_other_empty_range f w t from k to (Some s) before within is = absurd (let p = is.past in let l = is.before in omega (arith, before, p, l))
 
 -- n steps more, with a call or with none
-pub put_in_steps_with_call : (f : FittedTrace) (w : ObjectWord) (t from k n : ℕ) (put new : Option ℕ) (call : Option Exchange) → HasRun f
+pub put_in_after_steps_with_one_call_at_most : (f : FittedTrace) (w : ObjectWord) (t from k n : ℕ) (put new : Option ℕ) (call : Option Exchange) → HasRun f
     → AreCalls f t k n (option_to_list call) → ((c : Exchange) → call ≡ Some c → n ≡ 1)
     → ((c : Exchange) → call ≡ Some c → puts w c.asked ≡ true → new ≡ Some k)
     → (((c : Exchange) → call ≡ Some c → puts w c.asked ≡ false) → new ≡ put)
     → from ≤ k → IsPutIn f w t from k put → IsPutIn f w t from (k + n) new
-put_in_steps_with_call f w t from k n put new None h calls one some none within is =
+put_in_after_steps_with_one_call_at_most f w t from k n put new None h calls one some none within is =
     subst (IsPutIn f w t from (k + n)) (sym (none (λ c e. absurd (cc e))))
     (put_in_more_steps_without_put f w t from k (k + n) put (omega arith)
     (λ j past before at. cc (puts_is_true_if_step_puts_word f w t j ask.Private h (steps_without_call_are_private f t k n calls j past before) at)) is)
-put_in_steps_with_call f w t from k n put new (Some c) h calls one some none within is = by (puts w c.asked) refl
+put_in_after_steps_with_one_call_at_most f w t from k n put new (Some c) h calls one some none within is = by (puts w c.asked) refl
   where
     n1 : n ≡ 1
     n1 = one c refl

@@ -21,7 +21,7 @@ use Rattle.ir_word.specs.declared.hold.Hold.{Hold}
 use Rattle.ir_word.specs.declared.object_word.ObjectWord.{ObjectWord}
 use Rattle.ir_word.specs.declared.track.Track.{Track}
 use Rattle.ir_word.specs.declared.worded.Worded.{Worded}
-use Rattle.ir_word.proofs.Puts.{put_in_no_steps, put_in_steps_with_call}
+use Rattle.ir_word.proofs.Puts.{put_in_empty_range_holds_for_other_empty_range, put_in_after_steps_with_one_call_at_most}
 use Rattle.ir_word.proofs.Noted.{worded_version_stays_worded, pending_or_worded_stays_so}
 
 -- ---- how far it goes
@@ -54,24 +54,24 @@ pub put_after_looked_at_steps : (f : FittedTrace) (rows : List Version) (w : Obj
     → ((c : Exchange) → call ≡ Some c → puts w c.asked ≡ true → new.put ≡ Some k)
     → (((c : Exchange) → call ≡ Some c → puts w c.asked ≡ false) → new.put ≡ old.put) → IsPutIn f w t old.from (k + n) new.put
 put_after_looked_at_steps f rows w t k n stop old new true call h is stops within some seen unseen calls kept one put none =
-    put_in_steps_with_call f w t old.from k n old.put new.put call h (calls refl) one put none (seen refl).1 (is.put some)
+    put_in_after_steps_with_one_call_at_most f w t old.from k n old.put new.put call h (calls refl) one put none (seen refl).1 (is.put some)
 put_after_looked_at_steps f rows w t k n stop old new false call h is stops within some seen unseen calls kept one put none =
     let early : k < old.from = elim (cases_lt k old.from) [
       | inl less ↦ less
       | inr past ↦ absurd (unseen refl (some, past))
     ] in
     subst (IsPutIn f w t old.from (k + n)) (sym (none (λ c e. absurd (none_some c (sym (kept refl) ∙ e)))))
-    (put_in_no_steps f w t old.from k (k + n) old.put (omega (arith, early))
+    (put_in_empty_range_holds_for_other_empty_range f w t old.from k (k + n) old.put (omega (arith, early))
     (let a = stops.from some early in omega (arith, a, within)) (is.put some))
   where
     none_some : (c : Exchange) → None ≡ Some c → ⊥
     none_some c e = cc e
 
 -- at most to the next stop
-pub track_up_to_next_stop : (f : FittedTrace) (rows : List Version) (w : ObjectWord) (t from k stop : ℕ) (old new : Track) → IsTrack f rows w t from old
+pub track_stays_track_up_to_next_stop : (f : FittedTrace) (rows : List Version) (w : ObjectWord) (t from k stop : ℕ) (old new : Track) → IsTrack f rows w t from old
     → IsBeforeStop from stop old → k ≤ stop → new.holds ≡ old.holds → new.next ≡ old.next → new.from ≡ old.from
     → (old.next < length old.holds.items → IsPutIn f w t old.from k new.put) → IsTrack f rows w t k new
-track_up_to_next_stop f rows w t from k stop old new is stops within holds next same put = record {
+track_stays_track_up_to_next_stop f rows w t from k stop old new is stops within holds next same put = record {
   sorted = subst (λ v. IsNonDecreasingBy (λ (h : Hold). h.leave) v.items) (sym holds) is.sorted;
   holds = subst (λ v. (i : ℕ) (d : Hold) → i < length v.items → IsHoldOf f rows w t (slice_index_or v.items i d)) (sym holds) is.holds;
   from = subst (λ v. (i : ℕ) (d : Hold) → i < length v.items → new.from ≤ (slice_index_or v.items i d).entry + 1) (sym holds)

@@ -68,7 +68,7 @@ fn object_byte(contents: &[u32], words: usize, place: u32) -> u8
 }
 
 impl Remote {
-    #[tactic(auto, using(crate::proofs::Seen::no_object_byte_behind_objects, crate::proofs::Seen::object_byte_is_byte_of_object_in_hand, crate::proofs::Seen::object_is_in_hand))]
+    #[tactic(auto, using(crate::proofs::Seen::no_object_byte_behind_objects, crate::proofs::Seen::object_byte_is_byte_of_object_in_hand, crate::proofs::Seen::guest_object_is_below_number_of_objects_in_hand))]
     // The byte of the objects at an address from their start on.
     fn object_byte(&self, offset: u32) -> Option<u8>
         requires { IsThere self.now }

@@ -77,7 +77,7 @@ impl Remote {
         self.setting(has_watch(self.watches.as_slice(), watched))
     }
 
-    #[tactic(auto, using(crate::proofs::Setting::stub_with_break_is_stub))]
+    #[tactic(auto, using(crate::proofs::Setting::stub_with_break_is_stub_if_points_have_room))]
     /// `Z0`, `Z1`: sets a breakpoint of all threads.
     pub fn set_break(&mut self, point: Breakpoint) -> Reply
         ensures reply { result ≡ setting_reply (break_setting self.old.stub point) }
@@ -103,7 +103,7 @@ impl Remote {
         Reply::Done
     }
 
-    #[tactic(auto, using(crate::proofs::Setting::stub_with_watch_is_stub))]
+    #[tactic(auto, using(crate::proofs::Setting::stub_with_watch_is_stub_if_room_and_can_watch))]
     /// `Z2`: sets a watch of the words in which bytes lie.
     pub fn set_watch(&mut self, watched: Watched) -> Reply
         ensures reply { result ≡ setting_reply (watch_setting self.old.stub watched) }

@@ -1,10 +1,10 @@
 //! The steps of a worker.
 
-ghost use Rattle.std.specs.Prelude.{◌≡◌, ◌≢◌, ◌++◌, false, OnOk, OnErr};
+ghost use Rattle.std.specs.Prelude.{◌≡◌, ◌≢◌, ◌<◌, ◌≤◌, ◌++◌, false, OnOk, OnErr};
 ghost use Rattle.ir_thread.specs.State.{ask_of};
 ghost use Rattle.ir_runs.specs.declared.access.Access.TheVariants.{Reading, Writing};
 ghost use Rattle.ir_thread.specs.declared.ask.Ask.TheVariants as ask;
-ghost use Rattle.ir_record.specs.Working.{IsAtWork, StaysAtWork, IsStopped, IsReadyWorker, RanToEnd, IsOwn, IsInside, IsOutside};
+ghost use Rattle.ir_record.specs.Working.{IsAtWork, StaysAtWork, IsStopped, IsReadyWorker, RanToEnd, IsOwn, IsInside, IsOutside, own_steps_left};
 
 use crate::by_threads::worker::Worker;
 use crate::world::{World, WorldErr};
@@ -32,6 +32,7 @@ impl<W: World> Worker<W> {
         requires worker { IsAtWork W.answers crew.now code.now self.old }
         requires asked { ask_of code.now self.old.thread ≡ ask.Enter object Reading }
         ensures stays { StaysAtWork W.answers crew.now self.old self.new }
+        ensures fewer { own_steps_left self.new.thread < own_steps_left self.old.thread }
         ensures world { self.new.world ≡ self.old.world }
     {
         let version = crew.enter_read(rt, &mut self.seat, object);
@@ -53,6 +54,7 @@ impl<W: World> Worker<W> {
         requires worker { IsAtWork W.answers crew.now code.now self.old }
         requires asked { ask_of code.now self.old.thread ≡ ask.Enter object Writing }
         ensures stays { StaysAtWork W.answers crew.now self.old self.new }
+        ensures fewer { own_steps_left self.new.thread < own_steps_left self.old.thread }
         ensures world { self.new.world ≡ self.old.world }
     {
         let (version, readers) = crew.enter_write(rt, &mut self.seat, object);
@@ -71,6 +73,7 @@ impl<W: World> Worker<W> {
         requires worker { IsAtWork W.answers crew.now code.now self.old }
         requires asked { ask_of code.now self.old.thread ≡ ask.Try object }
         ensures stays { StaysAtWork W.answers crew.now self.old self.new }
+        ensures fewer { own_steps_left self.new.thread < own_steps_left self.old.thread }
         ensures world { self.new.world ≡ self.old.world }
     {
         let Some((version, readers)) = crew.try_write(&mut self.seat, object) else {
@@ -95,6 +98,7 @@ impl<W: World> Worker<W> {
         requires worker { IsAtWork W.answers crew.now code.now self.old }
         requires asked { ask_of code.now self.old.thread ≡ ask.Leave object access }
         ensures stays { StaysAtWork W.answers crew.now self.old self.new }
+        ensures fewer { own_steps_left self.new.thread < own_steps_left self.old.thread }
         ensures world { self.new.world ≡ self.old.world }
     {
         gate.leaving(self.thread.number(), object, access);
@@ -109,6 +113,7 @@ impl<W: World> Worker<W> {
         requires worker { IsAtWork W.answers crew.now code.now self.old }
         requires asked { ask_of code.now self.old.thread ≡ ask.Get object index }
         ensures stays { StaysAtWork W.answers crew.now self.old self.new }
+        ensures fewer { own_steps_left self.new.thread < own_steps_left self.old.thread }
         ensures world { self.new.world ≡ self.old.world }
     {
         let value = crew.get(&mut self.seat, object, index);
@@ -122,6 +127,7 @@ impl<W: World> Worker<W> {
         requires worker { IsAtWork W.answers crew.now code.now self.old }
         requires asked { ask_of code.now self.old.thread ≡ ask.Put object index value }
         ensures stays { StaysAtWork W.answers crew.now self.old self.new }
+        ensures fewer { own_steps_left self.new.thread < own_steps_left self.old.thread }
         ensures world { self.new.world ≡ self.old.world }
     {
         crew.put(&mut self.seat, object, index, value);
@@ -136,6 +142,7 @@ impl<W: World> Worker<W> {
         requires asked { ask_of code.now self.old.thread ≡ asked }
         requires own { IsOwn asked }
         ensures stays { StaysAtWork W.answers crew.now self.old self.new }
+        ensures fewer { own_steps_left self.new.thread < own_steps_left self.old.thread }
         ensures world { self.new.world ≡ self.old.world }
     {
         self.thread.take_asked(code, asked, Reply::Go);
@@ -148,6 +155,7 @@ impl<W: World> Worker<W> {
         requires worker { IsAtWork W.answers crew.now code.now self.old }
         ensures asked { result ≡ ask_of code.now self.new.thread }
         ensures stays { StaysAtWork W.answers crew.now self.old self.new }
+        ensures not_more { own_steps_left self.new.thread ≤ own_steps_left self.old.thread }
         ensures world { self.new.world ≡ self.old.world }
     {
         let (ran, asked) = self.thread.run_to_ask(code, STRETCH);
@@ -161,6 +169,7 @@ impl<W: World> Worker<W> {
         requires asked { ask_of code.now self.old.thread ≡ ask.Env kind }
         requires works { W.broken self.old.world ≡ false }
         ensures stays { OnOk result (StaysAtWork W.answers crew.now self.old self.new) }
+        ensures fewer { OnOk result (own_steps_left self.new.thread < own_steps_left self.old.thread) }
         ensures works { OnOk result (W.broken self.new.world ≡ false) }
         ensures stopped { OnErr result (IsStopped W.answers W.broken code.now self.old self.new) }
         ensures world { W.origin self.new.world ≡ W.origin self.old.world }
@@ -191,6 +200,7 @@ impl<W: World> Worker<W> {
         requires some { asked ≢ ask.Done }
         requires works { W.broken self.old.world ≡ false }
         ensures stays { OnOk result (StaysAtWork W.answers crew.now self.old self.new) }
+        ensures fewer { OnOk result (own_steps_left self.new.thread < own_steps_left self.old.thread) }
         ensures works { OnOk result (W.broken self.new.world ≡ false) }
         ensures stopped { OnErr result (IsStopped W.answers W.broken code.now self.old self.new) }
         ensures world { W.origin self.new.world ≡ W.origin self.old.world }
@@ -230,7 +240,7 @@ impl<W: World> Worker<W> {
         requires { IsReadyWorker W.answers W.broken crew.now.table.shared.key crew.now.table.shared.table_id code.now self.old }
         ensures { RanToEnd W.answers W.broken W.origin crew.now.table.shared.key self.old self.new }
     {
-        for _ in rt.forever() {
+        'steps: loop {
             let asked = self.take_private_steps(crew, code, gate);
             if asked == Ask::Done {
                 return;
@@ -240,6 +250,5 @@ impl<W: World> Worker<W> {
                 return;
             }
         }
-        unreachable!()
     }
 }

@@ -14,7 +14,7 @@ pub returns-clause-register : goal.returns-clause-register
 returns-clause-register c = RowTests.unknown_register_is_fault
 
 pub returns-clause-number : goal.returns-clause-number
-returns-clause-number c = RowTests.number_out_of_range_is_fault
+returns-clause-number c = RowTests.number_out_of_range_is_bad_number
 
 pub returns-clause-missing : goal.returns-clause-missing
 returns-clause-missing c = RowTests.missing_label_is_fault
@@ -23,10 +23,10 @@ pub returns-clause-section : goal.returns-clause-section
 returns-clause-section c = RowTests.space_in_text_is_wrong_section
 
 pub returns-clause-end : goal.returns-clause-end
-returns-clause-end c = RowTests.end
+returns-clause-end c = RowTests.thread_entry_label_at_end_of_code_is_wrong_section
 
 pub returns-clause-large : goal.returns-clause-large
-returns-clause-large c = RowTests.large
+returns-clause-large c = RowTests.large_directive_assembles_to_large_image
 
 pub returns-clause-late : goal.returns-clause-late
 returns-clause-late c = RowTests.late_large_is_wrong_section

@@ -4,7 +4,7 @@ use Rattle.ir_image.specs.Guest.{Guest}
 use Rattle.ir_asm.specs.Passes.{second_pass}
 use Rattle.ir_asm.specs.Answered.{Answers}
 use Rattle.ir_asm.specs.Bounds.{HasFewWords}
-use Rattle.ir_asm.proofs.Kept.{get_or_has_property_of_all, second_pass_step, second_pass_stops_at_refused_put, put_keeps_form, put_keeps_word_count}
+use Rattle.ir_asm.proofs.Kept.{get_or_has_property_of_all, second_pass_of_rest_step_after_put, second_pass_stops_at_refused_put, put_keeps_form, put_keeps_word_count}
 use Rattle.ir_asm.proofs.second_pass.second_pass.Goals as goal
 
 pub put-requires-clause-few : goal.put-requires-clause-few
@@ -34,7 +34,7 @@ loop-placed-preserved c =
     (get_or_has_property_of_all (λ y. HasFewWords c.args.parts.now.form y.item) c.args.all.now c.loop-placed.placed-index x c.loop-placed-test.true
     c.requires.few)) in
     record {
-      whole_is = second_pass_step c.args.scan.now c.args.all.now c.loop-placed.placed-index x c.loop-placed.parts c.put.new.parts _
+      whole_is = second_pass_of_rest_step_after_put c.args.scan.now c.args.all.now c.loop-placed.placed-index x c.loop-placed.parts c.put.new.parts _
           c.loop-placed-test.true c.placed-item.is c.in-Ok.ensures c.loop-placed.invariant.whole_is;
       there = put_keeps_word_count c.args.scan.now x.address x.item c.loop-placed.parts c.put.new.parts few c.loop-placed.invariant.there
           c.in-Ok.ensures;

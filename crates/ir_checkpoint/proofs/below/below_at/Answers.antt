@@ -1,10 +1,10 @@
 use Rattle.std.proofs.Common.{arith}
-use Rattle.ir_checkpoint.proofs.Lower.{length_of_kept_cut, kept_cut_is_below_position}
+use Rattle.ir_checkpoint.proofs.Lower.{length_of_kept_cut_is_guest_thread_count, kept_cut_is_below_position}
 use Rattle.ir_checkpoint.proofs.below.below_at.Goals as goal
 
 pub position-own-requires : goal.position-own-requires
 position-own-requires c =
-    let size = length_of_kept_cut c.args.fitted.now c.args.keeper.now.kept c.in_ok-number.number c.in_ok-cut.cut.now c.requires.kept
+    let size = length_of_kept_cut_is_guest_thread_count c.args.fitted.now c.args.keeper.now.kept c.in_ok-number.number c.in_ok-cut.cut.now c.requires.kept
     c.in_ok-cut.ensures.value in
     omega (arith, size, c.requires.thread)
 

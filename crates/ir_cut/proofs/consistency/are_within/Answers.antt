@@ -1,5 +1,5 @@
 use Rattle.std.proofs.Common.{◌<◌, subst}
-use Rattle.ir_cut.proofs.Closed.{inconsistent_if_thread_not_closed, first_threads_closed_step, consistent_cut_at_last_thread}
+use Rattle.ir_cut.proofs.Closed.{inconsistent_if_thread_not_closed, first_threads_closed_step, cut_is_consistent_after_last_closed_thread}
 use Rattle.ir_cut.proofs.consistency.are_within.Goals as goal
 
 pub returns-then-not-is_within : goal.returns-then-not-is_within
@@ -11,5 +11,5 @@ loop-t-preserved c = first_threads_closed_step c.args.fitted.now c.args.position
     c.if-not-is_within.false c.loop-t.invariant
 
 pub returns : goal.returns
-returns c = consistent_cut_at_last_thread c.args.fitted.now c.requires.fitted.run c.args.positions.now c.loop-t.t c.requires.size c.loop-t-test.false
+returns c = cut_is_consistent_after_last_closed_thread c.args.fitted.now c.requires.fitted.run c.args.positions.now c.loop-t.t c.requires.size c.loop-t-test.false
     c.loop-t.invariant

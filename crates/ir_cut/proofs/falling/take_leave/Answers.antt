@@ -1,8 +1,8 @@
-use Rattle.ir_cut.proofs.Stepping.{falling_after_leave_taken, fewer_leaves_left_after_leave, leaves_counted_after_leave_taken}
+use Rattle.ir_cut.proofs.Stepping.{falling_after_leave_taken, fewer_leaves_left_after_leave, counts_are_of_leaves_after_leave_taken}
 use Rattle.ir_cut.proofs.falling.take_leave.Goals as goal
 
 pub returns-clause-each : goal.returns-clause-each
-returns-clause-each c = leaves_counted_after_leave_taken c.args.fitted.now c.args.positions.now.items c.args.next.now.items c.args.t c.index.result.now
+returns-clause-each c = counts_are_of_leaves_after_leave_taken c.args.fitted.now c.args.positions.now.items c.args.next.now.items c.args.t c.index.result.now
     c.requires.each c.requires.thread c.requires.above c.index.ensures
 
 pub returns-clause-fewer : goal.returns-clause-fewer

@@ -1,7 +1,7 @@
 use Rattle.std.proofs.Common.{arith, ◌∙◌}
 use Rattle.ir_stream.proofs.CallerLemmas.{writes_or_fails_if_all_written, writes_or_fails_with_handed_on_error}
 use Rattle.ir_text.proofs.CallerLemmas.{buffered_after_line_written, prefix_written_if_line_fails, text_written_if_nothing_left}
-use Rattle.ir_debug.proofs.KeptCuts.{kept_text_step, kept_text_at_end}
+use Rattle.ir_debug.proofs.KeptCuts.{kept_text_step, kept_text_at_end_is_empty}
 use Rattle.ir_debug.proofs.answering.write_kept.Goals as goal
 
 pub loop-i-preserved : goal.loop-i-preserved
@@ -22,4 +22,4 @@ returns-in_err-write_all g c =
 
 pub returns : goal.returns
 returns g c = writes_or_fails_if_all_written (text_written_if_nothing_left _ _ _ _ c.loop-i.invariant.text
-    (kept_text_at_end c.args.kept.now c.loop-i.i (omega (arith, c.loop-i-test.false, c.loop-i.auto.i-end)))) c.loop-i.invariant.broken
+    (kept_text_at_end_is_empty c.args.kept.now c.loop-i.i (omega (arith, c.loop-i-test.false, c.loop-i.auto.i-end)))) c.loop-i.invariant.broken

@@ -1,10 +1,10 @@
 use Rattle.std.proofs.Common.{refl}
 use Rattle.ir_stream.proofs.CallerLemmas.{writes_or_fails_if_all_written, writes_or_fails_if_part_written}
-use Rattle.ir_debug.proofs.Replying.{appended_answer_is_reply, appended_prefix_is_reply_prefix, empty_line_has_no_reply}
+use Rattle.ir_debug.proofs.Replying.{appended_answer_is_reply, appended_prefix_is_reply_prefix, line_without_command_is_replied_nothing}
 use Rattle.ir_debug.proofs.serving.respond.Goals as goal
 
 pub returns-in_default-clause-writes : goal.returns-in_default-clause-writes
-returns-in_default-clause-writes g c = writes_or_fails_if_all_written (empty_line_has_no_reply c.parse_line-asked.result c.args.line.now c.args.debugger.now c.carry_out.new.debugger
+returns-in_default-clause-writes g c = writes_or_fails_if_all_written (line_without_command_is_replied_nothing c.parse_line-asked.result c.args.line.now c.args.debugger.now c.carry_out.new.debugger
     (g.W.Sink.written c.args.writer.now) c.parse_line-asked.ensures c.in_default.ensures.none.0 c.in_default.ensures.none.1) refl
 
 pub returns-in-Ok-clause-writes : goal.returns-in-Ok-clause-writes

@@ -7,7 +7,7 @@ use Rattle.ir_debug.specs.declared.ended.SessionErr.{SessionErr}
 use Rattle.ir_debug.specs.Openings.{opening_of}
 use Rattle.ir_debug.specs.Session.{ReadsThrough}
 use Rattle.ir_debug.specs.Machine as opening
-use Rattle.ir_debug.proofs.Openings.{answered_in_part_of_opening_prefix, reads_empty_input, if_some_if_each_holds, session_of_refused_opening, reads_of_implied, if_some_of_implied, ready_debugger_opens, opening_text_of_ready_debugger, read_fault_if_ended_by_read, write_fault_if_ended_by_write, served_session_if_ended_lines_lead, transcript_if_lines_answered, writes_in_part_if_lines_answered_in_part}
+use Rattle.ir_debug.proofs.Openings.{answered_in_part_of_opening_prefix, reads_up_to_unchanged_input_if_holds_of_empty, if_some_if_each_holds, session_of_refused_opening, reads_up_to_of_implied, if_some_of_implied, opens_ready_desk_if_opening_is_ready, appends_opening_text_of_ready_desk_if_opening_is_ready, read_fault_if_ended_by_read, write_fault_if_ended_by_write, served_session_if_ended_lines_lead, transcript_if_lines_answered, writes_in_part_if_lines_answered_in_part}
 use Rattle.ir_debug.proofs.sessions.session_up_to.Goals as goal
 
 pub returns-in-Err-clause-write : goal.returns-in-Err-clause-write
@@ -15,7 +15,7 @@ returns-in-Err-clause-write g c = λ e.
     (c.requires.reads, c.in-Err.ensures.err, answered_in_part_of_opening_prefix _ _ _ c.args.limit _ _ _ c.in-Ok.ensures c.in-Err.ensures.prefix)
 
 pub returns-in-ImageRefused-clause-ended : goal.returns-in-ImageRefused-clause-ended
-returns-in-ImageRefused-clause-ended g c = reads_empty_input c.args.limit (g.R.Source.left c.args.reader.now) _ (session_of_refused_opening c.args.image.now c.args.trace.now _ (opening.ImageRefused c.in-ImageRefused._error) c.args.limit _
+returns-in-ImageRefused-clause-ended g c = reads_up_to_unchanged_input_if_holds_of_empty c.args.limit (g.R.Source.left c.args.reader.now) _ (session_of_refused_opening c.args.image.now c.args.trace.now _ (opening.ImageRefused c.in-ImageRefused._error) c.args.limit _
     (g.W.Sink.written c.args.writer.now) (g.W.Sink.written c.announce.new.writer) (ap opening_of c.in-ImageRefused.is) (λ lines. (refl, refl))
     (λ input. refl) c.in-Ok.ensures c.in-Ok-announce.ensures.ok [])
 
@@ -25,7 +25,7 @@ returns-in-ImageRefused-clause-known g c = if_some_if_each_holds (g.R.Source.lef
     (λ input. refl) c.in-Ok.ensures c.in-Ok-announce.ensures.ok)
 
 pub returns-in-TraceRefused-clause-ended : goal.returns-in-TraceRefused-clause-ended
-returns-in-TraceRefused-clause-ended g c = reads_empty_input c.args.limit (g.R.Source.left c.args.reader.now) _ (session_of_refused_opening c.args.image.now c.args.trace.now _ (opening.TraceRefused c.in-TraceRefused._error) c.args.limit _
+returns-in-TraceRefused-clause-ended g c = reads_up_to_unchanged_input_if_holds_of_empty c.args.limit (g.R.Source.left c.args.reader.now) _ (session_of_refused_opening c.args.image.now c.args.trace.now _ (opening.TraceRefused c.in-TraceRefused._error) c.args.limit _
     (g.W.Sink.written c.args.writer.now) (g.W.Sink.written c.announce.new.writer) (ap opening_of c.in-TraceRefused.is) (λ lines. (refl, refl))
     (λ input. refl) c.in-Ok.ensures c.in-Ok-announce.ensures.ok [])
 
@@ -35,7 +35,7 @@ returns-in-TraceRefused-clause-known g c = if_some_if_each_holds (g.R.Source.lef
     (λ input. refl) c.in-Ok.ensures c.in-Ok-announce.ensures.ok)
 
 pub returns-in-Unfit-clause-ended : goal.returns-in-Unfit-clause-ended
-returns-in-Unfit-clause-ended g c = reads_empty_input c.args.limit (g.R.Source.left c.args.reader.now) _ (session_of_refused_opening c.args.image.now c.args.trace.now _ (opening.Unfit c.in-Unfit._verdict) c.args.limit _
+returns-in-Unfit-clause-ended g c = reads_up_to_unchanged_input_if_holds_of_empty c.args.limit (g.R.Source.left c.args.reader.now) _ (session_of_refused_opening c.args.image.now c.args.trace.now _ (opening.Unfit c.in-Unfit._verdict) c.args.limit _
     (g.W.Sink.written c.args.writer.now) (g.W.Sink.written c.announce.new.writer) (ap opening_of c.in-Unfit.is) (λ lines. (refl, refl))
     (λ input. refl) c.in-Ok.ensures c.in-Ok-announce.ensures.ok [])
 
@@ -46,14 +46,14 @@ returns-in-Unfit-clause-known g c = if_some_if_each_holds (g.R.Source.left c.arg
 
 pub returns-in-Ready-clause-ended : goal.returns-in-Ready-clause-ended
 returns-in-Ready-clause-ended g c =
-    served_session_if_ended_lines_lead (ReadsUpTo c.args.limit (g.R.Source.left c.args.reader.now) (g.R.Source.left c.serve.new.reader)) (reads_of_implied _ _ _) _ _ _ c.args.limit
-    _ _ _ _ _ c.ended.ensures (ready_debugger_opens _ _ _ _ c.in-Ready.is c.in-Ok.ensures)
-    (opening_text_of_ready_debugger _ _ _ _ c.in-Ready.is c.in-Ok-announce.ensures.ok) c.serve.ensures.ended
+    served_session_if_ended_lines_lead (ReadsUpTo c.args.limit (g.R.Source.left c.args.reader.now) (g.R.Source.left c.serve.new.reader)) (reads_up_to_of_implied _ _ _) _ _ _ c.args.limit
+    _ _ _ _ _ c.ended.ensures (opens_ready_desk_if_opening_is_ready _ _ _ _ c.in-Ready.is c.in-Ok.ensures)
+    (appends_opening_text_of_ready_desk_if_opening_is_ready _ _ _ _ c.in-Ready.is c.in-Ok-announce.ensures.ok) c.serve.ensures.ended
 
 pub returns-in-Ready-clause-known : goal.returns-in-Ready-clause-known
 returns-in-Ready-clause-known g c =
     served_session_if_ended_lines_lead (IfSome (g.R.Source.left c.args.reader.now)) (if_some_of_implied _) _ _ _ c.args.limit _ _ _ _ _ c.ended.ensures
-    (ready_debugger_opens _ _ _ _ c.in-Ready.is c.in-Ok.ensures) (opening_text_of_ready_debugger _ _ _ _ c.in-Ready.is c.in-Ok-announce.ensures.ok)
+    (opens_ready_desk_if_opening_is_ready _ _ _ _ c.in-Ready.is c.in-Ok.ensures) (appends_opening_text_of_ready_desk_if_opening_is_ready _ _ _ _ c.in-Ready.is c.in-Ok-announce.ensures.ok)
     c.serve.ensures.known
 
 pub returns-in-Ready-clause-read : goal.returns-in-Ready-clause-read
@@ -61,10 +61,10 @@ returns-in-Ready-clause-read g c = λ e.
     let r = c.serve.ensures.read (read_fault_if_ended_by_read c.serve.result (sym c.ended.ensures ∙ e)) in (
       r.0,
       r.1,
-      reads_of_implied c.args.limit _ _ _ _ (λ consumed p. record {
+      reads_up_to_of_implied c.args.limit _ _ _ _ (λ consumed p. record {
         goes = p.0;
-        transcript = transcript_if_lines_answered _ _ _ _ _ _ _ (ready_debugger_opens _ _ _ _ c.in-Ready.is c.in-Ok.ensures)
-            (opening_text_of_ready_debugger _ _ _ _ c.in-Ready.is c.in-Ok-announce.ensures.ok) p.1;
+        transcript = transcript_if_lines_answered _ _ _ _ _ _ _ (opens_ready_desk_if_opening_is_ready _ _ _ _ c.in-Ready.is c.in-Ok.ensures)
+            (appends_opening_text_of_ready_desk_if_opening_is_ready _ _ _ _ c.in-Ready.is c.in-Ok-announce.ensures.ok) p.1;
       }) r.2,
     )
 
@@ -73,24 +73,24 @@ returns-in-Ready-clause-write g c = λ e.
     let r = c.serve.ensures.write (write_fault_if_ended_by_write c.serve.result (sym c.ended.ensures ∙ e)) in (
       r.0,
       r.1,
-      reads_of_implied c.args.limit _ _ _ _ (λ consumed p. record {
+      reads_up_to_of_implied c.args.limit _ _ _ _ (λ consumed p. record {
         goes = p.0;
         ended = p.1;
-        wrote = writes_in_part_if_lines_answered_in_part _ _ _ _ _ _ _ (ready_debugger_opens _ _ _ _ c.in-Ready.is c.in-Ok.ensures)
-            (opening_text_of_ready_debugger _ _ _ _ c.in-Ready.is c.in-Ok-announce.ensures.ok) p.2;
+        wrote = writes_in_part_if_lines_answered_in_part _ _ _ _ _ _ _ (opens_ready_desk_if_opening_is_ready _ _ _ _ c.in-Ready.is c.in-Ok.ensures)
+            (appends_opening_text_of_ready_desk_if_opening_is_ready _ _ _ _ c.in-Ready.is c.in-Ok-announce.ensures.ok) p.2;
       }) r.2,
     )
 
 pub returns-in-ImageRefused-clause-last : goal.returns-in-ImageRefused-clause-last
-returns-in-ImageRefused-clause-last g c = reads_empty_input c.args.limit (g.R.Source.left c.args.reader.now)
+returns-in-ImageRefused-clause-last g c = reads_up_to_unchanged_input_if_holds_of_empty c.args.limit (g.R.Source.left c.args.reader.now)
     (ReadsThrough ImageRefused (g.R.Source.left c.args.reader.now)) tt
 
 pub returns-in-TraceRefused-clause-last : goal.returns-in-TraceRefused-clause-last
-returns-in-TraceRefused-clause-last g c = reads_empty_input c.args.limit (g.R.Source.left c.args.reader.now)
+returns-in-TraceRefused-clause-last g c = reads_up_to_unchanged_input_if_holds_of_empty c.args.limit (g.R.Source.left c.args.reader.now)
     (ReadsThrough TraceRefused (g.R.Source.left c.args.reader.now)) tt
 
 pub returns-in-Unfit-clause-last : goal.returns-in-Unfit-clause-last
-returns-in-Unfit-clause-last g c = reads_empty_input c.args.limit (g.R.Source.left c.args.reader.now)
+returns-in-Unfit-clause-last g c = reads_up_to_unchanged_input_if_holds_of_empty c.args.limit (g.R.Source.left c.args.reader.now)
     (ReadsThrough NotFit (g.R.Source.left c.args.reader.now)) tt
 
 pub returns-in-Ready-clause-last : goal.returns-in-Ready-clause-last

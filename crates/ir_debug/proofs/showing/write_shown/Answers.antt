@@ -3,8 +3,8 @@ use Rattle.ir_stream.specs.Writing.{WritesText}
 use Rattle.std.proofs.lemmas.List.{length-take}
 use Rattle.ir_image.specs.Guest.{object_words}
 use Rattle.ir_debug.specs.Debugging.{Debugging}
-use Rattle.ir_debug.proofs.CarriedOut.{last_answer_of_equal_show, thread_named_by_last_show_exists, events_so_far_at_most_all, shown_object_exists, text_of_indexed_object_is_shown}
-use Rattle.ir_debug.proofs.Passed.{permitted_command_passes_tests, address_in_guest_is_low}
+use Rattle.ir_debug.proofs.CarriedOut.{last_answer_of_equal_show, thread_named_by_last_show_exists, events_so_far_at_most_all, shown_object_exists, object_text_of_state_is_text_shown_here}
+use Rattle.ir_debug.proofs.Passed.{permitted_command_passes_tests, address_in_guest_is_at_most_two_to_31}
 use Rattle.ir_debug.proofs.showing.write_shown.Goals as goal
 
 pub thread_here-requires-clause-number : goal.thread_here-requires-clause-number
@@ -16,7 +16,7 @@ thread_here-requires-in-Memory-clause-number g c = thread_named_by_last_show_exi
 pub write_memory-requires-clause-low : goal.write_memory-requires-clause-low
 write_memory-requires-clause-low g c =
     let last = last_answer_of_equal_show c.args.debugger.now c.args.show _ c.in-Memory.is c.requires in
-    address_in_guest_is_low c.args.debugger.now.desk.fitted.guest c.in-Memory.size c.in-Memory.address
+    address_in_guest_is_at_most_two_to_31 c.args.debugger.now.desk.fitted.guest c.in-Memory.size c.in-Memory.address
     (subst (λ g. length g.code ≤ 16384) (c.image.ensures.value ∙ ap (λ f. f.guest) c.fitted.ensures.value) c.code.ensures.within.short_code)
     (permitted_command_passes_tests c.args.debugger.now.desk _ last.0).address
 
@@ -46,6 +46,6 @@ slice_bounds-write_log-end g c =
 pub returns-in-Object : goal.returns-in-Object
 returns-in-Object g c = subst
     (λ text. WritesText g.W.Sink.written g.W.Sink.broken c.args.writer.now c.write_object.new.writer text c.write_object.result)
-    (text_of_indexed_object_is_shown _ _ _ _ _ _ _ c.in-Object.is c.requires c.objects.ensures c.threads.ensures
+    (object_text_of_state_is_text_shown_here _ _ _ _ _ _ _ c.in-Object.is c.requires c.objects.ensures c.threads.ensures
     (c.object_words.ensures.value ∙ ap object_words (c.image-in-Object.ensures.value ∙ ap (λ f. f.guest) c.fitted-in-Object.ensures.value))
     c.index-objects-number.is) c.write_object.ensures

@@ -1,6 +1,6 @@
 use Rattle.std.proofs.lemmas.Result.{err_from_is_err_and}
 use Rattle.ir_bytes.specs.Reading.{fields_at}
-use Rattle.ir_bytes.proofs.CallerLemmas.{fields_at_after_read_field, fields_at_fails_if_field_fails, fields_at_after_all_fields}
+use Rattle.ir_bytes.proofs.CallerLemmas.{prefixed_fields_at_step, fields_at_fails_if_field_fails, total_is_prefix_after_all_fields}
 use Rattle.ir_elf.specs.Table.{entry_at}
 use Rattle.ir_elf.proofs.table.entries.Goals as goal
 
@@ -12,10 +12,10 @@ returns-in_err-one c =
 
 pub loop-preserved : goal.loop-preserved
 loop-preserved c =
-    rw c.in_ok-push.ensures.items (fields_at_after_read_field (entry_at c.args.code) c.loop.entries.items c.args.count c.loop.counter c.loop.rest.now
+    rw c.in_ok-push.ensures.items (prefixed_fields_at_step (entry_at c.args.code) c.loop.entries.items c.args.count c.loop.counter c.loop.rest.now
     c.in_ok-one.one c.in_ok-one.after.now (fields_at (entry_at c.args.code) c.args.count c.args.bytes.now) c.loop-test.true
     c.in_ok-one.ensures c.loop.invariant)
 
 pub returns : goal.returns
-returns c = fields_at_after_all_fields (entry_at c.args.code) c.loop.entries.items c.args.count c.loop.counter c.loop.rest.now
+returns c = total_is_prefix_after_all_fields (entry_at c.args.code) c.loop.entries.items c.args.count c.loop.counter c.loop.rest.now
     (fields_at (entry_at c.args.code) c.args.count c.args.bytes.now) c.loop-test.false c.loop.invariant

@@ -3,9 +3,9 @@ use Rattle.ir_explore.specs.declared.found.Pending.{Pending}
 use Rattle.ir_explore.specs.Following.{IsOpen, GoesTo}
 use Rattle.ir_explore.specs.TurnSoFar.{IsTurnSoFar}
 use Rattle.ir_explore.specs.Origins.{Adds}
-use Rattle.ir_explore.proofs.Opens.{opened_place_is_open, goes_to_if_notes_kept}
+use Rattle.ir_explore.proofs.Opens.{opened_place_is_open, goes_to_open_if_notes_kept_and_open_stays_open}
 use Rattle.ir_explore.proofs.Reached.{adds_reflexive, adds_transitive}
-use Rattle.ir_explore.proofs.TurnSoFar.{both_ways, turn_begins, taken_up, laid_down}
+use Rattle.ir_explore.proofs.TurnSoFar.{property_of_all_bools_by_cases, turn_so_far_at_start, turn_so_far_with_last_in_hand_put_first, turn_so_far_without_followed_first_in_hand}
 use Rattle.ir_explore.proofs.alone.go_alone.Goals as goal
 
 pub pending-init : goal.pending-init
@@ -20,7 +20,7 @@ pending-init g c =
     let hand : c.open.new.found.pending.items ≡ first ∷ [] =
     c.in_ok-open.ensures.pending ∙ ap (λ z. z ++ first ∷ []) c.clear.ensures.items in
     let turn : IsTurnSoFar noted start.thread start.level (slice_set opened start.from true) nodes c.args.found.now.refusals.items (first ∷ []) =
-    turn_begins noted start opened nodes c.args.found.now.refusals.items c.index.result.now c.requires.followed c.requires.reached c.requires.begins
+    turn_so_far_at_start noted start opened nodes c.args.found.now.refusals.items c.index.result.now c.requires.followed c.requires.reached c.requires.begins
     c.requires.none less c.requires.row (sym c.index.ensures ∙ c.if-index.false) in
     record {
       turn = subst (λ z. IsTurnSoFar noted start.thread start.level c.open.new.opened.items c.open.new.found.nodes.items c.open.new.found.refusals.items z)
@@ -51,7 +51,7 @@ follow-requires-clause-turn g c =
     let rest = c.pop.new.self.items in
     let here = c.in-Some.here in
     let turn : IsTurnSoFar noted start.thread start.level row nodes table (here ∷ rest) =
-    taken_up noted start.thread start.level row nodes table rest here
+    turn_so_far_with_last_in_hand_put_first noted start.thread start.level row nodes table rest here
     (subst (IsTurnSoFar noted start.thread start.level row nodes table) c.in-Some.ensures.items c.pending.invariant.turn) in
     subst (λ z. IsTurnSoFar noted z here.origin.level row nodes table (here ∷ rest)) (sym (turn.threads 0 here refl))
     (subst (λ z. IsTurnSoFar noted start.thread z row nodes table (here ∷ rest)) (sym (turn.levels 0 here refl)) turn)
@@ -65,7 +65,7 @@ returns-in_err-follow-clause-adds g c =
     let table = c.pending.found.refusals.items in
     let here = c.in-Some.here in
     let turn : IsTurnSoFar noted start.thread start.level row nodes table (here ∷ c.pop.new.self.items) =
-    taken_up noted start.thread start.level row nodes table c.pop.new.self.items here
+    turn_so_far_with_last_in_hand_put_first noted start.thread start.level row nodes table c.pop.new.self.items here
     (subst (IsTurnSoFar noted start.thread start.level row nodes table) c.in-Some.ensures.items c.pending.invariant.turn) in
     adds_transitive start.level c.args.found.now.nodes.items nodes c.follow.new.found.nodes.items c.pending.invariant.adds
     (subst (λ z. Adds z nodes c.follow.new.found.nodes.items) (turn.levels 0 here refl) c.follow.ensures.adds)
@@ -79,7 +79,7 @@ returns-in_err-follow-2-clause-adds g c =
     let table = c.pending.found.refusals.items in
     let here = c.in-Some.here in
     let turn : IsTurnSoFar noted start.thread start.level row nodes table (here ∷ c.pop.new.self.items) =
-    taken_up noted start.thread start.level row nodes table c.pop.new.self.items here
+    turn_so_far_with_last_in_hand_put_first noted start.thread start.level row nodes table c.pop.new.self.items here
     (subst (IsTurnSoFar noted start.thread start.level row nodes table) c.in-Some.ensures.items c.pending.invariant.turn) in
     adds_transitive start.level c.args.found.now.nodes.items nodes c.follow-in-Some.new.found.nodes.items c.pending.invariant.adds
     (subst (λ z. Adds z nodes c.follow-in-Some.new.found.nodes.items) (turn.levels 0 here refl)
@@ -95,7 +95,7 @@ pending-preserved-in-Some-None g c =
     let table = c.pending.found.refusals.items in
     let here = c.in-Some.here in
     let turn : IsTurnSoFar noted start.thread start.level row nodes table (here ∷ c.pop.new.self.items) =
-    taken_up noted start.thread start.level row nodes table c.pop.new.self.items here
+    turn_so_far_with_last_in_hand_put_first noted start.thread start.level row nodes table c.pop.new.self.items here
     (subst (IsTurnSoFar noted start.thread start.level row nodes table) c.in-Some.ensures.items c.pending.invariant.turn) in
     let i = c.pending.invariant in
     let a = c.follow.new in
@@ -105,11 +105,11 @@ pending-preserved-in-Some-None g c =
     let none : last here.origin.thread true here.node ≡ Some None =
     sym c.known.ensures ∙ c.in-Some-None.is ∙ ap Some c.in-Some-None.field-0-is in
     let both : (refused : Bool) → GoesTo (last here.origin.thread refused) (IsOpen a.opened.items) here.node =
-    both_ways (λ refused. GoesTo (last here.origin.thread refused) (IsOpen a.opened.items) here.node) c.in_ok-follow.ensures.follows (inl none) in
+    property_of_all_bools_by_cases (λ refused. GoesTo (last here.origin.thread refused) (IsOpen a.opened.items) here.node) c.in_ok-follow.ensures.follows (inl none) in
     record {
       turn = subst (λ z. IsTurnSoFar last z start.level a.opened.items a.found.nodes.items a.found.refusals.items a.found.pending.items) thread
           (subst (λ z. IsTurnSoFar last here.origin.thread z a.opened.items a.found.nodes.items a.found.refusals.items a.found.pending.items) level
-          (laid_down last here.origin.thread here.origin.level a.opened.items a.found.nodes.items a.found.refusals.items a.found.pending.items here
+          (turn_so_far_without_followed_first_in_hand last here.origin.thread here.origin.level a.opened.items a.found.nodes.items a.found.refusals.items a.found.pending.items here
           c.in_ok-follow.ensures.turn both));
       opens = c.follow.ensures.stays start.from i.opens;
       stays = λ v is. c.follow.ensures.stays v (i.stays v is);
@@ -133,7 +133,7 @@ pending-preserved g c =
     let table = c.pending.found.refusals.items in
     let here = c.in-Some.here in
     let turn : IsTurnSoFar noted start.thread start.level row nodes table (here ∷ c.pop.new.self.items) =
-    taken_up noted start.thread start.level row nodes table c.pop.new.self.items here
+    turn_so_far_with_last_in_hand_put_first noted start.thread start.level row nodes table c.pop.new.self.items here
     (subst (IsTurnSoFar noted start.thread start.level row nodes table) c.in-Some.ensures.items c.pending.invariant.turn) in
     let i = c.pending.invariant in
     let a = c.follow.new in
@@ -142,14 +142,14 @@ pending-preserved g c =
     let thread = turn.threads 0 here refl in
     let level = turn.levels 0 here refl in
     let entered : GoesTo (last here.origin.thread false) (IsOpen b.opened.items) here.node =
-    goes_to_if_notes_kept (g.S.Successors.noted a.graph here.origin.thread false) (last here.origin.thread false) a.opened.items b.opened.items here.node
+    goes_to_open_if_notes_kept_and_open_stays_open (g.S.Successors.noted a.graph here.origin.thread false) (last here.origin.thread false) a.opened.items b.opened.items here.node
     (c.follow-in-Some.ensures.kept here.origin.thread false) c.follow-in-Some.ensures.stays c.in_ok-follow.ensures.follows in
     let both : (refused : Bool) → GoesTo (last here.origin.thread refused) (IsOpen b.opened.items) here.node =
-    both_ways (λ refused. GoesTo (last here.origin.thread refused) (IsOpen b.opened.items) here.node) entered c.in_ok-follow-2.ensures.follows in
+    property_of_all_bools_by_cases (λ refused. GoesTo (last here.origin.thread refused) (IsOpen b.opened.items) here.node) entered c.in_ok-follow-2.ensures.follows in
     record {
       turn = subst (λ z. IsTurnSoFar last z start.level b.opened.items b.found.nodes.items b.found.refusals.items b.found.pending.items) thread
           (subst (λ z. IsTurnSoFar last here.origin.thread z b.opened.items b.found.nodes.items b.found.refusals.items b.found.pending.items) level
-          (laid_down last here.origin.thread here.origin.level b.opened.items b.found.nodes.items b.found.refusals.items b.found.pending.items here
+          (turn_so_far_without_followed_first_in_hand last here.origin.thread here.origin.level b.opened.items b.found.nodes.items b.found.refusals.items b.found.pending.items here
           c.in_ok-follow-2.ensures.turn both));
       opens = c.follow-in-Some.ensures.stays start.from (c.follow.ensures.stays start.from i.opens);
       stays = λ v is. c.follow-in-Some.ensures.stays v (c.follow.ensures.stays v (i.stays v is));

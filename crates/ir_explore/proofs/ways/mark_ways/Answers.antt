@@ -1,5 +1,5 @@
 use Rattle.std.proofs.Common.{◌∙◌}
-use Rattle.ir_explore.proofs.Marked.{leads_to_old_marked_node_if_to_new_marked_node, node_is_marked_if_it_leads_to_marked_node}
+use Rattle.ir_explore.proofs.Marked.{leads_to_old_marked_node_if_to_new_marked_node, node_is_marked_if_it_leads_to_one_and_marks_are_closed_back}
 use Rattle.ir_explore.proofs.ways.mark_ways.Goals as goal
 
 pub returns-then-not-sweep-clause-exact : goal.returns-then-not-sweep-clause-exact
@@ -8,7 +8,7 @@ returns-then-not-sweep-clause-exact g c = λ v. (
       leads_to_old_marked_node_if_to_new_marked_node (g.S.Successors.noted c.args.graph.now) c.args.threads c.args.marks.now c.sweeps.marks c.sweeps.invariant.nodes
       c.sweeps.invariant.ways v (c.sweep.ensures.ways v is),
   λ way.
-      node_is_marked_if_it_leads_to_marked_node (g.S.Successors.noted c.args.graph.now) c.args.threads c.args.marks.now c.sweep.new.marks
+      node_is_marked_if_it_leads_to_one_and_marks_are_closed_back (g.S.Successors.noted c.args.graph.now) c.args.threads c.args.marks.now c.sweep.new.marks
       (c.sweep.ensures.nodes ∙ c.sweeps.invariant.nodes) (λ w is. c.sweep.ensures.stays w (c.sweeps.invariant.stays w is))
       (c.sweep.ensures.back c.if-not-sweep.true) v way,
 )

@@ -1,5 +1,5 @@
 use Rattle.std.proofs.Common.{◌≡◌, ℕ, ◌+◌, ◌-◌, ◌<◌, true, false, length, slice_set, sym, subst, arith}
-use Rattle.ir_explore.proofs.Marked.{Sweeping, sweep_marks_node, sweep_leaves_node}
+use Rattle.ir_explore.proofs.Marked.{Sweeping, sweeping_step_with_mark, sweeping_step_without_mark}
 use Rattle.ir_explore.proofs.Opens.{open_if_get_or_false_is_true}
 use Rattle.ir_explore.proofs.ways.sweep.Goals as goal
 use Rattle.ir_explore.proofs.ways.sweep.Goals.{then-not-marks-node+then-is_before, else-not-marks-node, else-not-marks-node-via-then-not-marks-node+else-is_before, else-not-marks-node-via-else-not-marks-node}
@@ -20,17 +20,17 @@ loop-k-preserved g c =
       | then-not-marks-node+then-is_before w ↦
           subst (λ z. Sweeping noted c.args.threads first z c.if-not-marks-node.changed (c.loop-k.k + 1)) (sym w.marks-is)
           (subst (λ z. Sweeping noted c.args.threads first (slice_set marks node true) z (c.loop-k.k + 1)) (sym w.changed-is)
-          (sweep_marks_node noted c.args.threads first marks c.loop-k.changed k node false c.loop-k.invariant inside w.if-not-marks-node.true
+          (sweeping_step_with_mark noted c.args.threads first marks c.loop-k.changed k node false c.loop-k.invariant inside w.if-not-marks-node.true
           (w.is_before.ensures.found w.if-is_before.true)))
       | else-not-marks-node w ↦
           subst (λ z. Sweeping noted c.args.threads first z c.if-not-marks-node.changed (c.loop-k.k + 1)) (sym w.marks-is)
           (subst (λ z. Sweeping noted c.args.threads first marks z (c.loop-k.k + 1)) (sym w.changed-is)
           (elim w.else-not-marks-node.branch [
             | else-not-marks-node-via-then-not-marks-node+else-is_before x ↦
-                sweep_leaves_node noted c.args.threads first marks c.loop-k.changed k node c.loop-k.invariant here
+                sweeping_step_without_mark noted c.args.threads first marks c.loop-k.changed k node c.loop-k.invariant here
                 (λ before. absurd (x.is_before.ensures.none x.if-is_before.false before))
             | else-not-marks-node-via-else-not-marks-node x ↦
-                sweep_leaves_node noted c.args.threads first marks c.loop-k.changed k node c.loop-k.invariant here
+                sweeping_step_without_mark noted c.args.threads first marks c.loop-k.changed k node c.loop-k.invariant here
                 (λ before. open_if_get_or_false_is_true marks node x.if-not-marks-node.false)
           ]))
     ]

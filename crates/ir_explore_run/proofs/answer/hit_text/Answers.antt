@@ -11,8 +11,8 @@ use Rattle.ir_record.specs.declared.item.Item.{Item}
 use Rattle.ir_explore_run.specs.Lines.{found_line}
 use Rattle.ir_explore_run.specs.Plan.{setup_of}
 use Rattle.ir_explore_run.specs.Texts.{Objects, objects_of, AreTexts, known_of}
-use Rattle.ir_explore_run.proofs.Hits.{shown_order_is_not_empty, is_hit_if_shown_outcome_fulfils}
-use Rattle.ir_explore_run.proofs.Joined.{texts_of_no_outcome}
+use Rattle.ir_explore_run.proofs.Hits.{shown_order_is_not_empty, is_hit_if_shown_outcome_is_first_to_fulfil}
+use Rattle.ir_explore_run.proofs.Joined.{texts_of_no_outcome_are_empty}
 use Rattle.ir_explore_run.proofs.answer.hit_text.Goals as goal
 
 pub outcomes_text-requires-clause-objects : goal.outcomes_text-requires-clause-objects
@@ -54,12 +54,12 @@ returns c = λ cs none (x, s, at, does).
       state = s;
       at = at;
       first = none;
-      hit = is_hit_if_shown_outcome_fulfils guest c.args.plan.now cs flats outcomes c.args.explored.now.levels place x s list c.requires.explored at none does spells;
+      hit = is_hit_if_shown_outcome_is_first_to_fulfil guest c.args.plan.now cs flats outcomes c.args.explored.now.levels place x s list c.requires.explored at none does spells;
       lines = lines;
       texts = subst (λ z. AreTexts z flats outcomes (suc place) lines) first
           (subst (λ z. AreTexts own flats z (suc place) lines) value
           (subst (λ z. AreTexts own flats c.as_slice-outcomes.result.now z lines) next
-          (c.in_ok-text.ensures [] (texts_of_no_outcome own flats c.as_slice-outcomes.result.now))));
+          (c.in_ok-text.ensures [] (texts_of_no_outcome_are_empty own flats c.as_slice-outcomes.result.now))));
       whole = c.in_ok-extend_from_slice.ensures.items
           ∙ ap (λ z. lines ++ z) (c.as_bytes.ensures.value ∙ c.in_ok-line.ensures ∙ (λ i. found_line (next i) (same i).level (c.as_str.ensures.value i)));
     }

@@ -2,7 +2,7 @@ use Rattle.std.proofs.Common.{◌++◌, ◌<◌, ◌-◌, suc, [], None, length,
 use Rattle.std.specs.Io.KnownBytes.{Appends}
 use Rattle.std.proofs.KnownBytes.{Appends-nil, Appends-trans}
 use Rattle.std.proofs.lemmas.Result.{err_from_is_err_and}
-use Rattle.ir_files.proofs.CallerLemmas.{if_err_for_handed_on_error}
+use Rattle.ir_files.proofs.CallerLemmas.{if_err_holds_if_holds_of_handed_on_error}
 use Rattle.ir_files.specs.Writers.{writer_of}
 use Rattle.ir_flat.specs.Flat.{start_cells}
 use Rattle.ir_graph.specs.Setup.{Setup}
@@ -13,8 +13,8 @@ use Rattle.ir_outcomes.proofs.CallerLemmas.{fewer_levels_left_after_one_is_gone_
 use Rattle.ir_thread.specs.State.{IsAllowed}
 use Rattle.ir_explore_run.specs.Printed.{HasPrinted, EndsEarly}
 use Rattle.ir_explore_run.specs.Texts.{Objects, objects_in}
-use Rattle.ir_explore_run.proofs.Joined.{texts_of_no_outcome}
-use Rattle.ir_explore_run.proofs.Printed.{printed_outcomes_are_part, kept_list_is_not_longer, printed_kept_among_more_outcomes, failed_after_taken_text}
+use Rattle.ir_explore_run.proofs.Joined.{texts_of_no_outcome_are_empty}
+use Rattle.ir_explore_run.proofs.Printed.{printed_outcomes_are_part, length_is_at_most_that_of_list_where_it_stays, printed_kept_among_more_outcomes, failed_after_taken_text}
 use Rattle.ir_explore_run.proofs.levels.print_levels.Goals as goal
 
 pub levels-init : goal.levels-init
@@ -29,7 +29,7 @@ levels-init g c =
       works = c.requires.works;
       printed = (
         [],
-        subst (λ n. HasPrinted o e n []) (sym c.requires.none) (texts_of_no_outcome o e.states.graph.flats.items e.list.outcomes.items),
+        subst (λ n. HasPrinted o e n []) (sym c.requires.none) (texts_of_no_outcome_are_empty o e.states.graph.flats.items e.list.outcomes.items),
         Appends-nil (g.O.Sink.written c.args.out.now),
       );
     }
@@ -48,7 +48,7 @@ print_from-requires-clause-from g c =
     let before = c.levels.exploring.list.outcomes in
     let same = c.len-printed.ensures in
     let size = before.ok.0 in
-    let more = kept_list_is_not_longer before.items c.go_over.new.self.list.outcomes.items c.go_over.ensures.outcomes in
+    let more = length_is_at_most_that_of_list_where_it_stays before.items c.go_over.new.self.list.outcomes.items c.go_over.ensures.outcomes in
     omega (arith, same, size, more)
 
 pub levels-preserved : goal.levels-preserved
@@ -103,7 +103,7 @@ returns-in_err-print_from-clause-failed g c =
     c.levels.invariant.is.explored in
     let later = subst (λ z. AreExplored z new.states.graph.flats.items new.list.levels new.list.outcomes.items)
     (c.go_over.ensures.setup ∙ c.levels.invariant.setup) c.go_over.ensures.is.explored in
-    if_err_for_handed_on_error (λ e. EndsEarly e setup w) c.from_residual.result c.in_err-print_from.field-0.0 p.0 p.1 p.2
+    if_err_holds_if_holds_of_handed_on_error (λ e. EndsEarly e setup w) c.from_residual.result c.in_err-print_from.field-0.0 p.0 p.1 p.2
     (elim c.in_err-print_from.ensures.failed [
       | inl (memory, stays) ↦ subst (λ z. EndsEarly z setup w) (sym memory) (
         before.0,

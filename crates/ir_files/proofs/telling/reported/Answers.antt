@@ -3,7 +3,7 @@ use Rattle.std.specs.Prelude.{Option, codes}
 use Rattle.std.specs.Io.KnownBytes.{Appends}
 use Rattle.std.proofs.KnownBytes.{Appends-trans}
 use Rattle.ir_stream.specs.Writing.{WritesText}
-use Rattle.ir_stream.proofs.CallerLemmas.{prefix_of_longer_text, writes_or_fails_with_handed_on_error, writes_text_after_first_part}
+use Rattle.ir_stream.proofs.CallerLemmas.{appends_prefix_of_longer_text, writes_or_fails_with_handed_on_error, writes_text_after_first_part}
 use Rattle.ir_files.specs.Writers.{named_fault}
 use Rattle.ir_files.specs.Shown.{shown}
 use Rattle.ir_files.proofs.Shown.{append_reassociated, part_prefix_is_whole_prefix}
@@ -29,7 +29,7 @@ at_why lead before name what why end = at_what lead before name what why end
 
 pub returns-in_err-write_all : goal.returns-in_err-write_all
 returns-in_err-write_all g c = writes_or_fails_with_handed_on_error _ c.from_residual.result c.from_residual.ensures.1
-    (prefix_of_longer_text (g.E.Sink.written c.args.faults.now) (g.E.Sink.written c.write_all.new.writer) (codes "ir: ")
+    (appends_prefix_of_longer_text (g.E.Sink.written c.args.faults.now) (g.E.Sink.written c.write_all.new.writer) (codes "ir: ")
     (named_fault c.args.before.now c.args.name.now c.args.what.now c.args.why.now ++ 10 ∷ []) c.in_err-write_all.ensures.prefix)
     c.in_err-write_all.ensures.err
 

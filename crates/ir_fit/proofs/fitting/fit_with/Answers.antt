@@ -8,7 +8,7 @@ use Rattle.ir_fit.specs.Follower.{AreStanding}
 use Rattle.ir_fit.specs.Within.{BreaksBy}
 use Rattle.ir_runs.specs.declared.thread_verdict.ThreadVerdict.{ThreadVerdict}
 use Rattle.ir_fit.proofs.Furthest.{broken_coherence_refuses_trace, differing_thread_refuses_trace}
-use Rattle.ir_fit.proofs.Placements.{parts_have_run_if_all_threads_same}
+use Rattle.ir_fit.proofs.Placements.{equal_trace_has_run_if_all_threads_same}
 use Rattle.ir_fit.proofs.fitting.fit_with.Goals as goal
 
 pub returns-in_err-coherent-clause-refused : goal.returns-in_err-coherent-clause-refused
@@ -38,7 +38,7 @@ returns-then-not-all_same-clause-refused g c =
 
 pub new-requires-clause-run : goal.new-requires-clause-run
 new-requires-clause-run g c =
-    (parts_have_run_if_all_threads_same c.args.image c.args.trace c.into_parts-trace.result.0 c.in_default.ensures.same c.in_ok-follower.follower.flat
+    (equal_trace_has_run_if_all_threads_same c.args.image c.args.trace c.into_parts-trace.result.0 c.in_default.ensures.same c.in_ok-follower.follower.flat
     c.in_ok-follower.follower.places.items c.into_parts-trace.result.1.items c.in_ok-follower.ensures.followed
     c.in_ok-follower.ensures.sized.placed.each c.in_ok-verdicts.verdicts.items c.in_ok-verdicts.ensures.each
     (subst (λ z. AreStanding z c.in_ok-follower.follower.flat c.in_ok-follower.follower.places.items c.in_ok-verdicts.verdicts.items)
@@ -49,7 +49,7 @@ new-requires-clause-run g c =
 
 pub new-requires-clause-places : goal.new-requires-clause-places
 new-requires-clause-places g c =
-    (parts_have_run_if_all_threads_same c.args.image c.args.trace c.into_parts-trace.result.0 c.in_default.ensures.same c.in_ok-follower.follower.flat
+    (equal_trace_has_run_if_all_threads_same c.args.image c.args.trace c.into_parts-trace.result.0 c.in_default.ensures.same c.in_ok-follower.follower.flat
     c.in_ok-follower.follower.places.items c.into_parts-trace.result.1.items c.in_ok-follower.ensures.followed
     c.in_ok-follower.ensures.sized.placed.each c.in_ok-verdicts.verdicts.items c.in_ok-verdicts.ensures.each
     (subst (λ z. AreStanding z c.in_ok-follower.follower.flat c.in_ok-follower.follower.places.items c.in_ok-verdicts.verdicts.items)

@@ -4,7 +4,7 @@ use Rattle.ir_fit.specs.declared.leave.Leave.{Leave}
 use Rattle.ir_trace.specs.Recorded.{Recorded}
 use Rattle.ir_past.specs.Past.{event_at}
 use Rattle.std.specs.Prelude.{◌≡◌, ◌+◌, Some}
-use Rattle.ir_fit_run.proofs.Leaves.{entry_position_fits, inside_event_is_recorded, leaves_are_in_order, IsSoughtLeave, found_leave_is_leave_of_event, event_never_left_if_none_found}
+use Rattle.ir_fit_run.proofs.Leaves.{entry_position_plus_one_fits_64_bits, inside_event_number_is_below_event_count, leaves_are_in_order, IsSoughtLeave, found_leave_is_leave_of_event, event_never_left_if_none_found}
 use Rattle.ir_fit_run.proofs.positions.leave_of.Goals as goal
 
 sought : (c : goal.After-first_of) → IsSoughtLeave c.args.fitted.now c.args.place.thread c.args.place.event (c.step_of.result + 1) c.leaves-leaves.result.now
@@ -19,11 +19,11 @@ sought c = record {
 
 pub event_of-requires-clause-event : goal.event_of-requires-clause-event
 event_of-requires-clause-event c =
-    inside_event_is_recorded c.args.fitted.now c.known.ensures.run c.args.place.thread c.args.place.event c.requires c.trace.result.now c.trace.ensures.value
+    inside_event_number_is_below_event_count c.args.fitted.now c.known.ensures.run c.args.place.thread c.args.place.event c.requires c.trace.result.now c.trace.ensures.value
 
 pub overflow_add-step_of : goal.overflow_add-step_of
 overflow_add-step_of c =
-    let fits = entry_position_fits c.args.fitted.now c.known.ensures c.args.place.thread c.args.place.event c.requires in
+    let fits = entry_position_plus_one_fits_64_bits c.args.fitted.now c.known.ensures c.args.place.thread c.args.place.event c.requires in
     let same = c.step_of.ensures in omega (arith, fits, same)
 
 pub count_below-start-requires : goal.count_below-start-requires

@@ -1,5 +1,5 @@
-use Rattle.ir_flat.proofs.Runs.{counts_all_fit}
+use Rattle.ir_flat.proofs.Runs.{object_counts_fit_after_guest_run}
 use Rattle.ir_flat.proofs.laws.counts_fit.Goals as goal
 
 pub returns : goal.returns
-returns c = counts_all_fit
+returns c = object_counts_fit_after_guest_run

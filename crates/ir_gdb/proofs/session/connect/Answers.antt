@@ -1,38 +1,38 @@
 use Rattle.std.proofs.Common.{refl}
 use Rattle.ir_debug.specs.Session.{most_input}
 use Rattle.ir_debug.specs.Openings.{opening_of}
-use Rattle.ir_gdb.proofs.Sessions.{reads_of_implied, ready_debugger_opens, connected_by_read_input_if_ready, connected_by_known_input_if_ready, if_refused_holds_if_never, if_not_refused_from_fact, connected_by_read_input_if_refused, connected_by_known_input_if_refused, announced_if_refused, if_not_refused_holds_if_refused, text_is_appended_unless_broken}
+use Rattle.ir_gdb.proofs.Sessions.{reads_up_to_of_implied, opens_ready_desk_if_opening_is_ready, connected_by_read_input_if_ready, connected_by_known_input_if_ready, if_refused_holds_vacuously_if_never_refused, if_not_refused_if_holds, connected_by_read_input_if_refused, connected_by_known_input_if_refused, announced_if_refused, if_not_refused_holds_vacuously_if_refused, prefix_is_appended_and_whole_text_unless_broken}
 use Rattle.ir_gdb.proofs.session.connect.Goals as goal
 
 pub returns-in-Ready-clause-ended : goal.returns-in-Ready-clause-ended
 returns-in-Ready-clause-ended g c =
     connected_by_read_input_if_ready c.args.image.now c.args.trace.now c.in-Ready.debugger.desk c.serve.result (g.R.Source.left c.args.reader.now)
     (g.R.Source.left c.serve.new.reader) (g.W.Sink.written c.args.writer.now) (g.W.Sink.written c.serve.new.writer)
-    (ready_debugger_opens c.args.image.now c.args.trace.now c.in-Ok.opened c.in-Ready.debugger c.in-Ready.is c.in-Ok.ensures) c.serve.ensures.ended
+    (opens_ready_desk_if_opening_is_ready c.args.image.now c.args.trace.now c.in-Ok.opened c.in-Ready.debugger c.in-Ready.is c.in-Ok.ensures) c.serve.ensures.ended
 
 pub returns-in-Ready-clause-known : goal.returns-in-Ready-clause-known
 returns-in-Ready-clause-known g c =
     connected_by_known_input_if_ready c.args.image.now c.args.trace.now c.in-Ready.debugger.desk c.serve.result (g.R.Source.left c.args.reader.now)
     (g.W.Sink.written c.args.writer.now) (g.W.Sink.written c.serve.new.writer)
-    (ready_debugger_opens c.args.image.now c.args.trace.now c.in-Ok.opened c.in-Ready.debugger c.in-Ready.is c.in-Ok.ensures) c.serve.ensures.known
+    (opens_ready_desk_if_opening_is_ready c.args.image.now c.args.trace.now c.in-Ok.opened c.in-Ready.debugger c.in-Ready.is c.in-Ok.ensures) c.serve.ensures.known
 
 pub returns-in-Ready-clause-unread : goal.returns-in-Ready-clause-unread
-returns-in-Ready-clause-unread g c = if_refused_holds_if_never c.serve.result _ c.serve.ensures.opened
+returns-in-Ready-clause-unread g c = if_refused_holds_vacuously_if_never_refused c.serve.result _ c.serve.ensures.opened
 
 pub returns-in-Ready-clause-announced : goal.returns-in-Ready-clause-announced
-returns-in-Ready-clause-announced g c = if_refused_holds_if_never c.serve.result _ c.serve.ensures.opened
+returns-in-Ready-clause-announced g c = if_refused_holds_vacuously_if_never_refused c.serve.result _ c.serve.ensures.opened
 
 pub returns-in-Ready-clause-quiet : goal.returns-in-Ready-clause-quiet
-returns-in-Ready-clause-quiet g c = if_not_refused_from_fact c.serve.result _ refl
+returns-in-Ready-clause-quiet g c = if_not_refused_if_holds c.serve.result _ refl
 
 pub returns-in-Ready-clause-read : goal.returns-in-Ready-clause-read
 returns-in-Ready-clause-read g c = λ e.
     let r = c.serve.ensures.read e in (
       r.0,
       r.1,
-      reads_of_implied most_input _ _ _ _ (λ consumed p. record {
+      reads_up_to_of_implied most_input _ _ _ _ (λ consumed p. record {
         desk = c.in-Ready.debugger.desk;
-        opens = ready_debugger_opens c.args.image.now c.args.trace.now c.in-Ok.opened c.in-Ready.debugger c.in-Ready.is c.in-Ok.ensures;
+        opens = opens_ready_desk_if_opening_is_ready c.args.image.now c.args.trace.now c.in-Ok.opened c.in-Ready.debugger c.in-Ready.is c.in-Ok.ensures;
         wrote = p;
       }) r.2,
     )
@@ -42,9 +42,9 @@ returns-in-Ready-clause-write g c = λ e.
     let r = c.serve.ensures.write e in (
       r.0,
       r.1,
-      reads_of_implied most_input _ _ _ _ (λ consumed p. record {
+      reads_up_to_of_implied most_input _ _ _ _ (λ consumed p. record {
         desk = c.in-Ready.debugger.desk;
-        opens = ready_debugger_opens c.args.image.now c.args.trace.now c.in-Ok.opened c.in-Ready.debugger c.in-Ready.is c.in-Ok.ensures;
+        opens = opens_ready_desk_if_opening_is_ready c.args.image.now c.args.trace.now c.in-Ok.opened c.in-Ready.debugger c.in-Ready.is c.in-Ok.ensures;
         wrote = p;
       }) r.2,
     )
@@ -62,8 +62,8 @@ returns-in_default-opened-clause-known g c =
 pub returns-in_default-opened-clause-announced : goal.returns-in_default-opened-clause-announced
 returns-in_default-opened-clause-announced g c =
     announced_if_refused c.args.image.now c.args.trace.now (opening_of c.in-Ok.opened) c.refusal_of.result _ c.in-Ok.ensures c.refusal_of.ensures
-    (text_is_appended_unless_broken c.announce.result (g.E.Sink.written c.args.faults.now) (g.E.Sink.written c.announce.new.writer) (g.E.Sink.broken c.announce.new.writer)
+    (prefix_is_appended_and_whole_text_unless_broken c.announce.result (g.E.Sink.written c.args.faults.now) (g.E.Sink.written c.announce.new.writer) (g.E.Sink.broken c.announce.new.writer)
     _ c.announce.ensures.ok c.announce.ensures.prefix c.announce.ensures.err)
 
 pub returns-in_default-opened-clause-quiet : goal.returns-in_default-opened-clause-quiet
-returns-in_default-opened-clause-quiet g c = if_not_refused_holds_if_refused (opening_of c.in-Ok.opened) c.refusal_of.result _ c.refusal_of.ensures
+returns-in_default-opened-clause-quiet g c = if_not_refused_holds_vacuously_if_refused (opening_of c.in-Ok.opened) c.refusal_of.result _ c.refusal_of.ensures

@@ -1,6 +1,6 @@
 use Rattle.std.proofs.Common.{◌≡◌, Some, sym, subst}
 use Rattle.std.specs.Prelude.{slice_get}
-use Rattle.ir_lemmas.proofs.CallerLemmas.{element_below_length_exists, if_ok_weaker}
+use Rattle.ir_lemmas.proofs.CallerLemmas.{element_below_length_exists, if_ok_of_implied}
 use Rattle.ir_store.specs.Nodes.{SourcedFlat, IsSourced, sourced_in}
 use Rattle.ir_graph.specs.Nodes.{LookAlike, AllRest, LeadsFrom}
 use Rattle.ir_graph.specs.Plain.{IsLike}
@@ -61,7 +61,7 @@ returns-clause-leads c =
     let f = element_below_length_exists flats.items c.args.way.node c.requires.node in
     let h = sourced_in flats.shared c.in_ok-new.new in
     let new = c.node_of.new.flats.items in
-    if_ok_weaker (λ w. (k : SourcedFlat) → slice_get new w ≡ Some k → LookAlike h k) (λ w. LeadsFrom new c.args.way.thread c.args.way.refused c.args.way.node (Some w)) c.node_of.result
+    if_ok_of_implied (λ w. (k : SourcedFlat) → slice_get new w ≡ Some k → LookAlike h k) (λ w. LeadsFrom new c.args.way.thread c.args.way.refused c.args.way.node (Some w)) c.node_of.result
     (λ w alike. both_leads flats.items flats.shared f.0 c.args.way.thread c.args.way.refused c.args.way.node c.args.turn c.requires.nodes f.1 (c.requires.thread f.0 f.1)
     (c.thread_number.ensures.sourced f.0 f.1) (c.requires.turn f.0 f.1) new w c.node_of.ensures.stay
     (λ k is. subst (λ z. LookAlike z k) (c.in_ok-new.ensures.state f.0 f.1) (alike k is))) c.node_of.ensures.alike

@@ -8,10 +8,10 @@ use Rattle.ir_graph.specs.Nodes.{LookAlike, AllRest, Stay}
 use Rattle.ir_graph.specs.Plain.{sourced_flat, IsLike, MayGo}
 use Rattle.ir_graph.specs.Reached.{IsReached, AllReached}
 use Rattle.ir_graph.proofs.Reached.{step_of_reached_is_reached}
-use Rattle.ir_graph.proofs.Stops.{is_stop_after_entry, may_stop_by_thread_stop}
+use Rattle.ir_graph.proofs.Stops.{is_stop_if_stops_after_entry_from_reached_state, may_stop_by_thread_stop}
 use Rattle.ir_graph.proofs.Found.{leads_nowhere_if_no_step, reached_like, reached_each, reached_rests, leads_to_node_if_reached_state_looks_alike}
 use Rattle.ir_graph.proofs.Forms.{have_form_of_like_moment}
-use Rattle.ir_graph.proofs.Plain.{TakesStep, takes_step_at_rest, like_transitive, like_after_step, like_after_plain_steps}
+use Rattle.ir_graph.proofs.Plain.{TakesStep, takes_step_at_rest_if_tables_step, like_transitive, flat_after_step_is_like_flat_before, flat_after_plain_steps_is_like_flat_before}
 use Rattle.ir_graph.proofs.nodes.node_by_steps.Goals as goal
 
 pub run_to_rest-requires-clause-source : goal.run_to_rest-requires-clause-source
@@ -34,7 +34,7 @@ by_numbers-requires-clause-sourced c =
     let one = c.in_default-take.ensures in
     let step : TakesStep (sourced_flat c.state.inside.flat c.state.inside.sources.items) (sourced_flat c.take.new.self c.state.inside.sources.items)
     c.args.way.thread c.in-Some.answer =
-    takes_step_at_rest f g sources t c.in-Some.answer rests one.admitted one.taken one.code one.threads one.objects in
+    takes_step_at_rest_if_tables_step f g sources t c.in-Some.answer rests one.admitted one.taken one.code one.threads one.objects in
     let w = c.run_to_rest.new.state in
     let goes = c.run_to_rest.ensures.goes in
     record {
@@ -56,12 +56,12 @@ by_numbers-requires-clause-form c =
     let one = c.in_default-take.ensures in
     let step : TakesStep (sourced_flat c.state.inside.flat c.state.inside.sources.items) (sourced_flat c.take.new.self c.state.inside.sources.items)
     c.args.way.thread c.in-Some.answer =
-    takes_step_at_rest f g sources t c.in-Some.answer rests one.admitted one.taken one.code one.threads one.objects in
+    takes_step_at_rest_if_tables_step f g sources t c.in-Some.answer rests one.admitted one.taken one.code one.threads one.objects in
     let w = c.run_to_rest.new.state in
     let goes = c.run_to_rest.ensures.goes in
     let form = subst (λ (z : SourcedFlat). HaveForm c.args.flats.now.form z.flat.threads) (sym c.state.view_is) c.in_ok-state.ensures.form in
     have_form_of_like_moment c.args.flats.now.form f w.flat
-    (like_transitive f g w.flat (like_after_step s u t c.in-Some.answer step) (like_after_plain_steps u w goes)) form
+    (like_transitive f g w.flat (flat_after_step_is_like_flat_before s u t c.in-Some.answer step) (flat_after_plain_steps_is_like_flat_before u w goes)) form
 
 pub returns-in-Err-clause-leads : goal.returns-in-Err-clause-leads
 returns-in-Err-clause-leads c =
@@ -87,7 +87,7 @@ node_of-requires-clause-like c = λ v k is.
     let one = c.in_default-take.ensures in
     let step : TakesStep (sourced_flat c.state.inside.flat c.state.inside.sources.items) (sourced_flat c.take.new.self c.state.inside.sources.items)
     c.args.way.thread c.in-Some.answer =
-    takes_step_at_rest f g sources t c.in-Some.answer rests one.admitted one.taken one.code one.threads one.objects in
+    takes_step_at_rest_if_tables_step f g sources t c.in-Some.answer rests one.admitted one.taken one.code one.threads one.objects in
     let w = c.run_to_rest.new.state in
     let goes = c.run_to_rest.ensures.goes in
     subst (λ (z : SourcedFlat). IsLike z.flat k.flat) (sym c.in_ok-new.ensures.state)
@@ -108,7 +108,7 @@ node_of-requires-clause-rest c =
     let one = c.in_default-take.ensures in
     let step : TakesStep (sourced_flat c.state.inside.flat c.state.inside.sources.items) (sourced_flat c.take.new.self c.state.inside.sources.items)
     c.args.way.thread c.in-Some.answer =
-    takes_step_at_rest f g sources t c.in-Some.answer rests one.admitted one.taken one.code one.threads one.objects in
+    takes_step_at_rest_if_tables_step f g sources t c.in-Some.answer rests one.admitted one.taken one.code one.threads one.objects in
     let w = c.run_to_rest.new.state in
     let goes = c.run_to_rest.ensures.goes in
     subst (λ (z : SourcedFlat). AllRest z.flat) (sym c.in_ok-new.ensures.state)
@@ -129,7 +129,7 @@ returns-in-Ok-clause-leads c =
     let one = c.in_default-take.ensures in
     let step : TakesStep (sourced_flat c.state.inside.flat c.state.inside.sources.items) (sourced_flat c.take.new.self c.state.inside.sources.items)
     c.args.way.thread c.in-Some.answer =
-    takes_step_at_rest f g sources t c.in-Some.answer rests one.admitted one.taken one.code one.threads one.objects in
+    takes_step_at_rest_if_tables_step f g sources t c.in-Some.answer rests one.admitted one.taken one.code one.threads one.objects in
     let w = c.run_to_rest.new.state in
     let goes = c.run_to_rest.ensures.goes in
     let r = c.in-Some.ensures.result in
@@ -154,7 +154,7 @@ returns-in-Ok-clause-reached c = λ x all.
     let one = c.in_default-take.ensures in
     let step : TakesStep (sourced_flat c.state.inside.flat c.state.inside.sources.items) (sourced_flat c.take.new.self c.state.inside.sources.items)
     c.args.way.thread c.in-Some.answer =
-    takes_step_at_rest f g sources t c.in-Some.answer rests one.admitted one.taken one.code one.threads one.objects in
+    takes_step_at_rest_if_tables_step f g sources t c.in-Some.answer rests one.admitted one.taken one.code one.threads one.objects in
     let w = c.run_to_rest.new.state in
     let goes = c.run_to_rest.ensures.goes in
     c.node_of.ensures.reached x (subst (AllReached x) (sym c.by_numbers.ensures.items) all)
@@ -175,7 +175,7 @@ returns-clause-reached c = λ x all.
     let one = c.in_default-take.ensures in
     let step : TakesStep (sourced_flat c.state.inside.flat c.state.inside.sources.items) (sourced_flat c.take.new.self c.state.inside.sources.items)
     c.args.way.thread c.in-Some.answer =
-    takes_step_at_rest f g sources t c.in-Some.answer rests one.admitted one.taken one.code one.threads one.objects in
+    takes_step_at_rest_if_tables_step f g sources t c.in-Some.answer rests one.admitted one.taken one.code one.threads one.objects in
     let w = c.run_to_rest.new.state in
     let goes = c.run_to_rest.ensures.goes in
     c.node_of.ensures.reached x (subst (AllReached x) (sym c.by_numbers.ensures.items) all)
@@ -196,11 +196,11 @@ returns-in-Err-run_to_rest-clause-stopped c = λ x all.
     let one = c.in_default-take.ensures in
     let step : TakesStep (sourced_flat c.state.inside.flat c.state.inside.sources.items) (sourced_flat c.take.new.self c.state.inside.sources.items)
     c.args.way.thread c.in-Some.answer =
-    takes_step_at_rest f g sources t c.in-Some.answer rests one.admitted one.taken one.code one.threads one.objects in
+    takes_step_at_rest_if_tables_step f g sources t c.in-Some.answer rests one.admitted one.taken one.code one.threads one.objects in
     let w = c.run_to_rest.new.state in
     let goes = c.run_to_rest.ensures.goes in
     may_stop_by_thread_stop x c.args.flats.now.items c.args.bounds.nodes c.args.bounds.private c.in-Err-run_to_rest.stop
-    (is_stop_after_entry x c.args.bounds.private c.in-Err-run_to_rest.stop s u w t c.in-Some.answer (all c.args.way.node s at) rests step goes
+    (is_stop_if_stops_after_entry_from_reached_state x c.args.bounds.private c.in-Err-run_to_rest.stop s u w t c.in-Some.answer (all c.args.way.node s at) rests step goes
     c.in-Err-run_to_rest.ensures.stopped)
 
 pub returns-in_err-new-clause-reached : goal.returns-in_err-new-clause-reached

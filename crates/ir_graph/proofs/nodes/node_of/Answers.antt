@@ -5,7 +5,7 @@ use Rattle.ir_store.specs.Nodes.{sourced_in}
 use Rattle.ir_graph.specs.Nodes.{AreNodes}
 use Rattle.ir_graph.specs.Reached.{AllReached}
 use Rattle.ir_graph.proofs.Both.{look_alike_if_same_looks}
-use Rattle.ir_graph.proofs.Found.{are_nodes_after_node_added, new_node_looks_alike}
+use Rattle.ir_graph.proofs.Found.{are_nodes_after_node_added, state_looks_alike_to_node_pushed_for_it}
 use Rattle.ir_graph.proofs.Reached.{all_reached_after_state_added}
 use Rattle.ir_graph.proofs.nodes.node_of.Goals as goal
 
@@ -27,7 +27,7 @@ returns-clause-stay c = λ v f is.
 pub returns-clause-alike : goal.returns-clause-alike
 returns-clause-alike c = λ f is.
     let h = sourced_in c.args.flats.now.shared c.args.new in
-    new_node_looks_alike c.args.flats.now.items h f c.len-node.result c.len-node.ensures
+    state_looks_alike_to_node_pushed_for_it c.args.flats.now.items h f c.len-node.result c.len-node.ensures
     (subst (λ z. slice_get z c.len-node.result ≡ Some f) c.in_ok-push.ensures.ok is)
 
 pub returns-clause-reached : goal.returns-clause-reached

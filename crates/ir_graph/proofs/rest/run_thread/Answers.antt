@@ -6,7 +6,7 @@ use Rattle.ir_graph.specs.Plain.{sourced_flat, IsFair}
 use Rattle.std.specs.Prelude.{slice_set}
 use Rattle.ir_graph.specs.Stops.{IsRefused}
 use Rattle.ir_graph.specs.Turn.{GoesAlone}
-use Rattle.ir_graph.proofs.Beside.{RunsBeside, runs_beside_no_steps, runs_beside_private_steps, runs_beside_fair_step, runs_beside_append, stops_at_refused_ask_with_source_set, ask_is_refused_if_spent}
+use Rattle.ir_graph.proofs.Beside.{RunsBeside, runs_beside_no_steps, runs_beside_private_steps, runs_beside_fair_step, runs_beside_append, stops_at_refused_ask_with_source_set, spent_ask_is_refused_by_log_stop}
 use Rattle.ir_graph.proofs.rest.run_thread.Goals as goal
 
 pub private-init : goal.private-init
@@ -89,7 +89,7 @@ returns-in-Err-clause-stopped c = λ sources at.
     let g = c.run_to_ask-steps.new.self in
     stops_at_refused_ask_with_source_set c.args.flat.now g sources c.args.thread c.args.limit c.args.source.now c.private.source c.in-Err.stop at
     (subst (λ z. IsRefused c.args.thread z c.private.source c.in-Err.stop) c.run_to_ask-steps.ensures.asked
-    (ask_is_refused_if_spent c.args.thread c.run_to_ask-steps.result.1 c.private.source c.in-Err.stop why.0 why.1))
+    (spent_ask_is_refused_by_log_stop c.args.thread c.run_to_ask-steps.result.1 c.private.source c.in-Err.stop why.0 why.1))
 
 pub returns-then-taken-limit-clause-stopped : goal.returns-then-taken-limit-clause-stopped
 returns-then-taken-limit-clause-stopped c = λ sources at. (

@@ -10,7 +10,7 @@ use Rattle.ir_image.specs.Guest.{Guest}
 use Rattle.ir_store.specs.Nodes.{SourcedFlat, sourced_in}
 use Rattle.ir_store.specs.Table.{HaveForm}
 use Rattle.ir_graph.proofs.Forms.{have_form_of_like_moment, start_threads_have_form, start_has_source_for_each_thread}
-use Rattle.ir_graph.proofs.Plain.{like_after_plain_steps}
+use Rattle.ir_graph.proofs.Plain.{flat_after_plain_steps_is_like_flat_before}
 use Rattle.ir_graph.proofs.start.start_graph.Goals as goal
 
 pub rest_all-requires : goal.rest_all-requires
@@ -22,7 +22,7 @@ by_numbers-requires-clause-form c =
     let h = c.rest_all.new.state in
     let goes = subst (λ z. GoesPlain z h) c.in_ok-state.ensures c.in_ok-rest_all.ensures.goes in
     subst (λ z. HaveForm z h.flat.threads) (sym (c.in_ok-flats.ensures.form ∙ c.form.ensures.value ∙ ap (λ (z : Guest). z.form) c.image-image.ensures))
-    (have_form_of_like_moment x.guest.form (start_of x).flat h.flat (like_after_plain_steps (start_of x) h goes)
+    (have_form_of_like_moment x.guest.form (start_of x).flat h.flat (flat_after_plain_steps_is_like_flat_before (start_of x) h goes)
     (start_threads_have_form x.guest most_budget x.profile 0 (length x.guest.entries)))
 
 pub by_numbers-requires-clause-sourced : goal.by_numbers-requires-clause-sourced

@@ -4,7 +4,7 @@ use Rattle.ir_lemmas.proofs.CallerLemmas.{element_below_length_exists}
 use Rattle.ir_graph.specs.declared.known.Turn.{Turn}
 use Rattle.ir_store.specs.Nodes.{SourcedFlat}
 use Rattle.ir_graph.specs.Ahead.{IsTurnOf}
-use Rattle.ir_graph.proofs.KnownTurns.{listed_turn_is_turn, turns_grown, are_turns_after_turn_added}
+use Rattle.ir_graph.proofs.KnownTurns.{listed_turn_is_turn, turns_grown, are_turns_if_unchanged_or_turn_pushed}
 use Rattle.ir_graph.proofs.turns.turn_of.Goals as goal
 
 pub returns-in-Some-clause-turn : goal.returns-in-Some-clause-turn
@@ -33,7 +33,7 @@ returns-in_err-note-clause-turns c =
     let at = subst (λ z. slice_get z c.args.way.node ≡ Some f.0) (sym c.new_turn.ensures.items) f.1 in
     let one = subst (λ z. IfSome z (λ (x : Turn). (f : SourcedFlat) → slice_get new.items c.args.way.node ≡ Some f
     → IsTurnOf c.args.code.now new.shared f c.args.way.thread c.args.way.refused x)) c.in-Some-found.is c.in_ok-found.ensures.turn in
-    are_turns_after_turn_added c.args.code.now new.shared c.args.ahead.now c.note.new.self c.in-Some-found.turn
+    are_turns_if_unchanged_or_turn_pushed c.args.code.now new.shared c.args.ahead.now c.note.new.self c.in-Some-found.turn
     (turns_grown c.args.code.now c.args.flats.now.shared new.shared c.new_turn.ensures.grows c.args.ahead.now c.requires.turns)
     (one f.0 at).is c.note.ensures
 
@@ -44,6 +44,6 @@ returns-in_ok-note-clause-turns c =
     let at = subst (λ z. slice_get z c.args.way.node ≡ Some f.0) (sym c.new_turn.ensures.items) f.1 in
     let one = subst (λ z. IfSome z (λ (x : Turn). (f : SourcedFlat) → slice_get new.items c.args.way.node ≡ Some f
     → IsTurnOf c.args.code.now new.shared f c.args.way.thread c.args.way.refused x)) c.in-Some-found.is c.in_ok-found.ensures.turn in
-    are_turns_after_turn_added c.args.code.now new.shared c.args.ahead.now c.note.new.self c.in-Some-found.turn
+    are_turns_if_unchanged_or_turn_pushed c.args.code.now new.shared c.args.ahead.now c.note.new.self c.in-Some-found.turn
     (turns_grown c.args.code.now c.args.flats.now.shared new.shared c.new_turn.ensures.grows c.args.ahead.now c.requires.turns)
     (one f.0 at).is c.note.ensures

@@ -1,7 +1,7 @@
 use Rattle.std.proofs.Common.{◌≡◌, ◌<◌, ◌-◌, ◌∙◌, ap, subst, arith}
 use Rattle.ir_weave.specs.Standing.{flat_in, positions}
 use Rattle.ir_hits.specs.Searching.{IsNextHit, reached, window_start}
-use Rattle.ir_hits.proofs.Windows.{reached_position_is_hit_position, next_hit_is_last_up_to_its_position, last_hit_stays_without_next_hit}
+use Rattle.ir_hits.proofs.Windows.{reached_position_is_hit_position_if_hit_found, next_hit_is_last_up_to_its_position, last_hit_stays_without_next_hit}
 use Rattle.ir_hits.proofs.search.last_in.Goals as goal
 
 pub hits-smaller : goal.hits-smaller
@@ -12,7 +12,7 @@ hits-smaller g c =
     let run = c.known.ensures.run.run in
     let next = subst (IsNextHit f run c.args.search.points.now c.args.search.t old c.args.search.to) c.in-Some.is
     (c.in_ok-hit.ensures.hit run c.known.ensures.run.whole) in
-    let at : new ≡ c.in-Some.hit.position = reached_position_is_hit_position c.args.search.to new c.in_ok-hit.field-0 c.in-Some.hit
+    let at : new ≡ c.in-Some.hit.position = reached_position_is_hit_position_if_hit_found c.args.search.to new c.in_ok-hit.field-0 c.in-Some.hit
     c.in_ok-hit.ensures.reached c.in-Some.is in
     let less : c.args.search.to - new < c.args.search.to - old = omega (arith, next.0, next.1, at) in
     less
@@ -25,7 +25,7 @@ hits-preserved g c =
     let run = c.known.ensures.run.run in
     let next = subst (IsNextHit f run c.args.search.points.now c.args.search.t old c.args.search.to) c.in-Some.is
     (c.in_ok-hit.ensures.hit run c.known.ensures.run.whole) in
-    let at : new ≡ c.in-Some.hit.position = reached_position_is_hit_position c.args.search.to new c.in_ok-hit.field-0 c.in-Some.hit
+    let at : new ≡ c.in-Some.hit.position = reached_position_is_hit_position_if_hit_found c.args.search.to new c.in_ok-hit.field-0 c.in-Some.hit
     c.in_ok-hit.ensures.reached c.in-Some.is in
     let above = c.hits.invariant.above in
     record {

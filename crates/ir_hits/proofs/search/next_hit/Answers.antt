@@ -2,7 +2,7 @@ use Rattle.std.proofs.Common.{◌≡◌, ◌<◌, ◌-◌, arith}
 use Rattle.ir_weave.specs.Standing.{flat_in, positions}
 use Rattle.ir_command.specs.declared.hit.Hit.{Hit}
 use Rattle.ir_hits.proofs.Standing.{steps_of_thread_are_position}
-use Rattle.ir_hits.proofs.Onward.{is_passage_if_thread_has_passed, next_hit_after_passage, no_hit_after_passage}
+use Rattle.ir_hits.proofs.Onward.{is_passage_if_thread_has_passed, lowest_point_seen_after_passage_is_next_hit, no_hit_through_passage_if_none_seen_after_it}
 use Rattle.ir_hits.proofs.search.next_hit.Goals as goal
 
 pub returns-in-Some-clause-hit : goal.returns-in-Some-clause-hit
@@ -17,7 +17,7 @@ returns-in-Some-clause-hit g c =
     let passage = is_passage_if_thread_has_passed f c.args.search.last.now c.args.search.code.now c.args.search.points.now c.note_all.new.notes t c.args.search.to old new x.result.now
     x.ensures c.requires.search.ends c.requires.search.words c.requires.search.covered c.steps.invariant.stands c.take_steps.ensures.stands
     c.in_ok-take_steps.ensures.passed c.note_all.ensures in
-    next_hit_after_passage f c.args.search.last.now c.args.search.code.now c.args.search.points.now c.note_all.new.notes t c.args.search.to old new c.position-end.result
+    lowest_point_seen_after_passage_is_next_hit f c.args.search.last.now c.args.search.code.now c.args.search.points.now c.note_all.new.notes t c.args.search.to old new c.position-end.result
     (positions (flat_in f c.args.state.now) t) y.result.now h y.ensures passage c.position-end.ensures c.steps.invariant.above
     c.steps.invariant.none c.lowest.result c.in-Some.is c.lowest.ensures
     (steps_of_thread_are_position f new t c.steps-position.result y.result.now y.ensures c.steps-position.ensures.value)
@@ -39,7 +39,7 @@ steps-preserved g c =
       stands = c.take_steps.ensures.stands;
       within = passed.within;
       above = omega (arith, above, passed.taken);
-      none = no_hit_after_passage f c.args.search.last.now c.args.search.code.now c.args.search.points.now c.note_all.new.notes t c.args.search.to old new
+      none = no_hit_through_passage_if_none_seen_after_it f c.args.search.last.now c.args.search.code.now c.args.search.points.now c.note_all.new.notes t c.args.search.to old new
           c.position-end.result (positions (flat_in f c.args.state.now) t) y.result.now y.ensures passage c.position-end.ensures
           c.steps.invariant.none c.lowest.result c.in_default.is c.lowest.ensures;
       size = c.note_all.ensures.size;

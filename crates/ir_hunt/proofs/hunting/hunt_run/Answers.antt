@@ -4,7 +4,7 @@ use Rattle.std.specs.Io.KnownBytes.{Appends}
 use Rattle.std.proofs.KnownBytes.{Appends-trans}
 use Rattle.std.proofs.lemmas.Result.{err_from_is_err_and}
 use Rattle.ir_stream.specs.Answers.{AppendsPrefix}
-use Rattle.ir_files.proofs.CallerLemmas.{if_err_for_handed_on_error}
+use Rattle.ir_files.proofs.CallerLemmas.{if_err_holds_if_holds_of_handed_on_error}
 use Rattle.ir_record_run.specs.declared.record_fault.RecordFault.TheVariants.{Lines}
 use Rattle.ir_chaos.specs.Conditions.{as_condition}
 use Rattle.ir_hunt.proofs.Found.{recording_of_found_is_finding}
@@ -40,7 +40,7 @@ returns-in_err-recorded-clause-stopped g c =
     let wrote = ok_fact_unless_is_err c.write_all.result _ c.write_all.ensures.ok (sym c.is_err.ensures.value ∙ c.if-is_err.false) in
     let line = c.as_bytes.ensures.value ∙ (rw c.in-Some.is at c.in-Ok.ensures.line) in
     let stopped = rw c.as_str.ensures.value at (rw c.by_list.ensures at c.in_err-recorded.ensures.stopped) in
-    if_err_for_handed_on_error _ c.from_residual.result c.in_err-recorded.field-0.0 p.0 p.1 p.2 (
+    if_err_holds_if_holds_of_handed_on_error _ c.from_residual.result c.in_err-recorded.field-0.0 p.0 p.1 p.2 (
       stopped.0,
       stopped.1,
       inr (inr (

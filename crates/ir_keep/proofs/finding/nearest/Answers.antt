@@ -1,7 +1,7 @@
 use Rattle.std.proofs.Common.{◌≡◌, ◌<◌, ◌-◌, suc, length, refl, ap, ◌∙◌, arith}
 use Rattle.ir_keep.specs.Store.{Entry}
 use Rattle.ir_keep.proofs.Again.{entries_with_start_not_empty}
-use Rattle.ir_keep.proofs.Found.{oldest_cut_is_below_each_cut, length_of_entry_cut}
+use Rattle.ir_keep.proofs.Found.{oldest_cut_is_below_each_cut_and_has_total_zero, length_of_entry_cut_is_thread_count}
 use Rattle.ir_keep.proofs.finding.nearest.Goals as goal
 
 pub loop-place-init : goal.loop-place-init
@@ -13,8 +13,8 @@ loop-place-init c =
     let behind : suc last ≡ length entries = omega (arith, some) in
     record {
       there = omega (arith, some);
-      below = λ d. (oldest_cut_is_below_each_cut (length cut) entries d last cut c.requires.each c.requires.start behind refl).0;
-      most = λ d. (oldest_cut_is_below_each_cut (length cut) entries d last cut c.requires.each c.requires.start behind refl).1;
+      below = λ d. (oldest_cut_is_below_each_cut_and_has_total_zero (length cut) entries d last cut c.requires.each c.requires.start behind refl).0;
+      most = λ d. (oldest_cut_is_below_each_cut_and_has_total_zero (length cut) entries d last cut c.requires.each c.requires.start behind refl).1;
       nearest =
           λ i d lt below. absurd (omega (arith, lt));
     }
@@ -23,4 +23,4 @@ pub steps_below-requires-clause-threads : goal.steps_below-requires-clause-threa
 steps_below-requires-clause-threads c =
     let d = c.index-entries-place.result in
     ap (λ (e : Entry). length e.cut) c.index-entries-place.is
-    ∙ length_of_entry_cut (length c.args.cut.now) c.loop-place.place c.args.entries.now d c.requires.each c.loop-place-test.true
+    ∙ length_of_entry_cut_is_thread_count (length c.args.cut.now) c.loop-place.place c.args.entries.now d c.requires.each c.loop-place-test.true

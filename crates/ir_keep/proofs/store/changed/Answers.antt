@@ -3,7 +3,7 @@ use Rattle.ir_mach.specs.Pages.{page_of}
 use Rattle.ir_thread.specs.State as thread
 use Rattle.ir_keep.specs.Store.{in_force}
 use Rattle.ir_keep.proofs.Laid.{place_within_pages_of_each_entry}
-use Rattle.ir_keep.proofs.Places.{compared_pages_step, compared_pages_at_end}
+use Rattle.ir_keep.proofs.Places.{compared_pages_step, compared_pages_are_whole_at_end}
 use Rattle.ir_keep.proofs.store.changed.Goals as goal
 
 pub page_at-requires : goal.page_at-requires
@@ -15,4 +15,4 @@ loop-place-preserved c =
     c.in_ok-push.ensures.items c.in_ok-if_changed.ensures (c.page-bytes.ensures.value ∙ ap (λ (t : thread.ThreadState). page_of t.core.memory (c.loop-place.place % 16)) c.index-threads-place.is) c.page_at.ensures c.loop-place.invariant
 
 pub returns : goal.returns
-returns c = compared_pages_at_end c.args.number c.args.threads.now (in_force c.args.entries.now) c.loop-place.place c.loop-place.pages.items _ c.loop-place-test.false c.loop-place.invariant
+returns c = compared_pages_are_whole_at_end c.args.number c.args.threads.now (in_force c.args.entries.now) c.loop-place.place c.loop-place.pages.items _ c.loop-place-test.false c.loop-place.invariant

@@ -1,6 +1,6 @@
 use Rattle.std.proofs.Common.{◌+◌, ◌*◌, List, ℕ, ◌∙◌, arith, length-set, Bor}
 use Rattle.ir_keep.specs.Store.{in_force}
-use Rattle.ir_keep.proofs.Rebuilt.{length_of_in_force_at_least, filled_pages_of_thread_step, filled_pages_of_thread_at_end, filled_pages_are_pages}
+use Rattle.ir_keep.proofs.Rebuilt.{length_of_in_force_at_least, filled_pages_of_thread_step, filled_pages_are_all_of_thread_at_end, filled_pages_are_pages}
 use Rattle.ir_keep.proofs.store.thread_at.Goals as goal
 
 pub loop-i-preserved : goal.loop-i-preserved
@@ -20,4 +20,4 @@ build-requires c =
     let force = in_force c.args.entries.now in
     let t = c.args.t in
     filled_pages_are_pages (λ (page : Bor (List ℕ)). page.now) c.loop-i.pages force t c.requires.full (length_of_in_force_at_least (16 * t + 16) c.args.entries.now c.requires.some c.requires.fits)
-    (filled_pages_of_thread_at_end (λ (page : Bor (List ℕ)). page.now) c.loop-i.pages force c.loop-i.i t c.loop-i-test.false c.loop-i.auto.i-end c.loop-i.invariant.many c.loop-i.invariant.made)
+    (filled_pages_are_all_of_thread_at_end (λ (page : Bor (List ℕ)). page.now) c.loop-i.pages force c.loop-i.i t c.loop-i-test.false c.loop-i.auto.i-end c.loop-i.invariant.many c.loop-i.invariant.made)

@@ -8,7 +8,7 @@ use Rattle.ir_graph.specs.Nodes.{LookAlike}
 use Rattle.ir_graph.proofs.CallerLemmas.{like_symmetric, like_transitive}
 use Rattle.ir_record.specs.Recording.{turns_of_items}
 use Rattle.ir_graph.specs.Setup.{start_of}
-use Rattle.ir_outcomes.proofs.Lost.{shown_at_if_again}
+use Rattle.ir_outcomes.proofs.Lost.{shown_at_level_if_again_by_short_enough_path}
 use Rattle.ir_outcomes.proofs.hang.lead.Goals as goal
 
 pub same_state-requires-clause-like : goal.same_state-requires-clause-like
@@ -39,7 +39,7 @@ returns-clause-shown c = λ s here.
     let origins = c.as_slice-origins.result.now in
     let wide : c.args.node < length origins = subst (λ z. c.args.node < length z) (sym c.as_slice-origins.ensures.value) c.requires.origin in
     let n : Origin = slice_index_or origins c.args.node first_origin in
-    shown_at_if_again c.args.states.now.graph.setup (turns_of_items c.in_ok-state.turns.items) c.args.states.now.search.found.refusals.items
+    shown_at_level_if_again_by_short_enough_path c.args.states.now.graph.setup (turns_of_items c.in_ok-state.turns.items) c.args.states.now.search.found.refusals.items
     c.as_slice.result.now n.level s u
     c.in_ok-state.ensures.again
     (subst (λ z. length z ≤ suc n.level) (sym c.as_slice.ensures.value)

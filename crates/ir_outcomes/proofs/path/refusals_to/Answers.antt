@@ -5,7 +5,7 @@ use Rattle.std.proofs.lemmas.Option.{slice_get-get_or, slice_get_within}
 use Rattle.ir_explore.specs.declared.origin.Refusal.{Refusal}
 use Rattle.ir_explore.specs.Origins.{AreWaysUnder, Whole}
 use Rattle.ir_outcomes.specs.Path.{ways_of}
-use Rattle.ir_outcomes.proofs.Paths.{ways_under_with_refusal_pushed}
+use Rattle.ir_outcomes.proofs.Paths.{ways_under_number_step_with_refusal_pushed}
 use Rattle.ir_outcomes.proofs.path.refusals_to.Goals as goal
 
 pub back-preserved : goal.back-preserved
@@ -19,7 +19,7 @@ back-preserved c =
     record {
       ways = λ ways before.
           subst (λ z. AreWaysUnder table c.args.number (ways ++ ways_of z)) (sym c.in_ok-push.ensures.items)
-          (ways_under_with_refusal_pushed table c.back.refusals.items c.args.number place x at
+          (ways_under_number_step_with_refusal_pushed table c.back.refusals.items c.args.number place x at
           (λ us spelled. c.back.invariant.ways us (subst (λ z. AreWaysUnder table z us) (sym left) spelled)) ways before);
       within = λ back few.
           let a = back place x at in let b = slice_get_within table place x at in omega (arith, a, b);

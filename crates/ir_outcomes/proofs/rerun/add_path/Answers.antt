@@ -3,7 +3,7 @@ use Rattle.ir_explore.specs.declared.origin.Origin.{Origin}
 use Rattle.ir_explore.specs.Origins.{first_origin}
 use Rattle.ir_record.specs.Recording.{turns_of_items}
 use Rattle.ir_outcomes.specs.Again.{IsAgainBy}
-use Rattle.ir_outcomes.proofs.Again.{again_by_turn_more}
+use Rattle.ir_outcomes.proofs.Again.{is_again_by_path_with_turn_added}
 use Rattle.ir_outcomes.proofs.Paths.{last_turns, last_turns-none, last_turns-next, last_turns-all}
 use Rattle.ir_outcomes.proofs.rerun.add_path.Goals as goal
 
@@ -19,7 +19,7 @@ loop-k-preserved c = λ setup again.
     let n : Origin = get_or path (length path - 1 - k) first_origin in
     let next : last_turns path (k + 1) ≡ n ∷ last_turns path k = last_turns-next path k first_origin c.loop-k-test.true in
     subst (λ z. IsAgainBy setup (turns_of_items c.add_turn.new.items.items) c.args.table.now z c.add_turn.new.state) (sym next)
-    (again_by_turn_more setup (turns_of_items c.loop-k.items.items) (turns_of_items c.add_turn.new.items.items) c.args.table.now n (last_turns path k)
+    (is_again_by_path_with_turn_added setup (turns_of_items c.loop-k.items.items) (turns_of_items c.add_turn.new.items.items) c.args.table.now n (last_turns path k)
     c.loop-k.state c.add_turn.new.state (c.loop-k.invariant setup again) (c.in_ok-add_turn.ensures setup))
 
 pub returns : goal.returns

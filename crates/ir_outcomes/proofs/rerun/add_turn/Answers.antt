@@ -3,7 +3,7 @@ use Rattle.ir_explore.specs.declared.origin.Refusal.{Refusal}
 use Rattle.ir_record.specs.Recording.{turns_of_items}
 use Rattle.ir_outcomes.specs.Again.{IsAgain, ways_by}
 use Rattle.ir_outcomes.specs.Path.{ways_of}
-use Rattle.ir_outcomes.proofs.Again.{is_again_with_no_way, is_again_with_ways_joined, is_again_with_ways_of_turn_joined}
+use Rattle.ir_outcomes.proofs.Again.{is_again_with_empty_ways_appended, is_again_with_ways_joined, is_again_with_ways_of_turn_joined}
 use Rattle.ir_outcomes.proofs.Paths.{last_ways, last_ways-none, last_ways-next, last_ways-all}
 use Rattle.ir_outcomes.proofs.rerun.add_turn.Goals as goal
 
@@ -11,7 +11,7 @@ pub loop-k-init : goal.loop-k-init
 loop-k-init c = λ setup before again.
     let turns = turns_of_items c.args.items.now.items in
     subst (λ z. IsAgain setup turns (before ++ ways_by c.args.origin.thread z) c.args.state.now) (sym (last_ways-none c.in_ok-refusals.refusals.items))
-    (is_again_with_no_way setup turns before c.args.state.now again)
+    (is_again_with_empty_ways_appended setup turns before c.args.state.now again)
 
 pub loop-k-preserved : goal.loop-k-preserved
 loop-k-preserved c = λ setup before again.

@@ -2,7 +2,7 @@ use Rattle.std.proofs.Common.{[], sym, subst}
 use Rattle.ir_record.specs.Recording.{turns_of_items}
 use Rattle.ir_outcomes.specs.Again.{IsAgain, AreWaysBack}
 use Rattle.ir_outcomes.proofs.rerun.run_again.Goals as goal
-use Rattle.ir_outcomes.proofs.Again.{start_is_run_again}
+use Rattle.ir_outcomes.proofs.Again.{start_is_again_by_no_turns}
 
 pub returns : goal.returns
 returns c =
@@ -10,7 +10,7 @@ returns c =
     let first = c.in_ok-state.state in
     let by = c.in_ok-add_path.ensures setup
     (subst (λ z. IsAgain setup (turns_of_items z) [] first) (sym c.new-items.ensures.items)
-    (subst (IsAgain setup [] []) (sym c.in_ok-state.ensures) (start_is_run_again setup))) in
+    (subst (IsAgain setup [] []) (sym c.in_ok-state.ensures) (start_is_again_by_no_turns setup))) in
     record {
       ways = by.ways;
       back = subst (λ z. AreWaysBack z c.args.path.now by.ways) c.as_slice-table.ensures.value by.back;

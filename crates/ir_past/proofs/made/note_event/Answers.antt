@@ -2,7 +2,7 @@ use Rattle.std.proofs.Common.{◌<◌, ◌∙◌, List, length, refl, sym, ap, a
 use Rattle.std.specs.Prelude.{slice_get}
 use Rattle.ir_log.specs.declared.event.Event.{Event}
 use Rattle.ir_past.proofs.Open.{slice_get_from_get_or}
-use Rattle.ir_past.proofs.Noted.{makes_after_other_event, makes_after_noted_write}
+use Rattle.ir_past.proofs.Noted.{makes_after_other_event, makes_on_ok_after_write}
 use Rattle.ir_past.proofs.made.note_event.Goals as goal
 
 pub note-requires : goal.note-requires
@@ -17,7 +17,7 @@ returns-in-Write c =
     let n = c.args.here.event in
     let within : n < length c.events_of-events.result.now = omega (arith, c.requires.event, c.events_of-events.ensures.count) in
     let at = slice_get_from_get_or c.events_of-events.result.now n _ _ within c.in-Write.is in
-    makes_after_noted_write c.note.result c.args.trace.now c.args.here.thread n c.in-Write.object c.in-Write.version _ c.args.makers.now c.note.new.self
+    makes_on_ok_after_write c.note.result c.args.trace.now c.args.here.thread n c.in-Write.object c.in-Write.version _ c.args.makers.now c.note.new.self
     c.args.here (ap (λ (es : List Event). slice_get es n) (sym c.events_of-events.ensures.events) ∙ at) refl refl c.requires.makes
     c.note.ensures.objects c.note.ensures.noted
 

@@ -2,7 +2,7 @@ use Rattle.std.proofs.Common.{◌<◌, ◌∙◌, List, length, refl, sym, ap, a
 use Rattle.std.specs.Prelude.{slice_get}
 use Rattle.ir_log.specs.declared.event.Event.{Event}
 use Rattle.ir_past.proofs.Open.{slice_get_from_get_or}
-use Rattle.ir_past.proofs.ReadTables.{has_reads_after_other_event, has_reads_after_noted_read}
+use Rattle.ir_past.proofs.ReadTables.{has_reads_after_other_event, has_reads_on_ok_after_read}
 use Rattle.ir_past.proofs.reads.note_event.Goals as goal
 
 pub note-requires : goal.note-requires
@@ -17,7 +17,7 @@ returns-in-Read c =
     let n = c.args.here.event in
     let within : n < length c.events_of-events.result.now = omega (arith, c.requires.event, c.events_of-events.ensures.count) in
     let at = slice_get_from_get_or c.events_of-events.result.now n _ _ within c.in-Read.is in
-    has_reads_after_noted_read c.note.result c.args.trace.now c.args.here.thread n c.in-Read.object c.in-Read.version c.args.reads.now c.note.new.self
+    has_reads_on_ok_after_read c.note.result c.args.trace.now c.args.here.thread n c.in-Read.object c.in-Read.version c.args.reads.now c.note.new.self
     c.args.here (ap (λ (es : List Event). slice_get es n) (sym c.events_of-events.ensures.events) ∙ at) refl refl c.requires.has
     c.note.ensures.objects c.note.ensures.noted
 

@@ -2,7 +2,7 @@ use Rattle.std.proofs.Common.{Result, IfOk, IfErr, sym, subst}
 use Rattle.std.proofs.lemmas.Result.{err_from_is_err_and}
 use Rattle.ir_trace.specs.Recorded.{Recorded, recorded_at}
 use Rattle.ir_trace.specs.declared.trace_err.TraceErr.{TraceErr}
-use Rattle.ir_files.proofs.CallerLemmas.{if_err_for_handed_on_error}
+use Rattle.ir_files.proofs.CallerLemmas.{if_err_holds_if_holds_of_handed_on_error}
 use Rattle.ir_files.specs.Writers.{Writer, writer_of}
 use Rattle.ir_past.specs.Answers.{IsOpened, IsAnswerOf, Answered, NotAnswered}
 use Rattle.ir_past.specs.Lines.{IsStaleAnswer}
@@ -14,7 +14,7 @@ use Rattle.ir_past.proofs.run.show.Goals as goal
 pub returns-in_err-trace-clause-fails : goal.returns-in_err-trace-clause-fails
 returns-in_err-trace-clause-fails g c =
     let p = err_from_is_err_and c.from_residual.result c.from_residual.ensures.1 in
-    if_err_for_handed_on_error _ c.from_residual.result NoMem p.0 p.1 p.2
+    if_err_holds_if_holds_of_handed_on_error _ c.from_residual.result NoMem p.0 p.1 p.2
     (not_answered_if_no_memory (IsAnswerOf IsStaleAnswer (recorded_at c.args.bytes.now)) (g.O.Sink.written c.args.out.now) (g.O.Sink.broken c.args.out.now)
     c.requires)
 

@@ -1,6 +1,6 @@
 use Rattle.std.proofs.Common.{Ok, sym, subst}
 use Rattle.std.proofs.lemmas.Result.{err_from_is_err_and}
-use Rattle.ir_files.proofs.CallerLemmas.{if_err_for_handed_on_error}
+use Rattle.ir_files.proofs.CallerLemmas.{if_err_holds_if_holds_of_handed_on_error}
 use Rattle.ir_files.specs.declared.exit_status.ExitStatus.TheVariants.{Done}
 use Rattle.ir_past.specs.Past.{AreStaleWrites}
 use Rattle.ir_past.specs.Answers.{IsAnswerOf}
@@ -12,13 +12,13 @@ use Rattle.ir_past.proofs.run.show_stale.Goals as goal
 pub returns-in_err-rows-clause-fails : goal.returns-in_err-rows-clause-fails
 returns-in_err-rows-clause-fails g c =
     let p = err_from_is_err_and c.from_residual.result c.from_residual.ensures.1 in
-    if_err_for_handed_on_error _ c.from_residual.result NoMem p.0 p.1 p.2
+    if_err_holds_if_holds_of_handed_on_error _ c.from_residual.result NoMem p.0 p.1 p.2
     (not_answered_if_no_memory (IsAnswerOf IsStaleAnswer (Ok c.args.trace.now)) (g.O.Sink.written c.args.out.now) (g.O.Sink.broken c.args.out.now) c.requires.works)
 
 pub returns-in_err-put_stale-clause-fails : goal.returns-in_err-put_stale-clause-fails
 returns-in_err-put_stale-clause-fails g c =
     let p = err_from_is_err_and c.from_residual-in_err-put_stale.result c.from_residual-in_err-put_stale.ensures.1 in
-    if_err_for_handed_on_error _ c.from_residual-in_err-put_stale.result c.in_err-put_stale.field-0.0 p.0 p.1 p.2
+    if_err_holds_if_holds_of_handed_on_error _ c.from_residual-in_err-put_stale.result c.in_err-put_stale.field-0.0 p.0 p.1 p.2
     (not_answered_if_stopped (IsAnswerOf IsStaleAnswer (Ok c.args.trace.now)) Done (stale_text c.write_count.result c.as_slice.result.now) c.in_err-put_stale.field-0.0 _
     (stale_text_is_answer c.args.trace.now c.as_slice.result.now c.write_count.result c.requires.coherent
     (subst (AreStaleWrites c.args.trace.now) (sym c.as_slice.ensures.value) c.in_ok-rows.ensures) c.write_count.ensures)

@@ -2,7 +2,7 @@ use Rattle.std.proofs.Common.{◌+◌, ◌∙◌, List, sym, subst, arith, rules
 use Rattle.ir_log.specs.declared.event.Event.{Event}
 use Rattle.ir_trace.specs.Recorded.{recorded_thread}
 use Rattle.ir_picture.specs.Boxing.{Notes, IsRepeat, IsFold}
-use Rattle.ir_picture.proofs.Noting.{repeat_is_before_next_event, fold_told_by_repeats}
+use Rattle.ir_picture.proofs.Noting.{repeat_is_before_next_event, fold_is_whether_repeats_before_and_now_are_alike}
 use Rattle.ir_picture.proofs.Boxed.{boxed_before_next_thread}
 use Rattle.ir_picture.proofs.boxes.add_thread.Goals as goal
 
@@ -12,7 +12,7 @@ add_event-requires-clause-folds c =
     let now : IsRepeat es c.loop-event.event c.note-repeat.result =
     subst (λ (x : List Event). IsRepeat x c.loop-event.event c.note-repeat.result) c.events_of-events.ensures.events c.note-repeat.ensures.repeat in
     subst (IsFold es c.loop-event.event) (sym c.are_alike-folds.ensures)
-    (fold_told_by_repeats es c.loop-event.event c.loop-event.before c.note-repeat.result c.loop-event.invariant.before now)
+    (fold_is_whether_repeats_before_and_now_are_alike es c.loop-event.event c.loop-event.before c.note-repeat.result c.loop-event.invariant.before now)
 
 pub loop-event-preserved : goal.loop-event-preserved
 loop-event-preserved c =

@@ -1,6 +1,6 @@
 use Rattle.std.proofs.Common.{flat_map, refl, subst, sym}
 use Rattle.std.proofs.lemmas.Result.{err_from_is_err_and}
-use Rattle.ir_files.proofs.CallerLemmas.{if_err_for_handed_on_error}
+use Rattle.ir_files.proofs.CallerLemmas.{if_err_holds_if_holds_of_handed_on_error}
 use Rattle.ir_past.specs.Past.{IsRising}
 use Rattle.ir_picture.specs.Chrome.{box_line, all_arrows}
 use Rattle.ir_picture.specs.Progress.{AreBoxesOf, chrome_end}
@@ -18,7 +18,7 @@ pub returns-in_err-write_slices-clause-fails : goal.returns-in_err-write_slices-
 returns-in_err-write_slices-clause-fails g c =
     let p = err_from_is_err_and c.from_residual-in_err-write_slices.result c.from_residual-in_err-write_slices.ensures.1 in
     let e = c.in_err-write_slices.field-0.0 in
-    if_err_for_handed_on_error _ c.from_residual-in_err-write_slices.result e p.0 p.1 p.2
+    if_err_holds_if_holds_of_handed_on_error _ c.from_residual-in_err-write_slices.result e p.0 p.1 p.2
     (stops_in_second_of_four_texts e _ _ _ c.in_ok-text.text.items
     (flat_map (box_line c.args.trace.now c.deref-2.result.now) c.deref.result.now) (all_arrows 0 c.args.sights.now) chrome_end _
     (four_parts_are_chrome_text c.args.trace.now c.args.picture.now c.args.sights.now c.thread_count.result c.in_ok-text.text.items chrome_end
@@ -29,7 +29,7 @@ pub returns-in_err-write_arrows-clause-fails : goal.returns-in_err-write_arrows-
 returns-in_err-write_arrows-clause-fails g c =
     let p = err_from_is_err_and c.from_residual-in_err-write_arrows.result c.from_residual-in_err-write_arrows.ensures.1 in
     let e = c.in_err-write_arrows.field-0.0 in
-    if_err_for_handed_on_error _ c.from_residual-in_err-write_arrows.result e p.0 p.1 p.2
+    if_err_holds_if_holds_of_handed_on_error _ c.from_residual-in_err-write_arrows.result e p.0 p.1 p.2
     (stops_in_third_of_four_texts e _ _ _ _ c.in_ok-text.text.items
     (flat_map (box_line c.args.trace.now c.deref-2.result.now) c.deref.result.now) (all_arrows 0 c.args.sights.now) chrome_end _ _
     (four_parts_are_chrome_text c.args.trace.now c.args.picture.now c.args.sights.now c.thread_count.result c.in_ok-text.text.items chrome_end

@@ -1,6 +1,6 @@
 use Rattle.std.proofs.Common.{◌++◌, sym, subst, refl}
 use Rattle.std.proofs.lemmas.Result.{err_from_is_err_and}
-use Rattle.ir_files.proofs.CallerLemmas.{if_err_for_handed_on_error}
+use Rattle.ir_files.proofs.CallerLemmas.{if_err_holds_if_holds_of_handed_on_error}
 use Rattle.ir_past.specs.declared.past_err.PastErr.TheVariants.{NoMem}
 use Rattle.ir_picture.specs.Numbers.{rows_from, box_row, stale_row}
 use Rattle.ir_picture.specs.Progress.{stale_head, AreBoxesOf}
@@ -14,7 +14,7 @@ write_box_rows-requires-clause-boxes g c = subst (AreBoxesOf c.args.trace.now) (
 pub returns-in_err-text-clause-fails : goal.returns-in_err-text-clause-fails
 returns-in_err-text-clause-fails g c =
     let p = err_from_is_err_and c.from_residual.result c.from_residual.ensures.1 in
-    if_err_for_handed_on_error _ c.from_residual.result NoMem p.0 p.1 p.2 (prefix_appended_if_buffered _ _ _ _ (buffered_at_start _ _), c.requires.works)
+    if_err_holds_if_holds_of_handed_on_error _ c.from_residual.result NoMem p.0 p.1 p.2 (prefix_appended_if_buffered _ _ _ _ (buffered_at_start _ _), c.requires.works)
 
 pub returns-in_err-write_box_rows-clause-fails : goal.returns-in_err-write_box_rows-clause-fails
 returns-in_err-write_box_rows-clause-fails g c =
@@ -22,7 +22,7 @@ returns-in_err-write_box_rows-clause-fails g c =
     let e = c.in_err-write_box_rows.field-0.0 in
     let r = c.args.trace.now in
     let after = c.args.frame.now.after.items in
-    if_err_for_handed_on_error _ c.from_residual-in_err-write_box_rows.result e p.0 p.1 p.2
+    if_err_holds_if_holds_of_handed_on_error _ c.from_residual-in_err-write_box_rows.result e p.0 p.1 p.2
     (stops_in_second_of_four_texts e _ _ _ c.in_ok-text.text.items (rows_from (box_row r) 0 c.deref-3.result.now)
     (stale_head ++ rows_from stale_row 0 c.args.picture.now.stale.items) after _
     (four_parts_are_framed_rows r c.args.near.now c.args.picture.now c.deref-2.result.now c.in_ok-text.text.items after c.args.frame.now.before.items after
@@ -36,7 +36,7 @@ returns-in_err-write_stale-clause-fails g c =
     let e = c.in_err-write_stale.field-0.0 in
     let r = c.args.trace.now in
     let after = c.args.frame.now.after.items in
-    if_err_for_handed_on_error _ c.from_residual-in_err-write_stale.result e p.0 p.1 p.2
+    if_err_holds_if_holds_of_handed_on_error _ c.from_residual-in_err-write_stale.result e p.0 p.1 p.2
     (stops_in_third_of_four_texts e _ _ _ _ c.in_ok-text.text.items (rows_from (box_row r) 0 c.deref-3.result.now)
     (stale_head ++ rows_from stale_row 0 c.deref-4.result.now) after _ _
     (four_parts_are_framed_rows r c.args.near.now c.args.picture.now c.deref-2.result.now c.in_ok-text.text.items after c.args.frame.now.before.items after

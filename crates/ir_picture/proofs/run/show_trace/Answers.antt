@@ -1,7 +1,7 @@
 use Rattle.std.proofs.Common.{inl, inr, Ok, Result, sym, subst}
 use Rattle.std.specs.Prelude.{MatchResult}
 use Rattle.std.proofs.lemmas.Result.{err_from_is_err_and}
-use Rattle.ir_files.proofs.CallerLemmas.{if_err_for_handed_on_error}
+use Rattle.ir_files.proofs.CallerLemmas.{if_err_holds_if_holds_of_handed_on_error}
 use Rattle.ir_files.specs.declared.exit_status.ExitStatus.{ExitStatus}
 use Rattle.ir_past.proofs.CallerLemmas.{answered_if_written}
 use Rattle.ir_picture.specs.Needs.{HasNoCircle, IsCircleAt}
@@ -31,7 +31,7 @@ returns-in_err-show_picture-in-Ok-clause-fails g c =
     c.in-Ok.is c.in_ok-circle.ensures.ok in
     let p = err_from_is_err_and c.from_residual-in_err-show_picture-in-Ok.result c.from_residual-in_err-show_picture-in-Ok.ensures.1 in
     let e = c.in_err-show_picture-in-Ok.field-0.0 in
-    if_err_for_handed_on_error _ c.from_residual-in_err-show_picture-in-Ok.result (Unwritten e) p.0 p.1 p.2
+    if_err_holds_if_holds_of_handed_on_error _ c.from_residual-in_err-show_picture-in-Ok.result (Unwritten e) p.0 p.1 p.2
     (not_answered_of_implied_kind (IsForm asked.form r asked.around c.in-Ok.picture) (IsViewAnswer asked (Ok r)) e _
     (λ s text is. trace_answer_is_view_answer asked r s text c.requires.coherent c.in_ok-circle.ensures.there (inr (drawn.0, (c.in-Ok.picture, drawn.1, is))))
     c.in_err-show_picture-in-Ok.ensures.fails)
@@ -57,7 +57,7 @@ returns-in_err-put_answer-in-Err-clause-fails g c =
     c.in-Err.is c.in_ok-circle.ensures.ok in
     let p = err_from_is_err_and c.from_residual-in_err-put_answer-in-Err.result c.from_residual-in_err-put_answer-in-Err.ensures.1 in
     let e = c.in_err-put_answer-in-Err.field-0.0 in
-    if_err_for_handed_on_error _ c.from_residual-in_err-put_answer-in-Err.result (Unwritten e) p.0 p.1 p.2
+    if_err_holds_if_holds_of_handed_on_error _ c.from_residual-in_err-put_answer-in-Err.result (Unwritten e) p.0 p.1 p.2
     (view_not_answered_if_stopped asked r c.in_ok-circle_answer-in-Err.field-0.status c.in_ok-circle_answer-in-Err.field-0.text.items e _ c.requires.coherent
     c.in_ok-circle.ensures.there
     (inl (c.in-Err.circle.thread, c.in-Err.circle.event, circle, c.in_ok-circle_answer-in-Err.ensures.0, c.in_ok-circle_answer-in-Err.ensures.1))

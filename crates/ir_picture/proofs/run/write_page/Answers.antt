@@ -1,6 +1,6 @@
 use Rattle.std.proofs.Common.{arith}
 use Rattle.std.proofs.lemmas.Result.{err_from_is_err_and}
-use Rattle.ir_files.proofs.CallerLemmas.{if_err_for_handed_on_error}
+use Rattle.ir_files.proofs.CallerLemmas.{if_err_holds_if_holds_of_handed_on_error}
 use Rattle.ir_files.specs.declared.exit_status.ExitStatus.TheVariants.{Done}
 use Rattle.ir_past.specs.declared.past_err.PastErr.TheVariants.{NoMem}
 use Rattle.ir_past.proofs.CallerLemmas.{answered_if_written, not_answered_if_no_memory, not_answered_if_stopped}
@@ -12,7 +12,7 @@ use Rattle.ir_picture.proofs.run.write_page.Goals as goal
 pub returns-in_err-page-clause-fails : goal.returns-in_err-page-clause-fails
 returns-in_err-page-clause-fails g c =
     let p = err_from_is_err_and c.from_residual-in_err-page.result c.from_residual-in_err-page.ensures.1 in
-    if_err_for_handed_on_error _ c.from_residual-in_err-page.result NoMem p.0 p.1 p.2
+    if_err_holds_if_holds_of_handed_on_error _ c.from_residual-in_err-page.result NoMem p.0 p.1 p.2
     (not_answered_if_no_memory (IsForm form.Page c.args.trace.now c.args.near.now c.args.picture.now) (g.O.Sink.written c.args.out.now)
     (g.O.Sink.broken c.args.out.now) c.requires.works)
 
@@ -20,7 +20,7 @@ pub returns-in_err-write_data-clause-fails : goal.returns-in_err-write_data-clau
 returns-in_err-write_data-clause-fails g c =
     let p = err_from_is_err_and c.from_residual-in_err-write_data.result c.from_residual-in_err-write_data.ensures.1 in
     let e = c.in_err-write_data.field-0.0 in
-    if_err_for_handed_on_error _ c.from_residual-in_err-write_data.result e p.0 p.1 p.2
+    if_err_holds_if_holds_of_handed_on_error _ c.from_residual-in_err-write_data.result e p.0 p.1 p.2
     (not_answered_if_stopped (IsForm form.Page c.args.trace.now c.args.near.now c.args.picture.now) Done _ e _
     (framed_rows_are_page_form c.args.trace.now c.args.near.now c.args.picture.now _ _ (omega (arith, c.if-len-gt-MOST_BOXES.false)) c.in_ok-page.ensures.before c.in_ok-page.ensures.after)
     c.in_err-write_data.ensures.fails)

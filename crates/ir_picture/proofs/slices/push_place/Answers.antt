@@ -1,11 +1,11 @@
 use Rattle.std.proofs.Common.{◌++◌, ◌∙◌, codes, decimal, ap}
 use Rattle.std.proofs.lemmas.Result.{on_ok_weaker}
-use Rattle.ir_picture.proofs.Texts.{append_of_five_texts}
+use Rattle.ir_picture.proofs.Texts.{five_appends_nest_to_the_right}
 use Rattle.ir_picture.proofs.slices.push_place.Goals as goal
 
 pub returns : goal.returns
 returns c = on_ok_weaker c.push_stale.result
-    (append_of_five_texts c.args.text.now.items _ _ _ _ _ _ _ _ _ _
+    (five_appends_nest_to_the_right c.args.text.now.items _ _ _ _ _ _ _ _ _ _
     (c.in_ok-push_number.ensures ∙ ap (λ n. c.args.text.now.items ++ (codes ",\"ts\":" ++ decimal n)) c.time_of.ensures)
     c.in_ok-push_row.ensures c.in_ok-push_number-2.ensures c.in_ok-push_number-3.ensures)
     c.push_stale.ensures

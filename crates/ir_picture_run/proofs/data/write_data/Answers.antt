@@ -1,6 +1,6 @@
 use Rattle.std.proofs.Common.{◌++◌, refl}
 use Rattle.std.proofs.lemmas.Result.{err_from_is_err_and}
-use Rattle.ir_files.proofs.CallerLemmas.{if_err_for_handed_on_error}
+use Rattle.ir_files.proofs.CallerLemmas.{if_err_holds_if_holds_of_handed_on_error}
 use Rattle.ir_past.specs.declared.past_err.PastErr.TheVariants.{NoMem}
 use Rattle.ir_picture.specs.Numbers.{rows_from}
 use Rattle.ir_picture.specs.Progress.{stale_head}
@@ -17,7 +17,7 @@ write_box_rows-requires-clause-boxes g c = drawn_are_boxes_of_trace c.args.view.
 pub returns-in_err-text-clause-fails : goal.returns-in_err-text-clause-fails
 returns-in_err-text-clause-fails g c =
     let p = err_from_is_err_and c.from_residual.result c.from_residual.ensures.1 in
-    if_err_for_handed_on_error _ c.from_residual.result NoMem p.0 p.1 p.2 (prefix_appended_if_buffered _ _ _ _ (buffered_at_start _ _), c.requires.works)
+    if_err_holds_if_holds_of_handed_on_error _ c.from_residual.result NoMem p.0 p.1 p.2 (prefix_appended_if_buffered _ _ _ _ (buffered_at_start _ _), c.requires.works)
 
 pub returns-in_err-write_box_rows-clause-fails : goal.returns-in_err-write_box_rows-clause-fails
 returns-in_err-write_box_rows-clause-fails g c =
@@ -25,7 +25,7 @@ returns-in_err-write_box_rows-clause-fails g c =
     let e = c.in_err-write_box_rows.field-0.0 in
     let v = c.args.view in
     let after = c.args.frame.now.after.items in
-    if_err_for_handed_on_error _ c.from_residual-in_err-write_box_rows.result e p.0 p.1 p.2
+    if_err_holds_if_holds_of_handed_on_error _ c.from_residual-in_err-write_box_rows.result e p.0 p.1 p.2
     (stops_in_second_of_four_texts e _ _ _ c.in_ok-text.text.items (rows_from (drawn_row v.fitted.now) 0 v.drawn.now) (stale_head ++ rows_from resting_row 0 v.kept.now)
     after _
     (framed_parts_are_data_rows v.fitted.now v.near.now v.picture.now v.drawn.now v.kept.now c.deref-2.result.now c.in_ok-text.text.items after
@@ -39,7 +39,7 @@ returns-in_err-write_stale-clause-fails g c =
     let e = c.in_err-write_stale.field-0.0 in
     let v = c.args.view in
     let after = c.args.frame.now.after.items in
-    if_err_for_handed_on_error _ c.from_residual-in_err-write_stale.result e p.0 p.1 p.2
+    if_err_holds_if_holds_of_handed_on_error _ c.from_residual-in_err-write_stale.result e p.0 p.1 p.2
     (stops_in_third_of_four_texts e _ _ _ _ c.in_ok-text.text.items (rows_from (drawn_row v.fitted.now) 0 v.drawn.now)
     (stale_head ++ rows_from resting_row 0 v.kept.now) after _ _
     (framed_parts_are_data_rows v.fitted.now v.near.now v.picture.now v.drawn.now v.kept.now c.deref-2.result.now c.in_ok-text.text.items after

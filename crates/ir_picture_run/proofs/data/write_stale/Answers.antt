@@ -1,7 +1,7 @@
 use Rattle.std.proofs.Common.{◌∙◌, ◌++◌, List, ℕ, ap, subst, append_assoc}
 use Rattle.std.proofs.lemmas.Result.{err_from_is_err_and, on_ok_weaker, IfErr-weaker}
 use Rattle.ir_files.specs.Writers.{writer_of}
-use Rattle.ir_files.proofs.CallerLemmas.{if_err_for_handed_on_error}
+use Rattle.ir_files.proofs.CallerLemmas.{if_err_holds_if_holds_of_handed_on_error}
 use Rattle.ir_text.specs.Buffered.{Buffered}
 use Rattle.ir_past.specs.Answers.{Stops}
 use Rattle.ir_past.specs.declared.past_err.PastErr.TheVariants.{NoMem}
@@ -14,7 +14,7 @@ use Rattle.ir_picture_run.proofs.data.write_stale.Goals as goal
 pub returns-in_err-push_words-clause-fails : goal.returns-in_err-push_words-clause-fails
 returns-in_err-push_words-clause-fails g c =
     let p = err_from_is_err_and c.from_residual.result c.from_residual.ensures.1 in
-    if_err_for_handed_on_error _ c.from_residual.result NoMem p.0 p.1 p.2 (prefix_appended_if_buffered _ _ _ _ (buffered_at_start _ _), c.requires)
+    if_err_holds_if_holds_of_handed_on_error _ c.from_residual.result NoMem p.0 p.1 p.2 (prefix_appended_if_buffered _ _ _ _ (buffered_at_start _ _), c.requires)
 
 pub returns-clause-ok : goal.returns-clause-ok
 returns-clause-ok g c =

@@ -6,7 +6,7 @@ use Rattle.ir_picture.specs.Needs.{HasNoCircle, IsCircleAt}
 use Rattle.ir_picture.specs.Answers.{IsPicture}
 use Rattle.ir_picture.specs.declared.circle.Circle.{Circle}
 use Rattle.ir_picture.specs.declared.picture.Picture.{Picture}
-use Rattle.ir_picture_run.proofs.Circles.{run_trace_has_no_circle, no_circle_at_event}
+use Rattle.ir_picture_run.proofs.Circles.{run_trace_has_no_circle, no_event_has_circle_if_recorded_has_none}
 use Rattle.ir_picture_run.proofs.pictures.run_picture_of.Goals as goal
 
 pub picture_of-requires-clause-coherent : goal.picture_of-requires-clause-coherent
@@ -23,5 +23,5 @@ unreachable-requires c =
     let circle : IsCircleAt r c.in-Err.field-0.thread c.in-Err.field-0.event =
     subst (λ (x : Result Picture Circle). MatchResult x (λ p. HasNoCircle r × IsPicture r near p) (λ d. IsCircleAt r d.thread d.event)) c.in-Err.is
     c.in_ok-picture.ensures in
-    no_circle_at_event r c.in-Err.field-0.thread c.in-Err.field-0.event
+    no_event_has_circle_if_recorded_has_none r c.in-Err.field-0.thread c.in-Err.field-0.event
     (subst HasNoCircle (sym c.trace-2.ensures.value) (run_trace_has_no_circle c.args.fitted.now c.known.ensures.run)) circle

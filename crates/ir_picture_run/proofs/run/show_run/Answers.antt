@@ -1,5 +1,5 @@
 use Rattle.std.proofs.lemmas.Result.{err_from_is_err_and}
-use Rattle.ir_files.proofs.CallerLemmas.{if_err_for_handed_on_error}
+use Rattle.ir_files.proofs.CallerLemmas.{if_err_holds_if_holds_of_handed_on_error}
 use Rattle.ir_fit_run.proofs.CallerLemmas.{run_trace_is_coherent}
 use Rattle.ir_picture.specs.declared.view_err.ViewErr.TheVariants.{Unwritten}
 use Rattle.ir_picture.proofs.CallerLemmas.{answered_of_implied_kind, not_answered_of_implied_kind}
@@ -16,7 +16,7 @@ returns-in_err-show_picture-clause-fails g c =
     let asked = c.args.asked.now in
     let p = err_from_is_err_and c.from_residual-in_err-show_picture.result c.from_residual-in_err-show_picture.ensures.1 in
     let e = c.in_err-show_picture.field-0.0 in
-    if_err_for_handed_on_error _ c.from_residual-in_err-show_picture.result (Unwritten e) p.0 p.1 p.2
+    if_err_holds_if_holds_of_handed_on_error _ c.from_residual-in_err-show_picture.result (Unwritten e) p.0 p.1 p.2
     (λ i t fits. not_answered_of_implied_kind (IsForm asked.form f asked.around c.in_ok-shown.shown.picture c.in_ok-shown.shown.kept.items) (IsViewAnswer asked i t) e
     _ (λ s text is. run_answer_is_view_answer asked f s text i t fits c.in_ok-shown.ensures.there
     (picture_form_is_run_answer asked f s text c.in_ok-shown.shown.picture c.in_ok-shown.shown.kept.items c.in_ok-shown.ensures.drawn is))

@@ -1,6 +1,6 @@
 use Rattle.std.proofs.Common.{◌++◌, ℕ, List, sym, subst, arith}
 use Rattle.std.proofs.lemmas.Result.{err_from_is_err_and}
-use Rattle.ir_files.proofs.CallerLemmas.{if_err_for_handed_on_error}
+use Rattle.ir_files.proofs.CallerLemmas.{if_err_holds_if_holds_of_handed_on_error}
 use Rattle.ir_files.specs.declared.exit_status.ExitStatus.TheVariants.{Done}
 use Rattle.ir_past.specs.declared.past_err.PastErr.TheVariants.{NoMem}
 use Rattle.ir_past.proofs.CallerLemmas.{answered_if_written, not_answered_if_no_memory, not_answered_if_stopped}
@@ -27,7 +27,7 @@ write_data-requires-clause-drawn g c =
 pub returns-in_err-frame-clause-fails : goal.returns-in_err-frame-clause-fails
 returns-in_err-frame-clause-fails g c =
     let p = err_from_is_err_and c.from_residual-in_err-frame.result c.from_residual-in_err-frame.ensures.1 in
-    if_err_for_handed_on_error _ c.from_residual-in_err-frame.result NoMem p.0 p.1 p.2
+    if_err_holds_if_holds_of_handed_on_error _ c.from_residual-in_err-frame.result NoMem p.0 p.1 p.2
     (not_answered_if_no_memory (IsForm form.Page c.args.fitted.now c.args.near.now c.args.shown.now.picture c.args.shown.now.kept.items)
     (g.O.Sink.written c.args.out.now) (g.O.Sink.broken c.args.out.now) c.requires.works)
 
@@ -40,7 +40,7 @@ returns-in_err-write_data-clause-fails g c =
     let p = c.args.shown.now.picture in
     let text : List ℕ = c.in_ok-frame.frame.before.items
     ++ (data_rows f near p c.deref-2.result.now c.deref-3.result.now ++ c.in_ok-frame.frame.after.items) in
-    if_err_for_handed_on_error _ c.from_residual-in_err-write_data.result e q.0 q.1 q.2
+    if_err_holds_if_holds_of_handed_on_error _ c.from_residual-in_err-write_data.result e q.0 q.1 q.2
     (not_answered_if_stopped (IsForm form.Page f near p c.args.shown.now.kept.items) Done text e _
     (subst (λ (ks : List Resting). IsForm form.Page f near p ks Done text) c.deref-3.ensures.value
     (framed_rows_are_page_form f near p c.deref-2.result.now c.deref-3.result.now c.in_ok-frame.frame.before.items c.in_ok-frame.frame.after.items

@@ -1,5 +1,5 @@
 use Rattle.std.proofs.Common.{arith}
-use Rattle.ir_program.proofs.TakenLines.{takes_line_at_input_end, takes_line_at_feed_byte, line_is_no_shorter_than_consumed, too_long_line_is_refused, in_line_after_consumed_plain}
+use Rattle.ir_program.proofs.TakenLines.{takes_line_at_input_end, takes_line_at_feed_byte, line_of_input_is_longer_than_bound_if_consumed_is, too_long_line_is_refused, in_line_after_consumed_plain}
 use Rattle.ir_program.proofs.line.read_line.Goals as goal
 
 pub returns-in-Failed-clause-fails : goal.returns-in-Failed-clause-fails
@@ -23,7 +23,7 @@ returns-then-byte-eq10-clause-ok g c = takes_line_at_feed_byte (g.R.Source.left 
 pub returns-clause-fails : goal.returns-clause-fails
 returns-clause-fails g c = (
   too_long_line_is_refused (g.R.Source.left c.args.reader.now)
-      (line_is_no_shorter_than_consumed (g.R.Source.left c.args.reader.now) (g.R.Source.left c.loop.reader) c.loop.line.items 4194305 c.loop.invariant.plain
+      (line_of_input_is_longer_than_bound_if_consumed_is (g.R.Source.left c.args.reader.now) (g.R.Source.left c.loop.reader) c.loop.line.items 4194305 c.loop.invariant.plain
       c.loop.invariant.taken (omega (arith, c.loop.line.ok))),
   c.loop.invariant.works,
 )

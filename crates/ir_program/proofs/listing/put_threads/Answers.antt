@@ -1,6 +1,6 @@
 use Rattle.std.proofs.Common.{arith}
 use Rattle.std.proofs.lemmas.Result.{err_from_is_err_and}
-use Rattle.ir_files.proofs.CallerLemmas.{if_err_for_handed_on_error}
+use Rattle.ir_files.proofs.CallerLemmas.{if_err_holds_if_holds_of_handed_on_error}
 use Rattle.ir_program.proofs.Listed.{buffered_after_thread_listing, stopped_in_thread_listing, listing_appended_at_end}
 use Rattle.ir_program.proofs.listing.put_threads.Goals as goal
 
@@ -14,7 +14,7 @@ loop-number-preserved g c = record {
 pub returns-in_err-put_thread-clause-fails : goal.returns-in_err-put_thread-clause-fails
 returns-in_err-put_thread-clause-fails g c =
     let p = err_from_is_err_and c.from_residual.result c.from_residual.ensures.1 in
-    if_err_for_handed_on_error _ c.from_residual.result c.in_err-put_thread.field-0.0 p.0 p.1 p.2
+    if_err_holds_if_holds_of_handed_on_error _ c.from_residual.result c.in_err-put_thread.field-0.0 p.0 p.1 p.2
     (stopped_in_thread_listing c.in_err-put_thread.field-0.0 _ _ _ _ c.loop-number.number c.args.threads.now c.index-threads-number.result _
     c.loop-number-test.true c.index-threads-number.is c.loop-number.invariant.text c.in_err-put_thread.ensures.fails)
 

@@ -9,7 +9,7 @@ use Rattle.ir_record.specs.Working.{work_of, IsReadyWorker, RanToEnd}
 use Rattle.ir_record.specs.Worlds.{NoneFailed, IsFirstFailed, AreSameWorlds}
 use Rattle.ir_record.specs.declared.by_threads.worker.Worker.{Worker}
 use Rattle.ir_record.proofs.ByThreads.{recorded_of}
-use Rattle.ir_record.proofs.Crewed.{NoneBroken, HaveRun, new_workers_are_ready, threads_there, room_there, worlds_there, seats_there, ended_there, all_over, each_there, views_are_tracks_of_work, trace_at_place_is_of_its_worker, map_map}
+use Rattle.ir_record.proofs.Crewed.{NoneBroken, HaveRun, new_workers_are_ready, threads_there, room_there, worlds_there, seats_there, ended_there, all_over, each_there, views_of_seats_are_tracks_of_works, trace_at_place_is_of_its_worker, map_map}
 use Rattle.ir_record.proofs.Manning.{traces_are_as_many_as_workers}
 use Rattle.ir_record.proofs.by_threads.record.Given as given
 use Rattle.ir_record.proofs.by_threads.record.Goals as goal
@@ -108,7 +108,7 @@ returns-clause-recorded g c =
     let each_of = c.gathered-seats.result.2.each.items in
     recorded_of (all_over all c.code.ensures.within (none_broken g (at_count g c)))
     (subst (λ z. IsEnd z c.joined-seat.result.me.0 c.close.new.objects) c.in_ok-crew.ensures.key c.close.ensures)
-    (c.joined-seat.ensures.views ∙ ap views_of c.gathered-seats.ensures.seats ∙ views_are_tracks_of_work g.W.World.answers end)
+    (c.joined-seat.ensures.views ∙ ap views_of c.gathered-seats.ensures.seats ∙ views_of_seats_are_tracks_of_works g.W.World.answers end)
     c.gathered-seats.result.1 (emitted.0 ∙ counted g (at_count g c)) emitted.1 emitted.2
     (traces_are_as_many_as_workers end c.gathered-seats.result.1.threads emitted.3 ∙ threads_there all)
     (λ t l. trace_at_place_is_of_its_worker g.W.World.answers end c.gathered-seats.result.1.threads emitted.3 t (omega (arith, l, threads_there all)))

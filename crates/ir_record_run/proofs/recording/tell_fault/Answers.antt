@@ -2,7 +2,7 @@ use Rattle.std.proofs.Common.{◌≡◌, sym, subst}
 use Rattle.ir_files.specs.Writers.{writer_of}
 use Rattle.ir_record_run.specs.Faults.{IsReported, unwritten_of}
 use Rattle.ir_record_run.specs.declared.record_fault.RecordFault.{RecordFault}
-use Rattle.ir_record_run.proofs.Reported.{reported_fault_without_name}
+use Rattle.ir_record_run.proofs.Reported.{fault_without_name_is_reported_if_its_words_are}
 use Rattle.ir_record_run.proofs.recording.tell_fault.Goals as goal
 
 pub returns-in-Trace : goal.returns-in-Trace
@@ -21,4 +21,4 @@ returns-in-Output g c = subst (λ (e : RecordFault). IsReported e c.args.image.n
     (sym c.in-Output.is) (rw c.name-in-Output.ensures at (rw c.why-in-Output.ensures at c.tell_of-in-Output.ensures))
 
 pub returns-in-Image : goal.returns-in-Image
-returns-in-Image g c = reported_fault_without_name c.args.why.now _ _ _ _ _ c.in-Image.is (rw c.words.ensures at c.tell.ensures)
+returns-in-Image g c = fault_without_name_is_reported_if_its_words_are c.args.why.now _ _ _ _ _ c.in-Image.is (rw c.words.ensures at c.tell.ensures)

@@ -5,7 +5,7 @@ use Rattle.ir_log.specs.declared.event.Event.{Event}
 use Rattle.ir_thread.specs.declared.ask.Ask.TheVariants.{Env}
 use Rattle.ir_trace.specs.Recorded.{Recorded, recorded_thread}
 use Rattle.ir_trace.specs.Bounds.{IsRecordedThread}
-use Rattle.ir_weave.proofs.CallerLemmas.{suited_call_logs_next, no_next_for_unsuited_call}
+use Rattle.ir_weave.proofs.CallerLemmas.{suited_call_logs_next, no_result_logs_next_for_unsuited_call}
 use Rattle.ir_replay.proofs.admission.call_result.Goals as goal
 
 pub returns-in-Ok-Answer : goal.returns-in-Ok-Answer
@@ -21,6 +21,6 @@ returns-in-Ok-Answer c =
 
 pub returns-in-Err : goal.returns-in-Err
 returns-in-Err c =
-    no_next_for_unsuited_call c.args.fitted.now.recorded c.args.flat.now c.args.t c.args.kind c.requires.asked c.requires.steps
+    no_result_logs_next_for_unsuited_call c.args.fitted.now.recorded c.args.flat.now c.args.t c.args.kind c.requires.asked c.requires.steps
     (subst (λ (z : Recorded × ℕ). (e : Event) → slice_get (recorded_thread z.0 c.args.t).events z.1 ≡ Some e → Suits (Env c.args.kind) e
     → ⊥) (λ i. (c.trace.ensures.value i, c.events_of-before.ensures.value i)) c.in-Err.ensures.disagrees)

@@ -4,9 +4,9 @@ use Rattle.ir_weave.specs.Standing.{Standing}
 use Rattle.ir_weave.specs.Woven.{trace_in, IsClosed}
 use Rattle.ir_replay.specs.Rounds.{backwards, threads_of, views_of}
 use Rattle.ir_replay.specs.Workers.{HasWorked}
-use Rattle.ir_replay.proofs.Dealt.{take_of_overwritten_list}
+use Rattle.ir_replay.proofs.Dealt.{take_of_append_of_dropped_old_is_new}
 use Rattle.ir_replay.proofs.Down.{AllByNumber, pairs_have_same_length, length_of_backward_threads}
-use Rattle.ir_replay.proofs.AfterRound.{StandsBelowTarget, stands_below_target_in_plan, IsAssigned, workers_are_assigned, assigned_workers_are_ready, IsAfterRound, workers_are_after_round, workers_after_round_are_of_table, standing_after_round_is_between_and_goes}
+use Rattle.ir_replay.proofs.AfterRound.{StandsBelowTarget, stands_below_target_in_plan, IsAssigned, workers_are_assigned, assigned_workers_are_ready, IsAfterRound, workers_are_after_round, workers_after_round_are_of_table, standing_after_round_is_between_and_progresses}
 use Rattle.ir_replay.proofs.round.run_at_table.Goals as goal
 
 pub run_all-requires-clause-ready : goal.run_all-requires-clause-ready
@@ -110,11 +110,11 @@ returns-clause-between g c =
     subst (λ v. IsClosed k v c.close.new.objects) c.joined-seat.ensures.views c.close.ensures in
     let len : c.parts-threads.result.1.len ≡ length c.parts-threads.result.1.items = search rules in
     let kept : length c.close.new.objects ≡ length c.parts-threads.result.1.items = search rules in
-    (standing_after_round_is_between_and_goes id k f target c.args.state c.build.result ws c.close.new.objects c.requires.table c.requires.opened start size last closed
+    (standing_after_round_is_between_and_progresses id k f target c.args.state c.build.result ws c.close.new.objects c.requires.table c.requires.opened start size last closed
     (c.build.ensures ∙ (λ i. record {
       threads = c.joined-seat.ensures.threads i;
       objects =
-          take_of_overwritten_list c.close.new.objects c.parts-threads.result.1.items c.parts-threads.result.1.len len kept i;
+          take_of_append_of_dropped_old_is_new c.close.new.objects c.parts-threads.result.1.items c.parts-threads.result.1.len len kept i;
     }))).0
 
 pub returns-clause-goes : goal.returns-clause-goes
@@ -146,9 +146,9 @@ returns-clause-goes g c =
     subst (λ v. IsClosed k v c.close.new.objects) c.joined-seat.ensures.views c.close.ensures in
     let len : c.parts-threads.result.1.len ≡ length c.parts-threads.result.1.items = search rules in
     let kept : length c.close.new.objects ≡ length c.parts-threads.result.1.items = search rules in
-    (standing_after_round_is_between_and_goes id k f target c.args.state c.build.result ws c.close.new.objects c.requires.table c.requires.opened start size last closed
+    (standing_after_round_is_between_and_progresses id k f target c.args.state c.build.result ws c.close.new.objects c.requires.table c.requires.opened start size last closed
     (c.build.ensures ∙ (λ i. record {
       threads = c.joined-seat.ensures.threads i;
       objects =
-          take_of_overwritten_list c.close.new.objects c.parts-threads.result.1.items c.parts-threads.result.1.len len kept i;
+          take_of_append_of_dropped_old_is_new c.close.new.objects c.parts-threads.result.1.items c.parts-threads.result.1.len len kept i;
     }))).1

@@ -1,4 +1,4 @@
-use Rattle.ir_replay.proofs.Reached.{consistent_cut_is_target, standing_below_target_is_under, standing_is_between_if_under_and_not_lower, standing_goes_if_fewer_steps_left}
+use Rattle.ir_replay.proofs.Reached.{consistent_cut_is_target, standing_below_target_is_under, standing_is_between_if_under_and_not_lower, standing_progresses_if_fewer_steps_left}
 use Rattle.ir_replay.proofs.stretch.stretch.Goals as goal
 
 pub go_on-requires-clause-target : goal.go_on-requires-clause-target
@@ -15,5 +15,5 @@ returns-clause-between g c = standing_is_between_if_under_and_not_lower c.args.f
     c.without_code.ensures.state c.without_code.ensures.within
 
 pub returns-clause-goes : goal.returns-clause-goes
-returns-clause-goes g c = standing_goes_if_fewer_steps_left c.args.fitted.now c.args.target.now c.positions.result.now c.args.state c.without_code.result
+returns-clause-goes g c = standing_progresses_if_fewer_steps_left c.args.fitted.now c.args.target.now c.positions.result.now c.args.state c.without_code.result
     c.with_code-flat.result c.go_on.new.flat c.with_code-flat.ensures c.positions.ensures c.go_on.ensures.goes c.without_code.ensures.state

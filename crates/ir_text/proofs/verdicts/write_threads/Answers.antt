@@ -1,7 +1,7 @@
 use Rattle.std.proofs.Common.{arith, ◌∙◌}
 use Rattle.ir_stream.proofs.CallerLemmas.{writes_or_fails_if_all_written, writes_or_fails_with_handed_on_error}
 use Rattle.ir_text.proofs.Buffers.{buffered_after_line_written, prefix_written_if_line_fails, text_written_if_nothing_left}
-use Rattle.ir_text.proofs.ThreadLines.{threads_text_step, threads_text_at_end}
+use Rattle.ir_text.proofs.ThreadLines.{threads_text_step, threads_text_at_end_is_empty}
 use Rattle.ir_text.proofs.verdicts.write_threads.Goals as goal
 
 pub loop-t-preserved : goal.loop-t-preserved
@@ -22,4 +22,4 @@ returns-in_err-write_all g c =
 
 pub returns : goal.returns
 returns g c = writes_or_fails_if_all_written (text_written_if_nothing_left _ _ _ _ c.loop-t.invariant.text
-    (threads_text_at_end c.loop-t.t c.args.verdicts.now (omega (arith, c.loop-t-test.false, c.loop-t.auto.t-end)))) c.loop-t.invariant.broken
+    (threads_text_at_end_is_empty c.loop-t.t c.args.verdicts.now (omega (arith, c.loop-t-test.false, c.loop-t.auto.t-end)))) c.loop-t.invariant.broken

@@ -1,12 +1,12 @@
 use Rattle.std.proofs.Common.{◌∙◌, sym, arith}
-use Rattle.ir_thread.proofs.Highest.{object_above_highest_if_none_held, object_not_above_highest_if_held, none_held_with_next}
+use Rattle.ir_thread.proofs.Highest.{object_above_highest_if_none_held, object_not_above_highest_if_held, none_held_between_step}
 use Rattle.ir_thread.proofs.holding.is_free_from.Goals as goal
 
 pub loop-number-init : goal.loop-number-init
 loop-number-init c i from below = absurd (omega (arith, from, below))
 
 pub loop-number-preserved : goal.loop-number-preserved
-loop-number-preserved c = none_held_with_next c.args.held.now c.args.object c.loop-number.number (sym c.is_some.ensures ∙ c.if-is_some.false)
+loop-number-preserved c = none_held_between_step c.args.held.now c.args.object c.loop-number.number (sym c.is_some.ensures ∙ c.if-is_some.false)
     c.loop-number.invariant
 
 pub returns-then-is_some : goal.returns-then-is_some

@@ -2,7 +2,7 @@ use Rattle.std.proofs.Common.{◌≡◌, ◌≤◌, ◌∙◌, ap, arith}
 use Rattle.ir_weave.specs.Standing.{flat_in, positions}
 use Rattle.ir_hits.specs.Searching.{reached}
 use Rattle.ir_cut.specs.Positions.{last_of}
-use Rattle.ir_timeline.proofs.Searches.{steps_of_thread_are_position, next_hit_is_first_hit_above, no_hit_above_further_position, no_first_hit_above}
+use Rattle.ir_timeline.proofs.Searches.{steps_of_thread_are_position, next_hit_is_first_hit_above, no_hit_above_extends_to_reached_position_if_none_found, first_hit_above_is_none_if_no_hit_up_to_last_position}
 use Rattle.ir_timeline.proofs.searching.hit_above.Goals as goal
 
 pub returns-in-Some-clause-hit : goal.returns-in-Some-clause-hit
@@ -27,7 +27,7 @@ stretches-preserved g c =
     record {
       hand = record { stands = c.first_hit.ensures.stands; checkpoints = c.pass.ensures };
       above = omega (arith, above, at, here, c.stretch_end-to.ensures.above);
-      none = no_hit_above_further_position f c.args.points.now t (positions (flat_in f c.args.hand.now.state) t) old to new c.in_ok-found.found
+      none = no_hit_above_extends_to_reached_position_if_none_found f c.args.points.now t (positions (flat_in f c.args.hand.now.state) t) old to new c.in_ok-found.found
           c.stretches.invariant.none c.in_ok-found.ensures.hit c.in_ok-found.ensures.reached c.in_default.is;
     }
 
@@ -38,4 +38,4 @@ returns-clause-hit g c =
     let now = positions (flat_in f c.stretches.hand.state) t in
     let here : c.position_of.result ≡ now = steps_of_thread_are_position f c.stretches.hand.state t c.position_of.result c.position_of.ensures in
     let all : last_of f t ≤ now = omega (arith, c.last_position-last.ensures, here, c.stretches-test.false) in
-    no_first_hit_above f c.args.points.now t (positions (flat_in f c.args.hand.now.state) t) now c.requires.thread all c.stretches.invariant.none
+    first_hit_above_is_none_if_no_hit_up_to_last_position f c.args.points.now t (positions (flat_in f c.args.hand.now.state) t) now c.requires.thread all c.stretches.invariant.none

@@ -1,18 +1,18 @@
 use Rattle.std.proofs.Common.{◌++◌, ◌∙◌, sym, ap, subst, flat_map}
-use Rattle.ir_lemmas.proofs.CallerLemmas.{append_of_four_texts}
+use Rattle.ir_lemmas.proofs.CallerLemmas.{four_appends_nest_to_the_right}
 use Rattle.ir_past.specs.Answers.{AreCoherent}
 use Rattle.ir_trace.specs.Recorded.{Recorded}
 use Rattle.ir_why.specs.Before.{IsPast}
 use Rattle.ir_why.specs.Lines.{past_line}
 use Rattle.ir_why.specs.FitLines.{need_line, least_line, wait_line}
-use Rattle.ir_fit_run.proofs.CallerLemmas.{run_trace_is_coherent, inside_event_is_recorded}
+use Rattle.ir_fit_run.proofs.CallerLemmas.{run_trace_is_coherent, inside_event_number_is_below_event_count}
 use Rattle.ir_why.proofs.fit_texts.reason_in.Goals as goal
 
 pub past_of-requires-clause-coherent : goal.past_of-requires-clause-coherent
 past_of-requires-clause-coherent c = subst AreCoherent (sym c.trace-2.ensures.value) (run_trace_is_coherent c.args.fitted.now c.known.ensures.run)
 
 pub past_of-requires-clause-event : goal.past_of-requires-clause-event
-past_of-requires-clause-event c = inside_event_is_recorded c.args.fitted.now c.known.ensures.run c.args.here.thread c.args.here.event c.requires.inside
+past_of-requires-clause-event c = inside_event_number_is_below_event_count c.args.fitted.now c.known.ensures.run c.args.here.thread c.args.here.event c.requires.inside
     c.trace-2.result.now c.trace-2.ensures.value
 
 pub returns : goal.returns
@@ -30,7 +30,7 @@ returns c = λ ends placed. record {
   placed = placed;
   waits = c.in_ok-waits.waits.items;
   chain = c.in_ok-waits.ensures;
-  lines = append_of_four_texts c.in_ok-text.text.items (flat_map (need_line c.args.at.now) c.in_ok-needs.needs.items) (past_line c.in_ok-past.past.items)
+  lines = four_appends_nest_to_the_right c.in_ok-text.text.items (flat_map (need_line c.args.at.now) c.in_ok-needs.needs.items) (past_line c.in_ok-past.past.items)
       (least_line c.in_ok-least.least) (flat_map wait_line c.in_ok-waits.waits.items) c.push_needs.new.text.items c.extend_from_slice.new.self.items
       c.extend_from_slice-2.new.self.items c.push_waits.new.text.items
       (c.in_ok-push_needs.ensures ∙ ap (λ xs. c.in_ok-text.text.items ++ flat_map (need_line c.args.at.now) xs) c.deref.ensures.value)

@@ -1,7 +1,7 @@
 use Rattle.std.proofs.Common.{List, sym, subst}
 use Rattle.ir_trace.specs.Recorded.{Recorded}
 use Rattle.ir_past.specs.Answers.{AreCoherent}
-use Rattle.ir_fit_run.proofs.CallerLemmas.{run_trace_is_coherent, inside_event_is_recorded}
+use Rattle.ir_fit_run.proofs.CallerLemmas.{run_trace_is_coherent, inside_event_number_is_below_event_count}
 use Rattle.ir_why.specs.Chain.{AreLinks}
 use Rattle.ir_why.specs.FitAnswers.{AreLinksInside}
 use Rattle.ir_why.specs.declared.link.Link.{Link}
@@ -12,7 +12,7 @@ pub chain_of-requires-clause-coherent : goal.chain_of-requires-clause-coherent
 chain_of-requires-clause-coherent c = subst AreCoherent (sym c.trace.ensures.value) (run_trace_is_coherent c.args.fitted.now c.known.ensures.run)
 
 pub chain_of-requires-clause-event : goal.chain_of-requires-clause-event
-chain_of-requires-clause-event c = inside_event_is_recorded c.args.fitted.now c.known.ensures.run c.args.here.thread c.args.here.event c.requires.inside
+chain_of-requires-clause-event c = inside_event_number_is_below_event_count c.args.fitted.now c.known.ensures.run c.args.here.thread c.args.here.event c.requires.inside
     c.trace.result.now c.trace.ensures.value
 
 pub waits_left-requires : goal.waits_left-requires

@@ -1,6 +1,6 @@
 use Rattle.std.proofs.Common.{Ok, sym, subst}
 use Rattle.std.proofs.lemmas.Result.{err_from_is_err_and}
-use Rattle.ir_files.proofs.CallerLemmas.{if_err_for_handed_on_error}
+use Rattle.ir_files.proofs.CallerLemmas.{if_err_holds_if_holds_of_handed_on_error}
 use Rattle.ir_files.specs.declared.exit_status.ExitStatus.{ExitStatus}
 use Rattle.ir_past.proofs.CallerLemmas.{answered_if_written}
 use Rattle.ir_picture.specs.declared.view_err.ViewErr.TheVariants.{Unwritten}
@@ -12,7 +12,7 @@ pub returns-in_err-put_answer-clause-fails : goal.returns-in_err-put_answer-clau
 returns-in_err-put_answer-clause-fails g c =
     let p = err_from_is_err_and c.from_residual-in_err-put_answer.result c.from_residual-in_err-put_answer.ensures.1 in
     let e = c.in_err-put_answer.field-0.0 in
-    if_err_for_handed_on_error _ c.from_residual-in_err-put_answer.result (Unwritten e) p.0 p.1 p.2
+    if_err_holds_if_holds_of_handed_on_error _ c.from_residual-in_err-put_answer.result (Unwritten e) p.0 p.1 p.2
     (why_not_answered_if_stopped c.args.asked.now c.args.trace.now c.in_ok-answer.answer.status c.in_ok-answer.answer.text.items e _ c.requires.coherent
     c.in_ok-answer.ensures.there c.in_ok-answer.ensures.ok c.in_err-put_answer.ensures.fails)
 

@@ -4,12 +4,12 @@ use Rattle.std.proofs.lemmas.List.{get_or_default}
 use Rattle.ir_who.specs.Lines.{object_line}
 use Rattle.ir_word.specs.Lines.{first_lines}
 use Rattle.ir_word.specs.Words.{unread}
-use Rattle.ir_word.proofs.Joined.{text_of_no_first_lines, first_lines_after_other_word, first_lines_after_same_word}
+use Rattle.ir_word.proofs.Joined.{append_of_zero_first_lines_is_unchanged, first_lines_after_other_word, first_lines_after_same_word}
 use Rattle.ir_word.proofs.lines.word_text.Goals as goal
 use Rattle.ir_word.proofs.lines.word_text.Goals.{then-is_other+in_ok-word_line+in_ok-push_str, else-is_other}
 
 pub loop-number-init : goal.loop-number-init
-loop-number-init c = text_of_no_first_lines c.args.index c.args.rows.now (string_bytes c.in_ok-text.text) (object_line c.args.object (length c.args.rows.now))
+loop-number-init c = append_of_zero_first_lines_is_unchanged c.args.index c.args.rows.now (string_bytes c.in_ok-text.text) (object_line c.args.object (length c.args.rows.now))
     c.in_ok-text.ensures
 
 pub loop-number-preserved : goal.loop-number-preserved

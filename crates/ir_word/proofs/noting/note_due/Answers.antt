@@ -7,7 +7,7 @@ use Rattle.ir_weave.specs.Standing.{flat_in, positions}
 use Rattle.ir_word.specs.Words.{IsPutIn, IsWorded, unread}
 use Rattle.ir_word.specs.Track.{IsHoldOf}
 use Rattle.ir_word.specs.declared.hold.Hold.{Hold}
-use Rattle.ir_word.proofs.Noted.{adds_words_transitive, worded_version_stays_worded, track_after_next_hold, pending_after_next_hold, none_due_if_next_leaves_elsewhere}
+use Rattle.ir_word.proofs.Noted.{adds_words_transitive, worded_version_stays_worded, track_after_next_hold, pending_row_stays_pending_or_is_of_hold_passed, none_due_if_next_leaves_elsewhere}
 use Rattle.ir_word.proofs.noting.note_due.Goals as goal
 
 pub note-requires-clause-row : goal.note-requires-clause-row
@@ -43,7 +43,7 @@ due-preserved c =
       adds = adds_words_transitive f rows w c.args.words.now c.due.words words inv.adds noted.0;
       found = λ r x there was. elim (inv.found r x there was) [
         | inr found ↦ inr (worded_version_stays_worded f rows w c.due.words words r x noted.0 there found)
-        | inl pending ↦ elim (pending_after_next_hold old _ h refl next.2 r pending) [
+        | inl pending ↦ elim (pending_row_stays_pending_or_is_of_hold_passed old _ h refl next.2 r pending) [
           | inl still ↦ inl still
           | inr same ↦ inr (subst (λ j. IsWorded f w x (slice_index_or words j unread)) same
               (noted.1 x (subst (λ j. slice_get rows j ≡ Some x) (sym same) there)))

@@ -1,5 +1,5 @@
 use Rattle.std.proofs.Common.{◌≡◌, ◌<◌, ◌∙◌, ℕ, length, sym, refl, subst, arith, false}
-use Rattle.ir_chaos.proofs.Runs.{ran_reflexive, ran_transitive, ran_by_thread_under_way, others_rest_transitive, took_some_append, lower_threads_rest_if_others_rest, rests_is_rest_of_ask, steps_left_fall_after_step, took_some_weaker}
+use Rattle.ir_chaos.proofs.Runs.{ran_reflexive, ran_transitive, ran_by_thread_under_way, others_rest_transitive, took_some_of_sum, lower_threads_rest_if_others_rest, rests_is_rest_of_ask, all_left_falls_if_took_some_of_one, took_some_of_one_is_took_some_of_zero}
 use Rattle.ir_chaos.specs.Choices.{before_rounds}
 use Rattle.ir_chaos.specs.Moments.{IsAtRest, TookSome, moment_of}
 use Rattle.ir_chaos.specs.Schedules.{rests}
@@ -26,7 +26,7 @@ returns-then-is_rest-clause-ran g c = λ d.
     (c.in_ok-asked.ensures.ran c.args.tries c.steps.invariant.lower d)
 
 pub returns-then-is_rest-clause-fewer : goal.returns-then-is_rest-clause-fewer
-returns-then-is_rest-clause-fewer g c = took_some_append 0 0 c.args.self.now.flat c.steps.self.flat c.run_to_ask.new.self.flat
+returns-then-is_rest-clause-fewer g c = took_some_of_sum 0 0 c.args.self.now.flat c.steps.self.flat c.run_to_ask.new.self.flat
     c.steps.invariant.threads c.steps.invariant.fewer c.in_ok-asked.ensures.fewer
 
 -- the threads are as many as they were
@@ -35,11 +35,11 @@ still g c = (c.in_ok-asked.ensures.ran c.args.tries c.steps.invariant.lower befo
 
 -- both went on
 went : (g : Over) (c : goal.In_ok-step g) → TookSome 1 c.steps.self.flat c.step.new.self.flat
-went g c = took_some_append 0 1 c.steps.self.flat c.run_to_ask.new.self.flat c.step.new.self.flat (still g c) c.in_ok-asked.ensures.fewer
+went g c = took_some_of_sum 0 1 c.steps.self.flat c.run_to_ask.new.self.flat c.step.new.self.flat (still g c) c.in_ok-asked.ensures.fewer
     c.in_ok-step.ensures.fewer
 
 pub steps-smaller : goal.steps-smaller
-steps-smaller g c = steps_left_fall_after_step c.steps.self.flat c.step.new.self.flat (c.in_ok-step.ensures.took.gained.threads ∙ still g c) (went g c)
+steps-smaller g c = all_left_falls_if_took_some_of_one c.steps.self.flat c.step.new.self.flat (c.in_ok-step.ensures.took.gained.threads ∙ still g c) (went g c)
 
 pub steps-preserved : goal.steps-preserved
 steps-preserved g c =
@@ -65,7 +65,7 @@ steps-preserved g c =
       others = others_rest_transitive c.args.tries c.args.t c.args.self.now.flat c.run_to_ask.new.self.flat c.step.new.self.flat
           (others_rest_transitive c.args.tries c.args.t c.args.self.now.flat c.steps.self.flat c.run_to_ask.new.self.flat c.steps.invariant.others
           (c.in_ok-asked.ensures.others c.args.tries)) (c.in_ok-step.ensures.others c.args.tries);
-      fewer = took_some_append 0 0 c.args.self.now.flat c.steps.self.flat c.step.new.self.flat c.steps.invariant.threads c.steps.invariant.fewer
-          (took_some_weaker c.steps.self.flat c.step.new.self.flat (went g c));
+      fewer = took_some_of_sum 0 0 c.args.self.now.flat c.steps.self.flat c.step.new.self.flat c.steps.invariant.threads c.steps.invariant.fewer
+          (took_some_of_one_is_took_some_of_zero c.steps.self.flat c.step.new.self.flat (went g c));
       threads = c.in_ok-step.ensures.took.gained.threads ∙ still g c ∙ c.steps.invariant.threads;
     }

@@ -2,7 +2,7 @@ use Rattle.std.proofs.Common.{rules, ◌<◌, ◌∙◌, List, length, sym, ap, 
 use Rattle.std.specs.List.{slice_index_or}
 use Rattle.ir_thread.specs.State as thread
 use Rattle.ir_chaos.proofs.Ready.{each_ready, chosen_ready_thread_has_step, ran_to_end_if_none_ready}
-use Rattle.ir_chaos.proofs.Runs.{ran_transitive, steps_left_fall_after_step}
+use Rattle.ir_chaos.proofs.Runs.{ran_transitive, all_left_falls_if_took_some_of_one}
 use Rattle.ir_chaos.specs.Choices.{Serves}
 use Rattle.ir_chaos.specs.Moments.{Ran, moment_of}
 use Rattle.ir_chaos.specs.Schedules.{AreReady}
@@ -68,4 +68,4 @@ choices-preserved g c = record {
 }
 
 pub choices-smaller : goal.choices-smaller
-choices-smaller g c = steps_left_fall_after_step c.choices.self.flat c.turn.new.self.flat (ran g c).gained.threads c.in_ok-turn.ensures.fewer
+choices-smaller g c = all_left_falls_if_took_some_of_one c.choices.self.flat c.turn.new.self.flat (ran g c).gained.threads c.in_ok-turn.ensures.fewer

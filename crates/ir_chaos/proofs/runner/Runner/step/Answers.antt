@@ -1,5 +1,5 @@
 use Rattle.std.proofs.Common.{◌∙◌, refl, sym, subst}
-use Rattle.ir_chaos.proofs.Runs.{Acted, acted_without_call, acted_by_answered_call, took_if_acted_and_noted, others_rest_after_step_taken, step_taken_leaves_fewer, is_no_call_unless_environment}
+use Rattle.ir_chaos.proofs.Runs.{Acted, acted_if_ask_is_no_call, acted_by_answered_call, took_if_acted_and_noted, others_rest_after_step_taken, took_some_of_one_if_took_step, is_no_call_unless_environment}
 use Rattle.ir_chaos.specs.Moments.{IsNoCall, Took, moment_of}
 use Rattle.ir_chaos.proofs.runner.Runner.step.Given.{Over}
 use Rattle.ir_chaos.proofs.runner.Runner.step.Goals.{in-Env+in_ok-value-in-Env, in-Try, in_default}
@@ -15,12 +15,12 @@ acted g c = elim c.match-asked.branch [
       w.in_ok-value-in-Env.ensures.works)
   | in-Try w ↦
       subst (Acted g.W.World.answers g.W.World.broken c.args.t c.args.self.now) (sym w.self-is)
-      (acted_without_call g.W.World.answers g.W.World.broken c.args.t w.enter_or_pass.result c.args.asked c.args.self.now
+      (acted_if_ask_is_no_call g.W.World.answers g.W.World.broken c.args.t w.enter_or_pass.result c.args.asked c.args.self.now
       (record c.args.self.now { flat = w.enter_or_pass.new.flat }) c.requires.ready w.enter_or_pass.ensures c.requires.asked
       (subst IsNoCall (sym w.in-Try.is) tt) refl refl)
   | in_default w ↦
       subst (Acted g.W.World.answers g.W.World.broken c.args.t c.args.self.now) (sym w.self-is)
-      (acted_without_call g.W.World.answers g.W.World.broken c.args.t 0 c.args.asked c.args.self.now
+      (acted_if_ask_is_no_call g.W.World.answers g.W.World.broken c.args.t 0 c.args.asked c.args.self.now
       (record c.args.self.now { flat = w.go-in_default.new.flat }) c.requires.ready w.go-in_default.ensures c.requires.asked
       (is_no_call_unless_environment c.args.asked w.in_default.not-Env) refl refl)
 ]
@@ -41,6 +41,6 @@ returns-clause-others g c = λ tries. others_rest_after_step_taken tries (moment
     (record (moment_of g.W.World.answers c.match-asked.self) { turns = c.note.new.turns.items }) c.args.t (took g c)
 
 pub returns-clause-fewer : goal.returns-clause-fewer
-returns-clause-fewer g c = step_taken_leaves_fewer (moment_of g.W.World.answers c.args.self.now)
+returns-clause-fewer g c = took_some_of_one_if_took_step (moment_of g.W.World.answers c.args.self.now)
     (record (moment_of g.W.World.answers c.match-asked.self) { turns = c.note.new.turns.items }) c.args.t c.requires.flat
     c.requires.thread (took g c)

@@ -1,6 +1,6 @@
 use Rattle.std.proofs.Common.{◌<◌, length, vec_len, refl, sym, subst, arith}
 use Rattle.std.proofs.lemmas.Result.{on_ok_weaker}
-use Rattle.ir_coherence.proofs.Tables.{value_of_element_has_room, reads_after_read_counted, writes_after_read_counted, writes_after_write_counted, reads_after_write_counted}
+use Rattle.ir_coherence.proofs.Tables.{value_of_element_has_room, reads_after_read_counted, writes_are_unchanged_by_counted_read, writes_after_write_counted, reads_are_unchanged_by_counted_write}
 use Rattle.ir_coherence.specs.Counting.{MayStand, count, OneMore}
 use Rattle.ir_coherence.proofs.entry_counts.EntryCounts.add.Goals as goal
 
@@ -29,7 +29,7 @@ returns-in-Read c =
       objects = refl;
       reads = reads_after_read_counted objects.items c.in-Read.object c.in-Read.version c.index_mut.result.now c.add.new.self within
           (sym c.index_mut.ensures.value) more;
-      writes = writes_after_read_counted objects.items c.in-Read.object c.index_mut.result.now c.add.new.self within (sym c.index_mut.ensures.value);
+      writes = writes_are_unchanged_by_counted_read objects.items c.in-Read.object c.index_mut.result.now c.add.new.self within (sym c.index_mut.ensures.value);
     }) c.add.ensures)
 
 pub returns-in-Write : goal.returns-in-Write
@@ -40,7 +40,7 @@ returns-in-Write c =
     rw c.in-Write.is (on_ok_weaker c.add-in-Write.result
     (λ (more : OneMore c.index_mut-in-Write.result.now.writes c.add-in-Write.new.self c.in-Write.version). record {
       objects = refl;
-      reads = reads_after_write_counted objects.items c.in-Write.object c.index_mut-in-Write.result.now c.add-in-Write.new.self within
+      reads = reads_are_unchanged_by_counted_write objects.items c.in-Write.object c.index_mut-in-Write.result.now c.add-in-Write.new.self within
           (sym c.index_mut-in-Write.ensures.value);
       writes = writes_after_write_counted objects.items c.in-Write.object c.in-Write.version c.index_mut-in-Write.result.now c.add-in-Write.new.self within
           (sym c.index_mut-in-Write.ensures.value) more;

@@ -4,7 +4,7 @@ use Rattle.ir_timeline.specs.Hand.{IsCutOf}
 use Rattle.ir_timeline.specs.Replaying.{Replaying}
 use Rattle.ir_debug.specs.Debugging.{Debugging, AllKept, most_number}
 use Rattle.ir_debug.specs.Machine.{Kept, most_kept}
-use Rattle.ir_debug.proofs.Desks.{is_desk_with_equal_trace, is_debugging_if_desk_is_not_fresh}
+use Rattle.ir_debug.proofs.Desks.{is_desk_if_parts_are_valid_for_its_trace, is_debugging_if_desk_is_not_fresh}
 use Rattle.ir_debug.proofs.Passed.{kept_cuts_have_room_if_keep_permitted}
 use Rattle.ir_debug.proofs.debugger.Debugger.keep_here.Goals as goal
 
@@ -31,7 +31,7 @@ invariant_of-self-2 c =
     let long = length-append old (c.new.result ∷ []) in
     let few : length c.push.new.self.items ≤ most_kept + 1 = (let l = ap (λ (z : List Kept). length z) more in omega (arith, left, long, l)) in
     record {
-      desk = is_desk_with_equal_trace f _ (ap (λ (r : Replaying). r.fitted) c.keep.ensures) held.run (held.size, held.at) held.points
+      desk = is_desk_if_parts_are_valid_for_its_trace f _ (ap (λ (r : Replaying). r.fitted) c.keep.ensures) held.run (held.size, held.at) held.points
           (subst (AllKept f) (sym more) (all_by_recursion_after_push _ old c.new.result held.kept
           (subst (IsCutOf f) (sym (ap (λ (k : Kept). k.cut) c.new.ensures ∙ c.in_ok-cut.ensures)) (held.size, held.at)))) few;
       fresh = λ e. absurd (cc e);

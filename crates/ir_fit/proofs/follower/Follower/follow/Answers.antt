@@ -1,6 +1,6 @@
 use Rattle.std.proofs.Common.{refl, ◌∙◌}
 use Rattle.ir_fit.specs.Follower.{GoesOn}
-use Rattle.ir_fit.proofs.Moves.{goes_on_is_reflexive, goes_on_if_end_same, goes_on_by_three_parts, fewer_ahead_if_fewer_then_goes_on}
+use Rattle.ir_fit.proofs.Moves.{goes_on_is_reflexive, goes_on_if_end_same, goes_on_composes_three_parts, fewer_ahead_if_fewer_then_goes_on}
 use Rattle.ir_fit.proofs.Passed.{follower_is_along_trace, passed_states_if_trace_and_state_equal}
 use Rattle.ir_fit.proofs.follower.Follower.follow.Given as given
 use Rattle.ir_fit.proofs.follower.Follower.follow.Goals as goal
@@ -23,7 +23,7 @@ moves-init g c = record {
 
 pub moves-preserved : goal.moves-preserved
 moves-preserved g c = record {
-  goes = goes_on_by_three_parts c.args.self.now.trace c.next.new.self.trace c.take.new.self.trace c.args.self.now.flat c.moves.self.flat
+  goes = goes_on_composes_three_parts c.args.self.now.trace c.next.new.self.trace c.take.new.self.trace c.args.self.now.flat c.moves.self.flat
       c.next.new.self.flat c.take.new.self.flat c.note_stretch.new.self.flat
       c.args.self.now.places.items c.moves.self.places.items c.next.new.self.places.items c.take.new.self.places.items
       c.note_stretch.new.self.places.items

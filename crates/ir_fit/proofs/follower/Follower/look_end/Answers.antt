@@ -1,5 +1,5 @@
 use Rattle.std.proofs.Common.{refl, sym}
-use Rattle.ir_lemmas.proofs.CallerLemmas.{false_test_refutes}
+use Rattle.ir_lemmas.proofs.CallerLemmas.{proposition_refuted_if_test_is_false}
 use Rattle.ir_fit.proofs.Seen.{end_as_recorded_can_follow, end_not_as_recorded_disagrees, ask_of_end_is_not_done}
 use Rattle.ir_fit.proofs.follower.Follower.look_end.Goals as goal
 
@@ -18,5 +18,5 @@ pub returns-else-ends_so : goal.returns-else-ends_so
 returns-else-ends_so c = (
   ask_of_end_is_not_done _ c.args.end c.requires.asked,
   end_not_as_recorded_disagrees c.args.self.now.trace c.args.self.now.flat c.args.t
-      c.args.end c.requires.asked (false_test_refutes c.ends_so.result _ c.ends_so.ensures c.if-ends_so.false),
+      c.args.end c.requires.asked (proposition_refuted_if_test_is_false c.ends_so.result _ c.ends_so.ensures c.if-ends_so.false),
 )

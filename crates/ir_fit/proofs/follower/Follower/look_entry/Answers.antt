@@ -1,11 +1,11 @@
 use Rattle.std.proofs.Common.{refl, sym}
 use Rattle.ir_flat.specs.Flat.{cell_of}
-use Rattle.ir_flat.proofs.CallerLemmas.{entered_object_is_of_state}
+use Rattle.ir_flat.proofs.CallerLemmas.{entered_object_below_object_count}
 use Rattle.ir_fit.proofs.Seen.{open_entry_can_follow, shut_entry_is_stopped, suited_entry_agrees, entry_awaits_event, unsuited_entry_disagrees, ask_of_entry_is_not_done, found_cell_open_if_test_true, found_cell_shut_if_test_false}
 use Rattle.ir_fit.proofs.follower.Follower.look_entry.Goals as goal
 
 pub object-requires : goal.object-requires
-object-requires c = entered_object_is_of_state c.args.self.now.flat c.args.t c.args.object c.args.access c.next_event.ensures.flat c.requires.thread
+object-requires c = entered_object_below_object_count c.args.self.now.flat c.args.t c.args.object c.args.access c.next_event.ensures.flat c.requires.thread
     c.requires.asked
 
 pub returns-in-Err : goal.returns-in-Err

@@ -4,12 +4,12 @@ use Rattle.ir_flat.specs.Flat.{thread_of, cell_of}
 use Rattle.ir_log.specs.Asked.{Suits}
 use Rattle.ir_thread.specs.declared.ask.Ask.TheVariants.{Try}
 use Rattle.ir_trace.specs.Recorded.{recorded_thread}
-use Rattle.ir_flat.proofs.CallerLemmas.{tried_object_is_of_state}
+use Rattle.ir_flat.proofs.CallerLemmas.{tried_object_below_object_count}
 use Rattle.ir_fit.proofs.Seen.{refused_try_can_follow, open_try_can_follow, shut_try_is_stopped, suited_try_agrees, try_that_got_in_awaits, unsuited_try_disagrees, ask_of_try_is_not_done, try_not_refused_got_in, found_cell_open_if_test_true, found_cell_shut_if_test_false}
 use Rattle.ir_fit.proofs.follower.Follower.look_try.Goals as goal
 
 pub object-requires : goal.object-requires
-object-requires c = tried_object_is_of_state c.args.self.now.flat c.args.t c.args.object c.next_event.ensures.flat c.requires.thread c.requires.asked
+object-requires c = tried_object_below_object_count c.args.self.now.flat c.args.t c.args.object c.next_event.ensures.flat c.requires.thread c.requires.asked
 
 pub returns-in-Err : goal.returns-in-Err
 returns-in-Err c = (

@@ -4,7 +4,7 @@ use Rattle.ir_thread.specs.Permitted.{Permits}
 use Rattle.ir_thread.specs.declared.ask.Ask.{Ask}
 use Rattle.ir_thread.proofs.CallerLemmas.{ask_of_permitted}
 use Rattle.ir_flat.specs.Flat.{Flat, thread_of}
-use Rattle.ir_flat.proofs.Keeps.{test_is_can_of_value, failed_test_cannot_step, flat_after_tested_step, tables_after_tested_step}
+use Rattle.ir_flat.proofs.Keeps.{step_test_iff_can, failed_test_cannot_step, flat_after_tested_step, tables_after_tested_step}
 use Rattle.ir_flat.proofs.flat.Flat.take.Goals as goal
 
 -- what is asked, of the value that the code's parts are
@@ -32,7 +32,7 @@ invariant_of-self c = flat_after_tested_step c.self.inside.parts c.args.self.now
     c.step.ensures
 
 pub returns-clause-admitted : goal.returns-clause-admitted
-returns-clause-admitted c = (test_is_can_of_value c.self.inside.parts c.args.self.now c.args.t c.args.r c.args.asked c.may.result c.self.view_is
+returns-clause-admitted c = (step_test_iff_can c.self.inside.parts c.args.self.now c.args.t c.args.r c.args.asked c.may.result c.self.view_is
     c.requires.thread c.self.invariant (asks c.self.inside.parts c.args.self.now c.args.t c.args.asked c.self.view_is c.requires.asked)
     c.may.ensures).0 c.if-not-may.false
 

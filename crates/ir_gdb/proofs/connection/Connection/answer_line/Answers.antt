@@ -4,7 +4,7 @@ use Rattle.ir_stream.specs.Answers.{AppendsPrefix}
 use Rattle.ir_packet.specs.Requests.{console_line}
 use Rattle.ir_debug.specs.Machine.{quits}
 use Rattle.ir_gdb.specs.Connection.{answer_text}
-use Rattle.ir_stream.proofs.CallerLemmas.{writes_or_fails_with_handed_on_error, writes_or_fails_after_call, writes_or_fails_weaker}
+use Rattle.ir_stream.proofs.CallerLemmas.{writes_or_fails_with_handed_on_error, writes_or_fails_from_earlier_state_if_equally_broken, writes_or_fails_is_monotone}
 use Rattle.ir_gdb.proofs.Answering.{sent_answer_to_line, sent_answer_to_quitting_line, sent_no_memory_reply, sent_part_of_answer_to_line, sent_part_of_done_packet_after_answer, sent_part_of_answer_to_quitting_line, sent_part_of_no_memory_reply}
 use Rattle.ir_gdb.proofs.Lines.{some_consulted, none_consulted, err_consulted}
 use Rattle.ir_gdb.proofs.connection.Connection.answer_line.Goals as goal
@@ -26,7 +26,7 @@ returns-in_ok-send_answer-in-Ok-Some-clause-writes g c =
     let first : Appends (g.W.Sink.written c.args.writer.now) (g.W.Sink.written c.send_answer.new.writer) (answer_text c.in-Ok-Some.answered.bytes.items) =
     subst (λ (xs : List ℕ). Appends (g.W.Sink.written c.args.writer.now) (g.W.Sink.written c.send_answer.new.writer) (answer_text xs))
     c.as_slice.ensures c.in_ok-send_answer-in-Ok-Some.ensures.writes.ok in
-    writes_or_fails_after_call c.send_reply.result c.in_ok-send_answer-in-Ok-Some.ensures.writes.stays
+    writes_or_fails_from_earlier_state_if_equally_broken c.send_reply.result c.in_ok-send_answer-in-Ok-Some.ensures.writes.stays
     (λ last. sent_answer_to_line (quits (console_line c.args.self.now.reading.payload)) c.args.self.now.link
     (console_line c.args.self.now.reading.payload) some.1.0 c.in-Ok-Some.answered.bytes.items c.answer_of.new.self.link
     c.send_answer.new.self.link c.send_reply.new.self.link _ (g.W.Sink.written c.send_answer.new.writer) _ some.0 some.1.1 some.1.2
@@ -40,7 +40,7 @@ pub returns-in-Ok-None-clause-writes : goal.returns-in-Ok-None-clause-writes
 returns-in-Ok-None-clause-writes g c =
     let none = none_consulted c.args.self.now.link c.answer_of.new.self.link (console_line c.args.self.now.reading.payload) c.answer_of.result
     c.answer_of.ensures.answer (c.in-Ok-None.is ∙ ap Ok c.in-Ok-None.field-0-is) in
-    writes_or_fails_weaker c.send_reply-in-Ok-None.result
+    writes_or_fails_is_monotone c.send_reply-in-Ok-None.result
     (λ all. sent_answer_to_quitting_line (quits (console_line c.args.self.now.reading.payload)) c.args.self.now.link
     (console_line c.args.self.now.reading.payload) c.answer_of.new.self.link c.send_reply-in-Ok-None.new.self.link _ _ none.0 none.1
     c.send_reply-in-Ok-None.ensures.link all)
@@ -52,7 +52,7 @@ pub returns-in-Err-clause-writes : goal.returns-in-Err-clause-writes
 returns-in-Err-clause-writes g c =
     let lacks = err_consulted c.args.self.now.link c.answer_of.new.self.link (console_line c.args.self.now.reading.payload) c.answer_of.result
     c.answer_of.ensures.answer c.in-Err.field-0 c.in-Err.is in
-    writes_or_fails_weaker c.send_reply-in-Err.result
+    writes_or_fails_is_monotone c.send_reply-in-Err.result
     (λ all. sent_no_memory_reply (quits (console_line c.args.self.now.reading.payload)) c.args.self.now.link
     (console_line c.args.self.now.reading.payload) c.answer_of.new.self.link c.send_reply-in-Err.new.self.link _ _ lacks.0 lacks.1
     c.send_reply-in-Err.ensures.link all)

@@ -1,7 +1,7 @@
 use Rattle.std.proofs.Common.{◌≡◌, ◌∙◌, ◌++◌, List, ℕ, ap}
 use Rattle.ir_packet.specs.Requests.{console_line}
 use Rattle.ir_gdb.specs.Connection.{Connecting}
-use Rattle.ir_gdb.proofs.Lines.{line_goes_on_if_text_does, responds_kept_text_if_kept_from_empty}
+use Rattle.ir_gdb.proofs.Lines.{line_does_not_quit_if_text_does_not, responds_kept_text_if_kept_from_empty}
 use Rattle.ir_gdb.proofs.connection.Connection.answer_of.Goals as goal
 
 pub returns-clause-answer : goal.returns-clause-answer
@@ -9,7 +9,7 @@ returns-clause-answer g c =
     let line : c.put_line.new.out.items ≡ console_line c.args.self.now.reading.payload = c.put_line.ensures.line
     ∙ ap (λ (xs : List ℕ). xs ++ console_line c.payload.result.now) c.clear.ensures.items
     ∙ ap console_line (c.payload.ensures ∙ ap (λ (x : Connecting). x.reading.payload) c.self.view_is) in (
-      line_goes_on_if_text_does (console_line c.args.self.now.reading.payload) c.as_slice.result.now c.quits.result c.quits.ensures
+      line_does_not_quit_if_text_does_not (console_line c.args.self.now.reading.payload) c.as_slice.result.now c.quits.result c.quits.ensures
           (c.as_slice.ensures.value ∙ line) c.if-quits.false,
       (
         c.respond.new.self.stub,

@@ -2,7 +2,7 @@ use Rattle.std.proofs.Common.{rules, ◌≡◌, ◌<◌, ◌∙◌, length, ap}
 use Rattle.ir_stream.proofs.CallerLemmas.{writes_or_fails_if_all_written, writes_or_fails_with_handed_on_error}
 use Rattle.ir_text.proofs.CallerLemmas.{buffered_after_line_written, prefix_written_if_line_fails, text_written_if_nothing_left}
 use Rattle.ir_gdb.specs.Connection.{Link, sent}
-use Rattle.ir_gdb.proofs.Written.{answer_text_is_packet_of_piece_and_rest, answer_text_of_no_bytes}
+use Rattle.ir_gdb.proofs.Written.{answer_text_is_packet_of_piece_and_rest, answer_text_of_no_bytes_is_empty}
 use Rattle.ir_gdb.proofs.connection.Connection.send_answer.Goals as goal
 
 pub returns-in_err-send_piece-clause-writes : goal.returns-in_err-send_piece-clause-writes
@@ -29,4 +29,4 @@ pieces-preserved g c =
 
 pub returns-clause-writes : goal.returns-clause-writes
 returns-clause-writes g c = writes_or_fails_if_all_written (let none : length c.pieces.rest.now ≡ 0 = search rules in
-    text_written_if_nothing_left _ _ _ _ c.pieces.invariant.text (answer_text_of_no_bytes c.pieces.rest.now none)) c.pieces.invariant.broken
+    text_written_if_nothing_left _ _ _ _ c.pieces.invariant.text (answer_text_of_no_bytes_is_empty c.pieces.rest.now none)) c.pieces.invariant.broken

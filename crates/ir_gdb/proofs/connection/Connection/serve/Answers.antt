@@ -5,7 +5,7 @@ use Rattle.ir_stream.specs.declared.serving.Flow.TheVariants.{Quits}
 use Rattle.ir_packet.specs.Reading.{Reading, item_found, items_found}
 use Rattle.ir_packet.specs.Stream as stream
 use Rattle.ir_gdb.specs.Connection.{Connecting, ends}
-use Rattle.ir_gdb.proofs.Items.{AfterBytes, found_payload_within_limit, after_no_bytes, at_byte, at_item, quit_ended, quit_known, write_failed}
+use Rattle.ir_gdb.proofs.Items.{AfterBytes, found_payload_within_limit, after_bytes_at_start, at_byte, at_item, quit_ended, quit_known, write_failed}
 use Rattle.ir_gdb.proofs.connection.Connection.serve.Goals as goal
 
 goes : (f : Flow) (b : Bool) → f ≡ flow_after b → (f ≡ Quits → ⊥) → b ≡ false
@@ -18,7 +18,7 @@ quit f false e is = absurd cc
 
 pub loop-taken-init : goal.loop-taken-init
 loop-taken-init g c = record {
-  at = after_no_bytes c.args.self.now.link (g.R.Source.left c.args.reader.now) (g.W.Sink.written c.args.writer.now) c.args.self.now.reading.place
+  at = after_bytes_at_start c.args.self.now.link (g.R.Source.left c.args.reader.now) (g.W.Sink.written c.args.writer.now) c.args.self.now.reading.place
       c.requires.start;
   reads = c.requires.reads;
   writes = c.requires.writes;

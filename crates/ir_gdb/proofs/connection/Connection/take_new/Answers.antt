@@ -3,8 +3,8 @@ use Rattle.ir_gdb.specs.Stub.{Stub}
 use Rattle.ir_packet.specs.Reading.{item_found}
 use Rattle.ir_packet.specs.declared.found.Found.{Found}
 use Rattle.ir_gdb.specs.Connection.{Connecting, Link, ends_by}
-use Rattle.ir_stream.proofs.CallerLemmas.{writes_or_fails_if_all_written, writes_or_fails_with_handed_on_error, writes_or_fails_weaker}
-use Rattle.ir_gdb.proofs.Arms.{packet_answered, packet_answered_part, flow_after_packet_by_request, long_answered, long_answered_part, bad_answered, bad_answered_part, interrupt_answered, acknowledged_answered, refused_answered, flow_is_by_end_test_if_test_is_false}
+use Rattle.ir_stream.proofs.CallerLemmas.{writes_or_fails_if_all_written, writes_or_fails_with_handed_on_error, writes_or_fails_is_monotone}
+use Rattle.ir_gdb.proofs.Arms.{packet_answered, packet_answered_part, ok_flow_of_request_is_flow_of_found_packet, long_answered, long_answered_part, bad_answered, bad_answered_part, interrupt_answered, acknowledged_answered, refused_answered, ok_flow_of_false_is_flow_of_test_if_test_is_false}
 use Rattle.ir_gdb.proofs.connection.Connection.take_new.Goals as goal
 
 abbrev link_with : Stub → Bool → Bool → Link
@@ -15,7 +15,7 @@ interrupted_link : (s old : Stub) (acknowledges is_owed : Bool) → s ≡ record
 interrupted_link s old acknowledges is_owed e = ap (λ (x : Stub). link_with x acknowledges is_owed) e
 
 pub returns-in-Packet-clause-writes : goal.returns-in-Packet-clause-writes
-returns-in-Packet-clause-writes g c = writes_or_fails_weaker c.take_packet.result
+returns-in-Packet-clause-writes g c = writes_or_fails_is_monotone c.take_packet.result
     (packet_answered c.args.self.now.link c.args.self.now.reading.payload c.args.found
     c.take_packet.new.self.link (g.W.Sink.written c.args.writer.now) (g.W.Sink.written c.take_packet.new.writer) c.in-Packet.is)
     (packet_answered_part c.args.self.now.link c.args.self.now.reading.payload c.args.found
@@ -23,10 +23,10 @@ returns-in-Packet-clause-writes g c = writes_or_fails_weaker c.take_packet.resul
     c.take_packet.ensures.writes
 
 pub returns-in-Packet-clause-flow : goal.returns-in-Packet-clause-flow
-returns-in-Packet-clause-flow g c = flow_after_packet_by_request c.take_packet.result c.args.self.now.reading.payload c.args.found c.in-Packet.is c.take_packet.ensures.flow
+returns-in-Packet-clause-flow g c = ok_flow_of_request_is_flow_of_found_packet c.take_packet.result c.args.self.now.reading.payload c.args.found c.in-Packet.is c.take_packet.ensures.flow
 
 pub returns-in-TooLong-clause-writes : goal.returns-in-TooLong-clause-writes
-returns-in-TooLong-clause-writes g c = writes_or_fails_weaker c.take_long.result
+returns-in-TooLong-clause-writes g c = writes_or_fails_is_monotone c.take_long.result
     (long_answered c.args.self.now.link c.args.self.now.reading.payload c.args.found
     c.take_long.new.self.link (g.W.Sink.written c.args.writer.now) (g.W.Sink.written c.take_long.new.writer) c.in-TooLong.is)
     (long_answered_part c.args.self.now.link c.args.self.now.reading.payload c.args.found
@@ -34,7 +34,7 @@ returns-in-TooLong-clause-writes g c = writes_or_fails_weaker c.take_long.result
     c.take_long.ensures.writes
 
 pub returns-in-TooLong-clause-flow : goal.returns-in-TooLong-clause-flow
-returns-in-TooLong-clause-flow g c = flow_is_by_end_test_if_test_is_false c.take_long.result (ends_by (item_found c.args.found c.args.self.now.reading.payload))
+returns-in-TooLong-clause-flow g c = ok_flow_of_false_is_flow_of_test_if_test_is_false c.take_long.result (ends_by (item_found c.args.found c.args.self.now.reading.payload))
     (ap (λ (f : Found). ends_by (item_found f c.args.self.now.reading.payload)) c.in-TooLong.is) c.take_long.ensures.flow
 
 pub returns-in_err-acknowledge-in-BadSum-clause-writes : goal.returns-in_err-acknowledge-in-BadSum-clause-writes

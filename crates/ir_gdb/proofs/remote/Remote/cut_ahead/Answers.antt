@@ -5,7 +5,7 @@ use Rattle.ir_cut.specs.Positions.{EachRun, IsConsistentCut, cut_of, threads_of,
 use Rattle.ir_timeline.specs.Hand.{IsCutOf}
 use Rattle.ir_gdb.specs.Serving.{Serving}
 use Rattle.ir_gdb.specs.Stops.{position_of}
-use Rattle.ir_gdb.proofs.There.{least_cut_is_exact, if_ok_of_both_facts}
+use Rattle.ir_gdb.proofs.There.{least_cut_to_position_ahead_is_exactly_there, if_ok_of_both_facts}
 use Rattle.ir_gdb.proofs.remote.Remote.cut_ahead.Goals as goal
 
 pub returns-clause-cut : goal.returns-clause-cut
@@ -22,5 +22,5 @@ returns-clause-there c =
     let l = subst (λ (s : Serving). c.args.thread < threads_of s.stub.desk.fitted) (sym c.self.view_is) c.requires.thread in
     subst (λ (s : Serving). IfOk c.cut_with.result (λ cut. EachRun s.stub.desk.fitted (λ run. cut_of cut c.args.thread ≡ c.args.position))) c.self.view_is
     (IfOk-weaker c.cut_with.result _ (λ cut. EachRun d.fitted (λ run. cut_of cut c.args.thread ≡ c.args.position))
-    (λ cut so. least_cut_is_exact c.least_exact.ensures d.fitted d.at cut c.args.thread c.args.position c.fitted.ensures.desk.at low high l so)
+    (λ cut so. least_cut_to_position_ahead_is_exactly_there c.least_exact.ensures d.fitted d.at cut c.args.thread c.args.position c.fitted.ensures.desk.at low high l so)
     c.cut_with.ensures.stops)

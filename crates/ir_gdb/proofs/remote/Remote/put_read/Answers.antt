@@ -1,20 +1,20 @@
 use Rattle.std.proofs.Common.{ℕ, List, length, refl, ap, arith, inl, inr}
 use Rattle.ir_packet.specs.declared.request.Request.TheVariants as request
 use Rattle.ir_gdb.proofs.Answering.{on_ok_of_implied, on_err_of_implied}
-use Rattle.ir_gdb.proofs.Replying.{requests_without_plain_reply_are_listed, supported_put, description_put, threads_put, reason_put, registers_put, register_put, memory_put, move_put, restart_put, restart_at_put, lacks_if_out_of_memory, length_of_supported_text, length_of_description_text}
+use Rattle.ir_gdb.proofs.Replying.{requests_without_plain_reply_are_listed, supported_put, description_put, threads_put, reason_put, registers_put, register_put, memory_put, move_put, restart_put, restart_at_put, lacks_if_request_may_lack_and_nothing_is_put, length_of_supported_text_is_137, length_of_description_text_is_1939}
 use Rattle.ir_gdb.proofs.remote.Remote.put_read.Goals as goal
 
 pub put_text-requires : goal.put_text-requires
 put_text-requires g c =
     let text = ap (λ (xs : List ℕ). length xs) c.supported.ensures in
-    let short = length_of_supported_text in
+    let short = length_of_supported_text_is_137 in
     let room = c.requires.room in
     omega (arith, text, short, room)
 
 pub put_piece-requires : goal.put_piece-requires
 put_piece-requires g c =
     let text = ap (λ (xs : List ℕ). length xs) c.description.ensures in
-    let short = length_of_description_text in
+    let short = length_of_description_text_is_1939 in
     let room = c.requires.room in
     omega (arith, text, short, room)
 
@@ -37,7 +37,7 @@ returns-in-Threads-clause-ok g c = on_ok_of_implied c.threads.result _ _ (thread
     c.args.out.now.items c.threads.new.out.items c.in-Threads.from c.in-Threads.most c.in-Threads.is refl) c.threads.ensures.ok
 
 pub returns-in-Threads-clause-err : goal.returns-in-Threads-clause-err
-returns-in-Threads-clause-err g c = on_err_of_implied c.threads.result _ _ (lacks_if_out_of_memory c.args.self.now.stub c.args.request
+returns-in-Threads-clause-err g c = on_err_of_implied c.threads.result _ _ (lacks_if_request_may_lack_and_nothing_is_put c.args.self.now.stub c.args.request
     (request.Threads c.in-Threads.from c.in-Threads.most) c.args.self.now.stub c.args.out.now.items c.threads.new.out.items c.in-Threads.is refl
     (inl refl)) c.threads.ensures.err
 
@@ -46,7 +46,7 @@ returns-in-Reason-clause-ok g c = on_ok_of_implied c.reason.result _ _ (reason_p
     c.args.out.now.items c.reason.new.out.items c.has_run.ensures c.reason.ensures.stub c.in-Reason.is) c.reason.ensures.ok
 
 pub returns-in-Reason-clause-err : goal.returns-in-Reason-clause-err
-returns-in-Reason-clause-err g c = on_err_of_implied c.reason.result _ _ (lacks_if_out_of_memory c.args.self.now.stub c.args.request request.Reason
+returns-in-Reason-clause-err g c = on_err_of_implied c.reason.result _ _ (lacks_if_request_may_lack_and_nothing_is_put c.args.self.now.stub c.args.request request.Reason
     c.reason.new.self.stub c.args.out.now.items c.reason.new.out.items c.in-Reason.is refl (inr c.reason.ensures.stub)) c.reason.ensures.err
 
 pub returns-in-Registers-clause-ok : goal.returns-in-Registers-clause-ok
@@ -54,7 +54,7 @@ returns-in-Registers-clause-ok g c = on_ok_of_implied c.registers.result _ _ (re
     c.args.out.now.items c.registers.new.out.items c.has_run.ensures c.registers.ensures.stub c.in-Registers.is) c.registers.ensures.ok
 
 pub returns-in-Registers-clause-err : goal.returns-in-Registers-clause-err
-returns-in-Registers-clause-err g c = on_err_of_implied c.registers.result _ _ (lacks_if_out_of_memory c.args.self.now.stub c.args.request request.Registers
+returns-in-Registers-clause-err g c = on_err_of_implied c.registers.result _ _ (lacks_if_request_may_lack_and_nothing_is_put c.args.self.now.stub c.args.request request.Registers
     c.registers.new.self.stub c.args.out.now.items c.registers.new.out.items c.in-Registers.is refl (inr c.registers.ensures.stub))
     c.registers.ensures.err
 
@@ -64,7 +64,7 @@ returns-in-Register-clause-ok g c = on_ok_of_implied c.register.result _ _ (regi
     c.register.ensures.ok
 
 pub returns-in-Register-clause-err : goal.returns-in-Register-clause-err
-returns-in-Register-clause-err g c = on_err_of_implied c.register.result _ _ (lacks_if_out_of_memory c.args.self.now.stub c.args.request
+returns-in-Register-clause-err g c = on_err_of_implied c.register.result _ _ (lacks_if_request_may_lack_and_nothing_is_put c.args.self.now.stub c.args.request
     (request.Register c.in-Register.number) c.register.new.self.stub c.args.out.now.items c.register.new.out.items c.in-Register.is refl
     (inr c.register.ensures.stub)) c.register.ensures.err
 
@@ -74,7 +74,7 @@ returns-in-Memory-clause-ok g c = on_ok_of_implied c.memory.result _ _ (memory_p
     c.memory.ensures.ok
 
 pub returns-in-Memory-clause-err : goal.returns-in-Memory-clause-err
-returns-in-Memory-clause-err g c = on_err_of_implied c.memory.result _ _ (lacks_if_out_of_memory c.args.self.now.stub c.args.request
+returns-in-Memory-clause-err g c = on_err_of_implied c.memory.result _ _ (lacks_if_request_may_lack_and_nothing_is_put c.args.self.now.stub c.args.request
     (request.Memory c.in-Memory.address c.in-Memory.size) c.memory.new.self.stub c.args.out.now.items c.memory.new.out.items c.in-Memory.is refl
     (inr c.memory.ensures.stub)) c.memory.ensures.err
 
@@ -83,7 +83,7 @@ returns-in-Move-clause-ok g c = on_ok_of_implied c.make_move.result _ _ (move_pu
     c.args.out.now.items c.make_move.new.out.items c.in-Move.motion c.in-Move.mover c.in-Move.is) c.make_move.ensures.ok
 
 pub returns-in-Move-clause-err : goal.returns-in-Move-clause-err
-returns-in-Move-clause-err g c = on_err_of_implied c.make_move.result _ _ (λ e. lacks_if_out_of_memory c.args.self.now.stub c.args.request
+returns-in-Move-clause-err g c = on_err_of_implied c.make_move.result _ _ (λ e. lacks_if_request_may_lack_and_nothing_is_put c.args.self.now.stub c.args.request
     (request.Move c.in-Move.motion c.in-Move.mover) c.make_move.new.self.stub c.args.out.now.items c.make_move.new.out.items c.in-Move.is refl
     (inr e.0) e.1) c.make_move.ensures.err
 
@@ -92,7 +92,7 @@ returns-in-Restart-clause-ok g c = on_ok_of_implied c.restart.result _ _ (restar
     c.args.out.now.items c.restart.new.out.items c.in-Restart.is) c.restart.ensures.ok
 
 pub returns-in-Restart-clause-err : goal.returns-in-Restart-clause-err
-returns-in-Restart-clause-err g c = on_err_of_implied c.restart.result _ _ (λ e. lacks_if_out_of_memory c.args.self.now.stub c.args.request request.Restart
+returns-in-Restart-clause-err g c = on_err_of_implied c.restart.result _ _ (λ e. lacks_if_request_may_lack_and_nothing_is_put c.args.self.now.stub c.args.request request.Restart
     c.restart.new.self.stub c.args.out.now.items c.restart.new.out.items c.in-Restart.is refl (inr e.0) e.1) c.restart.ensures.err
 
 pub returns-in-RestartAt-clause-ok : goal.returns-in-RestartAt-clause-ok
@@ -101,6 +101,6 @@ returns-in-RestartAt-clause-ok g c = on_ok_of_implied c.restart-in-RestartAt.res
     c.restart-in-RestartAt.ensures.ok
 
 pub returns-in-RestartAt-clause-err : goal.returns-in-RestartAt-clause-err
-returns-in-RestartAt-clause-err g c = on_err_of_implied c.restart-in-RestartAt.result _ _ (λ e. lacks_if_out_of_memory c.args.self.now.stub c.args.request
+returns-in-RestartAt-clause-err g c = on_err_of_implied c.restart-in-RestartAt.result _ _ (λ e. lacks_if_request_may_lack_and_nothing_is_put c.args.self.now.stub c.args.request
     (request.RestartAt c.in-RestartAt.number) c.restart-in-RestartAt.new.self.stub c.args.out.now.items c.restart-in-RestartAt.new.out.items
     c.in-RestartAt.is refl (inr e.0) e.1) c.restart-in-RestartAt.ensures.err

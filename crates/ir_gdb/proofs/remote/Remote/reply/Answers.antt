@@ -3,7 +3,7 @@ use Rattle.ir_gdb.specs.Stub.{Stub}
 use Rattle.ir_gdb.specs.Replies.{plain_reply}
 use Rattle.ir_gdb.proofs.Written.{reply_text_has_at_most_19_bytes}
 use Rattle.ir_gdb.proofs.Answering.{on_ok_of_implied, on_err_of_implied}
-use Rattle.ir_gdb.proofs.Replying.{reply_put_by_plain_reply, after_plain_keeps_stub_without_plain_reply, reply_put_of_equal_stub, lacks_of_equal_stub}
+use Rattle.ir_gdb.proofs.Replying.{reply_put_if_plain_reply_text_is_appended, after_plain_keeps_stub_without_plain_reply, reply_put_of_equal_stub, lacks_of_equal_stub}
 use Rattle.ir_gdb.proofs.remote.Remote.reply.Goals as goal
 
 pub put_text-requires : goal.put_text-requires
@@ -14,7 +14,7 @@ put_text-requires g c =
     omega (arith, text, short, room)
 
 pub returns-in-Some-clause-ok : goal.returns-in-Some-clause-ok
-returns-in-Some-clause-ok g c = reply_put_by_plain_reply c.args.self.now.stub c.args.request c.in-Some.reply c.plain_reply.new.self.stub
+returns-in-Some-clause-ok g c = reply_put_if_plain_reply_text_is_appended c.args.self.now.stub c.args.request c.in-Some.reply c.plain_reply.new.self.stub
     c.args.out.now.items c.put_text.new.out.items (sym c.plain_reply.ensures.reply ∙ c.in-Some.is) c.plain_reply.ensures.stub
     (c.put_text.ensures.bytes ∙ ap (λ (xs : List ℕ). c.args.out.now.items ++ xs) c.reply_text.ensures)
 

@@ -2,7 +2,7 @@ use Rattle.std.proofs.Common.{◌≡◌, ◌⊎◌, ℕ, Bool, Some, length, sym
 use Rattle.std.proofs.lemmas.List.{with_items_is}
 use Rattle.ir_graph.specs.Ahead.{AreTurns}
 use Rattle.ir_graph.specs.Notes.{noted_by}
-use Rattle.ir_graph.proofs.Grown.{is_graph_after_nodes_added, is_graph_after_way_noted, is_graph_of_equal_rows, thread_exists_if_nothing_is_noted, code_of_node}
+use Rattle.ir_graph.proofs.Grown.{is_graph_after_nodes_added, is_graph_after_nodes_and_one_note_added, is_graph_of_equal_rows, thread_exists_if_nothing_is_noted, code_of_node_is_guest_code}
 use Rattle.ir_graph.proofs.graph.GraphSuccessors.next.Goals as goal
 
 pub successor-requires-clause-thread : goal.successor-requires-clause-thread
@@ -14,7 +14,7 @@ successor-requires-clause-thread c = λ f is.
 pub successor-requires-clause-code : goal.successor-requires-clause-code
 successor-requires-clause-code c = λ f is.
     let g = c.args.self.now in
-    code_of_node g.setup g.flats.items (noted_by g.rows.items g.refused_rows.items) (length g.rows.items) c.args.node f
+    code_of_node_is_guest_code g.setup g.flats.items (noted_by g.rows.items g.refused_rows.items) (length g.rows.items) c.args.node f
     c.requires.sound.0 is
     ∙ sym c.code-code.ensures
 
@@ -49,7 +49,7 @@ returns-in_err-note_way-clause-sound c =
     (subst (λ z. (t : ℕ) (refused : Bool) (v : ℕ) → (noted_by new tries t refused v ≡ noted_by c.deref_mut.result.now z t refused v)
     ⊎ ((t ≡ c.args.thread) × (refused ≡ c.args.refused) × (v ≡ c.args.node) × (noted_by new tries t refused v ≡ Some c.in_ok-next.next))) values
     c.note_way.ensures.only) in
-    let noted = is_graph_after_way_noted g.setup g.flats.items flats g.rows.items g.refused_rows.items new tries c.args.thread
+    let noted = is_graph_after_nodes_and_one_note_added g.setup g.flats.items flats g.rows.items g.refused_rows.items new tries c.args.thread
     c.args.refused c.args.node c.in_ok-next.next c.requires.sound.0 grown.stay grown.nodes
     (grown.reached g.setup c.requires.sound.0.reached) grown.grown only threads (sym c.known.ensures ∙ c.in_default.is)
     c.requires.node c.in_ok-next.ensures.within c.in_ok-next.ensures.leads in (
@@ -75,7 +75,7 @@ returns-clause-sound c =
     (subst (λ z. (t : ℕ) (refused : Bool) (v : ℕ) → (noted_by new tries t refused v ≡ noted_by c.deref_mut.result.now z t refused v)
     ⊎ ((t ≡ c.args.thread) × (refused ≡ c.args.refused) × (v ≡ c.args.node) × (noted_by new tries t refused v ≡ Some c.in_ok-next.next))) values
     c.note_way.ensures.only) in
-    let noted = is_graph_after_way_noted g.setup g.flats.items flats g.rows.items g.refused_rows.items new tries c.args.thread
+    let noted = is_graph_after_nodes_and_one_note_added g.setup g.flats.items flats g.rows.items g.refused_rows.items new tries c.args.thread
     c.args.refused c.args.node c.in_ok-next.next c.requires.sound.0 grown.stay grown.nodes
     (grown.reached g.setup c.requires.sound.0.reached) grown.grown only threads (sym c.known.ensures ∙ c.in_default.is)
     c.requires.node c.in_ok-next.ensures.within c.in_ok-next.ensures.leads in (

@@ -1,5 +1,5 @@
 use Rattle.std.proofs.Common.{◌≡◌, inl, inr, length, sym, ap, ◌∙◌}
-use Rattle.ir_lemmas.proofs.CallerLemmas.{on_ok}
+use Rattle.ir_lemmas.proofs.CallerLemmas.{on_ok_of_implied}
 use Rattle.ir_explore.specs.Levels.{rows}
 use Rattle.ir_graph.proofs.Searched.{searched_by, if_err_of_implied}
 use Rattle.ir_graph.proofs.Stops.{may_stop_by_memory}
@@ -32,7 +32,7 @@ returns-clause-searched g c =
     let sound = c.go_over.ensures.sound.0 in
     let threads : length (rows search.opened.items) ≡ length graph.rows.items =
     c.go_over.ensures.threads ∙ c.requires.is.threads ∙ c.requires.is.graph.number ∙ ap (λ z. length z.guest.entries) (sym setup) ∙ sym sound.number in
-    on_ok c.go_over.result
+    on_ok_of_implied c.go_over.result
     (λ between. searched_by graph.setup graph.flats.items graph.rows.items graph.refused_rows.items search.found.nodes.items
     search.found.refusals.items (length (rows search.opened.items))
     search.level.number sound threads between.has) c.go_over.ensures.between

@@ -1,7 +1,7 @@
 use Rattle.std.proofs.Common.{◌<◌, length, ap, ◌∙◌}
 use Rattle.ir_keep.specs.Keeping.{after_drop}
 use Rattle.ir_keep.specs.Store.{thread_count}
-use Rattle.ir_keep.proofs.Calls.{place_of_kept_number_below_length, store_after_drop, keeping_after_drop}
+use Rattle.ir_keep.proofs.Calls.{place_of_kept_number_below_length, is_store_after_drop, keeping_of_entries_after_drop_is_after_drop}
 use Rattle.ir_keep.proofs.keeper.Keeper.drop_kept.Goals as goal
 
 pub take_away-requires-clause-below : goal.take_away-requires-clause-below
@@ -13,7 +13,7 @@ invariant_of-self c =
     let entries = c.self.inside.entries.items in
     let lt : c.place_of-place.result < length entries =
     place_of_kept_number_below_length c.args.n c.self.inside.last c.place_of-place.result entries c.as_slice.result.now c.args.self.now c.self.view_is c.requires.kept c.as_slice.ensures.value c.place_of-place.ensures.value in
-    store_after_drop (thread_count entries) c.self.inside.last c.args.n c.place_of-place.result entries c.as_slice.result.now c.take_away.new.entries.items c.self.invariant c.requires.later lt
+    is_store_after_drop (thread_count entries) c.self.inside.last c.args.n c.place_of-place.result entries c.as_slice.result.now c.take_away.new.entries.items c.self.invariant c.requires.later lt
     c.as_slice.ensures.value c.place_of-place.ensures.value c.take_away.ensures
 
 pub returns : goal.returns
@@ -21,6 +21,6 @@ returns c =
     let entries = c.self.inside.entries.items in
     let lt : c.place_of-place.result < length entries =
     place_of_kept_number_below_length c.args.n c.self.inside.last c.place_of-place.result entries c.as_slice.result.now c.args.self.now c.self.view_is c.requires.kept c.as_slice.ensures.value c.place_of-place.ensures.value in
-    keeping_after_drop (thread_count entries) c.self.inside.last c.args.n c.place_of-place.result entries c.as_slice.result.now c.take_away.new.entries.items c.self.invariant lt
+    keeping_of_entries_after_drop_is_after_drop (thread_count entries) c.self.inside.last c.args.n c.place_of-place.result entries c.as_slice.result.now c.take_away.new.entries.items c.self.invariant lt
     c.as_slice.ensures.value c.place_of-place.ensures.value c.take_away.ensures
     ∙ ap (after_drop c.args.n) c.self.view_is

@@ -1,7 +1,7 @@
 use Rattle.std.proofs.Common.{◌≡◌, ◌+◌, ◌<◌, length, ap, sym, ◌∙◌, subst, arith}
 use Rattle.ir_keep.specs.Keeping.{Keeping, after_keep}
 use Rattle.ir_keep.specs.Store.{AreEntries, thread_count}
-use Rattle.ir_keep.proofs.Calls.{like_state_has_thread_count_of_store, store_after_keep, keeping_after_keep}
+use Rattle.ir_keep.proofs.Calls.{like_state_has_thread_count_of_store, is_store_after_keep, keeping_of_entries_after_keep_is_after_keep}
 use Rattle.ir_keep.proofs.keeper.Keeper.keep.Goals as goal
 
 pub entry_of-requires : goal.entry_of-requires
@@ -19,7 +19,7 @@ invariant_of-self-2 c =
     like_state_has_thread_count_of_store (thread_count entries) last entries c.args.state.now c.args.self.now c.self.invariant c.self.view_is c.requires.threads in
     let few : length entries < 65 =
     omega (arith, c.if-len-ge-MOST_STATES.false, c.len.ensures, c.as_slice.ensures.len, ap length c.as_slice.ensures.value) in
-    store_after_keep (thread_count entries) last c.args.state.now entries c.as_slice.result.now c.insert.new.self.items c.in_ok-entry.entry c.self.invariant few
+    is_store_after_keep (thread_count entries) last c.args.state.now entries c.as_slice.result.now c.insert.new.self.items c.in_ok-entry.entry c.self.invariant few
     c.in_ok-entry.ensures.memories same (c.as_slice.ensures.value, c.in_ok-entry.ensures.value, c.in_ok-insert.ensures.items)
 
 pub returns-clause-kept : goal.returns-clause-kept
@@ -29,7 +29,7 @@ returns-clause-kept c =
     let same : length c.args.state.now.threads ≡ thread_count entries =
     like_state_has_thread_count_of_store (thread_count entries) last entries c.args.state.now c.args.self.now c.self.invariant c.self.view_is c.requires.threads in (
       ap (λ (k : Keeping). k.last + 1) c.self.view_is,
-      keeping_after_keep (thread_count entries) last c.args.state.now entries c.as_slice.result.now c.insert.new.self.items c.in_ok-entry.entry c.self.invariant
+      keeping_of_entries_after_keep_is_after_keep (thread_count entries) last c.args.state.now entries c.as_slice.result.now c.insert.new.self.items c.in_ok-entry.entry c.self.invariant
           c.in_ok-entry.ensures.memories same (c.as_slice.ensures.value, c.in_ok-entry.ensures.value, c.in_ok-insert.ensures.items)
           ∙ ap (after_keep c.args.state.now) c.self.view_is,
     )

@@ -2,14 +2,14 @@ use Rattle.std.proofs.Common.{◌<◌, List, length, ap, sym, ◌∙◌, subst, 
 use Rattle.std.specs.List.{All}
 use Rattle.ir_keep.specs.Keeping.{page_count}
 use Rattle.ir_keep.specs.Store.{Entry, stored, thread_count}
-use Rattle.ir_keep.proofs.Counted.{different_origins_are_stored_pages, stored_pages_bound, page_counts_below_two_to_32}
+use Rattle.ir_keep.proofs.Counted.{different_origin_count_is_stored_page_count, stored_pages_are_bounded_by_entry_count, page_counts_below_two_to_32}
 use Rattle.ir_keep.proofs.keeper.Keeper.pages.Goals as goal
 
 pub stored-requires-clause-all : goal.stored-requires-clause-all
 stored-requires-clause-all c =
     let entries = c.self.inside.entries.items in
     let store = c.self.invariant in
-    let low : stored entries < 4294967296 = omega (arith, stored_pages_bound (thread_count entries) entries store.each store.threads, store.few) in
+    let low : stored entries < 4294967296 = omega (arith, stored_pages_are_bounded_by_entry_count (thread_count entries) entries store.each store.threads, store.few) in
     subst (λ (l : List Entry). stored l < 4294967296) (sym c.as_slice.ensures.value) low
 
 pub stored-requires-clause-each : goal.stored-requires-clause-each
@@ -22,4 +22,4 @@ pub returns : goal.returns
 returns c =
     let entries = c.self.inside.entries.items in
     let store = c.self.invariant in
-    c.stored.ensures ∙ ap stored c.as_slice.ensures.value ∙ sym (different_origins_are_stored_pages (thread_count entries) entries store.each store.laid) ∙ ap page_count c.self.view_is
+    c.stored.ensures ∙ ap stored c.as_slice.ensures.value ∙ sym (different_origin_count_is_stored_page_count (thread_count entries) entries store.each store.laid) ∙ ap page_count c.self.view_is

@@ -1,6 +1,6 @@
 use Rattle.std.proofs.Common.{◌≡◌, ◌<◌, suc, inl, inr, ◌∙◌, subst, arith}
 use Rattle.ir_explore.specs.Origins.{first_origin, BeginsAt}
-use Rattle.ir_explore.proofs.CallerLemmas.{place_of_element_is_below_length}
+use Rattle.ir_explore.proofs.CallerLemmas.{index_of_element_is_below_length}
 use Rattle.ir_outcomes.proofs.Listed.{all_outcomes}
 use Rattle.ir_outcomes.proofs.exploring.Exploring.end.Goals as goal
 
@@ -18,7 +18,7 @@ returns-clause-explored c =
           let going = is.going f.0 in
           let over = f.1 in
           let until = going.between.until in
-          let some = place_of_element_is_below_length s.search.found.nodes.items 0 first_origin going.between.has.first in
+          let some = index_of_element_is_below_length s.search.found.nodes.items 0 first_origin going.between.has.first in
           let later : 0 < level.first = omega (arith, over, until, some) in
           all_outcomes s.graph.setup s.graph.flats.items s.search.found.nodes.items level.number e.list.seen e.list.listed.items e.list.outcomes.items
           (going.searched later) going.few going.has (going.seen later) f.2.all f.2.nodes;

@@ -1,5 +1,5 @@
 use Rattle.std.proofs.Common.{◌≡◌, ◌≤◌, ◌⊎◌, suc, inl, inr, sym, subst, arith}
-use Rattle.ir_lemmas.proofs.CallerLemmas.{on_ok}
+use Rattle.ir_lemmas.proofs.CallerLemmas.{on_ok_of_implied}
 use Rattle.ir_explore.specs.declared.origin.Level.{Level}
 use Rattle.ir_explore.specs.declared.stop.Stop.TheVariants.{Memory}
 use Rattle.ir_graph.specs.Searched.{AreSearched}
@@ -9,7 +9,7 @@ use Rattle.ir_thread.specs.State.{IsAllowed}
 use Rattle.ir_outcomes.specs.Exploring.{HasShown}
 use Rattle.ir_outcomes.specs.Hang.{IsOrder}
 use Rattle.ir_outcomes.proofs.Listed.{shown_among}
-use Rattle.ir_outcomes.proofs.Steps.{ok_fact_if_no_error, error_fact_of_known_error, new_has_property_if_error_keeps_old}
+use Rattle.ir_outcomes.proofs.Steps.{ok_fact_if_no_error, error_fact_of_known_error, property_carries_from_old_to_new_if_error_keeps_old}
 use Rattle.ir_outcomes.proofs.exploring.Exploring.go_over.Goals as goal
 
 pub show_new-shown-requires-clause-allowed : goal.show_new-shown-requires-clause-allowed
@@ -19,7 +19,7 @@ show_new-shown-requires-clause-allowed g c =
 pub show_new-shown-requires-clause-searched : goal.show_new-shown-requires-clause-searched
 show_new-shown-requires-clause-searched g c =
     let s = c.go_over-searched.new.self in
-    new_has_property_if_error_keeps_old (λ (l : Level). AreSearched s.graph.setup s.graph.flats.items s.search.found.nodes.items l.number) c.go_over-searched.result s.search.level
+    property_carries_from_old_to_new_if_error_keeps_old (λ (l : Level). AreSearched s.graph.setup s.graph.flats.items s.search.found.nodes.items l.number) c.go_over-searched.result s.search.level
     c.args.self.now.states.search.level c.go_over-searched.ensures.searched c.go_over-searched.ensures.level c.go_over-searched.ensures.part
 
 pub show_new-shown-requires-clause-few : goal.show_new-shown-requires-clause-few
@@ -49,8 +49,8 @@ returns-clause-is g c =
     record {
       search = searched.ensures.is;
       explored = shown.ensures.explored;
-      wanted = new_has_property_if_error_keeps_old (λ (l : Level). l.number ≤ suc most) searched.result s.search.level c.args.self.now.states.search.level
-          (on_ok searched.result (λ next. let a = c.requires.wanted in omega (arith, a, next)) searched.ensures.next) searched.ensures.level
+      wanted = property_carries_from_old_to_new_if_error_keeps_old (λ (l : Level). l.number ≤ suc most) searched.result s.search.level c.args.self.now.states.search.level
+          (on_ok_of_implied searched.result (λ next. let a = c.requires.wanted in omega (arith, a, next)) searched.ensures.next) searched.ensures.level
           (let a = c.requires.wanted in omega (arith, a));
       going = λ none.
           let n = c.first_stop-self.ensures.none none in

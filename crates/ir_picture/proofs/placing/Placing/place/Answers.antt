@@ -3,7 +3,7 @@ use Rattle.std.proofs.lemmas.Option.{slice_get_within}
 use Rattle.std.proofs.lemmas.Result.{on_ok_weaker}
 use Rattle.ir_log.specs.declared.event.Event.{Event}
 use Rattle.ir_past.specs.Progress.{Fits}
-use Rattle.ir_picture.proofs.Reached.{lane_from_get_or_is_lane_of_ready_thread, ready_parts_of_values_from_get_or, placing_box_is_box, free_place_within_limit, needed_place_within_limit, placed_box_end_within_limit, reader_counts_fit, box_events_fit_objects, on_ok_of_both_facts, placing_after_placed_box, boxes_left_falls}
+use Rattle.ir_picture.proofs.Reached.{lane_from_get_or_is_lane_of_ready_thread, ready_parts_of_values_from_get_or, placing_box_is_box, free_place_within_limit, needed_place_within_limit, placed_box_end_within_limit, reader_count_plus_box_events_is_below_limit, box_events_fit_objects, on_ok_of_consequence_of_two_facts, placing_after_placed_box, boxes_left_falls}
 use Rattle.ir_picture.proofs.placing.Placing.place.Goals as goal
 
 pub first_of-requires : goal.first_of-requires
@@ -75,7 +75,7 @@ note_all-requires-clause-room c = λ o v.
     omega (
       arith,
       ap (λ (es : List Event). length es) c.events_in.ensures,
-      reader_counts_fit c.args.trace.now c.args.self.now c.index.result.now.events c.requires.placing
+      reader_count_plus_box_events_is_below_limit c.args.trace.now c.args.self.now c.index.result.now.events c.requires.placing
           (placing_box_is_box c.args.trace.now c.args.self.now c.requires.placing c.index-lane.result.now.next c.index.result.now reads.there) o v,
     )
 
@@ -83,7 +83,7 @@ pub returns-clause-placing : goal.returns-clause-placing
 returns-clause-placing c =
     let reads = ready_parts_of_values_from_get_or c.args.trace.now c.args.self.now c.args.ready.thread c.args.ready.needed c.index-lane.result.now c.index.result.now
     c.requires.placing c.requires.ready c.index-lane.ensures c.index.ensures in
-    on_ok_of_both_facts c.note_all.result _ _ _ c.note_all.ensures.objects c.note_all.ensures.noted
+    on_ok_of_consequence_of_two_facts c.note_all.result _ _ _ c.note_all.ensures.objects c.note_all.ensures.noted
     (λ objects noted. placing_after_placed_box c.args.trace.now c.args.self.now _ c.args.ready.thread c.args.ready.needed c.index-lane.result.now c.index.result.now
     c.placed_box-placed.result c.first_of.result c.right_of-free.result c.events_in.result.now c.requires.coherent c.requires.placing reads
     c.first_of.ensures c.placed_box-placed.ensures c.right_of-free.ensures c.events_in.ensures refl refl objects noted)

@@ -2,7 +2,7 @@ use Rattle.std.proofs.Common.{◌≡◌, ◌+◌, ◌∙◌, List, Some, None, v
 use Rattle.ir_log.specs.declared.event.Event.{Event}
 use Rattle.ir_log.specs.declared.event.Event.TheVariants.{Answer, Read, Write, Try}
 use Rattle.ir_picture.specs.Boxing.{version_noted}
-use Rattle.ir_picture.proofs.Noting.{slice_get_from_get_or, notes_from_parts, holds_reads_after_other_event, holds_reads_after_read, holds_reads_after_write, holds_try_after_other_event, holds_try_after_try, other_event_repeats_nothing, reads_again_if_noted, read_repeats_nothing_unless_noted, tries_again_if_noted, try_repeats_nothing_unless_noted}
+use Rattle.ir_picture.proofs.Noting.{slice_get_from_get_or, notes_from_parts, holds_reads_after_other_event, holds_reads_after_read, holds_reads_after_write, holds_no_try_after_event_other_than_try, holds_try_after_try, other_event_repeats_nothing, reads_again_if_noted, read_repeats_nothing_unless_noted, tries_again_if_noted, try_repeats_nothing_unless_noted}
 use Rattle.ir_picture.proofs.repeats.Habits.note.Goals as goal
 
 pub turn-before-requires : goal.turn-before-requires
@@ -28,7 +28,7 @@ returns-in-Answer-clause-notes c =
     let at = slice_get_from_get_or es n _ _ c.requires.place c.in-Answer.is in
     notes_from_parts es (n + 1) c.args.self.now.read.items None c.turn_try.new.self (ap (λ t. t.items) c.turn_try.ensures.read) c.turn_try.ensures.tried
     (holds_reads_after_other_event es n c.args.self.now.read.items (Answer c.in-Answer.field-0 c.in-Answer.field-1) at (λ o is. let bad : None ≡ Some o = is in cc) c.requires.notes.reads)
-    (holds_try_after_other_event es n (Answer c.in-Answer.field-0 c.in-Answer.field-1) at (λ o is. cc))
+    (holds_no_try_after_event_other_than_try es n (Answer c.in-Answer.field-0 c.in-Answer.field-1) at (λ o is. cc))
 
 pub returns-in-Answer-clause-repeat : goal.returns-in-Answer-clause-repeat
 returns-in-Answer-clause-repeat c =
@@ -48,7 +48,7 @@ returns-then-is_noted-clause-notes c =
     (c.turn-before.ensures.read ∙ ap (λ t. slice_set t c.in-Read.object (Some c.in-Read.version)) kept)
     (c.turn-before.ensures.tried ∙ c.turn_try-in-Read.ensures.tried)
     (holds_reads_after_read es n c.in-Read.object c.in-Read.version c.args.self.now.read.items at (omega (arith, fits, c.args.self.now.read.ok.0)) c.requires.notes.reads)
-    (holds_try_after_other_event es n (Read c.in-Read.object c.in-Read.version) at (λ o is. cc))
+    (holds_no_try_after_event_other_than_try es n (Read c.in-Read.object c.in-Read.version) at (λ o is. cc))
 
 pub returns-else-is_noted-clause-notes : goal.returns-else-is_noted-clause-notes
 returns-else-is_noted-clause-notes c =
@@ -61,7 +61,7 @@ returns-else-is_noted-clause-notes c =
     (c.turn-before.ensures.read ∙ ap (λ t. slice_set t c.in-Read.object (Some c.in-Read.version)) kept)
     (c.turn-before.ensures.tried ∙ c.turn_try-in-Read.ensures.tried)
     (holds_reads_after_read es n c.in-Read.object c.in-Read.version c.args.self.now.read.items at (omega (arith, fits, c.args.self.now.read.ok.0)) c.requires.notes.reads)
-    (holds_try_after_other_event es n (Read c.in-Read.object c.in-Read.version) at (λ o is. cc))
+    (holds_no_try_after_event_other_than_try es n (Read c.in-Read.object c.in-Read.version) at (λ o is. cc))
 
 pub returns-then-is_noted-clause-repeat : goal.returns-then-is_noted-clause-repeat
 returns-then-is_noted-clause-repeat c =
@@ -92,7 +92,7 @@ returns-in-Write-clause-notes c =
     (c.turn.ensures.read ∙ ap (λ t. slice_set t c.in-Write.object None) kept) (c.turn.ensures.tried ∙ c.turn_try-in-Write.ensures.tried)
     (holds_reads_after_write es n c.in-Write.object c.in-Write.version c.in-Write.readers c.args.self.now.read.items at
     (omega (arith, fits, c.args.self.now.read.ok.0)) c.requires.notes.reads)
-    (holds_try_after_other_event es n (Write c.in-Write.object c.in-Write.version c.in-Write.readers) at (λ o is. cc))
+    (holds_no_try_after_event_other_than_try es n (Write c.in-Write.object c.in-Write.version c.in-Write.readers) at (λ o is. cc))
 
 pub returns-in-Write-clause-repeat : goal.returns-in-Write-clause-repeat
 returns-in-Write-clause-repeat c =

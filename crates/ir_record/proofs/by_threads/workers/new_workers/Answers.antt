@@ -4,8 +4,8 @@ use Rattle.std.specs.Vec.Iter.{into_iter_items, into_iter_len}
 use Rattle.ir_thread.specs.State as thread
 use Rattle.ir_crew.specs.Ends.{AreSeats}
 use Rattle.ir_record.specs.Threads.{AreNew}
-use Rattle.ir_record.proofs.Gathering.{split_place_below_length, split_moves_past_item, length_of_rest_is_one_less, map_with_item_added}
-use Rattle.ir_record.proofs.Manning.{new_workers_with_one_added, first_seat_is_new_and_rest_are_seats, rest_of_seats_is_one_shorter, length_with_item_added}
+use Rattle.ir_record.proofs.Gathering.{length_of_prefix_is_below_length, prefix_with_next_item_and_rest_is_whole, length_of_rest_is_one_less, map_of_append_one_is_append_one}
+use Rattle.ir_record.proofs.Manning.{new_workers_with_one_added, first_seat_is_new_and_rest_are_seats, rest_without_first_is_one_shorter, length_of_append_one_is_suc_length}
 use Rattle.ir_record.proofs.by_threads.workers.new_workers.Goals as goal
 
 pub loop-world-preserved : goal.loop-world-preserved
@@ -19,19 +19,19 @@ loop-world-preserved g c =
     let size : length c.args.worlds.items ≡ length c.args.image.now.entries = search rules in
     let count : length at.made.items ≡ length at.yielded = sym (length-map at.made.items (λ o. o.world))
     ∙ ap (λ z. length z) at.invariant.worlds in
-    let below = split_place_below_length at.yielded rest c.args.worlds.items x parts in
+    let below = length_of_prefix_is_below_length at.yielded rest c.args.worlds.items x parts in
     let left = at.invariant.left in
     let some : 0 < length at.seats.items = omega (arith, place, size, count, below, left) in
     let seats = c.remove-seat.ensures.by_index.2 in
-    let fewer = rest_of_seats_is_one_shorter at.seats.items c.remove-seat.new.self.items some seats in
+    let fewer = rest_without_first_is_one_shorter at.seats.items c.remove-seat.new.self.items some seats in
     let long : length c.push.new.self.items ≡ suc (length at.made.items) =
-    length_with_item_added at.made.items c.push.new.self.items _ c.in_ok-push.ensures.items in
+    length_of_append_one_is_suc_length at.made.items c.push.new.self.items _ c.in_ok-push.ensures.items in
     record {
-      parts = split_moves_past_item at.yielded (into_iter_items at.world-iterator) rest c.args.worlds.items x at.invariant.parts
+      parts = prefix_with_next_item_and_rest_is_whole at.yielded (into_iter_items at.world-iterator) rest c.args.worlds.items x at.invariant.parts
           c.in-Some.ensures.steps.0;
       size = length_of_rest_is_one_less (into_iter_items at.world-iterator) rest x (into_iter_len at.world-iterator) (into_iter_len c.next.new.self)
           at.invariant.size c.in-Some.ensures.steps.0 c.in-Some.ensures.steps.1;
-      worlds = map_with_item_added (λ o. o.world) at.made.items c.push.new.self.items _ at.yielded c.in_ok-push.ensures.items at.invariant.worlds;
+      worlds = map_of_append_one_is_append_one (λ o. o.world) at.made.items c.push.new.self.items _ at.yielded c.in_ok-push.ensures.items at.invariant.worlds;
       left = omega (arith, fewer, long, left);
       new = λ id h.
           let z = at.invariant.new id h in

@@ -1,5 +1,5 @@
 use Rattle.std.proofs.Common.{◌++◌, [], ◌∷◌, ap, sym, ◌∙◌, append-nil, map}
-use Rattle.ir_lemmas.proofs.CallerLemmas.{on_ok, on_err_if_holds}
+use Rattle.ir_lemmas.proofs.CallerLemmas.{on_ok_of_implied, on_err_if_proposition_holds}
 use Rattle.ir_store.specs.Places.{Place, node_at}
 use Rattle.ir_store.proofs.Lists.{on_err_weaker}
 use Rattle.ir_store.proofs.Placed.{nodes_after_growth, nodes_after_push, placed_after_push}
@@ -7,7 +7,7 @@ use Rattle.ir_store.proofs.kept.Kept.push.Goals as goal
 
 pub returns-in_err-extend_from_slice-2-clause-err : goal.returns-in_err-extend_from_slice-2-clause-err
 returns-in_err-extend_from_slice-2-clause-err c =
-    on_err_if_holds _
+    on_err_if_proposition_holds _
     (nodes_after_growth c.self.inside.threads.items c.extend_from_slice.new.self.items c.self.inside.objects.items c.extend_from_slice-2.new.self.items
     (c.as_slice.result.now, c.in_ok-extend_from_slice.ensures.items)
     ([], c.in_err-extend_from_slice-2.ensures.items ∙ sym (append-nil c.self.inside.objects.items)) c.self.inside.places.items c.self.invariant
@@ -41,7 +41,7 @@ returns-clause-ok c =
       object = c.in_ok-short-3.field-0;
       objects = c.in_ok-short-4.field-0;
     } in
-    on_ok c.put.result
+    on_ok_of_implied c.put.result
     (λ is. nodes_after_push c.self.inside.threads.items c.node.inside.threads.items c.extend_from_slice.new.self.items c.self.inside.objects.items
     c.node.inside.objects.items c.extend_from_slice-2.new.self.items
     (c.in_ok-extend_from_slice.ensures.items ∙ ap (λ xs. c.self.inside.threads.items ++ xs) c.as_slice.ensures.value)

@@ -1,6 +1,6 @@
 use Rattle.std.proofs.Common.{◌<◌, ap, ◌∙◌, sym, subst, get_or, length, Some}
 use Rattle.std.proofs.lemmas.Option.{slice_get-get_or}
-use Rattle.ir_lemmas.proofs.CallerLemmas.{found_element_of_all_by_recursion, length_of_map}
+use Rattle.ir_lemmas.proofs.CallerLemmas.{slice_get_element_satisfies_all_by_recursion, length_of_map}
 use Rattle.ir_freeze.specs.Frozen.{is_over}
 use Rattle.ir_sources.specs.Sources.{Source}
 use Rattle.ir_thread.specs.State.{ThreadState}
@@ -18,6 +18,6 @@ returns c =
     let less = subst (λ (z : table.Table). c.args.n < length z.items) (sym c.self.view_is) c.requires in
     let stands = slice_get-get_or rows c.args.n row (subst (λ k. c.args.n < k) (length_of_map (beside_in start) rows) less)
     ∙ ap Some (sym c.index-row.ensures) in
-    c.over.ensures ∙ found_element_of_all_by_recursion (KnowsOver start) rows c.args.n row c.self.invariant.3 stands
+    c.over.ensures ∙ slice_get_element_satisfies_all_by_recursion (KnowsOver start) rows c.args.n row c.self.invariant.3 stands
     ∙ ap (λ (x : ThreadState × Source). is_over x.0) (looked_up_row_is_get_or_of_mapped_rows (beside_in start) rows row c.args.n idle_beside less c.index-row.ensures)
     ∙ ap (λ (z : table.Table). is_over (get_or z.items c.args.n idle_beside).0) c.self.view_is

@@ -8,8 +8,8 @@ use Rattle.ir_thread.specs.State.{ThreadState}
 use Rattle.ir_store.specs.Rows.{Row, thread_in, beside_in, look_of, KnowsOver}
 use Rattle.ir_store.specs.Table.{LooksLike}
 use Rattle.ir_store.specs.Table as table
-use Rattle.ir_store.proofs.Lists.{all_by_recursion_after_put}
-use Rattle.ir_store.proofs.Rowed.{all_by_recursion_after_row_put, looks_after_row_put}
+use Rattle.ir_store.proofs.Lists.{all_by_recursion_if_unchanged_or_pushed}
+use Rattle.ir_store.proofs.Rowed.{all_by_recursion_of_map_if_rows_unchanged_or_pushed, are_looks_kept_if_rows_unchanged_or_pushed}
 use Rattle.ir_store.proofs.rows.Rows.push.Goals as goal
 
 pub invariant_of-self : goal.invariant_of-self
@@ -29,12 +29,12 @@ invariant_of-self c =
     (subst (λ (z : table.Table). (c.args.look ≡ length z.items) ⊎ LooksLike z.start z.items c.args.look (c.args.thread.now, c.args.source.now))
     (sym c.self.view_is) c.requires.look)) in (
       c.self.invariant.0,
-      all_by_recursion_after_row_put (beside_in start) (λ (x : ThreadState × Source). x.0.form ≡ form) rows new row c.self.invariant.1
+      all_by_recursion_of_map_if_rows_unchanged_or_pushed (beside_in start) (λ (x : ThreadState × Source). x.0.form ≡ form) rows new row c.self.invariant.1
           (ap (λ (s : ThreadState). s.form) thread ∙ c.requires.form ∙ ap (λ (z : table.Table). z.form) (sym c.self.view_is)) c.put.ensures.either,
-      all_by_recursion_after_row_put (beside_in start) (λ (x : ThreadState × Source). IsBounded x.0) rows new row c.self.invariant.2
+      all_by_recursion_of_map_if_rows_unchanged_or_pushed (beside_in start) (λ (x : ThreadState × Source). IsBounded x.0) rows new row c.self.invariant.2
           (subst IsBounded (sym thread) c.bounded.ensures) c.put.ensures.either,
-      all_by_recursion_after_put (KnowsOver start) rows new row c.self.invariant.3 (c.in_ok-row.ensures.over ∙ ap is_over (sym thread)) c.put.ensures.either,
-      looks_after_row_put (beside_in start) look_of start rows new row c.self.invariant.4 is c.put.ensures.either,
+      all_by_recursion_if_unchanged_or_pushed (KnowsOver start) rows new row c.self.invariant.3 (c.in_ok-row.ensures.over ∙ ap is_over (sym thread)) c.put.ensures.either,
+      are_looks_kept_if_rows_unchanged_or_pushed (beside_in start) look_of start rows new row c.self.invariant.4 is c.put.ensures.either,
     )
 
 pub returns-clause-ok : goal.returns-clause-ok

@@ -1,5 +1,5 @@
 use Rattle.std.proofs.Common.{◌≡◌, ap, ◌∙◌, sym, subst, get_or, length, ◌<◌}
-use Rattle.ir_lemmas.proofs.CallerLemmas.{found_element_of_all_by_recursion}
+use Rattle.ir_lemmas.proofs.CallerLemmas.{slice_get_element_satisfies_all_by_recursion}
 use Rattle.ir_sources.specs.Sources.{Source}
 use Rattle.ir_thread.specs.State.{ThreadState}
 use Rattle.ir_store.specs.Rows.{thread_in, beside_in}
@@ -24,5 +24,5 @@ returns-clause-form c =
     let less = subst (λ (z : table.Table). c.args.n < length z.items) (sym c.self.view_is) c.requires in
     let here = looked_up_row_is_element_of_mapped_rows (beside_in start) c.self.inside.rows.items row c.args.n (beside_in start row) less c.index-row.ensures (λ i. beside_in start row) in
     ap (λ (s : ThreadState). s.form) (c.in_ok-thread.ensures ∙ ap (λ l. thread_in l row) c.as_slice.ensures.value)
-    ∙ found_element_of_all_by_recursion (λ (x : ThreadState × Source). x.0.form ≡ c.self.inside.form) _ c.args.n (beside_in start row) c.self.invariant.1 here
+    ∙ slice_get_element_satisfies_all_by_recursion (λ (x : ThreadState × Source). x.0.form ≡ c.self.inside.form) _ c.args.n (beside_in start row) c.self.invariant.1 here
     ∙ ap (λ (z : table.Table). z.form) c.self.view_is

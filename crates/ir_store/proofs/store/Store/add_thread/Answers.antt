@@ -1,7 +1,7 @@
 use Rattle.std.proofs.Common.{◌≡◌, ◌<◌, ap, ◌∙◌, length, get_or, Some}
 use Rattle.std.specs.Prelude.{slice_get}
 use Rattle.std.proofs.lemmas.Option.{slice_get_within, get_or_from_slice_get}
-use Rattle.ir_lemmas.proofs.CallerLemmas.{if_ok_weaker}
+use Rattle.ir_lemmas.proofs.CallerLemmas.{if_ok_of_implied}
 use Rattle.ir_sources.specs.Sources.{Source}
 use Rattle.ir_thread.specs.State.{ThreadState}
 use Rattle.ir_store.specs.Nodes.{Shared, Stored}
@@ -25,11 +25,11 @@ returns-clause-items c =
 pub returns-clause-within : goal.returns-clause-within
 returns-clause-within c =
     let x : ThreadState × Source = (c.thread.inside.thread, c.thread.inside.source) in
-    if_ok_weaker (λ n. slice_get c.add.new.self.items n ≡ Some x) (λ n. n < length c.add.new.self.items) c.add.result
+    if_ok_of_implied (λ n. slice_get c.add.new.self.items n ≡ Some x) (λ n. n < length c.add.new.self.items) c.add.result
     (λ n at. slice_get_within c.add.new.self.items n x at) c.add.ensures.found
 
 pub returns-clause-found : goal.returns-clause-found
 returns-clause-found c =
     let x : ThreadState × Source = (c.thread.inside.thread, c.thread.inside.source) in
-    if_ok_weaker (λ n. slice_get c.add.new.self.items n ≡ Some x) (λ n. get_or c.add.new.self.items n idle_beside ≡ c.args.thread.now)
+    if_ok_of_implied (λ n. slice_get c.add.new.self.items n ≡ Some x) (λ n. get_or c.add.new.self.items n idle_beside ≡ c.args.thread.now)
     c.add.result (λ n at. get_or_from_slice_get c.add.new.self.items n x idle_beside at ∙ c.thread.view_is) c.add.ensures.found

@@ -3,7 +3,7 @@ use Rattle.ir_lemmas.proofs.CallerLemmas.{all_by_recursion_after_push}
 use Rattle.ir_thread.specs.State.{ThreadState}
 use Rattle.ir_store.specs.Table.{HaveForm, idle_beside}
 use Rattle.ir_store.specs.Table as table
-use Rattle.ir_store.proofs.Lists.{mapped_elements_made_step}
+use Rattle.ir_store.proofs.Lists.{push_is_map_of_take_of_one_more}
 use Rattle.ir_store.proofs.table.Table.threads.Goals as goal
 
 pub loop-n-preserved : goal.loop-n-preserved
@@ -15,7 +15,7 @@ loop-n-preserved c =
     record {
       value =
           c.in_ok-push.ensures.items
-          ∙ mapped_elements_made_step (λ k. (get_or items k idle_beside).0) numbers c.loop-n.threads.items x i 0 c.loop-n-test.true c.loop-n.invariant.value
+          ∙ push_is_map_of_take_of_one_more (λ k. (get_or items k idle_beside).0) numbers c.loop-n.threads.items x i 0 c.loop-n-test.true c.loop-n.invariant.value
           (c.in_ok-thread.ensures.found ∙ ap (λ (z : table.Table). (get_or z.items (get_or numbers i 0) idle_beside).0) c.self.view_is);
       form =
           subst (HaveForm c.args.self.now.form) (sym c.in_ok-push.ensures.items)

@@ -2,7 +2,7 @@ use Rattle.std.proofs.Common.{List, subst, ◌∙◌}
 use Rattle.std.specs.Prelude.{MatchOption}
 use Rattle.ir_symbols.specs.Symbols.{Symbol}
 use Rattle.ir_symbols.specs.Tables.{IsNearest}
-use Rattle.ir_symbols.proofs.Nearest.{NoneReaches, not_nearest_if_not_found, look_up_is_nearest_by_cases}
+use Rattle.ir_symbols.proofs.Nearest.{NoneReaches, not_nearest_if_not_found, look_up_is_nearest_if_found_is_or_none_reaches}
 use Rattle.ir_symbols.proofs.table.SymbolTable.nearest.Goals as goal
 
 -- what was found of the table's symbols
@@ -15,4 +15,4 @@ pub returns-clause-none : goal.returns-clause-none
 returns-clause-none c = not_nearest_if_not_found c.nearest_of.result (λ r. r.now) c.args.self.now c.args.address (cases c)
 
 pub returns-clause-value : goal.returns-clause-value
-returns-clause-value c = look_up_is_nearest_by_cases c.nearest_of.result (λ r. r.now) c.args.self.now c.args.address (cases c)
+returns-clause-value c = look_up_is_nearest_if_found_is_or_none_reaches c.nearest_of.result (λ r. r.now) c.args.self.now c.args.address (cases c)

@@ -1,7 +1,7 @@
 use Rattle.std.proofs.Common.{ℕ, sym, ap, subst, ◌∙◌, arith}
 use Rattle.ir_thread.specs.Private.{PrivateSteps}
 use Rattle.ir_thread.specs.State.{ThreadState}
-use Rattle.ir_thread.proofs.PrivateRuns.{private_steps_after_steps, private_step_after_steps, private_steps_keep_parts, ended_is_none_if_not_some}
+use Rattle.ir_thread.proofs.PrivateRuns.{private_steps_after_steps, private_steps_after_one_more, private_steps_keep_parts, ended_is_none_if_not_some}
 use Rattle.ir_thread.proofs.thread.Thread.run_to_ask.Goals as goal
 
 pub returns-then-taken-limit-clause-steps : goal.returns-then-taken-limit-clause-steps
@@ -25,7 +25,7 @@ returns-in_default c = record {
 pub loop-taken-preserved : goal.loop-taken-preserved
 loop-taken-preserved c = record {
   within = omega (arith, c.run_instructions-more.ensures.within, c.loop-taken.invariant.within, c.if-taken-limit.false);
-  steps = private_step_after_steps c.args.code.now _ c.args.self.now c.run_instructions-more.new.self c.pass_own_number.new.self
+  steps = private_steps_after_one_more c.args.code.now _ c.args.self.now c.run_instructions-more.new.self c.pass_own_number.new.self
       (private_steps_after_steps c.args.code.now c.loop-taken.taken c.run_instructions-more.result.0 c.args.self.now c.loop-taken.self
       c.run_instructions-more.new.self c.loop-taken.invariant.steps
       c.run_instructions-more.ensures.steps)

@@ -6,7 +6,7 @@ use Rattle.ir_log.specs.declared.event.Event.{Event}
 use Rattle.ir_trace.specs.Recorded.{Recorded, recorded_thread}
 use Rattle.ir_thread.specs.declared.ask.Ask.TheVariants.{Enter}
 use Rattle.ir_weave.specs.Woven.{met_of}
-use Rattle.ir_weave.proofs.Steps.{stepped_by_object_step_without_value, asked_event_is_not_missing, stopped_thread_has_waited, entering_of_plan_trace}
+use Rattle.ir_weave.proofs.Steps.{stepped_by_object_step_without_value, asked_event_is_not_missing, stopped_thread_has_waited, asked_entry_is_entering_in_plan}
 use Rattle.ir_weave.proofs.weave.Weave.try_enter.Goals as goal
 
 pub unreachable-requires : goal.unreachable-requires
@@ -17,7 +17,7 @@ unreachable-requires c = asked_event_is_not_missing c.args.self.now.table.shared
     (λ i. (c.trace.ensures.value i, c.number-number.ensures i, c.events.ensures.value i)) c.in-Err.ensures.disagrees)
 
 pub enter-requires-clause-entering : goal.enter-requires-clause-entering
-enter-requires-clause-entering c = entering_of_plan_trace c.args.self.now.table.shared.key c.args.fitted.now c.args.thread.now
+enter-requires-clause-entering c = asked_entry_is_entering_in_plan c.args.self.now.table.shared.key c.args.fitted.now c.args.thread.now
     (Enter c.args.object c.args.access) c.args.object c.args.access c.in-Ok.event c.requires.table c.requires.asking
     (subst (λ (z : Recorded × ℕ × ℕ). slice_get (recorded_thread z.0 z.1).events z.2 ≡ Some c.in-Ok.event)
     (λ i. (c.trace.ensures.value i, c.number-number.ensures i, c.events.ensures.value i)) c.in-Ok.ensures.next) c.in-Ok.ensures.suits

@@ -2,7 +2,7 @@ use Rattle.std.proofs.Common.{Some, None, refl}
 use Rattle.ir_crew.proofs.CallerLemmas.{step_of_deed}
 use Rattle.ir_crew.specs.declared.deed.Deed.TheVariants.{Get}
 use Rattle.ir_thread.specs.declared.ask.Ask.TheVariants as ask
-use Rattle.ir_record.proofs.WorkerSteps.{still_works_after_step, below_get, inside_get}
+use Rattle.ir_record.proofs.WorkerSteps.{still_works_after_step, below_get, inside_get, own_steps_left_fall_after_reply_unless_done}
 use Rattle.ir_record.proofs.by_threads.worker.Worker.get.Goals as goal
 
 pub get-value-requires-clause-object : goal.get-value-requires-clause-object
@@ -18,3 +18,6 @@ returns-clause-stays g c = record {
       (Some (step_of_deed c.args.object (Get c.args.index c.get-value.result))) None tt refl tt
       c.requires.asked c.get-value.ensures.got c.take_asked.ensures refl refl;
 }
+
+pub returns-clause-fewer : goal.returns-clause-fewer
+returns-clause-fewer g c = own_steps_left_fall_after_reply_unless_done _ _ _ c.requires.asked (λ done. absurd cc) c.take_asked.ensures

@@ -1,16 +1,16 @@
 use Rattle.std.proofs.Common.{ap, ◌∙◌, refl, [], ◌∷◌, ◌++◌, set}
-use Rattle.ir_lemmas.proofs.CallerLemmas.{on_ok_holds_if_can}
+use Rattle.ir_lemmas.proofs.CallerLemmas.{ok_fact_if_error_refuted}
 use Rattle.ir_flat.specs.Flat.{tables, machine}
 use Rattle.ir_runs.specs.Run.{Can}
 use Rattle.ir_log.specs.Logged.{Logged}
 use Rattle.ir_log.specs.declared.event.Event.TheVariants as event
-use Rattle.ir_record.proofs.Logs.{log_has_room_for_event, found_log_is_log_at}
+use Rattle.ir_record.proofs.Logs.{log_has_room_if_event_count_is_below_limit, looked_up_log_is_log_at}
 use Rattle.ir_record.proofs.Answering.{AnswerLogged, environment_call_can_step, event_count_is_below_limit_at_call, has_logs_after_answer, turn_taken_by_answer}
 use Rattle.ir_record.proofs.in_order.logged_guest.LoggedGuest.answer.Goals as goal
 
 pub push-requires : goal.push-requires
-push-requires c = log_has_room_for_event c.args.self.now.flat c.args.self.now.logs.items c.args.t c.index_mut.result.now c.requires.has_logs c.requires.thread
-    (found_log_is_log_at c.args.self.now.flat c.args.self.now.logs.items c.args.t c.index_mut.result.now c.requires.has_logs c.requires.thread
+push-requires c = log_has_room_if_event_count_is_below_limit c.args.self.now.flat c.args.self.now.logs.items c.args.t c.index_mut.result.now c.requires.has_logs c.requires.thread
+    (looked_up_log_is_log_at c.args.self.now.flat c.args.self.now.logs.items c.args.t c.index_mut.result.now c.requires.has_logs c.requires.thread
     c.index_mut.ensures.value)
     (event_count_is_below_limit_at_call c.args.self.now.flat c.args.t c.args.kind c.requires.asked)
 
@@ -22,7 +22,7 @@ answering c = record {
   below = c.requires.thread;
   asked = c.requires.asked;
   fits = c.requires.fits;
-  taken = on_ok_holds_if_can c.take.result (Can (machine c.args.self.now.flat) (tables c.args.self.now.flat) (c.args.t, c.args.value)) _
+  taken = ok_fact_if_error_refuted c.take.result (Can (machine c.args.self.now.flat) (tables c.args.self.now.flat) (c.args.t, c.args.value)) _
       (environment_call_can_step c.args.self.now.flat c.args.t c.args.value c.args.kind c.requires.asked c.requires.fits) c.take.ensures.refused
       c.take.ensures.taken;
   code = c.take.ensures.code;
@@ -30,7 +30,7 @@ answering c = record {
   objects = c.take.ensures.objects;
   new = c.push.new.self;
   pushed = c.push.ensures ∙ ap {A = Logged} {B = Logged} (λ l. record l { events = l.events ++ event.Answer c.args.kind c.args.value ∷ [] })
-      (found_log_is_log_at c.args.self.now.flat c.args.self.now.logs.items c.args.t c.index_mut.result.now c.requires.has_logs c.requires.thread
+      (looked_up_log_is_log_at c.args.self.now.flat c.args.self.now.logs.items c.args.t c.index_mut.result.now c.requires.has_logs c.requires.thread
       c.index_mut.ensures.value);
   logged = refl;
 }

@@ -1,20 +1,20 @@
 use Rattle.std.proofs.Common.{[], ◌∷◌, ◌++◌, set, refl, ap, ◌∙◌}
-use Rattle.ir_lemmas.proofs.CallerLemmas.{on_ok_holds_if_can}
+use Rattle.ir_lemmas.proofs.CallerLemmas.{ok_fact_if_error_refuted}
 use Rattle.ir_runs.specs.Machine.{Refused}
 use Rattle.ir_runs.specs.Run.{Can}
 use Rattle.ir_flat.specs.Flat.{tables, machine}
 use Rattle.ir_log.specs.Logged.{Logged}
 use Rattle.ir_log.specs.declared.event.Event.TheVariants as event
 use Rattle.ir_record.specs.Progress.{progress}
-use Rattle.ir_record.proofs.Logs.{log_has_room_for_event, found_log_is_log_at}
+use Rattle.ir_record.proofs.Logs.{log_has_room_if_event_count_is_below_limit, looked_up_log_is_log_at}
 use Rattle.ir_record.proofs.Entering.{OneEventLogged, one_step_if_one_event_logged, has_logs_after_logged_event}
 use Rattle.ir_record.proofs.Steps.{took_refused_turn_by_step}
 use Rattle.ir_record.proofs.Trying.{event_count_is_below_limit_at_try, refused_try_can_be_taken, refused_try_logs_one_event}
 use Rattle.ir_record.proofs.in_order.logged_guest.LoggedGuest.refuse.Goals as goal
 
 pub push-requires : goal.push-requires
-push-requires c = log_has_room_for_event c.args.self.now.flat c.args.self.now.logs.items c.args.t c.index_mut.result.now c.requires.has_logs c.requires.thread
-    (found_log_is_log_at c.args.self.now.flat c.args.self.now.logs.items c.args.t c.index_mut.result.now c.requires.has_logs c.requires.thread
+push-requires c = log_has_room_if_event_count_is_below_limit c.args.self.now.flat c.args.self.now.logs.items c.args.t c.index_mut.result.now c.requires.has_logs c.requires.thread
+    (looked_up_log_is_log_at c.args.self.now.flat c.args.self.now.logs.items c.args.t c.index_mut.result.now c.requires.has_logs c.requires.thread
     c.index_mut.ensures.value) (event_count_is_below_limit_at_try c.args.self.now.flat c.args.t c.args.object c.requires.asked)
 
 refused : (c : goal.After-self-1) → OneEventLogged c.args.self.now.flat c.take.new.self c.args.self.now.logs.items
@@ -29,13 +29,13 @@ refused c =
       below = c.requires.thread;
       asked = c.requires.asked;
       can = can;
-      taken = on_ok_holds_if_can c.take.result (Can (machine f) (tables f) (c.args.t, 0)) _ can c.take.ensures.refused c.take.ensures.taken;
+      taken = ok_fact_if_error_refuted c.take.result (Can (machine f) (tables f) (c.args.t, 0)) _ can c.take.ensures.refused c.take.ensures.taken;
       code = c.take.ensures.code;
       threads = c.take.ensures.threads;
       objects = c.take.ensures.objects;
       new = c.push.new.self;
       pushed = c.push.ensures ∙ ap {A = Logged} {B = Logged} (λ l. record l { events = l.events ++ event.Try c.args.object ∷ [] })
-          (found_log_is_log_at f c.args.self.now.logs.items c.args.t c.index_mut.result.now c.requires.has_logs c.requires.thread c.index_mut.ensures.value);
+          (looked_up_log_is_log_at f c.args.self.now.logs.items c.args.t c.index_mut.result.now c.requires.has_logs c.requires.thread c.index_mut.ensures.value);
       logs_are = refl;
     })
 

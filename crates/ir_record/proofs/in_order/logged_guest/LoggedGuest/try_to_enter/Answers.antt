@@ -1,24 +1,24 @@
 use Rattle.std.proofs.Common.{◌≡◌, ap, ◌∙◌, refl, sym, subst, [], ◌∷◌, ◌++◌, set}
-use Rattle.ir_lemmas.proofs.CallerLemmas.{on_ok_holds_if_can}
+use Rattle.ir_lemmas.proofs.CallerLemmas.{ok_fact_if_error_refuted}
 use Rattle.ir_thread.specs.State.{ask_of}
 use Rattle.ir_thread.specs.declared.ask.Ask.TheVariants.{Try}
 use Rattle.ir_runs.specs.Machine.{Refused}
 use Rattle.ir_runs.specs.Run.{Can, after}
 use Rattle.ir_flat.specs.Flat.{thread_of, tables, machine}
-use Rattle.ir_flat.proofs.CallerLemmas.{tried_object_is_of_state}
+use Rattle.ir_flat.proofs.CallerLemmas.{tried_object_below_object_count}
 use Rattle.ir_log.specs.Logged.{Logged}
 use Rattle.ir_log.specs.declared.event.Event.TheVariants as event
-use Rattle.ir_record.proofs.Logs.{log_has_room_for_event, found_log_is_log_at}
+use Rattle.ir_record.proofs.Logs.{log_has_room_if_event_count_is_below_limit, looked_up_log_is_log_at}
 use Rattle.ir_record.proofs.Entering.{turn_taken_by_logged_event, has_logs_after_logged_event}
 use Rattle.ir_record.proofs.Trying.{TryLogged, event_count_is_below_limit_at_try, refused_try_can_be_taken, write_entry_label, entering_try_logs_one_event, refused_try_logs_one_event}
 use Rattle.ir_record.proofs.in_order.logged_guest.LoggedGuest.try_to_enter.Goals as goal
 
 pub entry-event-requires : goal.entry-event-requires
-entry-event-requires c = tried_object_is_of_state c.args.self.now.flat c.args.t c.args.object c.requires.flat c.requires.thread c.requires.asked
+entry-event-requires c = tried_object_below_object_count c.args.self.now.flat c.args.t c.args.object c.requires.flat c.requires.thread c.requires.asked
 
 pub push-requires : goal.push-requires
-push-requires c = log_has_room_for_event c.args.self.now.flat c.args.self.now.logs.items c.args.t c.index_mut.result.now c.requires.has_logs c.requires.thread
-    (found_log_is_log_at c.args.self.now.flat c.args.self.now.logs.items c.args.t c.index_mut.result.now c.requires.has_logs c.requires.thread
+push-requires c = log_has_room_if_event_count_is_below_limit c.args.self.now.flat c.args.self.now.logs.items c.args.t c.index_mut.result.now c.requires.has_logs c.requires.thread
+    (looked_up_log_is_log_at c.args.self.now.flat c.args.self.now.logs.items c.args.t c.index_mut.result.now c.requires.has_logs c.requires.thread
     c.index_mut.ensures.value) (event_count_is_below_limit_at_try c.args.self.now.flat c.args.t c.args.object c.requires.asked)
 
 entered : (c : goal.After-self-1) → TryLogged c.args.self.now.flat c.take.new.self c.args.self.now.logs.items
@@ -35,7 +35,7 @@ entered c = record {
   objects = c.take.ensures.objects;
   new = c.push.new.self;
   pushed = c.push.ensures ∙ ap {A = Logged} {B = Logged} (λ l. record l { events = l.events ++ c.entry-event.result ∷ [] })
-      (found_log_is_log_at c.args.self.now.flat c.args.self.now.logs.items c.args.t c.index_mut.result.now c.requires.has_logs c.requires.thread
+      (looked_up_log_is_log_at c.args.self.now.flat c.args.self.now.logs.items c.args.t c.index_mut.result.now c.requires.has_logs c.requires.thread
       c.index_mut.ensures.value);
   logs_are = refl;
 }
@@ -56,9 +56,9 @@ returns-in-Ok-clause-has_logs c = has_logs_after_logged_event c.args.self.now.fl
     c.args.t c.args.object c.entry-event.result (entered c) c.entry-event.ensures.emitted c.entry-event.ensures.fits)
 
 pub push-requires-in-Err : goal.push-requires-in-Err
-push-requires-in-Err c = log_has_room_for_event c.args.self.now.flat c.args.self.now.logs.items c.args.t c.index_mut-in-Err.result.now c.requires.has_logs
+push-requires-in-Err c = log_has_room_if_event_count_is_below_limit c.args.self.now.flat c.args.self.now.logs.items c.args.t c.index_mut-in-Err.result.now c.requires.has_logs
     c.requires.thread
-    (found_log_is_log_at c.args.self.now.flat c.args.self.now.logs.items c.args.t c.index_mut-in-Err.result.now c.requires.has_logs c.requires.thread
+    (looked_up_log_is_log_at c.args.self.now.flat c.args.self.now.logs.items c.args.t c.index_mut-in-Err.result.now c.requires.has_logs c.requires.thread
     c.index_mut-in-Err.ensures.value) (event_count_is_below_limit_at_try c.args.self.now.flat c.args.t c.args.object c.requires.asked)
 
 left_out : (c : goal.After-self-in-Err-1) → TryLogged c.args.self.now.flat c.take-in-Err.new.self c.args.self.now.logs.items
@@ -75,14 +75,14 @@ left_out c =
       asked = c.requires.asked;
       can = refused_try_can_be_taken c.args.self.now.flat c.args.t c.args.object c.requires.asked;
       taken = subst (λ z. tables c.take-in-Err.new.self ≡ after (machine z) (tables z) (c.args.t, 0)) same
-          (on_ok_holds_if_can c.take-in-Err.result (Can (machine f) (tables f) (c.args.t, 0)) _ (refused_try_can_be_taken f c.args.t c.args.object asked)
+          (ok_fact_if_error_refuted c.take-in-Err.result (Can (machine f) (tables f) (c.args.t, 0)) _ (refused_try_can_be_taken f c.args.t c.args.object asked)
           c.take-in-Err.ensures.refused c.take-in-Err.ensures.taken);
       code = c.take-in-Err.ensures.code ∙ c.take.ensures.code;
       threads = c.take-in-Err.ensures.threads ∙ c.take.ensures.threads;
       objects = c.take-in-Err.ensures.objects ∙ c.take.ensures.objects;
       new = c.push-in-Err.new.self;
       pushed = c.push-in-Err.ensures ∙ ap {A = Logged} {B = Logged} (λ l. record l { events = l.events ++ event.Try c.args.object ∷ [] })
-          (found_log_is_log_at c.args.self.now.flat c.args.self.now.logs.items c.args.t c.index_mut-in-Err.result.now c.requires.has_logs
+          (looked_up_log_is_log_at c.args.self.now.flat c.args.self.now.logs.items c.args.t c.index_mut-in-Err.result.now c.requires.has_logs
           c.requires.thread c.index_mut-in-Err.ensures.value);
       logs_are = refl;
     }

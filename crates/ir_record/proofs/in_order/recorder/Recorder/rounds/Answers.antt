@@ -9,11 +9,11 @@ use Rattle.ir_record.specs.Progress.{Progress}
 use Rattle.ir_record.specs.Recorders.{progress_of}
 use Rattle.ir_record.proofs.Going.{WentRounds, reached, ahead_of_reached_state, no_rounds_change_nothing, one_more_round_after_rounds, caught, all_over}
 use Rattle.ir_record.proofs.Joining.{rounds_with_round_added}
-use Rattle.ir_record.proofs.Skipping.{RoundThenSkips, round_then_skipped_rounds}
+use Rattle.ir_record.proofs.Skipping.{RoundThenSkips, round_then_skips_if_one_more_round_and_can_skip}
 use Rattle.ir_record.proofs.Single.{rounds_taken_if_turns_of_only_thread_taken, rounds_stopped_if_turns_of_only_thread_stopped}
-use Rattle.ir_record.proofs.Ready.{stays_ready_with_handed_on_error}
+use Rattle.ir_record.proofs.Ready.{stays_ready_if_error_names_first_failed_world}
 use Rattle.ir_record.proofs.in_order.recorder.Recorder.rounds.Given as given
-use Rattle.ir_record.proofs.Stopped.{if_err_holds_of_error, stopped_after_turns_ahead}
+use Rattle.ir_record.proofs.Stopped.{if_err_holds_if_holds_of_its_error, stopped_after_turns_ahead}
 use Rattle.ir_record.proofs.in_order.recorder.Recorder.rounds.Goals as goal
 
 pub rounds-init : goal.rounds-init
@@ -31,7 +31,7 @@ rounds-init g c =
 skipped : (g : given.Over) (c : goal.After-lower g) → RoundThenSkips c.in_ok-round.round.moved (progress_of g.W.World.answers c.args.self.now)
     (progress_of g.W.World.answers c.rounds.self) (progress_of g.W.World.answers c.round.new.self) c.rounds.ahead.items
     c.lower.new.ahead.items
-skipped g c = round_then_skipped_rounds c.in_ok-round.round.free (one_more_round_after_rounds c.rounds.invariant.went c.rounds.invariant.places.leads c.in_ok-round.ensures.went)
+skipped g c = round_then_skips_if_one_more_round_and_can_skip c.in_ok-round.round.free (one_more_round_after_rounds c.rounds.invariant.went c.rounds.invariant.places.leads c.in_ok-round.ensures.went)
     c.in_ok-round.ensures.places.leads c.lower.ensures.size c.in_ok-round.ensures.free c.lower.ensures.each
 
 pub rounds-preserved : goal.rounds-preserved
@@ -56,7 +56,7 @@ returns-then-not-round-clause-over g c =
     (not-true c.in_ok-round.round.moved c.if-not-round.true)
 
 pub returns-in_err-round-clause-stopped : goal.returns-in_err-round-clause-stopped
-returns-in_err-round-clause-stopped g c = if_err_holds_of_error _ c.from_residual.result c.in_err-round.field-0.0 c.from_residual.ensures.1 (
+returns-in_err-round-clause-stopped g c = if_err_holds_if_holds_of_its_error _ c.from_residual.result c.in_err-round.field-0.0 c.from_residual.ensures.1 (
     let n : ℕ = length c.args.self.now.guest.flat.threads in
     let a : Progress = progress_of g.W.World.answers c.args.self.now in
     let b : Progress = progress_of g.W.World.answers c.rounds.self in
@@ -90,6 +90,6 @@ pub returns-then-not-round-clause-stays : goal.returns-then-not-round-clause-sta
 returns-then-not-round-clause-stays g c = record { ready = c.in_ok-round.ensures.stays.ready; failed = tt; same_worlds = c.round.ensures.stays.same_worlds ∙ c.rounds.invariant.kept }
 
 pub returns-in_err-round-clause-stays : goal.returns-in_err-round-clause-stays
-returns-in_err-round-clause-stays g c = stays_ready_with_handed_on_error g.W.World.answers g.W.World.broken g.W.World.origin
+returns-in_err-round-clause-stays g c = stays_ready_if_error_names_first_failed_world g.W.World.answers g.W.World.broken g.W.World.origin
     c.args.self.now c.round.new.self c.from_residual.result c.in_err-round.field-0.0 c.from_residual.ensures.1 c.in_err-round.ensures.stays.failed
     (c.round.ensures.stays.same_worlds ∙ c.rounds.invariant.kept)

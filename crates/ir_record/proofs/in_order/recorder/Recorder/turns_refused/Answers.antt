@@ -4,8 +4,8 @@ use Rattle.ir_record.specs.Recorders.{progress_of}
 use Rattle.ir_record.specs.Refusing.{Turn}
 use Rattle.ir_record.proofs.Following.{took_repeated_turns_with_one_more, replicate_splits_around_element, took_all_turns_if_no_step_left}
 use Rattle.ir_record.proofs.Steps.{took_turns_of_empty}
-use Rattle.ir_record.proofs.Stopped.{if_err_holds_of_error, stopped_in_longer_turns, stopped_turns_after_turns}
-use Rattle.ir_record.proofs.Ready.{stays_ready_with_handed_on_error}
+use Rattle.ir_record.proofs.Stopped.{if_err_holds_if_holds_of_its_error, stopped_in_longer_turns, stopped_turns_after_turns}
+use Rattle.ir_record.proofs.Ready.{stays_ready_if_error_names_first_failed_world}
 use Rattle.ir_record.proofs.in_order.recorder.Recorder.turns_refused.Goals as goal
 
 pub turns-init : goal.turns-init
@@ -42,7 +42,7 @@ returns-then-not-branch-clause-took g c =
     (c.in_ok-turn_refused.ensures.none c.if-not-branch.true)
 
 pub returns-in_err-turn_refused-clause-stopped : goal.returns-in_err-turn_refused-clause-stopped
-returns-in_err-turn_refused-clause-stopped g c = if_err_holds_of_error _ c.from_residual.result c.in_err-turn_refused.field-0.0 c.from_residual.ensures.1 (
+returns-in_err-turn_refused-clause-stopped g c = if_err_holds_if_holds_of_its_error _ c.from_residual.result c.in_err-turn_refused.field-0.0 c.from_residual.ensures.1 (
     let entry : Progress = progress_of g.W.World.answers c.args.self.now in
     let one : Turn = (c.args.t, true) in
     let first = replicate (c.args.count - c.turns.left) one in
@@ -60,6 +60,6 @@ pub returns-clause-stays : goal.returns-clause-stays
 returns-clause-stays g c = record { ready = c.turns.invariant.ready; failed = tt; same_worlds = c.turns.invariant.kept }
 
 pub returns-in_err-turn_refused-clause-stays : goal.returns-in_err-turn_refused-clause-stays
-returns-in_err-turn_refused-clause-stays g c = stays_ready_with_handed_on_error g.W.World.answers g.W.World.broken g.W.World.origin
+returns-in_err-turn_refused-clause-stays g c = stays_ready_if_error_names_first_failed_world g.W.World.answers g.W.World.broken g.W.World.origin
     c.args.self.now c.turn_refused.new.self c.from_residual.result c.in_err-turn_refused.field-0.0 c.from_residual.ensures.1 c.in_err-turn_refused.ensures.stays.failed
     (c.turn_refused.ensures.stays.same_worlds ∙ c.turns.invariant.kept)
