@@ -4,8 +4,8 @@
 python3 scripts/edits.py [--jobs N] [CRATE ...]
 
 Wants the crates proved (scripts/prove.py). Works in N copies of the crates, in folders .edits-0, .edits-1, ..: else as many as there are processors with
-5 GiB of memory each. Edits of different functions of a crate are tried by one check of their modules alone, and each counts as refused where its own
-function is, for another reason than a call of one that is not proved. What isn't refused so is tried alone by a check of the whole crate, where any
+5 GiB of memory each. Edits of different functions of a crate are tried by one check of their methods and modules alone, and each counts as refused where its
+own function is, for another reason than a call of one that is not proved. What isn't refused so is tried alone by a check of the whole crate, where any
 function of it may be. A line an edit, as each is tried; the last line counts them. Fails where one is proved, or doesn't apply.
 """
 import argparse
@@ -22,7 +22,10 @@ from prove import default_jobs
 TOP = Path(__file__).resolve().parent.parent
 PARTS = ("src", "specs", "proofs")
 FUNCTION = re.compile(r"^ *(?:pub(?:\([a-z]+\))? )?(?:const )?fn (\w+)", re.MULTILINE)
-FAILED = re.compile(r"^fn (\S+): (?:no proof|not proved)(.*)$", re.MULTILINE)
+# An `impl` that begins: its trait, if it is of one, and its type; or one that ends.
+IMPL = re.compile(r"^impl(?:<.*?>)? (?:(?:\w+::)*(\w+)(?:<[^{]*?>)? for )?&?(?:\w+::)*(\w+)[^\n]*$|^(\})$", re.MULTILINE)
+# `not proved` says that a goal of the function fails; `no proof` that it lacks something, which may be the proof of what it calls alone.
+FAILED = re.compile(r"^fn (\S+): (no proof|not proved)(.*)$", re.MULTILINE)
 CALLS = re.compile(r"^:? ?(?:it calls `[^`]*`(?:, `[^`]*`| and `[^`]*`)*, which (?:is|are) not proved)?$")
 
 
@@ -53,13 +56,17 @@ def applied(text, pairs):
 
 
 def place_of(crate, edit):
-    """The module and the function that an edit changes; no function where it changes a constant."""
+    """What the function that an edit changes is in, and its name: the prover names a method by its type and its trait, wherever it stands, and any other
+    function by its module. No name where the edit changes a constant."""
     path, pairs = pairs_of(edit)
     text = (crate / path).read_text(encoding="utf-8")
     applied(text, pairs)
-    before = FUNCTION.findall(text[:text.index(pairs[0][0])])
+    before = text[:text.index(pairs[0][0])]
+    names, impls = FUNCTION.findall(before), IMPL.findall(before)
     module = path.removeprefix("src/").removesuffix(".rt").replace("/", "::")
-    return f"{crate.name}::{module}::", before[-1] if before else None
+    trait, kind, _ = impls[-1] if impls else ("", "", "")
+    owner = f"{kind}{trait}::" if kind else f"{crate.name}::{module}::"
+    return owner, names[-1] if names else None
 
 
 def changed(crate, edits):
@@ -116,20 +123,27 @@ def refused(crate, edits, room, modules=()):
                          stdout=subprocess.PIPE, stderr=subprocess.STDOUT, check=False)
     laid(crate, room)
     failed = FAILED.findall(ran.stdout)
-    is_refused = ran.returncode == 1 and any(name.startswith(f"{crate.name}::") for name, _ in failed)
-    return {name for name, why in failed if not CALLS.match(why)}, is_refused
+    is_refused = ran.returncode == 1 and any(name.startswith(f"{crate.name}::") for name, _, _ in failed)
+    return {name for name, what, why in failed if what == "not proved" or not CALLS.match(why)}, is_refused
+
+
+def checked(crate, place):
+    """What a check of an edit's function is asked for: the method, or the module of any other function."""
+    owner, function = place
+    module = owner.removeprefix(f"{crate.name}::")
+    return f"{owner}{function}" if module == owner else module.removesuffix("::")
 
 
 def is_named(place, names):
     """Whether the function of an edit is among these."""
-    module, function = place
-    return any(name.startswith(module) and name.endswith(f"::{function}") for name in names)
+    owner, function = place
+    return any(name.startswith(owner) and name.endswith(f"::{function}") or name.endswith(f"::{owner}{function}") for name in names)
 
 
 def tried(crate, batch, room):
     """Each edit of the batch with whether it is refused."""
     # A constant may be any function's: then the whole crate is checked.
-    modules = sorted({module.removeprefix(f"{crate.name}::").removesuffix("::") for _, (module, function) in batch if function})
+    modules = sorted({checked(crate, place) for _, place in batch if place[1]})
     is_whole = len(batch) == 1 and not batch[0][1][1]
     names, _ = refused(crate, [edit for edit, _ in batch], room, () if is_whole else modules)
     return [(edit, is_named(place, names) or refused(crate, [edit], room)[1]) for edit, place in batch]
