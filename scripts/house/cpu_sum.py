@@ -1,10 +1,12 @@
 import collections
-best=collections.defaultdict(float); ed=collections.defaultdict(float); te=collections.defaultdict(float)
+P=collections.defaultdict(float); T=collections.defaultdict(float); E=collections.defaultdict(float)
 for l in open('/tmp/cpu.tsv'):
     c,k,w,v=l.rstrip("\n").split("\t"); v=float(v)
-    if "rt-copy" in w:
-        if k=="proof": best[c]=max(best[c],v)
-        if k=="tests": te[c]=max(te[c],v)
-    elif "rt-edit" in w: ed[c]=max(ed[c],v) if k=="edits" else ed[c]
-print("proofs",round(sum(best.values())/60,1),"tests",round(sum(te.values())/60,1),"edits",round(sum(ed.values())/60,1))
-print(" ".join(f"{c}:{v:.0f}" for c,v in sorted(best.items(),key=lambda x:-x[1])))
+    if c=="ir_probe": continue
+    if "rt-edit" in w or "rt-edits" in w: E[c]+=0; E[c]=max(E[c],v); continue
+    if "/work/edits" in w or "/work/loopw" in w: continue
+    if k=="proof": P[c]=max(P[c],v)
+    if k=="tests": T[c]=max(T[c],v)
+print("proofs",round(sum(P.values())/60,1),"tests",round(sum(T.values())/60,1),"edits",round(sum(E.values())/60,1))
+rows=sorted(set(P)|set(T)|set(E),key=lambda c:-(P[c]+T[c]+E[c]))
+for c in rows: print(f"| {c} | {P[c]:.0f} | {T[c]:.0f} | {E[c]:.0f} | {P[c]+T[c]+E[c]:.0f} |")
