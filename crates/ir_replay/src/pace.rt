@@ -6,8 +6,8 @@ const TRIAL: u64 = 1 << 18;
 // A move of fewer steps begins with the workers, since it shows nothing of how fast the caller is.
 const FEWEST_FOR_TRIAL: u64 = 1 << 16;
 
-// A move that the caller ends in so many milliseconds is the caller's: a round of workers that wait would be a tenth of it.
-const SHORT_MOVE: u64 = 50;
+// A move that the caller ends in so many milliseconds is the caller's: a round of workers that wait would be a twentieth of it.
+const SHORT_MOVE: u64 = 100;
 
 // At most so many steps it takes before the workers are tried again, and at once: some tenths of a second.
 pub(crate) const LONGEST_STRETCH: u64 = 1 << 25;
