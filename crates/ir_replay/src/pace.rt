@@ -2,6 +2,9 @@
 
 use ir_trace::Trace;
 
+#[cfg(test)]
+mod tests;
+
 // How many steps the caller takes by itself to see how fast it is.
 const TRIAL: u64 = 1 << 18;
 
@@ -85,13 +88,18 @@ impl Pace {
         }
     }
 
-    // The move is of a run that this trace is of: how often its threads log says what to expect of workers.
+    // The move is of a run that this trace is of.
     pub(crate) fn look_at(&mut self, trace: &Trace) {
         let (mut steps, mut events) = (0u64, 0u64);
         for thread in trace.threads() {
             steps = steps.saturating_add(thread.steps());
             events = events.saturating_add(thread.log().events().len() as u64);
         }
+        self.expect(steps, events);
+    }
+
+    // All threads take so many steps and log so many events: how often they log says what to expect of workers.
+    fn expect(&mut self, steps: u64, events: u64) {
         self.short = if steps / OFTEN < events {
             SHORT_IF_OFTEN
         } else if steps / SELDOM < events {
