@@ -10,6 +10,7 @@ speeds      guests of 8 * 10^7 steps and more: by a session, by steps many at a 
 traces      recording in order from file to file, fitting what was recorded, and replaying it from its start to its end
 by_threads  recording and replay by real threads beside the same in order, medians of five turns
 processes   replay by one process, by four that share nothing, and by four threads, in turn: what the machine gives
+apart       what four threads of a program in C reach that share nothing, if there is a C compiler
 contended   the same of guests whose threads meet at one object, with thread switches; opening; the slowest of 50 moves to the end
 sessions    answers a second
 continuing  moves back, searches both ways and checkpoints, in milliseconds, the best of three; memory
@@ -19,6 +20,7 @@ assembling  lines a second
 """
 import argparse
 import os
+import shutil
 import struct
 import subprocess
 import sys
@@ -238,6 +240,18 @@ def processes(programs):
               flush=True)
 
 
+def apart(programs):
+    """What four threads of a program in C reach that share nothing, of one of them: the median, the least and the most of 15 tries."""
+    compiler, program = shutil.which("cc"), programs.place("")
+    if not compiler:
+        print("no C compiler, so threads that share nothing aren't measured")
+        return
+    subprocess.run([compiler, "-O2", "-o", program, Path(__file__).with_name("apart.c"), "-lpthread"], check=True)
+    ratios = sorted(float(subprocess.run([program], check=True, stdout=subprocess.PIPE).stdout) for _ in range(15))
+    print(f"four threads of a program in C that share nothing, of one: median {median(ratios):.2f} of 15 tries, from {ratios[0]:.2f} to {ratios[-1]:.2f}",
+          flush=True)
+
+
 def ends_of(programs, files):
     """The seconds of a session's first move to the end, by length, of 50 sessions."""
     return sorted(programs.answering(files, b"", b"end\n") for _ in range(50))
@@ -378,7 +392,7 @@ def assembling(programs):
         print(f"{size:<24}{size // 4:>12}{took:>10.3f}{size / took:>12.0f}", flush=True)
 
 
-PARTS = {part.__name__: part for part in (speeds, traces, by_threads, processes, contended, sessions, continuing, coherence, tries, assembling)}
+PARTS = {part.__name__: part for part in (speeds, traces, by_threads, processes, apart, contended, sessions, continuing, coherence, tries, assembling)}
 
 
 def main():

@@ -2,10 +2,14 @@
 import argparse
 import os
 import shlex
+import signal
 import subprocess
 from pathlib import Path
 
 TOP = Path(__file__).resolve().parent.parent
+
+# A shell has what it starts in the background ignore Ctrl-C, and programs that are started from there ignore it too.
+signal.signal(signal.SIGINT, signal.default_int_handler)
 
 # Prints a byte, and ends with a code.
 DOUBLE = """

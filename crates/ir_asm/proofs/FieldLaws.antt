@@ -71,8 +71,8 @@ pub jump_offset_of_own_value : (i : JumpOffset) → jump_offset_of i.value ≡ i
 jump_offset_of_own_value i = sym (jump_offset_is_jump_offset_of_z_if_its_value_is_low_z i i.value
     (sym (ap (sign_extended 21) (even_bits_21_of_even_number_are_low_bits i.value i.even) ∙ sign_extended_21_of_low_bits_is_itself_if_in_range i.value i.low i.high)))
 
-pub upper_of_own_value : (i : UpperImmediate) → upper_of (pos (i.value / 2 ^ 12)) ≡ i
-upper_of_own_value i = sym (upper_is_upper_of_z_if_its_value_is_low_z i (pos (i.value / 2 ^ 12)) (omega (arith, i.in_range, i.whole)))
+pub upper_of_own_upper_bits : (i : UpperImmediate) → upper_of (pos (i.value / 2 ^ 12)) ≡ i
+upper_of_own_upper_bits i = sym (upper_is_upper_of_z_if_its_value_is_low_z i (pos (i.value / 2 ^ 12)) (omega (arith, i.in_range, i.whole)))
 
 pub amount_of_own_bits : (a : ShiftAmount) → amount_of (pos a.bits) ≡ a
 amount_of_own_bits a = sym (amount_is_amount_of_z_if_its_bits_are_low_z a (pos a.bits) (omega (arith, a.in_range)))

@@ -112,11 +112,11 @@ object_has_room g object objects l there = let r = end_of_object_within_words_of
 length_is_unchanged_after_words_replaced : (all words : List ℕ) (start count : ℕ) → length words ≤ count → start + count ≤ length all
     → length (take start all ++ (padded_to count words ++ drop (start + count) all)) ≡ length all
 length_is_unchanged_after_words_replaced all words start count few there =
-    let drop_begins_with_get_or : List ℕ = take start all in
+    let front : List ℕ = take start all in
     let back : List ℕ = drop (start + count) all in
     omega (
       arith,
-      length-append drop_begins_with_get_or (padded_to count words ++ back),
+      length-append front (padded_to count words ++ back),
       length-append (padded_to count words) back,
       length-append words (replicate (count - length words) 0),
       length-replicate {A = ℕ} (count - length words) 0,

@@ -17,7 +17,7 @@ use Rattle.ir_asm.specs.Passes.{assembled, IsWordGuest}
 use Rattle.ir_disasm.specs.Printed.{hex, instruction_text}
 use Rattle.ir_asm.proofs.Pieces.{IsPiece}
 use Rattle.ir_asm.proofs.Numbers.{register_of_printed_name, register_name_is_piece, decimal_is_piece, hex_is_clean, number_of_decimal, natural_of_five_hex_digits}
-use Rattle.ir_asm.proofs.FieldLaws.{upper_of_own_value, immediate_of_own_low_bits}
+use Rattle.ir_asm.proofs.FieldLaws.{upper_of_own_upper_bits, immediate_of_own_low_bits}
 use Rattle.ir_asm.proofs.Statements.{line_that_says_word_assembles}
 use Rattle.ir_asm.proofs.Formats.{piece_is_last_operand, three_operands_say_word}
 use Rattle.ir_asm.proofs.Pairs.{two_operands_say_word}
@@ -44,7 +44,7 @@ printed_lui_assembles pc rd i =
     line_that_says_word_assembles _ _ _ (two_operands_say_word (codes "lui") (register_name rd.number) (codes "0x" ++ hex 5 u) (codes "0x" ++ hex 5 u)
     (word_of (Lui rd i)) LoadsUpper (Index rd ∷ Integer (pos u) ∷ [])
     (record { some = refl; all = refl }) (register_name_is_piece rd) (piece_is_last_operand (codes "0x" ++ hex 5 u) (five_hex_digits_are_piece u))
-    refl refl (operands_of_printed_lui rd u (upper_value_fits_20_bits i)) (ap (λ (x : UpperImmediate). instruction (Lui rd x)) (upper_of_own_value i)))
+    refl refl (operands_of_printed_lui rd u (upper_value_fits_20_bits i)) (ap (λ (x : UpperImmediate). instruction (Lui rd x)) (upper_of_own_upper_bits i)))
 
 pub printed_auipc_assembles : (pc : ℕ) (rd : Register) (i : UpperImmediate) → IsWordGuest (assembled (instruction_text pc (Auipc rd i))) (word_of (Auipc rd i))
 printed_auipc_assembles pc rd i =
@@ -52,7 +52,7 @@ printed_auipc_assembles pc rd i =
     line_that_says_word_assembles _ _ _ (two_operands_say_word (codes "auipc") (register_name rd.number) (codes "0x" ++ hex 5 u) (codes "0x" ++ hex 5 u)
     (word_of (Auipc rd i)) AddsUpper (Index rd ∷ Integer (pos u) ∷ [])
     (record { some = refl; all = refl }) (register_name_is_piece rd) (piece_is_last_operand (codes "0x" ++ hex 5 u) (five_hex_digits_are_piece u))
-    refl refl (operands_of_printed_auipc rd u (upper_value_fits_20_bits i)) (ap (λ (x : UpperImmediate). instruction (Auipc rd x)) (upper_of_own_value i)))
+    refl refl (operands_of_printed_auipc rd u (upper_value_fits_20_bits i)) (ap (λ (x : UpperImmediate). instruction (Auipc rd x)) (upper_of_own_upper_bits i)))
 
 operands_of_printed_fence : (a b : Register) (n : ℕ) → n < 2 ^ 12
     → operands_of Fences (register_name a.number ∷ register_name b.number ∷ decimal n ∷ []) ≡ Ok (Index a ∷ Index b ∷ Integer (pos n) ∷ [])

@@ -25,7 +25,7 @@ use Rattle.ir_coherence.specs.declared.cause.Cause.{Cause}
 use Rattle.ir_coherence.specs.declared.cause.Cause.TheVariants.{Unmade, Twice, Readers}
 use Rattle.ir_coherence.specs.declared.entry_counts.EntryCounts.{EntryCounts}
 use Rattle.ir_coherence.proofs.Writes.{HasLogsOfThreads, thread_of_label_below_count}
-use Rattle.ir_coherence.proofs.Causes.{has_cause_if_named_by_counts, no_cause_if_counts_name_none, coherent_if_no_cause_by_counts}
+use Rattle.ir_coherence.proofs.Causes.{has_cause_if_named_by_counts, no_cause_if_counts_give_no_cause, coherent_if_no_cause_by_counts}
 use Rattle.ir_coherence.proofs.Logs.{reads_at_most_length, writes_at_most_length, sum_below_at_most_count_times_most_events, sum_below_of_successor}
 
 -- the entries of the first n threads are counted
@@ -122,7 +122,7 @@ no_cause_without_counted_cause : (r : Recorded) (c : EntryCounts) → CountsAll 
     → (d : Cause) → HasCause (length r.threads) (trace_of r) t i d → ⊥
 no_cause_without_counted_cause r c all t i none d has =
     let m = cause_is_at_label (length r.threads) (trace_of r) t i d has in
-    no_cause_if_counts_name_none (length r.threads) (trace_of r) (trace_has_logs_of_threads r) t i m.0 m.1 (no_trace_cause_without_counted_cause r c all t i m.0 m.1 none) d has
+    no_cause_if_counts_give_no_cause (length r.threads) (trace_of r) (trace_has_logs_of_threads r) t i m.0 m.1 (no_trace_cause_without_counted_cause r c all t i m.0 m.1 none) d has
 
 -- where no thread's log has an event with a cause
 pub coherent_if_no_log_has_cause : (r : Recorded) (c : EntryCounts) → CountsAll (length r.threads) (trace_of r) c

@@ -64,7 +64,7 @@ is_twice_if_two_writes n emitted of t i o v l at h =
       entry = at;
       thread = r.0;
       event = r.1;
-      readers = r.2;
+      others_left = r.2;
       another = r.3;
       apart = r.4;
     }
@@ -75,7 +75,7 @@ not_twice_unless_two_writes n emitted of t i o v l at h two =
     let same : In two.object Writing two.version two.left ≡ In o Writing v l = element_at_index_is_unique (emitted.logs t) i _ _ two.entry at in
     let object : two.object ≡ o = cc in
     let version : two.version ≡ v = cc in
-    let many = two_trace_writes_are_counted n emitted of two.object two.version t i two.left two.thread two.event two.readers two.entry two.another two.apart in
+    let many = two_trace_writes_are_counted n emitted of two.object two.version t i two.left two.thread two.event two.others_left two.entry two.another two.apart in
     omega (
       arith,
       many,
@@ -178,23 +178,23 @@ has_cause_if_named_by_counts n emitted of t i (Refused p) c at e = absurd (let b
 has_cause_if_named_by_counts n emitted of t i (Out p a w) c at e = absurd (let bad : None ≡ Some c = e in cc)
 
 -- where the counts name none, there is none
-pub no_cause_if_counts_name_none : (n : ℕ) (emitted : Trace) → HasLogsOfThreads n emitted → (t i : ℕ) (m : Label) → At (emitted.logs t) i m
+pub no_cause_if_counts_give_no_cause : (n : ℕ) (emitted : Trace) → HasLogsOfThreads n emitted → (t i : ℕ) (m : Label) → At (emitted.logs t) i m
     → cause_by (reads_in n emitted) (writes_in n emitted) m ≡ None → (c : Cause) → HasCause n emitted t i c → ⊥
-no_cause_if_counts_name_none n emitted of t i Quiet at e c f = no_cause_unless_entry n emitted t i Quiet at (λ o v l a q. cc) c f
-no_cause_if_counts_name_none n emitted of t i (Answer k x) at e c f = no_cause_unless_entry n emitted t i (Answer k x) at (λ o v l a q. cc) c f
-no_cause_if_counts_name_none n emitted of t i (In o Reading v l) at e c f =
+no_cause_if_counts_give_no_cause n emitted of t i Quiet at e c f = no_cause_unless_entry n emitted t i Quiet at (λ o v l a q. cc) c f
+no_cause_if_counts_give_no_cause n emitted of t i (Answer k x) at e c f = no_cause_unless_entry n emitted t i (Answer k x) at (λ o v l a q. cc) c f
+no_cause_if_counts_give_no_cause n emitted of t i (In o Reading v l) at e c f =
     no_first_cause_of_unnamed_read (IsUnmade emitted t i) (IsTwice emitted t i) (IsMiscounted n emitted t i) (nobody_made (writes_in n emitted) o v)
     (not_unmade_if_somebody_made n emitted t i o v l Reading at)
     (λ two. let bad : In two.object Writing two.version two.left ≡ In o Reading v l = element_at_index_is_unique (emitted.logs t) i _ _ two.entry at in cc)
     (λ mis. let bad : In mis.object Writing mis.version mis.left ≡ In o Reading v l = element_at_index_is_unique (emitted.logs t) i _ _ mis.entry at in cc)
     c e (first_of_three_if_has_cause n emitted t i c f)
-no_cause_if_counts_name_none n emitted of t i (In o Writing v l) at e c f =
+no_cause_if_counts_give_no_cause n emitted of t i (In o Writing v l) at e c f =
     no_first_cause_of_unnamed_write (IsUnmade emitted t i) (IsTwice emitted t i) (IsMiscounted n emitted t i) (nobody_made (writes_in n emitted) o v)
     (nat_lt 1 (writes_in n emitted o v)) (l == reads_in n emitted o v)
     (not_unmade_if_somebody_made n emitted t i o v l Writing at) (not_twice_unless_two_writes n emitted of t i o v l at) (not_miscounted_if_readers_equal n emitted t i o v l at) c e
     (first_of_three_if_has_cause n emitted t i c f)
-no_cause_if_counts_name_none n emitted of t i (Refused p) at e c f = no_cause_unless_entry n emitted t i (Refused p) at (λ o v l a q. cc) c f
-no_cause_if_counts_name_none n emitted of t i (Out p x w) at e c f = no_cause_unless_entry n emitted t i (Out p x w) at (λ o v l a q. cc) c f
+no_cause_if_counts_give_no_cause n emitted of t i (Refused p) at e c f = no_cause_unless_entry n emitted t i (Refused p) at (λ o v l a q. cc) c f
+no_cause_if_counts_give_no_cause n emitted of t i (Out p x w) at e c f = no_cause_unless_entry n emitted t i (Out p x w) at (λ o v l a q. cc) c f
 
 -- no cause of a trace's event, by decision
 cause_is_none_or_some : (x : Option Cause) → (x ≡ None) ⊎ ((c : Cause) × (x ≡ Some c))
@@ -207,7 +207,7 @@ coherent_trace_is_unbroken n emitted co t i Unmade f =
     f.unmade made.0 made.1 made.2 made.3
 coherent_trace_is_unbroken n emitted co t i Twice f =
     let two = f.1 in
-    let same = co.writer t i two.thread two.event two.object two.version two.left two.readers two.entry two.another in
+    let same = co.writer t i two.thread two.event two.object two.version two.left two.others_left two.entry two.another in
     two.apart same.0 same.1
 coherent_trace_is_unbroken n emitted co t i Readers f =
     let mis = f.2 in
@@ -223,7 +223,7 @@ coherent_if_no_cause_by_counts n emitted of none = record {
 }
   where
     broken : (t i : ℕ) (m : Label) → At (emitted.logs t) i m → (c : Cause) → HasCause n emitted t i c → ⊥
-    broken t i m at = no_cause_if_counts_name_none n emitted of t i m at (none t i m at)
+    broken t i m at = no_cause_if_counts_give_no_cause n emitted of t i m at (none t i m at)
 
     made_by : (t i o v l : ℕ) (a : Access) → At (emitted.logs t) i (In o a (suc v) l) → (0 < writes_in n emitted o v) ⊎ (writes_in n emitted o v ≤ 0)
         → (u j k : ℕ) × At (emitted.logs u) j (In o Writing v k)
@@ -248,9 +248,9 @@ coherent_if_no_cause_by_counts n emitted of none = record {
     one_by t i u j o v l k at bt (inl e) (inl f) = (e, f)
     one_by t i u j o v l k at bt (inl e) (inr ne) =
         absurd (twice_not t i (In o Writing v l) at
-        record { object = o; version = v; left = l; entry = at; thread = u; event = j; readers = k; another = bt; apart = λ _. ne })
+        record { object = o; version = v; left = l; entry = at; thread = u; event = j; others_left = k; another = bt; apart = λ _. ne })
     one_by t i u j o v l k at bt (inr ne) f = absurd (twice_not t i (In o Writing v l) at
-        record { object = o; version = v; left = l; entry = at; thread = u; event = j; readers = k; another = bt; apart = λ e _. ne e })
+        record { object = o; version = v; left = l; entry = at; thread = u; event = j; others_left = k; another = bt; apart = λ e _. ne e })
 
     readers_by : (t i o v l : ℕ) → At (emitted.logs t) i (In o Writing v l) → (l ≡ reads_in n emitted o v) ⊎ (l ≡ reads_in n emitted o v → ⊥)
         → l ≡ reads_in n emitted o v

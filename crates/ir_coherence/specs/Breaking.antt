@@ -25,8 +25,8 @@ pub record IsTwice (tr : Trace) (t i : ℕ) : Type 0 where
   pub entry : At (tr.logs t) i (In object Writing version left)
   pub thread : ℕ
   pub event : ℕ
-  pub readers : ℕ
-  pub another : At (tr.logs thread) event (In object Writing version readers)
+  pub others_left : ℕ
+  pub another : At (tr.logs thread) event (In object Writing version others_left)
   pub apart : t ≡ thread → i ≡ event → ⊥
 
 -- event i of thread t is a write entry with another number of readers than there are read entries of its version in the n threads' logs

@@ -308,11 +308,11 @@ write_entry_is_allowed g slots id o old me alone lt room free =
       words = refl;
     })
 
-pub try_entry_is_allowed : (g : Guest) (slots id o old : ℕ) (me : M) → IsAlone me.0 → o < object_count g
+pub try_exchange_is_allowed_if_writer_admitted : (g : Guest) (slots id o old : ℕ) (me : M) → IsAlone me.0 → o < object_count g
     → entries (map shared_of (history me.0)) < most_events → Admitted Writing (fields_of old)
     → Allows (Kept g) slots id me (word_place o) (λ n. either (eqb n old) (old + 1) n)
     (entered_by_try (step slots (word_place o) old (old + 1) none) me)
-try_entry_is_allowed g slots id o old me alone lt room free =
+try_exchange_is_allowed_if_writer_admitted g slots id o old me alone lt room free =
     compare_exchange_is_allowed g slots id o old (old + 1) try_entry me alone lt (omega (arith, room)) (λ t b a.
     let n : ℕ = length g.entries in
     let nobody : (u : ℕ) → b.inside u ≡ None = nobody_inside_if_writer_admitted n (fields_of old) b.inside a.represents.inside free in record {

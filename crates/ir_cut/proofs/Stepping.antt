@@ -102,9 +102,9 @@ falling_after_leave_taken f fit qs qs' next t i ls d are there above read list l
     (subst (λ z. cut_of qs t ≤ z.position) same above.4) (lowered run is) (cut_position_after_set_is_new_number next t (i - 1) last.1)
     (other_cut_position_after_set_is_unchanged next t (i - 1))
 
-pub fewer_leaves_left_after_leave : (f : FittedTrace) (qs next : List ℕ) (t i : ℕ) → AreLeaves f next → t < length f.guest.entries → HasAbove f qs next t
+pub fewer_leaves_left_after_last_counted_leave_taken : (f : FittedTrace) (qs next : List ℕ) (t i : ℕ) → AreLeaves f next → t < length f.guest.entries → HasAbove f qs next t
     → i ≡ slice_index_or next t i → leaves_left (set next t (i - 1)) < leaves_left next
-fewer_leaves_left_after_leave f qs next t i are there above read =
+fewer_leaves_left_after_last_counted_leave_taken f qs next t i are there above read =
     let last = leave_count_is_successor_if_has_above f qs next t i are there above read in
     subst (λ n. sum_below n (cut_of (set next t (i - 1))) < leaves_left next) (sym (length-set next t (i - 1)))
     (sum_below_is_less_if_one_is_less_and_others_equal (length next) (cut_of (set next t (i - 1))) (cut_of next) t last.1

@@ -20,7 +20,7 @@ use Rattle.ir_debug.specs.declared.answer.Answer.{Answer}
 use Rattle.ir_debug.specs.declared.answer.Answer.TheVariants as answer
 use Rattle.ir_debug.specs.Machine.{Desk, moved_to, spoken, if_some, thread_named, refusal_of, is_at_hand, shown, Answers, AnswersBy, current}
 use Rattle.ir_command.specs.declared.command.Point.{Point}
-use Rattle.ir_text.specs.Texts.{number_line, next_text, machine_text, bytes_from, memory_text, output_text, object_text, log_text}
+use Rattle.ir_text.specs.Texts.{number_line, next_text, core_text, bytes_from, memory_text, output_text, object_text, log_text}
 use Rattle.ir_debug.specs.Debugging.{Debugging, IsThere, answer_text, with_point, without_point, IsLast, IsText, IsDesk, logged_so_far}
 use Rattle.ir_image.specs.Guest.{object_words}
 use Rattle.ir_object.specs.Cell.{Cell}
@@ -149,7 +149,7 @@ object_in_hand_is_run_object d run at o = at.objects o
 pub shown_here_is_shown_in_run : ShowsHere
 unfolding shown
 shown_here_is_shown_in_run d (show.Registers t) there below run is =
-    ap (λ (s : thread.ThreadState). machine_text s.core) (thread_in_hand_is_run_thread d run (there.at.each run is) t)
+    ap (λ (s : thread.ThreadState). core_text s.core) (thread_in_hand_is_run_thread d run (there.at.each run is) t)
 shown_here_is_shown_in_run d (show.Memory t address size) there below run is =
     ap (λ (s : thread.ThreadState). memory_text address (bytes_from d.desk.fitted.guest.code s.core.memory size address))
     (thread_in_hand_is_run_thread d run (there.at.each run is) t)

@@ -14,7 +14,7 @@ use Rattle.ir_command.specs.declared.command.Command.TheVariants as command
 use Rattle.ir_command.specs.declared.command.Show.{Show}
 use Rattle.ir_command.specs.declared.command.Show.TheVariants.{Registers, Memory, Object, Output, Log, Next}
 use Rattle.ir_debug.specs.declared.answer.Answer.{Answer}
-use Rattle.ir_text.specs.Texts.{machine_text, bytes_from, memory_text, output_text, object_text, log_text, next_text}
+use Rattle.ir_text.specs.Texts.{core_text, bytes_from, memory_text, output_text, object_text, log_text, next_text}
 use Rattle.ir_debug.specs.Debugging.{Debugging, IsThere, text_by}
 use Rattle.ir_debug.specs.Machine.{thread_named, shown}
 use Rattle.ir_text.specs.Held.{held_by}
@@ -37,7 +37,7 @@ events_here d t = take (thread_here d t).events (events_of d t)
 
 -- the text of a show by the threads and objects in hand
 abbrev pub shown_here : Debugging → Show → List ℕ
-shown_here d (Registers t) = machine_text (thread_here d t).core
+shown_here d (Registers t) = core_text (thread_here d t).core
 shown_here d (Memory t address size) =
     memory_text address (bytes_from d.desk.fitted.guest.code (thread_here d t).core.memory size address)
 shown_here d (Object o) = object_text (threads_of d.desk.fitted) (object_words d.desk.fitted.guest) (object_here d o)

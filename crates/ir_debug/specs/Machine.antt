@@ -22,7 +22,7 @@ use Rattle.ir_command.specs.declared.command.Direction.TheVariants.{Forwards, Ba
 use Rattle.ir_command.specs.declared.command.Move.{Move}
 use Rattle.ir_command.specs.declared.hit.Hit.{Hit}
 use Rattle.ir_thread.specs.State.{ThreadState}
-use Rattle.ir_text.specs.Texts.{machine_text, memory_text, output_text, object_text, log_text, next_text, bytes_from, refusal_text, number_line, positions_text, hit_text, stop_text, verdict_text}
+use Rattle.ir_text.specs.Texts.{core_text, memory_text, output_text, object_text, log_text, next_text, bytes_from, refusal_text, number_line, positions_text, hit_text, stop_text, verdict_text}
 use Rattle.ir_image.specs.declared.image_err.ImageErr.{ImageErr}
 use Rattle.ir_image.specs.declared.image_err.ImageErr.TheVariants as image_err
 use Rattle.ir_trace.specs.Recorded.{Recorded, recorded_at, trace_fault_number}
@@ -196,7 +196,7 @@ current run d t = thread_at d.fitted run t (cut_of d.at t)
 
 -- the answer to a show that isn't refused
 unfoldable pub shown : List runs.Step → Desk → Show → List ℕ
-shown run d (Registers t) = machine_text (current run d t).core
+shown run d (Registers t) = core_text (current run d t).core
 shown run d (Memory t address size) = memory_text address (bytes_from d.fitted.guest.code (current run d t).core.memory size address)
 shown run d (Object o) = object_text (threads_of d.fitted) (object_words d.fitted.guest)
     (runs.object_at (machine_of d.fitted) (start_of d.fitted) run (cut_of d.at) o)

@@ -12,7 +12,7 @@ use Rattle.ir_files.specs.declared.exit_status.ExitStatus.{ExitStatus}
 use Rattle.ir_files.specs.declared.exit_status.ExitStatus.TheVariants as status
 use Rattle.ir_past.specs.Past.{event_at, IsMadeBy}
 use Rattle.ir_past.specs.Naming.{maker_text}
-use Rattle.ir_past.specs.Answers.{AreCoherent, IsVerdictOnTrace}
+use Rattle.ir_past.specs.Answers.{AreCoherent, IsRefusal}
 use Rattle.ir_past.specs.declared.place.Place.{Place}
 use Rattle.ir_diff.specs.Common.{Tells, AreCommon, IsReady}
 
@@ -107,9 +107,9 @@ IsPairAnswer a b answered text =
 -- the same of the first of two traces, and of bytes
 abbrev pub IsSecondAnswer : Recorded → Result Recorded TraceErr → ExitStatus → List ℕ → Type 0
 IsSecondAnswer a read answered text =
-    ((b : Recorded) × (read ≡ Ok b) × AreCoherent b × IsPairAnswer a b answered text) ⊎ IsVerdictOnTrace read answered text
+    ((b : Recorded) × (read ≡ Ok b) × AreCoherent b × IsPairAnswer a b answered text) ⊎ IsRefusal read answered text
 
 -- the answer about two texts of bytes: if one is no coherent trace, it is refused, the first one first
 abbrev pub IsDiffAnswer : Result Recorded TraceErr → Result Recorded TraceErr → ExitStatus → List ℕ → Type 0
 IsDiffAnswer one two answered text =
-    ((a : Recorded) × (one ≡ Ok a) × AreCoherent a × IsSecondAnswer a two answered text) ⊎ IsVerdictOnTrace one answered text
+    ((a : Recorded) × (one ≡ Ok a) × AreCoherent a × IsSecondAnswer a two answered text) ⊎ IsRefusal one answered text

@@ -9,7 +9,7 @@ use Rattle.ir_explore.specs.Following.{BothWays, Keeps, IsOpen}
 use Rattle.ir_explore.specs.Levels.{AllFollowed, AllOpen, AreWithin, AreAsked, AreGoneOver, LevelEnds}
 use Rattle.ir_explore.specs.Origins.{Whole, BeginsAt, Adds, IsReachedBy, AreReached, first_origin}
 use Rattle.ir_explore.specs.Searching.{HasGone, IsBetween}
-use Rattle.ir_explore.proofs.Gone.{asked_all, gone_over_if_notes_and_nodes_kept, next_level_is_gone_over_after_level_ends, node_levels_bounded_after_adds, added_nodes_begin_next_level, element_of_replicated_empty_list_is_empty}
+use Rattle.ir_explore.proofs.Gone.{asked_all, gone_over_if_notes_and_nodes_kept, next_level_is_gone_over_after_level_ends, node_levels_bounded_after_adds, turn_of_next_level_may_begin_at_added_node, element_of_replicated_empty_list_is_empty}
 use Rattle.ir_explore.proofs.Reached.{index_of_element_is_below_length, nodes_rising_after_level_added}
 
 module _ (noted more : ℕ → BothWays) (size : ℕ) (nodes new : List Origin) (refusals table : List Refusal) (opened : List (List Bool)) (level : Level)
@@ -60,7 +60,7 @@ module _ (noted more : ℕ → BothWays) (size : ℕ) (nodes new : List Origin) 
             (subst (λ z. LevelEnds more (length opened) new rows z (next.number - 1)) at
             (subst (LevelEnds more (length opened) new rows (length nodes)) less_one ends));
         stands = λ w low less. subst (λ z. BeginsAt new z w) one
-            (added_nodes_begin_next_level level.number nodes new adds w (omega (arith, low, at)) (omega (arith, less, until)));
+            (turn_of_next_level_may_begin_at_added_node level.number nodes new adds w (omega (arith, low, at)) (omega (arith, less, until)));
         all = all;
         until = until;
         order = let a = adds.longer in omega (arith, a, at, until);

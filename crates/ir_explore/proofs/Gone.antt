@@ -20,9 +20,9 @@ is_opened_for opened v t = get_or (get_or opened t []) v false
 slice_get_below_length_is_get_or : (opened : List (List Bool)) (t : ℕ) → t < length opened → slice_get opened t ≡ Some (get_or opened t [])
 slice_get_below_length_is_get_or opened t l = slice_get-get_or opened t [] l
 
-pub opened_if_all_open : (opened : List (List Bool)) (n threads t v : ℕ) → AllOpen opened 0 n threads → threads ≤ length opened → t < threads → v < n
+pub node_is_opened_for_thread_if_all_open : (opened : List (List Bool)) (n threads t v : ℕ) → AllOpen opened 0 n threads → threads ≤ length opened → t < threads → v < n
     → is_opened_for opened v t ≡ true
-opened_if_all_open opened n threads t v all wide l less =
+node_is_opened_for_thread_if_all_open opened n threads t v all wide l less =
     get_or_false_is_true_if_open (get_or opened t []) v (all t (get_or opened t []) l (slice_get_below_length_is_get_or opened t (omega (arith, l, wide))) v (omega arith) less)
 
 pub opened_node_goes_to_opened_nodes_if_all_followed : (noted : ℕ → BothWays) (opened : List (List Bool)) (t v : ℕ) → AllFollowed noted opened → t < length opened
@@ -75,7 +75,7 @@ module _ (noted : ℕ → BothWays) (threads : ℕ) (nodes : List Origin) (opene
   pub covered_start : (until : ℕ) → LevelEnds noted threads nodes opened until 0 → 0 < until → Covered noted threads nodes 0
   covered_start until h some = record {
     levels = λ k. is_opened_for opened;
-    opens = λ t few. opened_if_all_open opened until threads t 0 h.opens (let a = h.threads_are in omega (arith, a)) few some;
+    opens = λ t few. node_is_opened_for_thread_if_all_open opened until threads t 0 h.opens (let a = h.threads_are in omega (arith, a)) few some;
     followed = λ k v t l few is. opened_node_goes_to_opened_nodes_if_all_followed noted opened t v h.followed (let a = h.threads_are in omega (arith, a, few)) is;
     turned = λ k v t u few other is l. absurd (omega (arith, l));
     within = λ k v t l few is. let n = within_now until 0 h v t few is in (n.0, n.1, let a = n.2 in omega (arith, a));
@@ -116,7 +116,7 @@ module _ (noted : ℕ → BothWays) (threads : ℕ) (nodes : List Origin) (opene
           let was : h.levels c v t ≡ true =
           subst (λ z. h.levels z v t ≡ true) same (sym (up_to h.levels c k v t (omega (arith, l))) ∙ is) in
           above h.levels c (suc k) v u (omega (arith, high))
-          ∙ opened_if_all_open opened until threads u v now.opens (let a = now.threads_are in omega (arith, a)) other (less v t few was)
+          ∙ node_is_opened_for_thread_if_all_open opened until threads u v now.opens (let a = now.threads_are in omega (arith, a)) other (less v t few was)
     ];
     within = λ k v t l few is. elim (cases_lt c k) [
       | inl high ↦
@@ -131,7 +131,7 @@ module _ (noted : ℕ → BothWays) (threads : ℕ) (nodes : List Origin) (opene
   asked_all until number h all size same v t less few refused =
       let l : t < length opened = (let a = h.threads_are in omega (arith, a, few)) in
       elim (opened_node_goes_to_opened_nodes_if_all_followed noted opened t v h.followed l
-      (opened_if_all_open opened until threads t v h.opens (let a = h.threads_are in omega (arith, a)) few (omega (arith, less, all, same))) refused) [
+      (node_is_opened_for_thread_if_all_open opened until threads t v h.opens (let a = h.threads_are in omega (arith, a)) few (omega (arith, less, all, same))) refused) [
         | inl none ↦ inl none
         | inr s ↦ inr (s.0, s.1, let a = opened_node_is_within opened (length nodes) t s.0 h.within l s.2 in omega (arith, a, same))
       ]
@@ -159,8 +159,8 @@ node_levels_bounded_after_adds k nodes new old adds v n is = elim (cases_lt v (l
 ]
 
 -- the next level's nodes are those that were added
-pub added_nodes_begin_next_level : (k : ℕ) (nodes new : List Origin) → Adds k nodes new → (v : ℕ) → length nodes ≤ v → v < length new → BeginsAt new (suc k) v
-added_nodes_begin_next_level k nodes new adds v low less = let n = element_below_length_exists new v less in (n.0, n.1, adds.level v n.0 low n.1)
+pub turn_of_next_level_may_begin_at_added_node : (k : ℕ) (nodes new : List Origin) → Adds k nodes new → (v : ℕ) → length nodes ≤ v → v < length new → BeginsAt new (suc k) v
+turn_of_next_level_may_begin_at_added_node k nodes new adds v low less = let n = element_below_length_exists new v less in (n.0, n.1, adds.level v n.0 low n.1)
 
 -- no row at first
 pub element_of_replicated_empty_list_is_empty : (threads t : ℕ) (row : List Bool) → slice_get (replicate threads []) t ≡ Some row → row ≡ []

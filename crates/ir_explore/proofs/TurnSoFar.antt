@@ -58,9 +58,9 @@ followed_if_turn_so_far_has_empty_hand noted thread level opened nodes refusals 
 ]
 
 -- a thread that went nowhere has come to where its turn began
-node_where_turn_starts_is_reached : (noted : ℕ → BothWays) (refusals : List Refusal) (nodes : List Origin) (start : Origin) → (start.last_refusal ≡ 0) × (start.entries ≡ 0)
+turn_of_no_ways_reaches_where_it_begins : (noted : ℕ → BothWays) (refusals : List Refusal) (nodes : List Origin) (start : Origin) → (start.last_refusal ≡ 0) × (start.entries ≡ 0)
     → BeginsAt nodes start.level start.from → IsReachedBy noted refusals nodes start.from start
-node_where_turn_starts_is_reached noted refusals nodes start none begins =
+turn_of_no_ways_reaches_where_it_begins noted refusals nodes start none begins =
     (begins, [], ([], subst (λ z. AreWaysUnder refusals z []) (sym none.0) Whole, subst (λ z. [] ≡ replicate z false) (sym none.1) refl), refl)
 
 -- the last in hand is taken up
@@ -161,7 +161,7 @@ turn_so_far_at_start noted start opened nodes refusals d followed reached begins
     (record { node = start.from; origin = start })
     (turn_so_far_with_empty_hand_if_followed noted start.thread start.level opened nodes refusals wide reached followed) (λ t refused v next is. is) (λ v x is. is)
     (omega arith) (λ v x is. is) (length-set opened start.from true ∙ wide) (setting_shut_place_is_opening opened start.from d less unopened) reached
-    (node_where_turn_starts_is_reached noted refusals nodes start none begins) refl refl
+    (turn_of_no_ways_reaches_where_it_begins noted refusals nodes start none begins) refl refl
 
 -- The nodes, once one was opened: as they were, or with this one at the end.
 pub record Joined (nodes new : List Origin) (next : Pending) : Type 0 where

@@ -19,7 +19,7 @@ use Rattle.ir_outcomes.specs.declared.shown.Shown.{Shown}
 use Rattle.ir_record.specs.Recording.{turns_of_items}
 use Rattle.ir_record.specs.Refusing.{Turn}
 use Rattle.ir_record_run.specs.Recording.{IsRecordedOf}
-use Rattle.ir_runs.proofs.CallerLemmas.{idle_after_step}
+use Rattle.ir_runs.proofs.CallerLemmas.{threads_from_number_on_stay_done_after_step}
 use Rattle.ir_runs.specs.Machine.{target, act_of, Admits}
 use Rattle.ir_runs.specs.Run.{State, Step, IsRun, after, log}
 use Rattle.ir_runs.specs.Bounds.{IsIdle}
@@ -45,7 +45,7 @@ threads_of_taken_turns_are_below_count code n s (t ∷ turns) (e ∷ steps) rest
       | inr g ↦ absurd (subst (λ q. Admits (thread_machine code) (act_of q e.1) (s.objects (target (act_of q e.1)))) (rest e.0 g) ok.0)
     ] in (
       subst (λ z. z < n) own less,
-      threads_of_taken_turns_are_below_count code n (after (thread_machine code) s e) turns steps (idle_after_step (thread_machine code) s n rest e ok.0) ok.1
+      threads_of_taken_turns_are_below_count code n (after (thread_machine code) s e) turns steps (threads_from_number_on_stay_done_after_step (thread_machine code) s n rest e ok.0) ok.1
           (same_tail e.0 t.0 (map (λ (e : Step). e.0) steps) (map (λ (t : Turn). t.0) turns) taken),
     )
 

@@ -5,16 +5,16 @@ use Rattle.std.specs.declared.io.traits.Take.{Take}
 use Rattle.std.specs.Io.Take.{take_limit, take_inner, take_remaining}
 
 -- a prefix that is shorter than the limit is all
-take_is_whole_list_if_shorter_than_count : (n : ℕ) (xs : List ℕ) → length (take n xs) < n → take n xs ≡ xs
-take_is_whole_list_if_shorter_than_count zero [] h = refl
-take_is_whole_list_if_shorter_than_count (suc n) [] h = refl
-take_is_whole_list_if_shorter_than_count zero (x ∷ xs) h = absurd (omega (arith, h))
-take_is_whole_list_if_shorter_than_count (suc n) (x ∷ xs) h = ap (λ (l : List ℕ). x ∷ l) (take_is_whole_list_if_shorter_than_count n xs (omega (arith, h)))
+take_shorter_than_count_is_whole_list : (n : ℕ) (xs : List ℕ) → length (take n xs) < n → take n xs ≡ xs
+take_shorter_than_count_is_whole_list zero [] h = refl
+take_shorter_than_count_is_whole_list (suc n) [] h = refl
+take_shorter_than_count_is_whole_list zero (x ∷ xs) h = absurd (omega (arith, h))
+take_shorter_than_count_is_whole_list (suc n) (x ∷ xs) h = ap (λ (l : List ℕ). x ∷ l) (take_shorter_than_count_is_whole_list n xs (omega (arith, h)))
 
 short_taken_prefix_is_whole : (n : ℕ) (left : Option (List ℕ)) (bytes : List ℕ) → length bytes < n → IfSome (option_map (take n) left) (λ xs. bytes ≡ xs)
     → IfSome left (λ xs. bytes ≡ xs)
 short_taken_prefix_is_whole n None bytes h known = tt
-short_taken_prefix_is_whole n (Some xs) bytes h known = known ∙ take_is_whole_list_if_shorter_than_count n xs
+short_taken_prefix_is_whole n (Some xs) bytes h known = known ∙ take_shorter_than_count_is_whole_list n xs
     (let e : length bytes ≡ length (take n xs) = ap length known in omega (arith, h, e))
 
 -- what is known of the bytes, where they did not reach the limit

@@ -7,7 +7,7 @@ use Rattle.ir_fit_run.specs.Opened.{IsFit, IsRefusedFor, refusal_text, refusal_s
 use Rattle.ir_fit_run.specs.declared.opened.Refusal.{Refusal}
 
 -- the answer to bytes that don't fit
-pub record IsVerdictOnTrace (image trace : List ℕ) (answered : ExitStatus) (text : List ℕ) : Type 0 where
+pub record IsRefusal (image trace : List ℕ) (answered : ExitStatus) (text : List ℕ) : Type 0 where
   pub why : Refusal
   pub because : IsRefusedFor image trace why
   pub status : answered ≡ refusal_status why
@@ -22,4 +22,4 @@ pub record IsFitAnswer (IsAnswer : FittedTrace → List ℕ → Type 0) (image t
 
 -- the exit status and the text that the bytes of an image and of a trace are answered by
 abbrev pub IsAnswerOf : (FittedTrace → List ℕ → Type 0) → List ℕ → List ℕ → ExitStatus → List ℕ → Type 0
-IsAnswerOf IsAnswer image trace answered text = IsFitAnswer IsAnswer image trace answered text ⊎ IsVerdictOnTrace image trace answered text
+IsAnswerOf IsAnswer image trace answered text = IsFitAnswer IsAnswer image trace answered text ⊎ IsRefusal image trace answered text

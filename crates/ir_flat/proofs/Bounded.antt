@@ -51,9 +51,9 @@ pub record IsBounded (budget objects : ℕ) (profile : Profile) (x : thread.Thre
   pub code : CodeFits x.ended
 
 -- the steps after what was asked
-steps_fit_after_running_step : (x y : thread.ThreadState) → IsRunning x → y.ended ≡ x.ended → y.steps ≡ x.steps + 1 → y.budget ≡ x.budget
+steps_within_budget_after_running_step : (x y : thread.ThreadState) → IsRunning x → y.ended ≡ x.ended → y.steps ≡ x.steps + 1 → y.budget ≡ x.budget
     → StepsFit y.ended y
-steps_fit_after_running_step x y runs same one limit = subst (λ e. StepsFit e y) (sym (same ∙ runs.lives)) (omega (arith, runs.has_budget, one, limit))
+steps_within_budget_after_running_step x y runs same one limit = subst (λ e. StepsFit e y) (sym (same ∙ runs.lives)) (omega (arith, runs.has_budget, one, limit))
 
 steps_fit_after_leave : (x y : thread.ThreadState) (e : Option end.End) → x.ended ≡ e → StepsFit e x → (x.ended ≡ None → x.steps < x.budget)
     → y.steps ≡ x.steps + 1 → y.budget ≡ x.budget → length y.held ≡ length x.held
@@ -64,16 +64,16 @@ steps_fit_after_leave x y (Some e) is h less one limit same fewer = omega (arith
 steps_fit_after_ask : {budget objects : ℕ} {profile : Profile} (code : List ℕ) (x : thread.ThreadState) (q : Ask) (v : ℕ)
     → IsBounded budget objects profile x → Permits x q
     → StepsFit (after_ask code x q (reply_of q v)).ended (after_ask code x q (reply_of q v))
-steps_fit_after_ask code x Private v h p = steps_fit_after_running_step x (after_ask code x Private (reply_of Private v)) p refl refl refl
-steps_fit_after_ask code x (Env kind) v h p = steps_fit_after_running_step x (after_ask code x (Env kind) (reply_of (Env kind) v)) p.0 refl refl refl
-steps_fit_after_ask code x (Enter o a) v h p = steps_fit_after_running_step x (after_ask code x (Enter o a) (reply_of (Enter o a) v)) p.0 refl refl refl
-steps_fit_after_ask code x (Try o) v h p = steps_fit_after_running_step x (after_ask code x (Try o) (reply_of (Try o) v)) p.0 refl refl refl
+steps_fit_after_ask code x Private v h p = steps_within_budget_after_running_step x (after_ask code x Private (reply_of Private v)) p refl refl refl
+steps_fit_after_ask code x (Env kind) v h p = steps_within_budget_after_running_step x (after_ask code x (Env kind) (reply_of (Env kind) v)) p.0 refl refl refl
+steps_fit_after_ask code x (Enter o a) v h p = steps_within_budget_after_running_step x (after_ask code x (Enter o a) (reply_of (Enter o a) v)) p.0 refl refl refl
+steps_fit_after_ask code x (Try o) v h p = steps_within_budget_after_running_step x (after_ask code x (Try o) (reply_of (Try o) v)) p.0 refl refl refl
 steps_fit_after_ask code x (Leave o a) v h p =
     steps_fit_after_leave x (after_ask code x (Leave o a) (reply_of (Leave o a) v)) x.ended refl h.steps p.0 refl refl
     (length-set x.held o None) (held_count_after_leave x.held o p.1 (λ none. cc (p.2, none)))
-steps_fit_after_ask code x (Get o i) v h p = steps_fit_after_running_step x (after_ask code x (Get o i) (reply_of (Get o i) v)) p.0 refl refl refl
-steps_fit_after_ask code x (Put o i w) v h p = steps_fit_after_running_step x (after_ask code x (Put o i w) (reply_of (Put o i w) v)) p.0 refl refl refl
-steps_fit_after_ask code x Print v h p = steps_fit_after_running_step x (after_ask code x Print (reply_of Print v)) p.0 refl refl refl
+steps_fit_after_ask code x (Get o i) v h p = steps_within_budget_after_running_step x (after_ask code x (Get o i) (reply_of (Get o i) v)) p.0 refl refl refl
+steps_fit_after_ask code x (Put o i w) v h p = steps_within_budget_after_running_step x (after_ask code x (Put o i w) (reply_of (Put o i w) v)) p.0 refl refl refl
+steps_fit_after_ask code x Print v h p = steps_within_budget_after_running_step x (after_ask code x Print (reply_of Print v)) p.0 refl refl refl
 steps_fit_after_ask code x (End e) v h p =
     let was : x.steps ≤ x.budget = subst (λ z. StepsFit z x) p h.steps in
     let few = held_count_at_most_length x.held in

@@ -15,7 +15,7 @@ use Rattle.ir_thread.specs.declared.ask.Ask.TheVariants.{Private, Env, Enter, Tr
 use Rattle.ir_runs.specs.declared.env_kind.EnvKind.{EnvKind}
 use Rattle.ir_runs.specs.declared.env_kind.EnvKind.TheVariants.{Clock, Random, Input}
 use Rattle.ir_thread.proofs.CallerLemmas.{ask_of_permitted, thread_machine_is_lawful}
-use Rattle.ir_runs.proofs.CallerLemmas.{property_of_upd_by_cases, idle_after_run, idle_after_step, some_thread_can_step}
+use Rattle.ir_runs.proofs.CallerLemmas.{property_of_upd_by_cases, idle_after_run, threads_from_number_on_stay_done_after_step, some_thread_can_step}
 use Rattle.ir_flat.specs.Flat.{idle, thread_of, tables, start_threads, start_flat, IsKept}
 use Rattle.ir_flat.specs.Laws.{NothingStuck, WritersAlone, HeldInside, CountsFit}
 use Rattle.ir_runs.specs.Run.{State, Step, act, Can, after, IsRun, end}
@@ -37,7 +37,7 @@ pub kept_after_run : (code : List ℕ) (n : ℕ) (s : State thread.ThreadState) 
     → IsRun (thread_machine code) s run → IsKept n (end (thread_machine code) s run)
 kept_after_run code n s [] rest k ok = k
 kept_after_run code n s (e ∷ run) rest k ok =
-    kept_after_run code n (after (thread_machine code) s e) run (idle_after_step (thread_machine code) s n rest e ok.0)
+    kept_after_run code n (after (thread_machine code) s e) run (threads_from_number_on_stay_done_after_step (thread_machine code) s n rest e ok.0)
     (kept_after_step code n s e (stepping_thread_is_below_idle code n s e rest ok.0) k ok.0) ok.1
 
 -- the threads have no more places than there are objects
@@ -55,10 +55,10 @@ has_places_after_step code count s e h t =
     (λ _. let same = length_of_held_after_ask code x q (reply_of q v) in let was = h e.0 in omega (arith, same, was))
     (λ _. h t)
 
-has_places_after_run : (code : List ℕ) (count : ℕ) (s : State thread.ThreadState) (run : List Step) → HasPlaces count s
+held_lengths_stay_bounded_after_run : (code : List ℕ) (count : ℕ) (s : State thread.ThreadState) (run : List Step) → HasPlaces count s
     → HasPlaces count (end (thread_machine code) s run)
-has_places_after_run code count s [] h = h
-has_places_after_run code count s (e ∷ run) h = has_places_after_run code count (after (thread_machine code) s e) run (has_places_after_step code count s e h)
+held_lengths_stay_bounded_after_run code count s [] h = h
+held_lengths_stay_bounded_after_run code count s (e ∷ run) h = held_lengths_stay_bounded_after_run code count (after (thread_machine code) s e) run (has_places_after_step code count s e h)
 
 entered_object_below_places : (x : thread.ThreadState) (q : Ask) (o : ℕ) (a : Access) → Permits x q → shared_ask q ≡ machine.Enter o a → o < length x.held
 entered_object_below_places x Private o a p h = absurd (cc h)
@@ -107,7 +107,7 @@ guest_run_can_step_unless_done g budget profile run ok t ne =
     some_thread_can_step (thread_machine g.code) (thread_machine_is_lawful g.code) s (kept_state_has_state_invariant g.code (length g.entries) s (kept_at_run_end g budget profile run ok))
     (length g.entries) (object_count g)
     (idle_after_run (thread_machine g.code) (tables (start_flat g budget profile)) (length g.entries) (guest_start_is_idle g budget profile) run ok)
-    (asks_are_bounded_by_places g.code (object_count g) s (has_places_after_run g.code (object_count g) (tables (start_flat g budget profile)) run (start_has_places g budget profile)))
+    (asks_are_bounded_by_places g.code (object_count g) s (held_lengths_stay_bounded_after_run g.code (object_count g) (tables (start_flat g budget profile)) run (start_has_places g budget profile)))
     zero_is_environment_result t ne
 
 pub writers_are_alone : WritersAlone

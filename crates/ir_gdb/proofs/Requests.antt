@@ -43,9 +43,9 @@ request_of_who_has_known_register : (makes : Who → Request) → ((w : Who) →
 request_of_who_has_known_register makes p None = malformed_has_known_register
 request_of_who_has_known_register makes p (Some w) = p w
 
-one_number_request_has_known_register : (makes : ℕ → Request) → ((n : ℕ) → HasKnownRegister (makes n)) → (rest : List ℕ) → HasKnownRegister (one makes rest)
+request_of_one_number_has_known_register_if_each_made_has : (makes : ℕ → Request) → ((n : ℕ) → HasKnownRegister (makes n)) → (rest : List ℕ) → HasKnownRegister (one makes rest)
 unfolding one
-one_number_request_has_known_register makes p rest = request_of_number_has_known_register makes p (number rest)
+request_of_one_number_has_known_register_if_each_made_has makes p rest = request_of_number_has_known_register makes p (number rest)
 
 two_number_request_has_known_register : (makes : ℕ → ℕ → Request) → ((m n : ℕ) → HasKnownRegister (makes m n)) → (rest : List ℕ) → HasKnownRegister (two makes rest)
 unfolding two
@@ -153,9 +153,9 @@ requests_of_letters_table_have_known_registers =
     pair_of_facts (plain_request_has_known_register request.Reason (λ n e. absurd cc))
     (pair_of_facts (thread_request_has_known_register request.General (λ w n e. absurd cc))
     (pair_of_facts (thread_request_has_known_register request.Choose (λ w n e. absurd cc))
-    (pair_of_facts (one_number_request_has_known_register request.Alive (λ a n e. absurd cc))
+    (pair_of_facts (request_of_one_number_has_known_register_if_each_made_has request.Alive (λ a n e. absurd cc))
     (pair_of_facts (plain_request_has_known_register request.Registers (λ n e. absurd cc))
-    (pair_of_facts (one_number_request_has_known_register register register_request_has_known_register)
+    (pair_of_facts (request_of_one_number_has_known_register_if_each_made_has register register_request_has_known_register)
     (pair_of_facts (two_number_request_has_known_register request.Memory (λ a b n e. absurd cc)) tt))))))
 
 requests_of_ends_table_have_known_registers : AllMakeKnownRegisters requests.ends

@@ -49,10 +49,10 @@ function_of_unwrap_or_is_unwrap_or_of_option_map read None other none = none
 function_of_unwrap_or_is_unwrap_or_of_option_map read (Some x) other none = refl
 
 -- the line that was found, or an empty one
-pub found_line_is_line_at_number : {A : Type 0} (read : A → List ℕ) (text : List ℕ) (number n : ℕ) (found : Option A) (other line : A)
+pub found_or_empty_line_is_line_at_number : {A : Type 0} (read : A → List ℕ) (text : List ℕ) (number n : ℕ) (found : Option A) (other line : A)
     → option_map read found ≡ slice_get (lines text) n → n ≡ number - 1 → line ≡ unwrap_or found other → read other ≡ []
     → read line ≡ line_at text number
-found_line_is_line_at_number read text number n found other line is at taken none =
+found_or_empty_line_is_line_at_number read text number n found other line is at taken none =
     ap read taken ∙ function_of_unwrap_or_is_unwrap_or_of_option_map read found other none ∙ ap (λ (o : Option (List ℕ)). unwrap_or o []) is ∙ unwrapped_slice_get_is_get_or (lines text) n
     ∙ get_or_of_lines_of_parts_is_get_or_of_without_returns (split 10 text) n ∙ ap (λ (k : ℕ). get_or (lines_of text) k []) at
 

@@ -179,11 +179,11 @@ pub state_of_place_is_kept_state : (last n p : ℕ) (entries slice : List Entry)
 state_of_place_is_kept_state last n p entries slice k state view same at lt is =
     let i = place_of n entries in
     let place : p ≡ i = at ∙ ap (place_of n) same in
-    let place_of_kept_number_below_length : i < length entries = omega (arith, lt, place) in
+    let below : i < length entries = omega (arith, lt, place) in
     let mine : state ≡ state_of (drop i entries) = is ∙ ap state_of (from_place_of_slice_is_drop p entries slice same) ∙ ap (λ q. state_of (drop q entries)) place in
     ap (λ (x : Keeping). option_map (λ (y : Kept). y.state) (kept_as n x.kept)) (sym view)
-    ∙ ap (option_map (λ (y : Kept). y.state)) (kept_as_is_found_entry_if_place_within_entries n entries no_entry place_of_kept_number_below_length)
-    ∙ ap Some (sym (mine ∙ state_of_drop_is_state_of_kept_entry entries i no_entry place_of_kept_number_below_length))
+    ∙ ap (option_map (λ (y : Kept). y.state)) (kept_as_is_found_entry_if_place_within_entries n entries no_entry below)
+    ∙ ap Some (sym (mine ∙ state_of_drop_is_state_of_kept_entry entries i no_entry below))
 
 -- the cut that is kept as n
 pub cut_at_place_is_kept_cut : (m last n p : ℕ) (entries slice : List Entry) (d : Entry) (k : Keeping) (cut : List ℕ) → IsStore m last entries → keeping_of entries last ≡ k → slice ≡ entries → p ≡ place_of n slice
@@ -238,10 +238,10 @@ pub taken_away_by_take_over : (place : ℕ) (entries left : List Entry) (newer g
 taken_away_by_take_over place entries left newer gone after some lt rest is was made =
     let p = place - 1 in
     let next : place ≡ suc p = positive_number_is_successor_of_predecessor place some in
-    let place_of_kept_number_below_length : left ≡ remove entries (suc p) = rest ∙ ap (remove entries) next in
-    let mine : newer ≡ get_or (remove entries (suc p)) p newer = is ∙ ap (λ l. get_or l p newer) place_of_kept_number_below_length in
+    let others : left ≡ remove entries (suc p) = rest ∙ ap (remove entries) next in
+    let mine : newer ≡ get_or (remove entries (suc p)) p newer = is ∙ ap (λ l. get_or l p newer) others in
     let theirs : gone ≡ get_or entries (suc p) gone = was ∙ ap (λ k. get_or entries k gone) next in
-    (λ i. set (place_of_kept_number_below_length i) p ((made ∙ λ j. taken_over (mine j) (theirs j)) i))
+    (λ i. set (others i) p ((made ∙ λ j. taken_over (mine j) (theirs j)) i))
     ∙ taken_away_by_remove_and_set p entries newer gone (omega (arith, lt, next)) ∙ ap (λ k. taken_away k entries) (sym next)
 
 -- as many threads as the newest entry

@@ -24,17 +24,17 @@ pub ask_of_suiting_entry_event : (object : ℕ) (access : Access) (e : Event) �
 ask_of_suiting_entry_event object access e h = ask_of_event_unless_try (ask.Enter object access) e (λ o is. cc is) h
 
 -- who logs an entry asks for it, or tries to enter for writing
-pub entry_event_suits_enter_or_try : (q : Ask) (object : ℕ) (access : Access) (e : Event) → Suits q e → ask_of e ≡ ask.Enter object access
+pub ask_suited_by_entry_event_is_enter_or_try : (q : Ask) (object : ℕ) (access : Access) (e : Event) → Suits q e → ask_of e ≡ ask.Enter object access
     → (q ≡ ask.Enter object access) ⊎ ((q ≡ ask.Try object) × (access ≡ Writing))
-entry_event_suits_enter_or_try q object access e (inl is) enters = inl (sym is ∙ enters)
-entry_event_suits_enter_or_try q object access (Answer kind value) (inr is) enters = absurd (cc enters)
-entry_event_suits_enter_or_try q object access (Read o version) (inr is) enters = absurd (cc is)
-entry_event_suits_enter_or_try q object access (Write o version readers) (inr is) enters =
+ask_suited_by_entry_event_is_enter_or_try q object access e (inl is) enters = inl (sym is ∙ enters)
+ask_suited_by_entry_event_is_enter_or_try q object access (Answer kind value) (inr is) enters = absurd (cc enters)
+ask_suited_by_entry_event_is_enter_or_try q object access (Read o version) (inr is) enters = absurd (cc is)
+ask_suited_by_entry_event_is_enter_or_try q object access (Write o version readers) (inr is) enters =
     let same : ◌≡◌ {A = ℕ} o object = cc enters in
     let writes : ◌≡◌ {A = Access} Writing access = cc enters in
     let tries : ask.Try o ≡ q = cc is in
     inr (sym tries ∙ ap ask.Try same, sym writes)
-entry_event_suits_enter_or_try q object access (Try o) (inr is) enters = absurd (cc enters)
+ask_suited_by_entry_event_is_enter_or_try q object access (Try o) (inr is) enters = absurd (cc enters)
 
 -- what suits a try: an entry for writing, or a refused try
 pub event_suiting_try_cases : (object : ℕ) (e : Event) → Suits (ask.Try object) e → (ask_of e ≡ ask.Enter object Writing) ⊎ (e ≡ Try object)

@@ -54,7 +54,7 @@ refusal_status (refusal.NoTrace fault) = status.Refused
 refusal_status (refusal.Incoherent x) = status.NotFit
 
 -- the answer to bytes that are no coherent trace
-pub record IsVerdictOnTrace (read : Result Recorded TraceErr) (answered : ExitStatus) (text : List ℕ) : Type 0 where
+pub record IsRefusal (read : Result Recorded TraceErr) (answered : ExitStatus) (text : List ℕ) : Type 0 where
   pub why : Refusal
   pub because : IsRefusedFor read why
   pub status : answered ≡ refusal_status why
@@ -70,7 +70,7 @@ pub record IsTraceAnswer (IsAnswer : Recorded → List ℕ → Type 0) (read : R
 
 -- the exit status and the text that bytes are answered by
 abbrev pub IsAnswerOf : (Recorded → List ℕ → Type 0) → Result Recorded TraceErr → ExitStatus → List ℕ → Type 0
-IsAnswerOf IsAnswer read answered text = IsTraceAnswer IsAnswer read answered text ⊎ IsVerdictOnTrace read answered text
+IsAnswerOf IsAnswer read answered text = IsTraceAnswer IsAnswer read answered text ⊎ IsRefusal read answered text
 
 -- an answer such as these was written whole
 pub record Answered (IsAnswer : ExitStatus → List ℕ → Type 0) (answered : ExitStatus) (w : Writer) : Type 0 where

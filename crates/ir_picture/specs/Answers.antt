@@ -7,7 +7,7 @@ use Rattle.ir_files.specs.Writers.{Writer}
 use Rattle.ir_files.specs.declared.exit_status.ExitStatus.{ExitStatus}
 use Rattle.ir_files.specs.declared.exit_status.ExitStatus.TheVariants as status
 use Rattle.ir_past.specs.Past.{AreStaleWrites}
-use Rattle.ir_past.specs.Answers.{AreCoherent, IsVerdictOnTrace, NotAnswered, fault_words as unwritten_words}
+use Rattle.ir_past.specs.Answers.{AreCoherent, IsRefusal, NotAnswered, fault_words as unwritten_words}
 use Rattle.ir_past.specs.declared.stale_write.StaleWrite.{StaleWrite}
 use Rattle.ir_past.specs.declared.past_err.PastErr.TheVariants.{NoMem}
 use Rattle.ir_picture.specs.Needs.{HasNoCircle, IsCircleAt}
@@ -83,7 +83,7 @@ IsTraceAnswer asked r answered text =
 -- the answer about bytes
 abbrev pub IsViewAnswer : Asked → Result Recorded TraceErr → ExitStatus → List ℕ → Type 0
 IsViewAnswer asked read answered text =
-    ((r : Recorded) × (read ≡ Ok r) × AreCoherent r × IsThere r asked.around × IsTraceAnswer asked r answered text) ⊎ IsVerdictOnTrace read answered text
+    ((r : Recorded) × (read ≡ Ok r) × AreCoherent r × IsThere r asked.around × IsTraceAnswer asked r answered text) ⊎ IsRefusal read answered text
 
 -- the trace doesn't have the event that a part is asked for around
 abbrev pub IsAbsent : Option Around → Recorded → Absent → Type 0

@@ -10,7 +10,7 @@ use Rattle.ir_past.specs.Answers.{NotAnswered}
 use Rattle.ir_past.specs.declared.past_err.PastErr.TheVariants.{NoMem}
 use Rattle.ir_past.specs.declared.stale_write.StaleWrite.{StaleWrite}
 use Rattle.ir_fit_run.specs.Opened.{IsFit}
-use Rattle.ir_fit_run.specs.Answers.{IsVerdictOnTrace}
+use Rattle.ir_fit_run.specs.Answers.{IsRefusal}
 use Rattle.ir_rests.specs.Rests.{AreRests}
 use Rattle.ir_rests.specs.declared.rest.Rest.{Rest}
 use Rattle.ir_picture.specs.Places.{ArePlaced}
@@ -82,7 +82,7 @@ pub record IsFitAnswer (asked : Asked) (image trace : List ℕ) (answered : Exit
 
 -- the answer about the bytes of an image and of a trace
 abbrev pub IsViewAnswer : Asked → List ℕ → List ℕ → ExitStatus → List ℕ → Type 0
-IsViewAnswer asked image trace answered text = IsFitAnswer asked image trace answered text ⊎ IsVerdictOnTrace image trace answered text
+IsViewAnswer asked image trace answered text = IsFitAnswer asked image trace answered text ⊎ IsRefusal image trace answered text
 
 -- why there is no answer about a run
 abbrev pub IsUnsaid : Asked → FittedTrace → ViewErr → Type 0

@@ -77,8 +77,8 @@ fn steps_below(threads: &[Thread], target: &Cut) -> u64
     left
 }
 
-// A round of workers; or a stretch on the caller, where it is faster than the workers' last round, and where one thread alone is below its
-// target.
+// A round of workers; or a stretch on the caller: at first, to see how fast it is, where it is faster than the workers' last round, and where
+// one thread alone is below its target.
 fn turn<H: Hands>(
     hands: &H,
     fitted: &Fitted,
@@ -134,6 +134,7 @@ pub fn advance<H: Hands>(
     // One thread alone takes its steps without memory.
     ensures alone { OneIsBelow target.now (positions (flat_in fitted.now state)) → IsOk result }
 {
+    pace.look_at(fitted.trace());
     let mut state = state;
     'rounds: while !is_there(state.threads(), target) {
         state = turn(hands, fitted, state, target, pace)?;

@@ -1,13 +1,27 @@
 //! How a move goes on: by workers, or by stretches on the caller where that is faster.
 
+use ir_trace::Trace;
+
+#[cfg(test)]
+mod tests;
+
 // How many steps the caller takes by itself to see how fast it is.
 const TRIAL: u64 = 1 << 18;
 
 // A move of fewer steps begins with the workers, since it shows nothing of how fast the caller is.
 const FEWEST_FOR_TRIAL: u64 = 1 << 16;
 
-// A move that the caller ends in so many milliseconds is the caller's: a round of workers that wait would be a tenth of it.
-const SHORT_MOVE: u64 = 50;
+// A move that the caller ends in so many milliseconds is the caller's, where the trace has an event each so many steps. Where threads log often,
+// workers wait for each other, and are seldom much faster; where they log seldom, workers are faster once they have started.
+const OFTEN: u64 = 32;
+
+const SHORT_IF_OFTEN: u64 = 250;
+
+const SHORT_BETWEEN: u64 = 50;
+
+const SELDOM: u64 = 1024;
+
+const SHORT_IF_SELDOM: u64 = 5;
 
 // At most so many steps it takes before the workers are tried again, and at once: some tenths of a second.
 pub(crate) const LONGEST_STRETCH: u64 = 1 << 25;
@@ -45,6 +59,8 @@ pub struct Pace {
     turn: Turn,
     // How many steps the whole move has left, as far as it is known.
     left: u64,
+    // The caller takes a move by itself that it ends in so many milliseconds.
+    short: u64,
     // How many milliseconds the workers' next round lasts, and the caller's next stretch.
     round: u32,
     stretch: u64,
@@ -64,11 +80,33 @@ impl Pace {
         Pace {
             turn: Turn::First,
             left: steps,
+            short: SHORT_BETWEEN,
             round: FIRST_ROUND,
             stretch: FIRST_STRETCH,
             together: None,
             alone: None,
         }
+    }
+
+    // The move is of a run that this trace is of.
+    pub(crate) fn look_at(&mut self, trace: &Trace) {
+        let (mut steps, mut events) = (0u64, 0u64);
+        for thread in trace.threads() {
+            steps = steps.saturating_add(thread.steps());
+            events = events.saturating_add(thread.log().events().len() as u64);
+        }
+        self.expect(steps, events);
+    }
+
+    // All threads take so many steps and log so many events: how often they log says what to expect of workers.
+    fn expect(&mut self, steps: u64, events: u64) {
+        self.short = if steps / OFTEN < events {
+            SHORT_IF_OFTEN
+        } else if steps / SELDOM < events {
+            SHORT_BETWEEN
+        } else {
+            SHORT_IF_SELDOM
+        };
     }
 
     // How many steps the caller takes now, where this part has so many left; none where it is the workers' turn.
@@ -101,9 +139,9 @@ impl Pace {
         }
     }
 
-    // Whether the caller ends the move in no time, if it takes so many steps in a millisecond.
+    // Whether the caller soon ends the move, if it takes so many steps in a millisecond.
     fn is_short(self, alone: u64) -> bool {
-        self.left < alone.saturating_mul(SHORT_MOVE)
+        self.left < alone.saturating_mul(self.short)
     }
 
     // After a round of so many steps, and of so many in a millisecond, if that is known.

@@ -154,11 +154,11 @@ known_without_copy_is_rest f code o was now fuel calls r x e = by_puts (puts o R
     by_puts true (Some i) e = absurd (known_is_not_unknown e)
 
 -- a thread that is copied, or none
-known_by_copy_is_rest : (f : FittedTrace) (code : List ℕ) (o : ℕ) (was now : List ℕ) (fuel : ℕ) (copy : Option ThreadState) (calls : List Exchange)
+known_with_or_without_copy_is_rest : (f : FittedTrace) (code : List ℕ) (o : ℕ) (was now : List ℕ) (fuel : ℕ) (copy : Option ThreadState) (calls : List Exchange)
     (r : Option Rest) (x : ThreadState) → IsCopyOf copy x → Known r ≡ found_of code o was now fuel copy calls
     → r ≡ rest_of code o was now fuel x calls
-known_by_copy_is_rest f code o was now fuel (Some y) calls r x same e = known_injective e ∙ ap (λ z. rest_of code o was now fuel z calls) same
-known_by_copy_is_rest f code o was now fuel None calls r x same e = known_without_copy_is_rest f code o was now fuel calls r x e
+known_with_or_without_copy_is_rest f code o was now fuel (Some y) calls r x same e = known_injective e ∙ ap (λ z. rest_of code o was now fuel z calls) same
+known_with_or_without_copy_is_rest f code o was now fuel None calls r x same e = known_without_copy_is_rest f code o was now fuel calls r x e
 
 pub closed_row_is_found : (copies : Bool) (f : FittedTrace) (rows : List StaleWrite) (t k : ℕ) (code : List ℕ) (o : Open) (found : Found) → IsOpenAt copies f rows t k o
     → o.span.end ≡ k → code ≡ f.guest.code
@@ -177,7 +177,7 @@ closed_row_is_found copies f rows t k code o (Known rest) is ends same found x t
           let fuel : k - o.span.read + 65536 ≡ is.of.span.last + 1 - behind_read f is.of.row + 65536 =
           (let b = is.of.span.read in omega (arith, b, to)) in
           let steps : k - behind_read f is.of.row ≡ is.of.span.last + 1 - behind_read f is.of.row = omega (arith, to) in
-          known_by_copy_is_rest f code o.kept.object o.kept.was.items o.kept.now.items (k - o.span.read + 65536) o.kept.thread o.kept.calls.items rest
+          known_with_or_without_copy_is_rest f code o.kept.object o.kept.was.items o.kept.now.items (k - o.span.read + 65536) o.kept.thread o.kept.calls.items rest
           (thread_at f run is.of.row.thread (behind_read f is.of.row)) (is.kept.thread run whole) found
           ∙ (λ i. rest_of (same i) (is.kept.object i) o.kept.was.items o.kept.now.items (fuel i) (thread_at f run is.of.row.thread (behind_read f is.of.row))
           ((is.kept.calls run whole ∙ ap (calls_in f.guest.code (thread_at f run is.of.row.thread) (behind_read f is.of.row)) steps) i));

@@ -4,7 +4,7 @@ pub use Rattle.ir_runs.proofs.Tables.{upd_at_own_place, upd_at_other_place, prop
 -- what holds in each state that a run reaches
 pub use Rattle.ir_runs.proofs.Good.{StateInvariant, state_invariant_after_step, state_invariant_at_start}
 -- threads that are done stay so, and some thread has a step
-pub use Rattle.ir_runs.proofs.Stuck.{some_thread_can_step, idle_after_step, idle_after_run}
+pub use Rattle.ir_runs.proofs.Stuck.{some_thread_can_step, threads_from_number_on_stay_done_after_step, idle_after_run}
 -- runs one after the other
 pub use Rattle.ir_runs.proofs.Append.{conditional_cons_join_if_of_append, trail_append, append_of_runs_is_run, end_append, events_append, log_append}
 -- runs with one trace

@@ -91,13 +91,13 @@ some_thread_can_step m law s good n objects rest low zero_fits t ne =
     some_thread_can_step_by_bound m law s good n objects rest low zero_fits objects t (λ o a e. omega arith) (asked m s t) refl ne
 
 -- the threads that are done stay so
-pub idle_after_step : {T : Type 0} (m : Machine T) (s : State T) (n : ℕ) → IsIdle m s n → (e : Step) → Can m s e → IsIdle m (after m s e) n
+pub threads_from_number_on_stay_done_after_step : {T : Type 0} (m : Machine T) (s : State T) (n : ℕ) → IsIdle m s n → (e : Step) → Can m s e → IsIdle m (after m s e) n
 unfolding after
-idle_after_step m s n rest e can t h =
+threads_from_number_on_stay_done_after_step m s n rest e can t h =
     ap m.ask (upd_at_other_place s.now e.0 t _ (λ p. subst (λ q. Admits m (act_of q e.1) (s.objects (target (act_of q e.1))))
     (rest e.0 (subst (λ z. n ≤ z) p h)) can)) ∙ rest t h
 
 pub idle_after_run : {T : Type 0} (m : Machine T) (s : State T) (n : ℕ) → IsIdle m s n → (run : List Step) → IsRun m s run
     → IsIdle m (end m s run) n
 idle_after_run m s n rest [] ok = rest
-idle_after_run m s n rest (e ∷ run) ok = idle_after_run m (after m s e) n (idle_after_step m s n rest e ok.0) run ok.1
+idle_after_run m s n rest (e ∷ run) ok = idle_after_run m (after m s e) n (threads_from_number_on_stay_done_after_step m s n rest e ok.0) run ok.1

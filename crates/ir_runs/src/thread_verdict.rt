@@ -7,7 +7,7 @@ pub enum ThreadVerdict {
     Same,
     /// Its next step isn't the trace's.
     Disagrees {
-        /// The first event that is not logged, from 0; the log's length where none is left.
+        /// The place in the trace's log of the first event that the thread hasn't come to, from 0; the log's length where none is left.
         event: u32,
         /// The thread's position, in steps.
         step: u64,

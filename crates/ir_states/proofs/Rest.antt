@@ -6,7 +6,7 @@ use Rattle.ir_runs.specs.Lawful.{IsLawful}
 use Rattle.ir_runs.specs.declared.env_kind.EnvKind.{EnvKind}
 use Rattle.ir_runs.specs.Run.{State, Step, asked, after, label, IsRun, end, join_if, trail, IsDone}
 use Rattle.ir_runs.specs.Bounds.{IsIdle}
-use Rattle.ir_runs.proofs.CallerLemmas.{StateInvariant, state_invariant_after_step, idle_after_step, end_append, trail_append}
+use Rattle.ir_runs.proofs.CallerLemmas.{StateInvariant, state_invariant_after_step, threads_from_number_on_stay_done_after_step, end_append, trail_append}
 use Rattle.ir_states.specs.Counting.{Answers, IsAnswered, Takes, Counts, is_own, IsAtRest, GoesAhead, entering, Brought}
 use Rattle.ir_states.proofs.First.{own_step_may_come_first}
 
@@ -183,7 +183,7 @@ state_comes_to_rest_if_a_run_completes m law answers fit n (suc count) s good id
       let takes : Takes m answers s e = own_step_with_fitting_answer_may_be_taken m answers fit s own.0 own.1 in
       let b : BroughtWhole m answers s (e ∷ []) run = steps_ahead_may_come_first_in_complete_run m law answers s good (e ∷ []) (own.1, takes, tt) run ok done in
       let r : ComesToRest m answers (after m s e) = state_comes_to_rest_if_a_run_completes m law answers fit n count (after m s e) (state_invariant_after_step m law s good e takes.0)
-      (idle_after_step m s n idle e takes.0) b.rest b.counts (subst (IsDone m) (sym b.same_end) done)
+      (threads_from_number_on_stay_done_after_step m s n idle e takes.0) b.rest b.counts (subst (IsDone m) (sym b.same_end) done)
       (let h = b.same_length in omega (arith, few, h)) in
       record { ahead = e ∷ r.ahead; goes = (own.1, takes, r.goes); at_rest = r.at_rest }
   | inr none ↦ record {

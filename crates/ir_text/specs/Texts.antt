@@ -182,5 +182,5 @@ registers_text m (suc n) = registers_text m n
     ++ (register_name n ++ codes "=" ++ hex_word (register m n) ++ (if n % 4 == 3 then codes "\n" else codes " "))
 
 -- pc and all registers
-abbrev pub machine_text : Core → List ℕ
-machine_text m = codes "pc " ++ hex_word m.pc ++ codes "\n" ++ registers_text m 32
+abbrev pub core_text : Core → List ℕ
+core_text m = codes "pc " ++ hex_word m.pc ++ codes "\n" ++ registers_text m 32

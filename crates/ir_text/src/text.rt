@@ -3,7 +3,7 @@
 ghost use Rattle.std.specs.Prelude.{◌≡◌, ◌≤◌, ◌<◌, ◌+◌, ◌++◌, length, decimal};
 ghost use Rattle.arrayvec.specs.ArrayVec.{array_vec_len};
 ghost use Rattle.ir_isa.specs.Fields.{register_name};
-ghost use Rattle.ir_text.specs.Texts.{hex_word, reason_text, refusal_text, registers_text, machine_text, number_line};
+ghost use Rattle.ir_text.specs.Texts.{hex_word, reason_text, refusal_text, registers_text, core_text, number_line};
 ghost use Rattle.ir_text.specs.Parts.{register_text};
 ghost use Rattle.ir_stream.specs.Writing.{WritesText};
 
@@ -106,7 +106,7 @@ fn put_registers(text: &mut Text, mach: &Mach)
 // Puts the lines of pc and the registers into an empty text.
 fn put_machine(text: &mut Text, mach: &Mach)
     requires { array_vec_len text.old ≡ 0 }
-    ensures { text.new.items ≡ text.old.items ++ machine_text mach.now }
+    ensures { text.new.items ≡ text.old.items ++ core_text mach.now }
 {
     append(text, b"pc ");
     put_word(text, mach.pc());
@@ -136,7 +136,7 @@ pub fn write_number<W: Sink>(words: &[u8], number: u32, writer: &mut W) -> Resul
 
 /// Writes pc and the registers. Takes no memory.
 pub fn write_machine<W: Sink>(mach: &Mach, writer: &mut W) -> Result<(), DeviceErr>
-    ensures { WritesText W.written W.broken writer.old writer.new (machine_text mach.now) result }
+    ensures { WritesText W.written W.broken writer.old writer.new (core_text mach.now) result }
 {
     let mut text = Text::new();
     put_machine(&mut text, mach);

@@ -26,7 +26,7 @@ use Rattle.ir_flat.specs.Next.{next}
 use Rattle.ir_runs.specs.Run.{count, label, end, trail, At, Emits, part}
 use Rattle.ir_flat.proofs.CallerLemmas.{sum_of_cell_counts_within_event_limit, inside_within_most_threads, entered_fields_fit, left_fields_fit, flat_inside_thread_can_leave, next_keeps_thread_count}
 use Rattle.ir_log.specs.Asked.{ask_of as event_ask, Suits}
-use Rattle.ir_log.proofs.CallerLemmas.{entry_event_suits_enter_or_try}
+use Rattle.ir_log.proofs.CallerLemmas.{ask_suited_by_entry_event_is_enter_or_try}
 use Rattle.ir_log.specs.declared.event.Event.{Event}
 use Rattle.ir_log.specs.declared.event.Event.TheVariants.{Answer as Answered, Read, Write, Try as Refused}
 use Rattle.ir_trace.specs.Recorded.{recorded_thread}
@@ -102,7 +102,7 @@ refused_event_does_not_enter o a (Refused object) enters h = cc enters
 -- what enters an object touches it
 pub entering_ask_is_not_alone : (q : Ask) (o : ℕ) (a : Access) (e : Event) (x : Option Event) → x ≡ Some e → Suits q e → event_ask e ≡ Enter o a
     → IsAlone q x → ⊥
-entering_ask_is_not_alone q o a e x is suits enters h = elim (entry_event_suits_enter_or_try q o a e suits enters) [
+entering_ask_is_not_alone q o a e x is suits enters h = elim (ask_suited_by_entry_event_is_enter_or_try q o a e suits enters) [
   | inl same ↦ subst (λ p. IsAlone p x) same h
   | inr same ↦ refused_event_does_not_enter o a e enters (subst IsRefused is (subst (λ p. IsAlone p x) same.0 h))
 ]
@@ -317,7 +317,7 @@ admitted_entry_enters : (f : FittedTrace) (s : Flat) (t o : ℕ) (a : Access) (e
     → t < length s.threads → ask_of s.code (thread_of s t) ≡ q
     → slice_get (recorded_thread f.recorded t).events (thread_of s t).events ≡ Some e → Suits q e → event_ask e ≡ Enter o a
     → AdmittedAt f (positions s) t → EnteredBy f s t o a q
-admitted_entry_enters f s t o a e q h flat at l is event suits enters ad = elim (entry_event_suits_enter_or_try q o a e suits enters) [
+admitted_entry_enters f s t o a e q h flat at l is event suits enters ad = elim (ask_suited_by_entry_event_is_enter_or_try q o a e suits enters) [
   | inl same ↦
       let goes = step_goes_on_if_admitted f s t (Enter o a) h flat at l (sym (is ∙ same)) ad in
       subst (EnteredBy f s t o a) (sym same) (record { result = goes.0; goes = goes.1; may = goes.1.may; objects = refl })
@@ -360,7 +360,7 @@ entry_is_allowed_if_granted_and_thread_is_entering slots id o a e y q c ahead in
     let ws : List ℕ = set x.words (word_place o) ((n + word_added_by_entry a) % 2 ^ 64) in
     let made = woven_after_object_step slots id (word_place o) (word_added_by_entry a) 0 q c x h at y ahead asked
     (entering_ask_is_not_alone asked o a e (event_of f t y) own_event entering.suits entering.enters) is cu made_by.result made_by.goes n
-    (λ p i get. absurd (elim (entry_event_suits_enter_or_try asked o a e entering.suits entering.enters) [
+    (λ p i get. absurd (elim (ask_suited_by_entry_event_is_enter_or_try asked o a e entering.suits entering.enters) [
       | inl same ↦ (let z : Enter o a ≡ Get p i = sym same ∙ get in cc z)
       | inr same ↦ (let z : Try o ≡ Get p i = sym same.0 ∙ get in cc z)
     ])) ws

@@ -10,7 +10,7 @@ use Rattle.ir_object.specs.Cell.{Cell}
 use Rattle.ir_flat.specs.Flat.{Flat, IsFlat, thread_of, cell_of}
 use Rattle.ir_flat.specs.Next.{next}
 use Rattle.ir_log.specs.Asked.{ask_of as event_ask, Suits}
-use Rattle.ir_log.proofs.CallerLemmas.{entry_event_suits_enter_or_try}
+use Rattle.ir_log.proofs.CallerLemmas.{ask_suited_by_entry_event_is_enter_or_try}
 use Rattle.ir_log.specs.declared.event.Event.{Event}
 use Rattle.ir_log.specs.declared.event.Event.TheVariants.{Answer, Read, Write, Try as Refused}
 use Rattle.ir_trace.specs.Recorded.{recorded_thread}
@@ -55,7 +55,7 @@ pub open_entry_is_admitted : (f : FittedTrace) (s : Flat) (t o : ℕ) (a : Acces
     → IsOpen (cell_of s o) e → AdmittedAt f (positions s) t
 open_entry_is_admitted f s t o a e q h flat at l is has event suits enters opens =
     let left = steps_ahead_are_positive_if_has_step f s t h at l has in
-    elim (entry_event_suits_enter_or_try q o a e suits enters) [
+    elim (ask_suited_by_entry_event_is_enter_or_try q o a e suits enters) [
       | inl same ↦ admitted_if_step_goes_on f s t 0 (Enter o a) (step_goes_on_if_logs_next f s t 0 (Enter o a) flat at l (sym (is ∙ same)) has
           (open_entry_logs_next_with_result_zero f.recorded s t o a e flat l (is ∙ same) left event (subst (λ p. Suits p e) same suits) opens)) has
       | inr same ↦ admitted_if_step_goes_on f s t 1 (Try o) (step_goes_on_if_logs_next f s t 1 (Try o) flat at l (sym (is ∙ same.0)) has
@@ -69,7 +69,7 @@ pub shut_entry_is_not_admitted : (f : FittedTrace) (s : Flat) (t o : ℕ) (a : A
 shut_entry_is_not_admitted f s t o a e q h flat at l is has event suits enters shut run of ad =
     let some = admitted_thread_logs_next f s at run of t (state_thread_index_is_below_guest_thread_count f s t at l) ad in
     let left = steps_ahead_are_positive_if_has_step f s t h at l has in
-    elim (entry_event_suits_enter_or_try q o a e suits enters) [
+    elim (ask_suited_by_entry_event_is_enter_or_try q o a e suits enters) [
       | inl same ↦ no_result_logs_next_for_shut_entry f.recorded s t o a e flat l (is ∙ same) left event (subst (λ p. Suits p e) same suits) shut some.0 some.1
       | inr same ↦
           let tries : Suits (Try o) e = subst (λ p. Suits p e) same.0 suits in

@@ -14,7 +14,7 @@ use Rattle.ir_runs.specs.declared.access.Access.TheVariants.{Reading, Writing}
 use Rattle.ir_thread.specs.declared.ask.Ask.{Ask}
 use Rattle.ir_thread.specs.declared.ask.Ask.TheVariants.{Enter, Try, Leave, Get, Put}
 use Rattle.ir_thread.proofs.CallerLemmas.{ask_of_permitted}
-use Rattle.ir_log.proofs.CallerLemmas.{entry_event_suits_enter_or_try}
+use Rattle.ir_log.proofs.CallerLemmas.{ask_suited_by_entry_event_is_enter_or_try}
 use Rattle.ir_log.specs.declared.event.Event.{Event}
 use Rattle.ir_trace.specs.Recorded.{recorded_thread}
 use Rattle.ir_runs.specs.Run.{Emits}
@@ -55,7 +55,7 @@ tried_object_index_is_below_object_count f t i x o ahead is = let p = (thread_pe
 
 pub object_index_of_entering_thread_is_below_object_count : (f : FittedTrace) (t i : ℕ) (x : thread.ThreadState) (o : ℕ) (a : Access) (e : Event) → IsAhead f t i x
     → IsEntering f x o a e → o < object_count f.guest
-object_index_of_entering_thread_is_below_object_count f t i x o a e ahead entering = elim (entry_event_suits_enter_or_try entering.asked o a e entering.suits entering.enters) [
+object_index_of_entering_thread_is_below_object_count f t i x o a e ahead entering = elim (ask_suited_by_entry_event_is_enter_or_try entering.asked o a e entering.suits entering.enters) [
   | inl same ↦ entered_object_index_is_below_object_count f t i x o a ahead (entering.asking.asks ∙ same)
   | inr same ↦ tried_object_index_is_below_object_count f t i x o ahead (entering.asking.asks ∙ same.0)
 ]

@@ -59,16 +59,16 @@ pub no_dated_lines_past_end : (k n : ℕ) (xs : List Dated) → length xs ≤ n 
 unfolding dated_lines
 no_dated_lines_past_end k n xs all = at_drop_all (dated_lines k) xs n all
 
-fit_read_lines_of_drop_step : (f : FittedTrace) (n : ℕ) (xs : List Place) (x : Place) → n < length xs
+read_lines_left_step : (f : FittedTrace) (n : ℕ) (xs : List Place) (x : Place) → n < length xs
     → fit_read_lines f (drop n xs) ≡ fit_read_line f (get_or xs n x) ++ fit_read_lines f (drop (n + 1) xs)
 unfolding fit_read_lines
-fit_read_lines_of_drop_step f n xs x some = at_drop_more (fit_read_lines f) xs n x some
+read_lines_left_step f n xs x some = at_drop_more (fit_read_lines f) xs n x some
 
 -- the line of the next read entry comes first in what is left
 pub fit_read_lines_begin_with_line : (f : FittedTrace) (n : ℕ) (xs : List Place) (x : Place) (line : List ℕ) → n < length xs → line ≡ fit_read_line f (get_or xs n x)
     → fit_read_lines f (drop n xs) ≡ line ++ fit_read_lines f (drop (n + 1) xs)
 fit_read_lines_begin_with_line f n xs x line some same =
-    fit_read_lines_of_drop_step f n xs x some ∙ ap (λ (z : List ℕ). z ++ fit_read_lines f (drop (n + 1) xs)) (sym same)
+    read_lines_left_step f n xs x some ∙ ap (λ (z : List ℕ). z ++ fit_read_lines f (drop (n + 1) xs)) (sym same)
 
 pub no_fit_read_lines_past_end : (f : FittedTrace) (n : ℕ) (xs : List Place) → length xs ≤ n → fit_read_lines f (drop n xs) ≡ []
 unfolding fit_read_lines

@@ -55,9 +55,9 @@ noted_maker_is_write : (r : Recorded) (tables : Tables) (o w : ℕ) (p : Place) 
 noted_maker_is_write r tables o zero p has e = absurd (none-some p e)
 noted_maker_is_write r tables o (suc v) p has e = let made = has.makers.sound o v p e in (v, made.0, refl, made.1)
 
-write_has_noted_maker : (r : Recorded) (tables : Tables) (o v u j l : ℕ) → AreCoherent r → HasTables r tables → IsWriteAt r u j o v l
+write_is_noted_maker_of_next_version : (r : Recorded) (tables : Tables) (o v u j l : ℕ) → AreCoherent r → HasTables r tables → IsWriteAt r u j o v l
     → (p : Place) × (maker_at tables o (suc v) ≡ Some p) × (p.thread ≡ u) × (p.event ≡ j)
-write_has_noted_maker r tables o v u j l coherent has write = by (maker_in tables.makers o v) refl
+write_is_noted_maker_of_next_version r tables o v u j l coherent has write = by (maker_in tables.makers o v) refl
   where
     by : (x : Option Place) → maker_in tables.makers o v ≡ x → (p : Place) × (maker_at tables o (suc v) ≡ Some p) × (p.thread ≡ u) × (p.event ≡ j)
     by None e = absurd (has.makers.noted u j o v l write (inl (event_is_of_existing_thread r u j _ write)) e)
@@ -110,7 +110,7 @@ maker_of_other_thread_is_noted : (r : Recorded) (tables : Tables) (t i o w u j :
     → IsMakerOf r t i u j → u ≢ t → HasPlace (others t (listed (maker_at tables o w))) u j
 maker_of_other_thread_is_noted r tables t i o w u j coherent has entry maker other =
     let same = entry_at_is_unique r t i o w maker.object (suc maker.version) entry maker.entry in
-    let noted = write_has_noted_maker r tables maker.object maker.version u j maker.readers coherent has maker.made in
+    let noted = write_is_noted_maker_of_next_version r tables maker.object maker.version u j maker.readers coherent has maker.made in
     let p = noted.0 in
     let at : maker_at tables o w ≡ Some p =
     subst (λ z. maker_at tables z w ≡ Some p) (sym same.0) (subst (λ z. maker_at tables maker.object z ≡ Some p) (sym same.1) noted.1) in

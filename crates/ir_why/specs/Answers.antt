@@ -6,7 +6,7 @@ use Rattle.ir_trace.specs.declared.trace_err.TraceErr.{TraceErr}
 use Rattle.ir_files.specs.Writers.{Writer}
 use Rattle.ir_files.specs.declared.exit_status.ExitStatus.{ExitStatus}
 use Rattle.ir_files.specs.declared.exit_status.ExitStatus.TheVariants as status
-use Rattle.ir_past.specs.Answers.{AreCoherent, IsVerdictOnTrace, NotAnswered}
+use Rattle.ir_past.specs.Answers.{AreCoherent, IsRefusal, NotAnswered}
 use Rattle.ir_past.specs.declared.past_err.PastErr.TheVariants.{NoMem}
 use Rattle.ir_past.specs.declared.place.Place.{Place}
 use Rattle.ir_picture.specs.Answers.{circle_line}
@@ -61,7 +61,7 @@ IsTraceAnswer asked r answered text = IsEventAnswer r (event_asked asked) asked.
 -- the answer about bytes
 abbrev pub IsWhyAnswer : Question → Result Recorded TraceErr → ExitStatus → List ℕ → Type 0
 IsWhyAnswer asked read answered text =
-    ((r : Recorded) × (read ≡ Ok r) × AreCoherent r × IsThere r asked × IsTraceAnswer asked r answered text) ⊎ IsVerdictOnTrace read answered text
+    ((r : Recorded) × (read ≡ Ok r) × AreCoherent r × IsThere r asked × IsTraceAnswer asked r answered text) ⊎ IsRefusal read answered text
 
 -- the trace doesn't have the event
 abbrev pub IsAbsent : Question → Recorded → Absent → Type 0

@@ -92,11 +92,11 @@ worded_version_stays_worded f rows w a b r x adds there found = elim (adds.each 
 ]
 
 -- a version that came or was found does or is
-pub pending_or_worded_stays_so : (f : FittedTrace) (rows : List Version) (w : ObjectWord) (old new : Track) (a b : List Worded) (r : ℕ) (x : Version)
+pub version_pending_or_worded_stays_so_if_words_added : (f : FittedTrace) (rows : List Version) (w : ObjectWord) (old new : Track) (a b : List Worded) (r : ℕ) (x : Version)
     → AddsWords f rows w a b → slice_get rows r ≡ Some x → (IsPending old r → IsPending new r ⊎ IsWorded f w x (slice_index_or b r unread))
     → IsPending old r ⊎ IsWorded f w x (slice_index_or a r unread) → IsPending new r ⊎ IsWorded f w x (slice_index_or b r unread)
-pending_or_worded_stays_so f rows w old new a b r x adds there more (inl pending) = more pending
-pending_or_worded_stays_so f rows w old new a b r x adds there more (inr found) = inr (worded_version_stays_worded f rows w a b r x adds there found)
+version_pending_or_worded_stays_so_if_words_added f rows w old new a b r x adds there more (inl pending) = more pending
+version_pending_or_worded_stays_so_if_words_added f rows w old new a b r x adds there more (inr found) = inr (worded_version_stays_worded f rows w a b r x adds there found)
 
 -- ---- the next hold has been left
 

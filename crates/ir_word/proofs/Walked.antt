@@ -22,7 +22,7 @@ use Rattle.ir_word.specs.declared.object_word.ObjectWord.{ObjectWord}
 use Rattle.ir_word.specs.declared.track.Track.{Track}
 use Rattle.ir_word.specs.declared.worded.Worded.{Worded}
 use Rattle.ir_word.proofs.Puts.{put_in_empty_range_holds_for_other_empty_range, put_in_after_steps_with_one_call_at_most}
-use Rattle.ir_word.proofs.Noted.{worded_version_stays_worded, pending_or_worded_stays_so}
+use Rattle.ir_word.proofs.Noted.{worded_version_stays_worded, version_pending_or_worded_stays_so_if_words_added}
 
 -- ---- how far it goes
 
@@ -103,14 +103,14 @@ tracked_after_thread_goes_on f rows w t old new ts track a b are further l adds 
         × IsFound f rows w b j (slice_index_or (set ts t track) j d)) (sym same)
         (subst (λ z. IsTrack f rows w t (positions (flat_in f new) t) z × IsFound f rows w b t z) (sym (get_or-set_same ts t track d l)) (
           is,
-          λ r x p there made own. pending_or_worded_stays_so f rows w (slice_index_or ts t d) track a b r x adds there (more d r x there)
+          λ r x p there made own. version_pending_or_worded_stays_so_if_words_added f rows w (slice_index_or ts t d) track a b r x adds there (more d r x there)
               ((are.each t d l).1 r x p there made own),
         ))
     | inr ne ↦
         let before = are.each u d (let n = length-set ts t track in omega (arith, n, lu)) in
         subst (λ z. IsTrack f rows w u (positions (flat_in f new) u) z × IsFound f rows w b u z) (sym (get_or-set_other ts t u track d ne)) (
           subst (λ k. IsTrack f rows w u k (slice_index_or ts u d)) (sym (further.others u ne)) before.0,
-          λ r x p there made own. pending_or_worded_stays_so f rows w (slice_index_or ts u d) (slice_index_or ts u d) a b r x adds there (λ z. inl z)
+          λ r x p there made own. version_pending_or_worded_stays_so_if_words_added f rows w (slice_index_or ts u d) (slice_index_or ts u d) a b r x adds there (λ z. inl z)
               (before.1 r x p there made own),
         )
   ];

@@ -3,6 +3,7 @@
 ghost use Rattle.std.specs.Prelude.{◌≡◌, ◌≢◌, ◌<◌, ◌≤◌, ◌++◌, false, OnOk, OnErr};
 ghost use Rattle.ir_thread.specs.State.{ask_of};
 ghost use Rattle.ir_runs.specs.declared.access.Access.TheVariants.{Reading, Writing};
+ghost use Rattle.ir_runs.specs.declared.env_kind.EnvKind.{EnvKind};
 ghost use Rattle.ir_thread.specs.declared.ask.Ask.TheVariants as ask;
 ghost use Rattle.ir_record.specs.Working.{IsAtWork, StaysAtWork, IsStopped, IsReadyWorker, RanToEnd, IsOwn, IsInside, IsOutside, own_steps_left};
 
@@ -185,7 +186,7 @@ impl<W: World> Worker<W> {
         }
     }
 
-    // Its thread takes the step that it asks, unless its world is asked and fails.
+    // Its thread takes the step that it asks, which is neither none nor a call of the environment.
     #[inline(always)]
     fn take_step<R: Wait, G: Gate>(
         &mut self,
@@ -194,19 +195,16 @@ impl<W: World> Worker<W> {
         code: &Code,
         gate: &G,
         asked: Ask,
-    ) -> Result<(), WorldErr>
+    )
         requires worker { IsAtWork W.answers crew.now code.now self.old }
         requires asked { ask_of code.now self.old.thread ≡ asked }
         requires some { asked ≢ ask.Done }
-        requires works { W.broken self.old.world ≡ false }
-        ensures stays { OnOk result (StaysAtWork W.answers crew.now self.old self.new) }
-        ensures fewer { OnOk result (own_steps_left self.new.thread < own_steps_left self.old.thread) }
-        ensures works { OnOk result (W.broken self.new.world ≡ false) }
-        ensures stopped { OnErr result (IsStopped W.answers W.broken code.now self.old self.new) }
-        ensures world { W.origin self.new.world ≡ W.origin self.old.world }
+        requires no_call { (kind : EnvKind) → asked ≢ ask.Env kind }
+        ensures stays { StaysAtWork W.answers crew.now self.old self.new }
+        ensures fewer { own_steps_left self.new.thread < own_steps_left self.old.thread }
+        ensures world { self.new.world ≡ self.old.world }
     {
         match asked {
-            Ask::Env(kind) => return self.ask_world(crew, code, kind),
             Ask::Enter(object, Access::Reading) => self.enter_read(rt, crew, code, gate, object),
             Ask::Enter(object, Access::Writing) => self.enter_write(rt, crew, code, gate, object),
             Ask::Try(object) => self.try_write(crew, code, gate, object),
@@ -215,7 +213,6 @@ impl<W: World> Worker<W> {
             Ask::Put(object, index, value) => self.put(crew, code, object, index, value),
             _ => self.take_own_step(crew, code, asked),
         }
-        Ok(())
     }
 
     // It leaves all that its thread holds, the greatest object first.
@@ -242,12 +239,15 @@ impl<W: World> Worker<W> {
     {
         'steps: loop {
             let asked = self.take_private_steps(crew, code, gate);
-            if asked == Ask::Done {
-                return;
-            }
-            if let Err(_) = self.take_step(rt, crew, code, gate, asked) {
-                self.release_all(crew, gate);
-                return;
+            match asked {
+                Ask::Done => return,
+                Ask::Env(kind) => {
+                    if let Err(_) = self.ask_world(crew, code, kind) {
+                        self.release_all(crew, gate);
+                        return;
+                    }
+                }
+                _ => self.take_step(rt, crew, code, gate, asked),
             }
         }
     }

@@ -7,6 +7,9 @@ use Rattle.ir_record.proofs.by_threads.worker.Worker.run_to_end.Goals as goal
 pub take_private_steps-asked-requires : goal.take_private_steps-asked-requires
 take_private_steps-asked-requires g c = record { worker = seated_on c.requires.seated c.steps.invariant.stays }
 
+pub ask_world-requires-clause-worker : goal.ask_world-requires-clause-worker
+ask_world-requires-clause-worker g c = seated_on (seated_on c.requires.seated c.steps.invariant.stays) c.take_private_steps-asked.ensures.stays
+
 pub take_step-requires-clause-worker : goal.take_step-requires-clause-worker
 take_step-requires-clause-worker g c = seated_on (seated_on c.requires.seated c.steps.invariant.stays) c.take_private_steps-asked.ensures.stays
 
@@ -33,6 +36,6 @@ returns-in-Err g c =
       released = λ _. subst (λ id. IsOutside id c.release_all.new.self.seat)
           (ap (λ s. s.table_id) stopped.seat ∙ c.take_private_steps-asked.ensures.stays.seat ∙ c.steps.invariant.stays.seat)
           c.release_all.ensures.released;
-      same_origin = ap g.W.World.origin c.release_all.ensures.world ∙ c.take_step.ensures.world
+      same_origin = ap g.W.World.origin c.release_all.ensures.world ∙ c.ask_world.ensures.world
           ∙ ap g.W.World.origin c.take_private_steps-asked.ensures.world ∙ c.steps.invariant.same_origin;
     }
