@@ -5,8 +5,9 @@ python3 scripts/edits.py [--jobs N] [CRATE ...]
 
 Wants the crates proved (scripts/prove.py). Works in N copies of the crates, in folders .edits-0, .edits-1, ..: else as many as there are processors with
 5 GiB of memory each. Edits of different functions of a crate are tried by one check of their methods and modules alone, and each counts as refused where its
-own function is, for another reason than a call of one that is not proved. What isn't refused so is tried alone by a check of the whole crate, where any
-function of it may be. A line an edit, as each is tried; the last line counts them. Fails where one is proved, or doesn't apply.
+own function is, for another reason than a call of one that is not proved. An edit of a constant is tried by a check of its module.
+What isn't refused so is tried alone by a check of the whole crate, where any function of it may be. A line an edit, as each is tried; the last line counts
+them. Fails where one is proved, or doesn't apply.
 """
 import argparse
 import re
@@ -57,7 +58,7 @@ def applied(text, pairs):
 
 def place_of(crate, edit):
     """What the function that an edit changes is in, and its name: the prover names a method by its type and its trait, wherever it stands, and any other
-    function by its module. No name where the edit changes a constant."""
+    function by its module. No name where the edit changes a constant: then its module."""
     path, pairs = pairs_of(edit)
     text = (crate / path).read_text(encoding="utf-8")
     applied(text, pairs)
@@ -65,7 +66,7 @@ def place_of(crate, edit):
     names, impls = FUNCTION.findall(before), IMPL.findall(before)
     module = path.removeprefix("src/").removesuffix(".rt").replace("/", "::")
     trait, kind, _ = impls[-1] if impls else ("", "", "")
-    owner = f"{kind}{trait}::" if kind else f"{crate.name}::{module}::"
+    owner = f"{kind}{trait}::" if kind and names else f"{crate.name}::{module}::"
     return owner, names[-1] if names else None
 
 
@@ -94,7 +95,7 @@ def batches(crate, edits):
     for edit in edits:
         place = place_of(crate, edit)
         for batch in lists:
-            if place[1] and place not in [other for _, other in batch] and go_together(crate, [*(other for other, _ in batch), edit]):
+            if place[1] and batch[0][1][1] and place not in [other for _, other in batch] and go_together(crate, [*(other for other, _ in batch), edit]):
                 batch.append((edit, place))
                 break
         else:
@@ -131,7 +132,7 @@ def checked(crate, place):
     """What a check of an edit's function is asked for: the method, or the module of any other function."""
     owner, function = place
     module = owner.removeprefix(f"{crate.name}::")
-    return f"{owner}{function}" if module == owner else module.removesuffix("::")
+    return f"{owner}{function}" if function and module == owner else module.removesuffix("::")
 
 
 def is_named(place, names):
@@ -142,10 +143,11 @@ def is_named(place, names):
 
 def tried(crate, batch, room):
     """Each edit of the batch with whether it is refused."""
-    # A constant may be any function's: then the whole crate is checked.
-    modules = sorted({checked(crate, place) for _, place in batch if place[1]})
-    is_whole = len(batch) == 1 and not batch[0][1][1]
-    names, _ = refused(crate, [edit for edit, _ in batch], room, () if is_whole else modules)
+    modules = sorted({checked(crate, place) for _, place in batch})
+    names, is_refused = refused(crate, [edit for edit, _ in batch], room, modules)
+    # A constant, which is tried alone, may be any function's: those of its module are tried first.
+    if not batch[0][1][1] and is_refused:
+        return [(batch[0][0], True)]
     return [(edit, is_named(place, names) or refused(crate, [edit], room)[1]) for edit, place in batch]
 
 
