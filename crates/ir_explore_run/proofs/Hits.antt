@@ -57,7 +57,7 @@ shown_order_is_not_empty setup s level turns some shown none =
     (shown.taken ∙ ap (λ o. map (λ (t : Turn). t.0) o) none)
 
 -- the run by the order of an outcome that fulfils each condition
-pub is_hit_if_shown_outcome_is_first_to_fulfil : (guest : Guest) (plan : ExplorePlan) (cs : List Condition) (flats : List SourcedFlat) (outcomes : List Shown) (levels place : ℕ)
+abbrev pub is_hit_if_shown_outcome_is_first_to_fulfil : (guest : Guest) (plan : ExplorePlan) (cs : List Condition) (flats : List SourcedFlat) (outcomes : List Shown) (levels place : ℕ)
     (x : Shown) (s : SourcedFlat) (list : List ℕ) → AreExplored (setup_of guest plan) flats levels outcomes → IsAt flats outcomes place x s
     → NoneBefore guest cs flats outcomes place → fulfils_each guest cs (outcome_of (tables s.flat)) ≡ true
     → SpellsTurns list (turns_of_items x.turns.items) → IsHit guest plan cs x.level list

@@ -70,4 +70,4 @@ fault_words BadLine = codes "a line of the image or the trace isn't whole bytes 
 fault_words NoMem = codes "memory ran out"
 fault_words Read = codes "standard input can't be read"
 fault_words Write = codes "standard output can't be written"
-fault_words TooLong = codes "1073741824 bytes of commands held no line of quit"
+fault_words TooLong = codes "1073741824 bytes were read, and nothing ended the session"

@@ -35,7 +35,7 @@ impl BundleErr {
             BundleErr::NoMem => "memory ran out",
             BundleErr::Read => "standard input can't be read",
             BundleErr::Write => "standard output can't be written",
-            BundleErr::TooLong => "1073741824 bytes of commands held no line of quit",
+            BundleErr::TooLong => "1073741824 bytes were read, and nothing ended the session",
         }
     }
 }

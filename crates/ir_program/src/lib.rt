@@ -1,4 +1,4 @@
-//! The program `ir` as one call of its arguments, a folder and its streams: assembling, recording, listing a trace, debugging.
+//! The program `ir` as one call of its arguments, a folder and its streams: each subcommand, and the session in one stream.
 #![tactic(auto)]
 
 mod bundles;
