@@ -9,7 +9,7 @@ SOURCES := crates.txt $(shell find crates -name out -prune -o -type f -name '*.r
 # Proves and builds the program, unless it is built of these sources already.
 ir: $(SOURCES)
 	python3 scripts/prove.py ir_cli
-	cd crates/ir_cli && rt run < stdin > out.txt && cmp out.txt stdout && rm out.txt
+	cd crates/ir_cli && python3 ../../scripts/rt.py run < stdin > out.txt && cmp out.txt stdout && rm out.txt
 	cp crates/ir_cli/out/ir_cli ir
 	@echo "The program is ./ir"
 
@@ -63,7 +63,7 @@ TESTS := crates/ir_session_tests/out/ir_session_tests_tests
 
 $(TESTS): $(SOURCES)
 	python3 scripts/prove.py ir_session_tests
-	cd crates/ir_session_tests && rt test -- memory_tests
+	cd crates/ir_session_tests && python3 ../../scripts/rt.py test -- memory_tests
 
 # Each request for memory refused in turn, on the built program and in those tests. Needs Linux and a C compiler beside.
 refuse: ir $(TESTS)
@@ -77,7 +77,7 @@ mutate: ir
 bench: ir
 	python3 bench/instructions.py ./ir
 	python3 scripts/prove.py ir_bench
-	cd crates/ir_bench && rt run < stdin > out.txt && rm out.txt
+	cd crates/ir_bench && python3 ../../scripts/rt.py run < stdin > out.txt && rm out.txt
 	python3 bench/speed.py ./ir crates/ir_bench/out/ir_bench
 	python3 bench/hunting.py ./ir
 	python3 bench/traces.py ./ir

@@ -66,9 +66,17 @@ trace. Not here: `Desk`, what each command is answered (`CarriesOut`), and what 
 
 FIRST_HEAD = """# The headline
 
-The relations by which the [main theorem](theorem.md) is read, word for word as they are in `specs/`. `python3 scripts/definitions.py` makes this page.
+The relations by which the [main theorem](theorem.md) is read, word for word as they are in `specs/`, but for what marks a definition as public or as one that
+proofs see through. `python3 scripts/definitions.py` makes this page.
 `A × B` is and, `A ⊎ B` or, `A → ⊥` not; `(x : T) × P` is that there is an x, `(x : T) → P` that it holds of each.
 [Notation](theorem.md#how-to-read-it) has the rest. A record says each of its fields.
+"""
+
+FIRST_TAIL = """
+## Where the other names are
+
+What these definitions name, and this page doesn't have:
+
 """
 
 # The files that restate the RISC-V manual, of which theorem.md says which chapters.
@@ -363,6 +371,19 @@ def quoted(crate, name, item):
     return "\n".join([*says, *(re.sub(r"^(\s*)(?:abbrev |unfoldable )?pub ", r"\1", line) for line in found.lines)])
 
 
+def others():
+    """A line for each file that defines what the definitions of the first page name, and the page doesn't have."""
+    shown = {place for _, _, places in FIRST for place in places}
+    named = {found for place in shown for found in named_by(place)} - shown
+    files = {}
+    for crate, name, item in sorted(named):
+        if module(crate, name) and item in module(crate, name).definitions:
+            files.setdefault((crate, name), []).append(f"`{item}`")
+    order = list(crates())
+    for crate, name in sorted(files, key=lambda file: (order.index(file[0]), file[1])):
+        yield f"- [{name}](../../crates/{crate}/specs/{name.replace('.', '/')}.antt) of {crate}: {', '.join(files[crate, name])}"
+
+
 def first_page():
     """The first page as it has to be."""
     text = FIRST_HEAD
@@ -370,7 +391,7 @@ def first_page():
         files = dict.fromkeys(f"[{name}](../../crates/{crate}/specs/{name}.antt) of {crate}" for crate, name, _ in places)
         blocks = "\n\n".join(quoted(*place) for place in places)
         text += f"\n## {heading}\n\n{says}\n\nFrom {', '.join(files)}:\n\n```\n{blocks}\n```\n"
-    return text
+    return text + FIRST_TAIL + "\n".join(others()) + "\n"
 
 
 def page():

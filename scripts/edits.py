@@ -3,18 +3,19 @@
 
 python3 scripts/edits.py [--jobs N] [CRATE ...]
 
-Wants the crates proved (scripts/prove.py). Works in N copies of the crates, in folders .edits-0, .edits-1, ..: else as many as there are processors with
+Wants the crates proved (scripts/prove.py). Works in N copies of the crates, in folders .edits-PID-0 and so on: else as many as there are processors with
 5 GiB of memory each. Edits of different functions of a crate are tried by one check of their methods and modules alone, and each counts as refused where its
 own function is, for another reason than a call of one that is not proved. An edit of a constant is tried by a check of its module.
-What isn't refused so is tried alone by a check of the whole crate, where any function of it may be. A line an edit, as each is tried; the last line counts
-them. Fails where one is proved, or doesn't apply.
+What isn't refused so is tried alone by a check of the whole crate, where any function of it may be: its line then says `alone` first, and what came of it
+later. A line an edit, as soon as it is tried; the last line counts them. Fails where one is proved, or doesn't apply.
 """
 import argparse
+import os
 import re
 import shutil
 import subprocess
 import sys
-from concurrent.futures import ThreadPoolExecutor
+from concurrent.futures import FIRST_COMPLETED, ThreadPoolExecutor, wait
 from pathlib import Path
 from queue import SimpleQueue
 
@@ -27,6 +28,10 @@ FUNCTION = re.compile(r"^ *(?:pub(?:\([a-z]+\))? )?(?:const )?fn (\w+)", re.MULT
 IMPL = re.compile(r"^impl(?:<.*?>)? (?:(?:\w+::)*(\w+)(?:<[^{]*?>)? for )?&?(?:\w+::)*(\w+)[^\n]*$|^(\})$", re.MULTILINE)
 # `not proved` says that a goal of the function fails; `no proof` that it lacks something, which may be the proof of what it calls alone.
 FAILED = re.compile(r"^fn (\S+): (no proof|not proved)(.*)$", re.MULTILINE)
+# What is printed of an edit, by whether it is refused; none where it is tried alone next.
+SAID = {True: "refused", False: "NOT REFUSED", None: "alone"}
+# How many edits one check tries at most, so that those of a large crate take several processors.
+MOST = 12
 CALLS = re.compile(r"^:? ?(?:it calls `[^`]*`(?:, `[^`]*`| and `[^`]*`)*, which (?:is|are) not proved)?$")
 
 
@@ -95,7 +100,8 @@ def batches(crate, edits):
     for edit in edits:
         place = place_of(crate, edit)
         for batch in lists:
-            if place[1] and batch[0][1][1] and place not in [other for _, other in batch] and go_together(crate, [*(other for other, _ in batch), edit]):
+            fits = len(batch) < MOST and place[1] and batch[0][1][1] and place not in [other for _, other in batch]
+            if fits and go_together(crate, [*(other for other, _ in batch), edit]):
                 batch.append((edit, place))
                 break
         else:
@@ -115,14 +121,20 @@ def laid(crate, room):
 
 def refused(crate, edits, room, modules=()):
     """Checks the copy of the crate with these edits, of these modules alone if there are any; the functions that are refused for themselves, and whether any
-    of the crate's own is. Then the copy has the crate's own files again, since crates above it are checked over it."""
+    of the crate's own is. Then the copy has the crate's own files again, since crates above it are checked over it. What was kept of the crate's proof
+    (`out/incremental`) is lent to the check, which then proves again what the edits change and what rests on it."""
     folder = laid(crate, room)
+    kept = folder / "out" / "incremental"
+    shutil.rmtree(kept, ignore_errors=True)
+    if (crate / "out" / "incremental").is_dir():
+        shutil.copytree(crate / "out" / "incremental", kept)
     for path, text in changed(crate, edits).items():
         (folder / path).write_text(text, encoding="utf-8")
     only = [word for module in modules for word in ("--only", module)]
     ran = subprocess.run([sys.executable, TOP / "scripts" / "rt.py", "check", "--jobs", "1", *only], cwd=folder, text=True, errors="replace",
                          stdout=subprocess.PIPE, stderr=subprocess.STDOUT, check=False)
     laid(crate, room)
+    shutil.rmtree(kept, ignore_errors=True)
     failed = FAILED.findall(ran.stdout)
     is_refused = ran.returncode == 1 and any(name.startswith(f"{crate.name}::") for name, _, _ in failed)
     return {name for name, what, why in failed if what == "not proved" or not CALLS.match(why)}, is_refused
@@ -142,13 +154,18 @@ def is_named(place, names):
 
 
 def tried(crate, batch, room):
-    """Each edit of the batch with whether it is refused."""
+    """Each edit of the batch with whether it is refused; none where a check of the whole crate has to say."""
     modules = sorted({checked(crate, place) for _, place in batch})
     names, is_refused = refused(crate, [edit for edit, _ in batch], room, modules)
     # A constant, which is tried alone, may be any function's: those of its module are tried first.
     if not batch[0][1][1] and is_refused:
         return [(batch[0][0], True)]
-    return [(edit, is_named(place, names) or refused(crate, [edit], room)[1]) for edit, place in batch]
+    return [(edit, is_named(place, names) or None) for edit, place in batch]
+
+
+def tried_alone(crate, edit, room):
+    """An edit with whether any function of its crate is refused."""
+    return [(edit, refused(crate, [edit], room)[1])]
 
 
 def copied(room):
@@ -167,30 +184,28 @@ def copied(room):
 
 
 def all_tried(names, rooms):
-    """Each edit of these crates with whether it is refused, in the order in which they are tried."""
-    free, results = SimpleQueue(), SimpleQueue()
+    """Each edit of these crates with whether it is refused, or none if it is yet to be tried alone, as soon as it is known."""
+    free = SimpleQueue()
     for room in rooms:
         free.put(room)
 
-    def one(crate, batch):
+    def in_room(work, crate, edits):
         room = free.get()
         try:
-            results.put(tried(crate, batch, room))
-        except Exception as error:
-            results.put(error)
+            return crate, work(crate, edits, room)
         finally:
             free.put(room)
 
     crates = [TOP / "crates" / name for name in names]
     tasks = [(crate, batch) for crate in crates for batch in batches(crate, sorted([*crate.glob("must-fail/*.edit"), *crate.glob("edits/*.edit")]))]
     with ThreadPoolExecutor(len(rooms)) as pool:
-        for crate, batch in tasks:
-            pool.submit(one, crate, batch)
-        for _ in tasks:
-            found = results.get()
-            if isinstance(found, Exception):
-                raise found
-            yield from found
+        running = {pool.submit(in_room, tried, crate, batch) for crate, batch in tasks}
+        while running:
+            ended, running = wait(running, return_when=FIRST_COMPLETED)
+            for task in ended:
+                crate, found = task.result()
+                running |= {pool.submit(in_room, tried_alone, crate, edit) for edit, is_refused in found if is_refused is None}
+                yield from found
 
 
 def main():
@@ -200,14 +215,14 @@ def main():
     asked = parser.parse_args()
     folders = [*TOP.glob("crates/*/must-fail"), *TOP.glob("crates/*/edits")]
     names = asked.crates or sorted({folder.parent.name for folder in folders})
-    rooms = [TOP / f".edits-{number}" for number in range(max(1, asked.jobs))]
-    counts = {True: 0, False: 0}
+    rooms = [TOP / f".edits-{os.getpid()}-{number}" for number in range(max(1, asked.jobs))]
+    counts = dict.fromkeys(SAID, 0)
     try:
         for room in rooms:
             copied(room)
         for edit, is_refused in all_tried(names, rooms):
             counts[is_refused] += 1
-            print(f"{edit.relative_to(TOP)}: {'refused' if is_refused else 'NOT REFUSED'}", flush=True)
+            print(f"{edit.relative_to(TOP)}: {SAID[is_refused]}", flush=True)
     finally:
         for room in rooms:
             shutil.rmtree(room, ignore_errors=True)

@@ -60,12 +60,13 @@ def differences():
 
 
 def main():
-    if "--check" in sys.argv[1:]:
-        found = list(differences())
-        print("\n".join(found) or "page: the literals are those of the page")
-        return 1 if found else 0
-    MADE.write_text(made(PAGE.read_text(encoding="utf-8")), encoding="utf-8")
-    return 0
+    if sys.argv[1:] not in ([], ["--check"]):
+        sys.exit(__doc__)
+    if not sys.argv[1:]:
+        MADE.write_text(made(PAGE.read_text(encoding="utf-8")), encoding="utf-8")
+    found = list(differences())
+    print("\n".join(found) or "page: the literals are those of the page")
+    return 1 if found else 0
 
 
 if __name__ == "__main__":

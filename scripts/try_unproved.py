@@ -13,7 +13,7 @@ from pathlib import Path
 
 TOP = Path(__file__).resolve().parent.parent
 SESSIONS = TOP / "examples" / "sessions"
-UNPROVED = "this build isn't proved yet; `make` proves it, in 30 to 60 minutes"
+UNPROVED = "this build isn't proved yet; `make` proves it, in about an hour"
 # What `rt try` says beside what the program writes.
 ENDED = re.compile(r"^case=(\S+) run=(\S+) status=(\d+)")
 

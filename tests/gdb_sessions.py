@@ -11,14 +11,16 @@ import pty
 import re
 import select
 import shutil
+import signal
 import subprocess
 import sys
 import tempfile
+import threading
 import time
 from dataclasses import dataclass
 from pathlib import Path
 
-from lib import TOP, Wrong, finish, program, run, use
+from lib import TOP, Wrong, finish, parser_of_program, program, run, use
 
 GDB = "gdb-multiarch"
 GCC = "riscv64-unknown-elf-gcc"
@@ -294,6 +296,9 @@ def machine_interface(folder, lines):
     words = [GDB, "-nx", "-q", "--interpreter=mi3", "over.elf"]
     gdb = subprocess.Popen(words, cwd=folder, stdin=subprocess.PIPE, stdout=subprocess.PIPE, stderr=subprocess.DEVNULL, text=True, errors="replace")
     said = []
+    # A gdb that says nothing more is ended, and then its answers are over.
+    late = threading.Timer(120, gdb.kill)
+    late.start()
     with gdb:
         for number, text in enumerate(lines):
             gdb.stdin.write(f"{number}{text}\n")
@@ -308,6 +313,7 @@ def machine_interface(folder, lines):
         gdb.stdin.write("-gdb-exit\n")
         gdb.stdin.flush()
         said += gdb.stdout.readlines()
+    late.cancel()
     return "".join(said)
 
 
@@ -384,6 +390,14 @@ class Terminal:
             os.environ["TERM"] = "dumb"
             os.execvp(GDB, [GDB, "-nx", "-q", *words])
 
+    def __enter__(self):
+        return self
+
+    def __exit__(self, *_):
+        os.kill(self.child, signal.SIGKILL)
+        os.waitpid(self.child, 0)
+        os.close(self.device)
+
     def type(self, text, until, seconds=60):
         """Types a text, and waits until this is printed."""
         os.write(self.device, text)
@@ -392,23 +406,29 @@ class Terminal:
             if time.time() > end:
                 raise Wrong(f"after {text!r} no {until!r} came: {self.said[start:]!r}")
             if select.select([self.device], [], [], 0.2)[0]:
-                self.said += os.read(self.device, 65536)
+                self.read()
         return self.said[start:]
+
+    def read(self):
+        """Takes what was printed."""
+        try:
+            self.said += os.read(self.device, 65536)
+        except OSError as error:
+            raise Wrong(f"gdb has ended: {self.said!r}") from error
 
 
 def check_ctrl_c(folder):
     """Ctrl-C ends a continue that gdb goes on with itself."""
-    gdb = Terminal(folder, "-ex", "set pagination off", "-ex", "set confirm off", "-ex", "set remotetimeout unlimited", "busy.elf")
     prompt = rb"\(gdb\) $"
-    gdb.type(b"", prompt)
-    gdb.type(f"target remote | {program()} gdb busy.img busy.trc\n".encode(), prompt)
-    for text in (b"set scheduler-locking on\n", b"set can-use-hw-watchpoints 0\n", b"watch made[63] if made[63] == 1\n"):
-        gdb.type(text, prompt)
-    os.write(gdb.device, b"continue\n")
-    time.sleep(1.5)
-    gdb.type(b"\x03", rb"SIGINT[\s\S]*\(gdb\) $")
-    gdb.type(b"info threads\n", rb"thread 1[\s\S]*\(gdb\) $")
-    os.write(gdb.device, b"quit\n")
+    with Terminal(folder, "-ex", "set pagination off", "-ex", "set confirm off", "-ex", "set remotetimeout unlimited", "busy.elf") as gdb:
+        gdb.type(b"", prompt)
+        gdb.type(f"target remote | {program()} gdb busy.img busy.trc\n".encode(), prompt)
+        for text in (b"set scheduler-locking on\n", b"set can-use-hw-watchpoints 0\n", b"watch made[63] if made[63] == 1\n"):
+            gdb.type(text, prompt)
+        os.write(gdb.device, b"continue\n")
+        time.sleep(1.5)
+        gdb.type(b"\x03", rb"SIGINT[\s\S]*\(gdb\) $")
+        gdb.type(b"info threads\n", rb"thread 1[\s\S]*\(gdb\) $")
 
 
 def guide_of(text):
@@ -472,11 +492,14 @@ def made(folder):
 
 
 def main():
-    use(sys.argv[1])
+    parser = parser_of_program(__doc__)
+    parser.add_argument("names", metavar="NAME", nargs="*", help="only these sessions")
+    asked = parser.parse_args()
+    use(asked.program)
     if not (shutil.which(GDB) and shutil.which(GCC)):
         print(f"{GDB} and {GCC} aren't both installed, so nothing is tested")
         sys.exit(0)
-    names = sys.argv[2:] or sorted([*SESSIONS, *CHECKS])
+    names = asked.names or sorted([*SESSIONS, *CHECKS])
     failed = 0
     with tempfile.TemporaryDirectory() as place:
         folder = Path(place)

@@ -34,6 +34,7 @@ REFUSED = [
     ("hunt lost.img lost.img --seeds 0..9 --until fault", 2, "lost.img: TRACE would be written over IMAGE"),
     ("record lost.img h.trc --chaos x", 2, "--chaos: 'x' is no number up to 18446744073709551615"),
     ("record lost.img h.trc --chaos 1 --order 0", 2, "the argument '--chaos <SEED>' cannot be used with '--order <LIST>'"),
+    ("record lost.img h.trc --by walk", 2, "the following required arguments were not provided: --chaos <SEED>"),
 ]
 
 # How many seeds that show a fault are looked at, each way.

@@ -9,9 +9,10 @@ tells its step and the least cut; the session goes back to the start, and then b
 import random
 import re
 import subprocess
-import sys
 import tempfile
 from pathlib import Path
+
+from lib import parser_of_program
 
 TOP = Path(__file__).resolve().parent.parent
 # The most events of one recording.
@@ -59,7 +60,10 @@ class Program:
 
 
 def main():
-    program, left = Program(sys.argv[1]), int(sys.argv[2]) if len(sys.argv) > 2 else 500
+    parser = parser_of_program(__doc__)
+    parser.add_argument("count", metavar="COUNT", nargs="?", type=int, default=500, help="how many events are drawn")
+    asked = parser.parse_args()
+    program, left = Program(asked.program), asked.count
     random.seed(7)
     total, seed = 0, 0
     with tempfile.TemporaryDirectory() as folder:

@@ -61,10 +61,16 @@ def program():
     return Program.path
 
 
-def parser_of(doc):
-    """A parser of arguments: the program, and how many runs there are at the same time."""
+def parser_of_program(doc):
+    """A parser of arguments: the program alone."""
     parser = argparse.ArgumentParser(description=doc.splitlines()[0])
     parser.add_argument("program", metavar="IR", help="the built program")
+    return parser
+
+
+def parser_of(doc):
+    """A parser of arguments: the program, and how many runs there are at the same time."""
+    parser = parser_of_program(doc)
     parser.add_argument("--jobs", type=int, default=len(os.sched_getaffinity(0)), help="how many runs at the same time")
     return parser
 

@@ -184,6 +184,7 @@ REFUSED = (
     *((f"why bad.trc 1 1 --image lost.img --at {at}", 2, "", f"ir: --at: '{part}' is no number up to 18446744073709551615\n")
       for at, part in (("x", "x"), ("7,", ""), ("7,-1", "-1"), ("7,18446744073709551616", "18446744073709551616"))),
     ("why bad.trc 1 1 --at 0,0", 2, "", LACKING.format("--image <IMAGE>")),
+    ("view bad.trc --span 9", 2, "", LACKING.format("--around <T> <E>")),
     ("who bad.trc 0 3 --image lost.img", 2, "", NO_VERSION),
     ("who bad.trc 1 --image lost.img", 2, "", NO_OBJECT),
     *((f"who bad.trc 0 --word {word} --image lost.img", 2, "", NO_WORD) for word in (8, 256, 4294967295)),

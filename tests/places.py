@@ -94,6 +94,18 @@ def refused(folder):
     wants("x.img", (folder / "x.img").exists(), False)
 
 
+def one_file_by_two_names(folder):
+    """That MAP and IMAGE are one file is known only once IMAGE is in its place, if nothing was there: IMAGE stays."""
+    wants("asm", run("asm m.s whole.img", folder).returncode, 0)
+    (folder / "to_new.map").symlink_to("new.img")
+    for arguments, map_ in (("asm m.s own.img --map ./own.img", "./own.img"), ("asm m.s new.img --map to_new.map", "to_new.map")):
+        ended = run(arguments, folder)
+        message = f"ir: {map_}: MAP would be written over IMAGE\n"
+        wants(arguments, (ended.returncode, ended.stdout, ended.stderr.decode()), (2, b"", message))
+        image = arguments.split()[2]
+        wants(image, (folder / image).read_bytes(), (folder / "whole.img").read_bytes())
+
+
 def placed(folder):
     """Each event is at the position and the address that a session shows."""
     (folder / "lost.s").write_text(examples()["lost_update"])
@@ -121,5 +133,5 @@ def placed(folder):
 def all_of_it(folder):
     """All tests of places, in a folder of their own."""
     (folder / "folder").mkdir(exist_ok=True)
-    for test in (converted, named, refused, placed):
+    for test in (converted, named, refused, one_file_by_two_names, placed):
         test(folder)

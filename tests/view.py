@@ -14,10 +14,10 @@ import random
 import re
 import struct
 import subprocess
-import sys
 import tempfile
 from pathlib import Path
 
+from lib import parser_of_program
 from view_guests import TOP, guests, many, record
 
 CLOCK, RANDOM, INPUT, READ, WRITE, TRY = range(1, 7)
@@ -278,13 +278,16 @@ def summary(found):
 
 
 def main():
-    program, count = Program(sys.argv[1]), int(sys.argv[2]) if len(sys.argv) > 2 else 5
+    parser = parser_of_program(__doc__)
+    parser.add_argument("count", metavar="COUNT", nargs="?", type=int, default=5, help="how many recordings of each guest")
+    asked = parser.parse_args()
+    program, count = Program(asked.program), asked.count
     with tempfile.TemporaryDirectory() as folder:
         folder = Path(folder)
         for name, text in (guests() | {"many": many(5, 20)}).items():
             found, rests = [], 0
             for seed in range(count):
-                trace = record(sys.argv[1], folder, name, text, seed)
+                trace = record(asked.program, folder, name, text, seed)
                 found.append(program.check(trace))
                 rests += program.check_image(trace, found[-1])
             print(f"{name}: {summary(found)}, of which {rests} rest on what was read")

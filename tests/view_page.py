@@ -12,10 +12,10 @@ import json
 import os
 import re
 import subprocess
-import sys
 import tempfile
 from pathlib import Path
 
+from lib import parser_of_program
 from view_guests import guests, many, record
 
 DATA = re.compile(r'<script type="application/json" id="run">(.*?)</script>', re.DOTALL)
@@ -280,10 +280,13 @@ def check_contrast(browser, name):
 
 
 def main():
-    program = sys.argv[1]
+    parser = parser_of_program(__doc__)
+    parser.add_argument("kept", metavar="FOLDER", nargs="?", type=Path, help="where the pictures are kept")
+    asked = parser.parse_args()
+    program = asked.program
     with tempfile.TemporaryDirectory() as folder:
         folder = Path(folder)
-        kept = Path(sys.argv[2]) if len(sys.argv) > 2 else folder
+        kept = asked.kept or folder
         kept.mkdir(exist_ok=True)
         texts = guests() | {"many": many(4, 12), "large": many(8, 1500)}
         browser = Browser(folder / "profile")

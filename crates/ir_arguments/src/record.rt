@@ -58,9 +58,10 @@ A line is `thread T end E code C steps S events N`; the ends E are
    4 a misaligned jump     9 no such object          14 too many events
    5 outside the code     10 an entry out of order
 At a terminal standard error says in words how a thread ended, unless it was by END with code 0.
-Exit status: 0 recorded, 1 a file that can't be read or written or is too long, 2 bad arguments, 3 a refused image or LIST,
-or a guest with more threads or objects than P allows; with --status 5 if it is recorded, and a thread doesn't end by END
-with code 0: `until ! ir record --status IMAGE TRACE; do :; done` records until one doesn't.
+Exit status: 0 recorded, 1 a file that can't be read or written or is too long, a clock that can't be read, or a run by SEED with
+more than 1048576 turns, 2 bad arguments, 3 a refused image or LIST, or a guest with more threads or objects than P allows;
+with --status 5 if it is recorded, and a thread doesn't end by END with code 0:
+`until ! ir record --status IMAGE TRACE; do :; done` records until one doesn't.
 ";
 
 /// What is recorded, how, and where to.
@@ -133,7 +134,7 @@ pub fn with_arguments<'a>(alloc: Global, command: Command<'a>) -> Result<Command
                 .conflicts_with(ORDER)?
                 .conflicts_with(ORDER_FILE)?,
         )?
-        .arg(by_arg(alloc))?;
+        .arg(by_arg(alloc).requires_arg(CHAOS)?)?;
     with_options(alloc, command)?.arg(status_arg(alloc))
 }
 

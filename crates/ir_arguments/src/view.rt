@@ -22,7 +22,8 @@ If events need each other in a circle, which is so in no run, the one line is `c
 can't be placed. If a page would have over 200000 boxes, the one line is `too many boxes N`. A refused or incoherent trace has
 the one line that `ir stale` has.
 Exit status: 0 printed, 1 a file that can't be read or standard output that can't be written, 2 bad arguments, or an event
-that the trace doesn't have, 3 a refused trace, 4 an incoherent trace, a circle or too many boxes.
+that the trace doesn't have, 3 a refused trace or image, 4 an incoherent trace, one of no run of the image, a circle or too many
+boxes.
 ";
 
 const JSON: &str = "json";
@@ -98,7 +99,7 @@ pub fn with_arguments<'a>(alloc: Global, command: Command<'a>) -> Result<Command
         .arg(json_arg(alloc))?
         .arg(chrome_arg(alloc).conflicts_with(JSON)?)?
         .arg(around_arg(alloc))?
-        .arg(span_arg(alloc))?
+        .arg(span_arg(alloc).requires_arg(AROUND)?)?
         .arg(from_image_arg(
             alloc,
             "The file with the image: the steps of the boxes, and only stale writes that rest on what was read",

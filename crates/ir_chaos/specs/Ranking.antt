@@ -15,7 +15,7 @@ pub record Ranking : Type 0 where
   pub left : ℕ
   -- the thread that went last
   pub last : ℕ
-  -- how many times in a row it may still go while another could
+  -- how many times in a row it may still go before it falls as soon as another could go
   pub patience : ℕ
   -- how many times a thread may
   pub limit : ℕ

@@ -30,7 +30,7 @@ pub struct Ranking {
     pub left: u64,
     // The thread that was chosen last.
     pub last: u8,
-    // How many times in a row it may still be chosen while another could go.
+    // How many times in a row it may still be chosen before it falls as soon as another could go.
     pub patience: u64,
     // How many times a thread may.
     pub limit: u64,

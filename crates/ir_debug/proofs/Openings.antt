@@ -132,6 +132,14 @@ transcript_if_lines_answered image trace d lines w0 w1 w2 opens begun wrote = re
   took = Appends-trans w0 w1 w2 (opening_text (Ready d)) wrote.text begun wrote.grown;
 }
 
+-- the same, and the machine that has answered them is ready
+pub ready_transcript_if_lines_answered : (image trace : List ℕ) (d : Desk) (lines : List (List ℕ)) (w0 w1 w2 : Option (List ℕ)) → Opens image trace (Ready d)
+    → Appends w0 w1 (opening_text (Ready d)) → Wrote Replies d lines w1 w2
+    → Transcript image trace lines (λ text last. Appends w0 w2 text × ((desk : Desk) × (last ≡ Ready desk)))
+ready_transcript_if_lines_answered image trace d lines w0 w1 w2 opens begun wrote =
+    let all = transcript_if_lines_answered image trace d lines w0 w1 w2 opens begun wrote in
+    record { opening = all.opening; opens = all.opens; text = all.text; last = all.last; says = all.says; took = (all.took, (wrote.last, refl)) }
+
 -- a part of them
 pub writes_in_part_if_lines_answered_in_part : (image trace : List ℕ) (d : Desk) (lines : List (List ℕ)) (w0 w1 w2 : Option (List ℕ)) → Opens image trace (Ready d)
     → Appends w0 w1 (opening_text (Ready d)) → WroteInPart Replies d lines w1 w2 → WritesInPart image trace lines w0 w2

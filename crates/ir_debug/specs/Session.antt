@@ -74,10 +74,10 @@ pub record Session (image trace : List ℕ) (limit : ℕ) (result : Result Ended
   pub transcript : Transcript image trace (through quits (heard limit input)) (λ text last. Appends old new text)
   pub ending : result ≡ ending_of transcript.opening limit input
 
--- the writer took the opening lines and all answers to the lines that were read whole, none of which quits
+-- a machine is ready, and the writer took the opening lines and all answers to the lines that were read whole, none of which quits
 pub record AnsweredWhole (image trace : List ℕ) (old new : Option (List ℕ)) (consumed : List ℕ) : Type 0 where
   pub goes : some_quits quits (split_lines consumed).whole ≡ false
-  pub transcript : Transcript image trace (split_lines consumed).whole (λ text last. Appends old new text)
+  pub transcript : Transcript image trace (split_lines consumed).whole (λ text last. Appends old new text × ((desk : Desk) × (last ≡ opening.Ready desk)))
 
 -- the writer took a text, and a prefix of what the machine of last may answer to a line
 pub record Breaks (line : List ℕ) (old new : Option (List ℕ)) (text : List ℕ) (last : Opening) : Type 0 where

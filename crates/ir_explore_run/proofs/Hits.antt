@@ -34,7 +34,7 @@ use Rattle.ir_explore_run.proofs.Answered.{log_is_answered_by_world}
 use Rattle.ir_explore_run.proofs.Fulfilled.{never_within_level_of_outcome_if_none_before_it}
 
 -- who steps is one of the guest's threads
-threads_of_taken_turns_are_below_count : (code : List ℕ) (n : ℕ) (s : State thread.ThreadState) (turns : List Turn) (steps : List Step) → IsIdle (thread_machine code) s n
+pub threads_of_taken_turns_are_below_count : (code : List ℕ) (n : ℕ) (s : State thread.ThreadState) (turns : List Turn) (steps : List Step) → IsIdle (thread_machine code) s n
     → IsRun (thread_machine code) s steps → TakesEach turns steps → AllByRecursion (λ t. t.0 < n) turns
 threads_of_taken_turns_are_below_count code n s [] steps rest ok taken = tt
 threads_of_taken_turns_are_below_count code n s (t ∷ turns) [] rest ok taken = absurd (cc taken)
@@ -57,7 +57,7 @@ shown_order_is_not_empty setup s level turns some shown none =
     (shown.taken ∙ ap (λ o. map (λ (t : Turn). t.0) o) none)
 
 -- the run by the order of an outcome that fulfils each condition
-pub is_hit_if_shown_outcome_is_first_to_fulfil : (guest : Guest) (plan : ExplorePlan) (cs : List Condition) (flats : List SourcedFlat) (outcomes : List Shown) (levels place : ℕ)
+abbrev pub is_hit_if_shown_outcome_is_first_to_fulfil : (guest : Guest) (plan : ExplorePlan) (cs : List Condition) (flats : List SourcedFlat) (outcomes : List Shown) (levels place : ℕ)
     (x : Shown) (s : SourcedFlat) (list : List ℕ) → AreExplored (setup_of guest plan) flats levels outcomes → IsAt flats outcomes place x s
     → NoneBefore guest cs flats outcomes place → fulfils_each guest cs (outcome_of (tables s.flat)) ≡ true
     → SpellsTurns list (turns_of_items x.turns.items) → IsHit guest plan cs x.level list

@@ -4,6 +4,8 @@ use Rattle.ir_chaos.specs.Conditions.{Condition}
 use Rattle.ir_explore.specs.declared.search.Ended.TheVariants.{Finished}
 use Rattle.ir_files.specs.Writers.{Writer, Took, Failed}
 use Rattle.ir_files.specs.declared.exit_status.ExitStatus.{ExitStatus}
+use Rattle.ir_flat.specs.Flat.{tables}
+use Rattle.ir_graph.specs.Outcomes.{outcome_of}
 use Rattle.ir_graph.specs.Reached.{AllReached}
 use Rattle.ir_graph.specs.Setup.{IsCountedOf}
 use Rattle.ir_image.specs.Guest.{Guest, guest_at}
@@ -32,7 +34,7 @@ recording plan list = record { order = list; budget = most_budget; random = plan
 
 -- A list spells the turns of a complete run of the guest, with these many switches, whose outcome fulfils each condition. The run is the one that
 -- is recorded by the list: each call is answered by the plan's random words, its bytes and a count. No complete run with fewer switches fulfils
--- them, whatever its budget.
+-- them, whatever its budget, but for runs in which a budget is spent or a log is full.
 pub record IsHit (guest : Guest) (plan : ExplorePlan) (conditions : List Condition) (level : ℕ) (list : List ℕ) : Type 0 where
   pub turns : List Turn
   pub spelled : order_of (length guest.entries) list ≡ Some turns
@@ -43,7 +45,7 @@ pub record IsHit (guest : Guest) (plan : ExplorePlan) (conditions : List Conditi
   pub switched : switches_by (setup_of guest plan) most_budget run ≡ level
   pub fewest : NeverWithin (setup_of guest plan) conditions level
 
--- The outcomes of the guest are printed up to the first that fulfils each condition, and then which one that is.
+-- The outcomes of the guest are printed up to the first that fulfils each condition, and then which one that is. Its run is the one that is recorded.
 pub record IsHitText (guest : Guest) (plan : ExplorePlan) (conditions : List Condition) (list text : List ℕ) : Type 0 where
   pub known : Known
   pub explored : AreExplored (setup_of guest plan) known.flats known.levels known.outcomes
@@ -52,7 +54,9 @@ pub record IsHitText (guest : Guest) (plan : ExplorePlan) (conditions : List Con
   pub state : SourcedFlat
   pub at : IsAt known.flats known.outcomes place shown state
   pub first : NoneBefore guest conditions known.flats known.outcomes place
+  pub fulfils : fulfils_each guest conditions (outcome_of (tables state.flat)) ≡ true
   pub hit : IsHit guest plan conditions shown.level list
+  pub same : outcome_by (setup_of guest plan) most_budget hit.run ≡ outcome_of (tables state.flat)
   pub lines : List ℕ
   pub texts : AreTexts (objects_of guest) known.flats known.outcomes (suc place) lines
   pub whole : text ≡ lines ++ found_line (suc place) shown.level list
@@ -66,7 +70,7 @@ pub record IsSought (guest : Guest) (plan : ExplorePlan) (conditions : List Cond
   pub whole : found ≡ None → AreKnown guest plan known
 
 -- All outcomes that were found are printed, and how the search for them ended. None fulfils each condition: if the search is finished, no complete
--- run of the guest does, and however it ended none of fewer switches than it has gone over.
+-- run of the guest does, and however it ended none of fewer switches than it has gone over. Runs in which a budget is spent or a log is full aside.
 pub record IsVain (guest : Guest) (plan : ExplorePlan) (conditions : List Condition) (text : List ℕ) : Type 0 where
   pub known : Known
   pub are : AreKnown guest plan known

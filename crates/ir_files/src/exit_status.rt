@@ -11,11 +11,12 @@ pub enum ExitStatus {
     Failed,
     /// The arguments ask for nothing that there is.
     BadArguments,
-    /// A source, a list, an image or a trace is refused.
+    /// A source, an ELF file, a map, a list, an image or a trace is refused, or a guest needs the second profile.
     Refused,
-    /// A trace doesn't fit its image.
+    /// A trace doesn't fit its image, contradicts itself or another trace, or has too many boxes for a page.
     NotFit,
-    /// What was asked for isn't so: a thread of a recording didn't end by END with code 0, or a hunt found no seed.
+    /// What was asked for isn't so: a thread of a recording didn't end by END with code 0, a hunt found no seed, or an exploration stopped or found no
+    /// outcome.
     NotSo,
 }
 

@@ -4,7 +4,8 @@ use Rattle.ir_image.specs.Guest.{Guest, guest_at, image_fault_number as image_fa
 use Rattle.ir_image.specs.declared.image_err.ImageErr.{ImageErr}
 use Rattle.ir_trace.specs.Recorded.{Recorded, recorded_at, trace_fault_number as trace_fault}
 use Rattle.ir_trace.specs.declared.trace_err.TraceErr.{TraceErr}
-use Rattle.ir_fit.specs.Fit.{FittedTrace, HasRun, IsVerdictOnTrace as IsRefusedBy}
+use Rattle.ir_fit.specs.Fit.{FittedTrace, HasRun, IsRefused}
+use Rattle.ir_fit.specs.declared.fit_err.FitErr.TheVariants as fit_err
 use Rattle.ir_fit.specs.declared.verdict.Verdict.{Verdict}
 use Rattle.ir_files.specs.declared.exit_status.ExitStatus.{ExitStatus}
 use Rattle.ir_files.specs.declared.exit_status.ExitStatus.TheVariants as status
@@ -28,13 +29,13 @@ pub record IsNoTrace (image trace : List ℕ) (fault : ℕ) : Type 0 where
   pub is : recorded_at trace ≡ Err error
   pub number : trace_fault error ≡ Some fault
 
--- they are an image and a trace, and no run of the guest has the trace
+-- they are an image and a trace, and no run of the guest has the trace, for this reason
 pub record IsNoRun (image trace : List ℕ) (verdict : Verdict) : Type 0 where
   pub guest : Guest
   pub is_guest : guest_at image ≡ Ok guest
   pub recorded : Recorded
   pub is_recorded : recorded_at trace ≡ Ok recorded
-  pub why : IsRefusedBy guest recorded verdict
+  pub why : IsRefused guest recorded (fit_err.Refused verdict)
 
 -- they are an image and a trace that a run of the guest has
 pub record IsFit (image trace : List ℕ) (f : FittedTrace) : Type 0 where

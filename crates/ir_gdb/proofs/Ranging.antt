@@ -1,13 +1,14 @@
 -- Where a thread stops that steps in a range of addresses.
-use Rattle.std.proofs.Common.{◌≡◌, ◌≤◌, ◌∙◌, ℕ, Bool, true, false, List, Option, Some, None, refl, ap, subst, arith}
+use Rattle.std.proofs.Common.{◌≡◌, ◌<◌, ◌≤◌, ◌+◌, ◌∙◌, ◌⊎◌, ℕ, suc, Bool, true, false, List, Option, Some, None, inl, inr, refl, sym, ap, subst, arith}
 use Rattle.ir_fit.specs.Fit.{FittedTrace, HasRun}
 use Rattle.ir_cut.specs.Positions.{EachRun, cut_of, last_of}
 use Rattle.ir_command.specs.declared.hit.Hit.{Hit}
-use Rattle.ir_hits.specs.Hits.{Numbered}
+use Rattle.ir_hits.specs.Hits.{Numbered, thread_at}
 use Rattle.ir_hits.specs.Searching.{IsNextHit}
 use Rattle.ir_gdb.specs.declared.stopped.Stopped.{Stopped}
 use Rattle.ir_gdb.specs.Stub.{Stub, spoken}
-use Rattle.ir_gdb.specs.Stops.{Leaves, RangesTo, position_of, upwards_of, after_range, end_of_range, ranged}
+use Rattle.ir_gdb.specs.Stops.{Leaves, RangesTo, StaysWithin, is_within, position_of, upwards_of, after_range, end_of_range, ranged}
+use Rattle.ir_gdb.proofs.Together.{below_next_cases}
 
 upwards_of_ignores_spoken : (s : Stub) (t : ℕ) (w : Bool) → upwards_of (spoken s) t w ≡ upwards_of s t w
 upwards_of_ignores_spoken s t true = refl
@@ -63,3 +64,22 @@ pub next_hit_within_target : (f : FittedTrace) (t p to : ℕ) (points : List Num
 next_hit_within_target f t p to points hit h has finds is =
     let found = subst (λ (x : Option Hit). IsNextHit f has.run points t p to x) is (finds has.run has.whole) in
     found.1
+
+-- pc of a thread at a cut is its pc at its position there
+pub pc_in_cut_is_pc_at_position : (s v : Stub) (t k pc : ℕ) (cut : List ℕ) → v ≡ spoken s → cut_of cut t ≡ k
+    → EachRun v.desk.fitted (λ run. pc ≡ (thread_at v.desk.fitted run t (cut_of cut t)).core.pc) → EachRun s.desk.fitted (λ run. pc ≡ (thread_at s.desk.fitted run t k).core.pc)
+pc_in_cut_is_pc_at_position s v t k pc cut same there is =
+    subst (λ (x : Stub). EachRun x.desk.fitted (λ run. pc ≡ (thread_at x.desk.fitted run t k).core.pc)) same
+    (subst (λ (n : ℕ). EachRun v.desk.fitted (λ run. pc ≡ (thread_at v.desk.fitted run t n).core.pc)) there is)
+
+-- a thread that stays within a range up to a position stays so up to the next, if its pc there is in the range
+pub stays_within_range_up_to_next_position : (s : Stub) (t low high n pc : ℕ)
+    → EachRun s.desk.fitted (λ run. StaysWithin run s t low high (position_of s t) (suc n))
+    → EachRun s.desk.fitted (λ run. pc ≡ (thread_at s.desk.fitted run t (n + 1)).core.pc) → is_within low high pc ≡ true
+    → EachRun s.desk.fitted (λ run. StaysWithin run s t low high (position_of s t) (suc (n + 1)))
+stays_within_range_up_to_next_position s t low high n pc before is inside run whole j above below = by (below_next_cases j (n + 1) (omega (arith, below))) where
+  by : (j < n + 1) ⊎ (j ≡ n + 1) → is_within low high (thread_at s.desk.fitted run t j).core.pc ≡ true
+  by (inl less) = before run whole j above (omega (arith, less))
+  by (inr same) =
+      subst (λ (k : ℕ). is_within low high (thread_at s.desk.fitted run t k).core.pc ≡ true) (sym same)
+      (subst (λ (a : ℕ). is_within low high a ≡ true) (is run whole) inside)

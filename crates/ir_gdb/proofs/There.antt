@@ -3,11 +3,11 @@ use Rattle.std.proofs.Common.{◌≡◌, ◌≤◌, ◌<◌, ℕ, List, length, 
 use Rattle.std.specs.Prelude.{Result, Ok, Err, IfOk}
 use Rattle.ir_flat.specs.Flat.{idle}
 use Rattle.ir_fit.specs.Fit.{FittedTrace, HasRun}
-use Rattle.ir_cut.specs.Laws.{LeastExact, GreatestExact}
-use Rattle.ir_cut.specs.Positions.{EachRun, IsConsistentCut, cut_of, threads_of, last_of}
+use Rattle.ir_cut.specs.Laws.{GreatestExact}
+use Rattle.ir_cut.specs.Positions.{EachRun, IsConsistentCut, cut_of, threads_of}
 use Rattle.ir_hits.specs.Hits.{thread_at}
 use Rattle.ir_weave.specs.Standing.{StandsAt}
-use Rattle.ir_debug.specs.Debugging.{ToLeast, ToGreatest}
+use Rattle.ir_debug.specs.Debugging.{ToGreatest}
 use Rattle.ir_gdb.specs.Serving.{Serving}
 
 pub guest_thread_is_below_number_of_threads_in_hand : (s : Serving) (cut : List ℕ) (t : ℕ) → StandsAt s.stub.desk.fitted (cut_of cut) s.state → t < threads_of s.stub.desk.fitted
@@ -17,13 +17,6 @@ guest_thread_is_below_number_of_threads_in_hand s cut t there below = subst (λ 
 pub thread_in_hand_is_at_cut : (s : Serving) (cut : List ℕ) (t : ℕ) → StandsAt s.stub.desk.fitted (cut_of cut) s.state
     → EachRun s.stub.desk.fitted (λ run. slice_index_or s.state.threads t idle ≡ thread_at s.stub.desk.fitted run t (cut_of cut t))
 thread_in_hand_is_at_cut s cut t there run is = (there.at.each run is).threads t
-
--- the least cut with thread t at a position that isn't below its own has it there
-pub least_cut_to_position_ahead_is_exactly_there : LeastExact → (f : FittedTrace) (at cut : List ℕ) (t k : ℕ) → IsConsistentCut f at → cut_of at t ≤ k → k ≤ last_of f t
-    → t < threads_of f → EachRun f (λ run. ToLeast run f at t k cut) → EachRun f (λ run. cut_of cut t ≡ k)
-least_cut_to_position_ahead_is_exactly_there law f at cut t k held low high l least run whole =
-    law f.guest f.recorded.budget f.recorded.profile run whole.1.runs (cut_of at) (cut_of cut) t k (held run whole).0 (held run whole).1 low
-    (subst (λ (n : ℕ). k ≤ n) (sym (whole.1.steps t l)) high) (least run whole).1
 
 -- the greatest cut with thread t at a position that isn't above its own has it there
 pub greatest_cut_to_position_behind_is_exactly_there : GreatestExact → (f : FittedTrace) (at cut : List ℕ) (t k : ℕ) → HasRun f → IsConsistentCut f at → k ≤ cut_of at t

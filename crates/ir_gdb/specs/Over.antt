@@ -77,7 +77,7 @@ is_waiting reason.Begin = false
 abbrev pub waits : Stub → ℕ → Bool
 waits s t = (s.told.thread == t) && is_waiting s.told.reason
 
--- gdb lets a thread that waits go on freely, also where it was asked for one step: alone it makes no more than this
+-- gdb lets a thread that waits go on freely, also where it was asked for one step: alone a `continue` then makes one step, and other moves stay
 abbrev pub no_more : Motion → Motion
 no_more motion.Step = motion.Step
 no_more (motion.Range low high) = motion.Range low high

@@ -99,7 +99,7 @@ may_lack request.Restart = true
 may_lack (request.RestartAt n) = true
 may_lack asked = false
 
--- out of memory, and nothing has changed
+-- out of memory: nothing has moved and nothing is set, at most registers and the like are to be read anew as after any command
 abbrev pub Lacks : Stub → Request → Stub → Type 0
 Lacks s asked next = (may_lack asked ≡ true) × ((next ≡ s) ⊎ (next ≡ spoken s))
 

@@ -178,7 +178,7 @@ fn tell_left_out<E: Sink>(alloc: Global, faults: &mut E, count: u64)
         return;
     }
     let Ok(words) = format!(in alloc;
-        "{count} seeds were left out: their runs have too many turns to be followed"
+        "seeds that were left out, since their runs have too many turns to be followed: {count}"
     ) else {
         return;
     };

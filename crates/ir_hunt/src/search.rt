@@ -105,7 +105,7 @@ fn lowest<C>(workers: &[Worker<'_, C>]) -> Option<u64>
     seed
 }
 
-// As many workers as there are processors, or as there are seeds.
+// So many workers.
 fn workers<'a, R: Threads + Clock>(
     rt: &'a R,
     alloc: Global,
@@ -141,6 +141,17 @@ fn processors(rt: &impl Threads) -> usize
     }
 }
 
+// How many workers there are for these seeds: as many as processors, and no more than seeds.
+fn worker_count(rt: &impl Threads, seeds: Seeds) -> usize
+    ensures { 0 < result }
+{
+    let more = seeds
+        .last
+        .saturating_sub(seeds.first)
+        .min(MOST_WORKERS as u64);
+    processors(rt).min(more as usize + 1)
+}
+
 // Whether memory ran out for a worker.
 fn has_failed<C>(workers: &[Worker<'_, C>]) -> bool {
     workers.iter().any(|worker| worker.failed)
@@ -169,7 +180,7 @@ pub fn lowest_seed<R: Threads + Clock + Sync + Eprint>(
     ensures { IfOk result (λ s. 0 < s.choices) }
 {
     let choices = Seeker::new(alloc, rt, image, plan)?.choices()?;
-    let count = processors(rt);
+    let count = worker_count(rt, plan.seeds);
     let mut workers = workers(rt, alloc, image, plan, count, choices)?;
     let mut stretches = Stretches::new(plan.seeds, count as u64);
     let mut shown = Shown::new(rt, plan.is_shown);
@@ -183,6 +194,7 @@ pub fn lowest_seed<R: Threads + Clock + Sync + Eprint>(
             &|_, worker| { worker.seek(&dealer) },
         );
         if has_failed(workers.as_slice()) {
+            shown.end(rt);
             return Err(AllocError);
         }
         found = lowest(workers.as_slice());
@@ -191,6 +203,7 @@ pub fn lowest_seed<R: Threads + Clock + Sync + Eprint>(
         }
         stretches.took(shown.tried(rt, stretch));
     }
+    shown.end(rt);
     Ok(Search {
         found,
         choices,

@@ -4,12 +4,18 @@ use crate::plan::Seeds;
 use ir_sources::millis_since;
 use std::time::{Clock, Instant};
 
+// No line of a hunt that a person waits for is longer, and no row of a terminal shorter.
+const BLANKS: &str =
+    "                                                                               ";
+
 /// What is shown of a hunt on the way, once a second.
 #[derive(Clone, Copy, Debug)]
 pub struct Shown {
     // None if the clock can't be read.
     start: Option<Instant>,
     is_shown: bool,
+    // Whether its line stands on the terminal.
+    stands: bool,
     // The milliseconds since the start at the end of the last stretch.
     millis: u32,
     seeds: u64,
@@ -21,13 +27,15 @@ impl Shown {
         Shown {
             start: Instant::now(rt).ok(),
             is_shown,
+            stands: false,
             millis: 0,
             seeds: 0,
         }
     }
 
     // Shows how many seeds were tried so far and in each second, and the last of them.
-    fn show<R: Eprint>(&self, rt: &R, last: u64) {
+    fn show<R: Eprint>(&mut self, rt: &R, last: u64) {
+        self.stands = true;
         let seconds = (self.millis / 1000).max(1) as u64;
         let (seeds, rate) = (self.seeds, self.seeds / seconds);
         let _ = rt.eprint(format_args!("{seeds} seeds, {rate} per second, up to {last}\r"));
@@ -46,5 +54,13 @@ impl Shown {
             self.show(rt, stretch.last);
         }
         millis.saturating_sub(before)
+    }
+
+    /// Takes its line off the terminal, if one stands there.
+    pub fn end<R: Eprint>(&mut self, rt: &R) {
+        if self.stands {
+            self.stands = false;
+            let _ = rt.eprint(format_args!("{BLANKS}\r"));
+        }
     }
 }

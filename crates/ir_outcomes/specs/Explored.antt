@@ -37,7 +37,7 @@ abbrev pub IsIn : List SourcedFlat → List Shown → Outcome → Type 0
 IsIn flats outcomes y = (i : ℕ) × (x : Shown) × (s : SourcedFlat) × IsAt flats outcomes i x s × (outcome_of (tables s.flat) ≡ y)
 
 -- Different outcomes of the guest, each with turns that lead to it with fewest switches, by rising numbers of them. Those of runs with
--- fewer switches than levels are all among them, and none needs more.
+-- fewer switches than levels are all among them, and none needs more. Runs in which a budget is spent or a log is full aside.
 pub record AreExplored (setup : Setup) (flats : List SourcedFlat) (levels : ℕ) (outcomes : List Shown) : Type 0 where
   pub shown : (i : ℕ) (x : Shown) (s : SourcedFlat) → IsAt flats outcomes i x s → IsShown setup s x.level (turns_of_items x.turns.items)
   pub fewest : (i : ℕ) (x : Shown) (s : SourcedFlat) → IsAt flats outcomes i x s → (budget : ℕ) (steps : List Step)

@@ -42,8 +42,8 @@ pub record IsShownAt (setup : Setup) (s : SourcedFlat) (level : ℕ) (turns : Li
   pub stands : CanEnd setup steps → CanEndFrom s
   pub few : switches_by setup most_budget steps ≤ level
 
--- A run by these turns, each of which takes a step, hangs: no run that counts, of whatever budget, continues it to a complete one. It
--- switches the thread that enters or tries at most so often.
+-- A run by these turns, each of which takes a step, hangs: no run that counts, of whatever budget, continues it to a complete one, unless a budget
+-- is spent or a log is full. It switches the thread that enters or tries at most so often.
 pub record IsHangShown (setup : Setup) (level : ℕ) (turns : List Turn) : Type 0 where
   pub steps : List Step
   pub hangs : IsHangOf setup most_budget steps

@@ -13,8 +13,8 @@ use Rattle.ir_text.specs.Buffered.{Buffered}
 use Rattle.ir_text.specs.Texts.{log_text}
 use Rattle.ir_program.specs.Listing.{header_line, thread_listing, threads_listing, Stops}
 use Rattle.ir_files.specs.Writers.{writer_of, Failed}
-use Rattle.ir_program.specs.declared.list_err.ListErr.{ListErr}
-use Rattle.ir_program.specs.declared.list_err.ListErr.TheVariants as err
+use Rattle.ir_program.specs.declared.print_err.PrintErr.{PrintErr}
+use Rattle.ir_program.specs.declared.print_err.PrintErr.TheVariants as err
 
 -- nothing was written of a text
 pub nothing_appended_is_prefix : (a : Option (List ℕ)) (text : List ℕ) → AppendsPrefix a a text
@@ -80,7 +80,7 @@ prefix_appended_in_thread_listing a b c t rs r text some e f prefix =
     ∙ ap (λ (x : List ℕ). f.part ++ x) (sym (threads_listing_of_drop_step t rs r some e)) ∙ f.others)
     (appends_prefix_of_longer_text a c (f.part ++ thread_listing t r) rest (appends_prefix_of_append_if_first_appended a b c f.part (thread_listing t r) f.written prefix))
 
-pub stopped_in_thread_listing : (e : ListErr) (a b c : Option (List ℕ)) (failed : Bool) (t : ℕ) (rs : List RecordedThread) (r : RecordedThread)
+pub stopped_in_thread_listing : (e : PrintErr) (a b c : Option (List ℕ)) (failed : Bool) (t : ℕ) (rs : List RecordedThread) (r : RecordedThread)
     (text : List ℕ) → t < length rs → r ≡ get_or rs t r → Buffered a b (threads_listing t (drop t rs)) text
     → Stops e (writer_of b c failed) (thread_listing t r) → Stops e (writer_of a c failed) text
 stopped_in_thread_listing err.NoMem a b c failed t rs r text some e f h = (prefix_appended_in_thread_listing a b c t rs r text some e f h.0, h.1)
@@ -88,12 +88,12 @@ stopped_in_thread_listing err.Write a b c failed t rs r text some e f h = (prefi
 
 -- ---- after the first line
 
-stops_after_first_text : (e : ListErr) (a b c : Option (List ℕ)) (failed : Bool) (first rest : List ℕ) → Appends a b first
+stops_after_first_text : (e : PrintErr) (a b c : Option (List ℕ)) (failed : Bool) (first rest : List ℕ) → Appends a b first
     → Stops e (writer_of b c failed) rest → Stops e (writer_of a c failed) (first ++ rest)
 stops_after_first_text err.NoMem a b c failed first rest done h = (appends_prefix_of_append_if_first_appended a b c first rest done h.0, h.1)
 stops_after_first_text err.Write a b c failed first rest done h = (appends_prefix_of_append_if_first_appended a b c first rest done h.0, h.1)
 
-result_stops_after_first_text : {A : Type 0} (result : Result A ListErr) (a b c : Option (List ℕ)) (failed : Bool) (bytes first rest : List ℕ)
+result_stops_after_first_text : {A : Type 0} (result : Result A PrintErr) (a b c : Option (List ℕ)) (failed : Bool) (bytes first rest : List ℕ)
     → bytes ≡ first → Appends a b bytes → IfErr result (λ e. Stops e (writer_of b c failed) rest)
     → IfErr result (λ e. Stops e (writer_of a c failed) (first ++ rest))
 result_stops_after_first_text (Ok x) a b c failed bytes first rest same done h = tt
@@ -104,7 +104,7 @@ pub header_line_equal_if_parts_equal : (threads others : List RecordedThread) (o
     → header_line (length threads) objects budget profile ≡ header_line (length others) objects' budget' profile'
 header_line_equal_if_parts_equal threads others objects objects' budget budget' profile profile' e o b p = λ i. header_line (length (e i)) (o i) (b i) (p i)
 
-pub stops_in_threads_listing_after_first : {A : Type 0} (result : Result A ListErr) (a b c : Option (List ℕ)) (failed : Bool) (bytes first : List ℕ)
+pub stops_in_threads_listing_after_first : {A : Type 0} (result : Result A PrintErr) (a b c : Option (List ℕ)) (failed : Bool) (bytes first : List ℕ)
     (threads others : List RecordedThread) → bytes ≡ first → threads ≡ others → Appends a b bytes
     → IfErr result (λ e. Stops e (writer_of b c failed) (threads_listing 0 threads))
     → IfErr result (λ e. Stops e (writer_of a c failed) (first ++ threads_listing 0 others))

@@ -14,8 +14,8 @@ use Rattle.ir_debug.specs.declared.ended.SessionErr.TheVariants as err
 use Rattle.ir_program.specs.Taking.{IsPlain, Reader, reader_of, TakesLine, TakesBytes, IsInLine, GivesNone, LineFails}
 use Rattle.ir_files.specs.Writers.{Writer}
 use Rattle.ir_program.specs.Leaving.{Serves, CameWhole, CameInPart, Comes, Leaves, fault_of}
-use Rattle.ir_program.specs.declared.fault.BundleErr.{BundleErr}
-use Rattle.ir_program.specs.declared.fault.BundleErr.TheVariants as fault
+use Rattle.ir_program.specs.declared.fault.ProgramErr.{ProgramErr}
+use Rattle.ir_program.specs.declared.fault.ProgramErr.TheVariants as fault
 use Rattle.ir_stream.specs.Answers.{ReadsUpTo}
 
 line_of_plain_prefix : (line rest : List ℕ) → IsPlain line → line_of (line ++ rest) ≡ line ++ line_of rest
@@ -108,7 +108,7 @@ pub in_line_after_consumed_plain : (a b c : Option (List ℕ)) (line : List ℕ)
 in_line_after_consumed_plain a b c line plain p without_return_drops_one_byte_at_most = (line, plain, Consumes-kept a b c line p without_return_drops_one_byte_at_most)
 
 -- a line that was taken and gives no bytes
-pub line_fails_if_no_bytes : {A : Type 0} (r : Result A BundleErr) (a b : Option (List ℕ)) (line line' : List ℕ) (failed : Bool) → TakesLine a b line
+pub line_fails_if_no_bytes : {A : Type 0} (r : Result A ProgramErr) (a b : Option (List ℕ)) (line line' : List ℕ) (failed : Bool) → TakesLine a b line
     → line' ≡ line → failed ≡ false → IfErr r (λ e. GivesNone e line')
     → IfErr r (λ e. LineFails e (reader_of a b failed))
 line_fails_if_no_bytes (Ok bytes) a b line line' failed taken same works gives = tt
@@ -185,7 +185,7 @@ session_ends_too_long_if_result_is_too_long result c old new image trace e serve
 -- ---- what a fault leaves
 
 -- the line of the image gives no bytes
-pub leaves_if_image_line_fails : (e : BundleErr) (a b : Option (List ℕ)) (failed : Bool) (w : Writer) (Same : Type 0) → w.failed ≡ false → Same
+pub leaves_if_image_line_fails : (e : ProgramErr) (a b : Option (List ℕ)) (failed : Bool) (w : Writer) (Same : Type 0) → w.failed ≡ false → Same
     → LineFails e (reader_of a b failed) → Leaves e (reader_of a b failed) w Same
 leaves_if_image_line_fails fault.BadLine a b failed w Same works same h = (no_bundle_if_image_line_refused a h.0, h.1, same)
 leaves_if_image_line_fails fault.NoMem a b failed w Same works same h = (h, same)
@@ -194,7 +194,7 @@ leaves_if_image_line_fails fault.Write a b failed w Same works same h = absurd h
 leaves_if_image_line_fails fault.TooLong a b failed w Same works same h = absurd h
 
 -- the line of the trace gives none
-pub leaves_if_trace_line_fails : (e : BundleErr) (a b c : Option (List ℕ)) (failed : Bool) (w : Writer) (Same : Type 0) (image : List ℕ)
+pub leaves_if_trace_line_fails : (e : ProgramErr) (a b c : Option (List ℕ)) (failed : Bool) (w : Writer) (Same : Type 0) (image : List ℕ)
     → w.failed ≡ false → Same → TakesBytes a b image → LineFails e (reader_of b c failed) → Leaves e (reader_of a c failed) w Same
 leaves_if_trace_line_fails fault.BadLine a b c failed w Same image works same taken h = (no_bundle_if_trace_line_refused a b image taken h.0, h.1, same)
 leaves_if_trace_line_fails fault.NoMem a b c failed w Same image works same taken h = (h, same)

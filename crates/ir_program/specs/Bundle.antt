@@ -9,8 +9,8 @@ use Rattle.ir_debug.specs.declared.ended.Ended.TheVariants.{Quit, InputEnd, Imag
 use Rattle.ir_debug.specs.declared.ended.SessionErr.{SessionErr}
 use Rattle.ir_files.specs.declared.exit_status.ExitStatus.{ExitStatus}
 use Rattle.ir_files.specs.declared.exit_status.ExitStatus.TheVariants as status
-use Rattle.ir_program.specs.declared.fault.BundleErr.{BundleErr}
-use Rattle.ir_program.specs.declared.fault.BundleErr.TheVariants.{BadLine, NoMem, Read, Write, TooLong}
+use Rattle.ir_program.specs.declared.fault.ProgramErr.{ProgramErr}
+use Rattle.ir_program.specs.declared.fault.ProgramErr.TheVariants.{BadLine, NoMem, Read, Write, TooLong}
 
 -- the most hexadecimal digits of a line
 abbrev pub most_digits : ℕ
@@ -65,9 +65,9 @@ status_of TraceRefused = status.Refused
 status_of NotFit = status.NotFit
 
 -- a fault in words
-abbrev pub fault_words : BundleErr → List ℕ
+abbrev pub fault_words : ProgramErr → List ℕ
 fault_words BadLine = codes "a line of the image or the trace isn't whole bytes in at most 4194304 hexadecimal digits"
 fault_words NoMem = codes "memory ran out"
 fault_words Read = codes "standard input can't be read"
 fault_words Write = codes "standard output can't be written"
-fault_words TooLong = codes "1073741824 bytes of commands held no line of quit"
+fault_words TooLong = codes "1073741824 bytes were read, and nothing ended the session"

@@ -8,8 +8,8 @@ use Rattle.ir_debug.specs.declared.ended.SessionErr.TheVariants as session
 use Rattle.ir_program.specs.Bundle.{bundle_of, Bundled}
 use Rattle.ir_program.specs.Taking.{Reader, TakesBytes, IsInLines}
 use Rattle.ir_files.specs.Writers.{Writer}
-use Rattle.ir_program.specs.declared.fault.BundleErr.{BundleErr}
-use Rattle.ir_program.specs.declared.fault.BundleErr.TheVariants.{BadLine, NoMem, Read, Write, TooLong}
+use Rattle.ir_program.specs.declared.fault.ProgramErr.{ProgramErr}
+use Rattle.ir_program.specs.declared.fault.ProgramErr.TheVariants.{BadLine, NoMem, Read, Write, TooLong}
 
 -- the lines of an image and a trace were taken, and this holds of them and of what was read after them
 pub record Serves (old new : Option (List ℕ)) (P : List ℕ → List ℕ → List ℕ → Type 0) : Type 0 where
@@ -41,7 +41,7 @@ pub record Comes (result : Result Ended SessionErr) (reader : Reader) (writer : 
   pub served : Serves reader.before reader.after (Came result writer.before writer.after)
 
 -- what a fault leaves, the last being that the writer is as it was
-abbrev pub Leaves : BundleErr → Reader → Writer → Type 0 → Type 0
+abbrev pub Leaves : ProgramErr → Reader → Writer → Type 0 → Type 0
 Leaves BadLine reader writer same = IfSome reader.before (λ input. bundle_of input ≡ None) × (reader.failed ≡ false) × same
 Leaves NoMem reader writer same = (reader.failed ≡ false) × same
 Leaves Read reader writer same =
@@ -70,7 +70,7 @@ Stops image trace session.Write reader writer same = (reader.failed ≡ false) �
 Stops image trace session.TooLong reader writer same = Ends image trace (Err session.TooLong) reader writer
 
 -- the fault that is reported
-abbrev pub fault_of : SessionErr → BundleErr
+abbrev pub fault_of : SessionErr → ProgramErr
 fault_of session.NoMem = NoMem
 fault_of session.Read = Read
 fault_of session.Write = Write

@@ -12,10 +12,10 @@ use Rattle.ir_record_run.specs.Recording.{thread_line}
 use Rattle.ir_files.specs.Writers.{Writer, Failed}
 use Rattle.ir_files.specs.declared.exit_status.ExitStatus.{ExitStatus}
 use Rattle.ir_files.specs.declared.exit_status.ExitStatus.TheVariants as status
-use Rattle.ir_program.specs.declared.fault.BundleErr.{BundleErr}
-use Rattle.ir_program.specs.declared.fault.BundleErr.TheVariants as fault
-use Rattle.ir_program.specs.declared.list_err.ListErr.{ListErr}
-use Rattle.ir_program.specs.declared.list_err.ListErr.TheVariants.{NoMem, Write}
+use Rattle.ir_program.specs.declared.fault.ProgramErr.{ProgramErr}
+use Rattle.ir_program.specs.declared.fault.ProgramErr.TheVariants as fault
+use Rattle.ir_program.specs.declared.print_err.PrintErr.{PrintErr}
+use Rattle.ir_program.specs.declared.print_err.PrintErr.TheVariants.{NoMem, Write}
 
 -- the number of each profile
 abbrev pub profile_number : Profile → ℕ
@@ -52,11 +52,11 @@ status_of (Ok r) = status.Done
 status_of (Err e) = status.Refused
 
 -- what is left where not all of a text was written
-abbrev pub Stops : ListErr → Writer → List ℕ → Type 0
+abbrev pub Stops : PrintErr → Writer → List ℕ → Type 0
 Stops NoMem writer text = AppendsPrefix writer.before writer.after text × (writer.failed ≡ false)
 Stops Write writer text = Failed writer text
 
 -- the fault that is reported
-abbrev pub fault_of : ListErr → BundleErr
+abbrev pub fault_of : PrintErr → ProgramErr
 fault_of NoMem = fault.NoMem
 fault_of Write = fault.Write

@@ -3,8 +3,8 @@ use Rattle.std.specs.Prelude.{◌≡◌, ◌⊎◌, ℕ, Bool, true, false, List
 use Rattle.std.specs.List.{AllByRecursion}
 use Rattle.std.specs.Io.KnownBytes.{Consumes}
 use Rattle.ir_program.specs.Bundle.{is_feed, line_of, after_line, bytes_of_line}
-use Rattle.ir_program.specs.declared.fault.BundleErr.{BundleErr}
-use Rattle.ir_program.specs.declared.fault.BundleErr.TheVariants.{BadLine, NoMem, Read, Write, TooLong}
+use Rattle.ir_program.specs.declared.fault.ProgramErr.{ProgramErr}
+use Rattle.ir_program.specs.declared.fault.ProgramErr.TheVariants.{BadLine, NoMem, Read, Write, TooLong}
 
 -- the first line is gone, where the bytes are known
 abbrev pub TakesLine : Option (List ℕ) → Option (List ℕ) → List ℕ → Type 0
@@ -40,7 +40,7 @@ abbrev pub IsInLines : Option (List ℕ) → Option (List ℕ) → Type 0
 IsInLines old new = IsInLine old new ⊎ ((image : List ℕ) × (rest : Option (List ℕ)) × TakesBytes old rest image × IsInLine rest new)
 
 -- a line that is no text in hexadecimal, by its fault
-abbrev pub GivesNone : BundleErr → List ℕ → Type 0
+abbrev pub GivesNone : ProgramErr → List ℕ → Type 0
 GivesNone BadLine line = bytes_of_line line ≡ None
 GivesNone NoMem line = ⊤
 GivesNone Read line = ⊥
@@ -48,7 +48,7 @@ GivesNone Write line = ⊥
 GivesNone TooLong line = ⊥
 
 -- what taking a line leaves that gives no bytes
-abbrev pub LineFails : BundleErr → Reader → Type 0
+abbrev pub LineFails : ProgramErr → Reader → Type 0
 LineFails BadLine reader = IfSome reader.before (λ input. bytes_of_line (line_of input) ≡ None) × (reader.failed ≡ false)
 LineFails NoMem reader = reader.failed ≡ false
 LineFails Read reader = (reader.failed ≡ true) × IsInLine reader.before reader.after

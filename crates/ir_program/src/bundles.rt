@@ -5,11 +5,11 @@ ghost use Rattle.ir_program.specs.Bundle.{status_of, fault_words};
 ghost use Rattle.ir_program.specs.Leaving.{Comes, Leaves};
 ghost use Rattle.ir_files.specs.Writers.{writer_of, Reports, fault_text};
 ghost use Rattle.ir_files.specs.declared.exit_status.ExitStatus.TheVariants.{Failed};
-ghost use Rattle.ir_program.specs.declared.fault.BundleErr.{BundleErr};
+ghost use Rattle.ir_program.specs.declared.fault.ProgramErr.{ProgramErr};
 ghost use Rattle.ir_debug.specs.declared.ended.Ended.{Ended};
 ghost use Rattle.ir_program.specs.Taking.{reader_of, TakesBytes, LineFails};
 
-use crate::fault::BundleErr;
+use crate::fault::ProgramErr;
 use crate::line::{bytes_of, read_line};
 use ir_debug::{Ended, Sink, Source, session};
 use ir_files::{ExitStatus, tell};
@@ -17,7 +17,7 @@ use ir_object::Hands;
 use std::alloc::Global;
 
 // The bytes of the next line of hexadecimal digits.
-fn next_bytes<R: Source>(alloc: Global, reader: &mut R) -> Result<Vec<u8>, BundleErr>
+fn next_bytes<R: Source>(alloc: Global, reader: &mut R) -> Result<Vec<u8>, ProgramErr>
     requires { R.broken reader.old ≡ false }
     ensures ok { IfOk result (λ bytes. TakesBytes (R.left reader.old) (R.left reader.new) bytes.items) }
     ensures stays { OnOk result (R.broken reader.new ≡ false) }
@@ -37,7 +37,7 @@ pub fn bundled<H: Hands, R: Source, W: Sink>(
     hands: &H,
     reader: &mut R,
     writer: &mut W,
-) -> Result<Ended, BundleErr>
+) -> Result<Ended, ProgramErr>
     requires reads { R.broken reader.old ≡ false }
     requires writes { W.broken writer.old ≡ false }
     // No device has failed, and the session of both lines read and wrote so.
@@ -84,7 +84,7 @@ pub fn bundle<H: Hands, R: Source, W: Sink, E: Sink>(
         (reader_of (R.left reader.old) (R.left reader.new) (R.broken reader.new))
         (writer_of (W.written writer.old) (W.written writer.new) (W.broken writer.new)) × (faults.new ≡ faults.old) }
     // Else what stopped it, what that leaves, and that it is reported.
-    ensures stopped { result ≡ Failed → (e : BundleErr) × Leaves e
+    ensures stopped { result ≡ Failed → (e : ProgramErr) × Leaves e
         (reader_of (R.left reader.old) (R.left reader.new) (R.broken reader.new))
         (writer_of (W.written writer.old) (W.written writer.new) (W.broken writer.new)) (writer.new ≡ writer.old)
         × Reports (writer_of (E.written faults.old) (E.written faults.new) (E.broken faults.new)) (fault_text (fault_words e)) }

@@ -10,7 +10,7 @@ ghost use Rattle.ir_debug.specs.declared.ended.Ended.{Ended};
 ghost use Rattle.ir_debug.specs.declared.ended.SessionErr.{SessionErr};
 
 use crate::bundles::status;
-use crate::fault::BundleErr;
+use crate::fault::ProgramErr;
 use ir_debug::{Sink, Source, session};
 use ir_files::{ExitStatus, tell};
 use ir_object::Hands;
@@ -41,7 +41,7 @@ pub fn debug_run<H: Hands, R: Source, W: Sink, E: Sink>(
     match session(hands, image, trace, reader, writer) {
         Ok(ended) => status(ended),
         Err(error) => {
-            tell(faults, BundleErr::from(error).words());
+            tell(faults, ProgramErr::from(error).words());
             ExitStatus::Failed
         }
     }

@@ -1,14 +1,14 @@
-//! What stops the program without a subcommand.
+//! What stops a session or a listing.
 
 ghost use Rattle.std.specs.Prelude.{◌≡◌};
-ghost use Rattle.ir_program.specs.declared.fault.BundleErr.TheVariants.{NoMem};
+ghost use Rattle.ir_program.specs.declared.fault.ProgramErr.TheVariants.{NoMem};
 
 use ir_debug::SessionErr;
 use std::alloc::{AllocError, AllocFailed};
 
-/// Why an image and a trace in hexadecimal had no session, or their session stopped.
+/// Why the program stops: a session, one of gdb's, or a trace that is printed, and without a subcommand the lines before the session.
 #[derive(Clone, Copy, Debug, PartialEq, Eq)]
-pub enum BundleErr {
+pub enum ProgramErr {
     /// A line of the image or the trace isn't whole bytes in at most 4,194,304 hexadecimal digits.
     BadLine,
     /// Out of memory.
@@ -17,11 +17,11 @@ pub enum BundleErr {
     Read,
     /// The writer failed.
     Write,
-    /// The commands held no line of `quit` within the limit.
+    /// Nothing ended the session within the limit of what it reads.
     TooLong,
 }
 
-impl BundleErr {
+impl ProgramErr {
     ghost use Rattle.ir_program.specs.Bundle.{fault_words};
 
     /// The fault in words.
@@ -29,44 +29,44 @@ impl BundleErr {
         ensures { result.now ≡ fault_words self }
     {
         match self {
-            BundleErr::BadLine => {
+            ProgramErr::BadLine => {
                 "a line of the image or the trace isn't whole bytes in at most 4194304 hexadecimal digits"
             }
-            BundleErr::NoMem => "memory ran out",
-            BundleErr::Read => "standard input can't be read",
-            BundleErr::Write => "standard output can't be written",
-            BundleErr::TooLong => "1073741824 bytes of commands held no line of quit",
+            ProgramErr::NoMem => "memory ran out",
+            ProgramErr::Read => "standard input can't be read",
+            ProgramErr::Write => "standard output can't be written",
+            ProgramErr::TooLong => "1073741824 bytes were read, and nothing ended the session",
         }
     }
 }
 
-impl From<SessionErr> for BundleErr {
+impl From<SessionErr> for ProgramErr {
     ghost use Rattle.ir_program.specs.Leaving.{fault_of};
 
     ghost from_gives = { λ e f. f ≡ fault_of e };
 
-    fn from(e: SessionErr) -> BundleErr {
+    fn from(e: SessionErr) -> ProgramErr {
         match e {
-            SessionErr::NoMem => BundleErr::NoMem,
-            SessionErr::Read => BundleErr::Read,
-            SessionErr::Write => BundleErr::Write,
-            SessionErr::TooLong => BundleErr::TooLong,
+            SessionErr::NoMem => ProgramErr::NoMem,
+            SessionErr::Read => ProgramErr::Read,
+            SessionErr::Write => ProgramErr::Write,
+            SessionErr::TooLong => ProgramErr::TooLong,
         }
     }
 }
 
-impl From<AllocError> for BundleErr {
+impl From<AllocError> for ProgramErr {
     ghost from_gives = { λ _ e. e ≡ NoMem };
 
-    fn from(_e: AllocError) -> BundleErr {
-        BundleErr::NoMem
+    fn from(_e: AllocError) -> ProgramErr {
+        ProgramErr::NoMem
     }
 }
 
-impl<T: Drop> From<AllocFailed<T>> for BundleErr {
+impl<T: Drop> From<AllocFailed<T>> for ProgramErr {
     ghost from_gives = { λ _ e. e ≡ NoMem };
 
-    fn from(_e: AllocFailed<T>) -> BundleErr {
-        BundleErr::NoMem
+    fn from(_e: AllocFailed<T>) -> ProgramErr {
+        ProgramErr::NoMem
     }
 }

@@ -11,7 +11,7 @@ ghost use Rattle.ir_debug.specs.declared.ended.Ended.{Ended};
 ghost use Rattle.ir_debug.specs.declared.ended.SessionErr.{SessionErr};
 
 use crate::bundles::status;
-use crate::fault::BundleErr;
+use crate::fault::ProgramErr;
 use ir_debug::{Sink, Source};
 use ir_files::{ExitStatus, tell};
 use ir_gdb::connect;
@@ -45,7 +45,7 @@ pub fn gdb_run<H: Hands, R: Source, W: Sink, E: Sink>(
     match connect(hands, image, trace, reader, writer, faults) {
         Ok(ended) => status(ended),
         Err(error) => {
-            tell(faults, BundleErr::from(error).words());
+            tell(faults, ProgramErr::from(error).words());
             ExitStatus::Failed
         }
     }

@@ -1,4 +1,4 @@
-//! The program `ir` as one call of its arguments, a folder and its streams: assembling, recording, listing a trace, debugging.
+//! The program `ir` as one call of its arguments, a folder and its streams: each subcommand, and the session in one stream.
 #![tactic(auto)]
 
 mod bundles;
@@ -10,12 +10,12 @@ mod fault;
 mod gdb;
 mod hints;
 mod line;
-mod list_err;
 mod listing;
+mod print_err;
 mod prompting;
 mod tracing;
 
 pub use bundles::{bundle, bundled};
 pub use dispatch::{Invocation, Surroundings, Terminals, program};
-pub use fault::BundleErr;
+pub use fault::ProgramErr;
 pub use tracing::trace_run;

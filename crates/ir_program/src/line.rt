@@ -4,7 +4,7 @@ ghost use Rattle.std.specs.Prelude.{◌≡◌, IfOk, IfErr, OnOk, Some, false};
 ghost use Rattle.ir_program.specs.Bundle.{bytes_of_line};
 ghost use Rattle.ir_program.specs.Taking.{reader_of, TakesLine, LineFails, GivesNone};
 
-use crate::fault::BundleErr;
+use crate::fault::ProgramErr;
 use ir_command::without_return;
 use ir_stream::{Next, Source, next_byte};
 use std::alloc::Global;
@@ -16,7 +16,7 @@ pub const MOST_DIGITS: usize = 4_194_304;
 const MOST_LINE: usize = MOST_DIGITS + 1;
 
 /// Takes a line from the reader, without its line feed.
-pub fn read_line<R: Source>(alloc: Global, reader: &mut R) -> Result<Vec<u8>, BundleErr>
+pub fn read_line<R: Source>(alloc: Global, reader: &mut R) -> Result<Vec<u8>, ProgramErr>
     requires { R.broken reader.old ≡ false }
     ensures ok { IfOk result (λ line. TakesLine (R.left reader.old) (R.left reader.new) line.items) }
     ensures stays { OnOk result (R.broken reader.new ≡ false) }
@@ -25,7 +25,7 @@ pub fn read_line<R: Source>(alloc: Global, reader: &mut R) -> Result<Vec<u8>, Bu
     let mut line = Vec::new(alloc);
     for _ in 0..=MOST_LINE {
         match next_byte(reader) {
-            Next::Failed => return Err(BundleErr::Read),
+            Next::Failed => return Err(ProgramErr::Read),
             Next::End => return Ok(line),
             Next::Byte(byte) => {
                 if byte == b'\n' {
@@ -35,22 +35,22 @@ pub fn read_line<R: Source>(alloc: Global, reader: &mut R) -> Result<Vec<u8>, Bu
             }
         }
     }
-    Err(BundleErr::BadLine)
+    Err(ProgramErr::BadLine)
 }
 
 /// The bytes that a line writes in hexadecimal digits of either case.
 #[tactic(auto, unfolding(crate::specs::Bundle::bytes_of_line))]
-pub fn bytes_of(alloc: Global, line: &[u8]) -> Result<Vec<u8>, BundleErr>
+pub fn bytes_of(alloc: Global, line: &[u8]) -> Result<Vec<u8>, ProgramErr>
     ensures ok { IfOk result (λ bytes. bytes_of_line line.now ≡ Some bytes.items) }
     ensures fails { IfErr result (λ e. GivesNone e line.now) }
 {
     let digits = without_return(line);
     if digits.len() > MOST_DIGITS {
-        return Err(BundleErr::BadLine);
+        return Err(ProgramErr::BadLine);
     }
     match hex::decode(alloc, digits) {
         Ok(bytes) => Ok(bytes),
-        Err(hex::FromHexError::OutOfMemory) => Err(BundleErr::NoMem),
-        Err(_) => Err(BundleErr::BadLine),
+        Err(hex::FromHexError::OutOfMemory) => Err(ProgramErr::NoMem),
+        Err(_) => Err(ProgramErr::BadLine),
     }
 }

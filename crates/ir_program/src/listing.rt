@@ -7,7 +7,7 @@ ghost use Rattle.ir_debug.specs.Machine.{TraceRefused, opening_text};
 ghost use Rattle.ir_program.specs.Listing.{profile_number, header_line, thread_listing, threads_listing, listing, Stops};
 ghost use Rattle.ir_files.specs.Writers.{writer_of};
 
-use crate::list_err::ListErr;
+use crate::print_err::PrintErr;
 use ir_debug::Sink;
 use ir_record_run::thread_line;
 use ir_stream::write_all;
@@ -44,7 +44,7 @@ fn put_thread<W: Sink>(
     number: usize,
     thread: &ThreadTrace,
     out: &mut W,
-) -> Result<(), ListErr>
+) -> Result<(), PrintErr>
     requires { W.broken out.old ≡ false }
     ensures ok { OnOk result (Appends (W.written out.old) (W.written out.new) (thread_listing number thread.now)) }
     ensures works { OnOk result (W.broken out.new ≡ false) }
@@ -58,7 +58,7 @@ fn put_thread<W: Sink>(
 }
 
 // Writes the lines of each thread.
-fn put_threads<W: Sink>(alloc: Global, threads: &[ThreadTrace], out: &mut W) -> Result<(), ListErr>
+fn put_threads<W: Sink>(alloc: Global, threads: &[ThreadTrace], out: &mut W) -> Result<(), PrintErr>
     requires { W.broken out.old ≡ false }
     ensures ok { OnOk result (Appends (W.written out.old) (W.written out.new) (threads_listing 0 threads.now)) }
     ensures works { OnOk result (W.broken out.new ≡ false) }
@@ -75,7 +75,7 @@ fn put_threads<W: Sink>(alloc: Global, threads: &[ThreadTrace], out: &mut W) -> 
 ///
 /// # Errors
 /// Out of memory, or the writer failed; then a prefix of the lines was written.
-pub fn write_listing<W: Sink>(alloc: Global, trace: &Trace, out: &mut W) -> Result<(), ListErr>
+pub fn write_listing<W: Sink>(alloc: Global, trace: &Trace, out: &mut W) -> Result<(), PrintErr>
     requires { W.broken out.old ≡ false }
     ensures ok { OnOk result (Appends (W.written out.old) (W.written out.new) (listing trace.now)) }
     ensures works { OnOk result (W.broken out.new ≡ false) }
@@ -105,7 +105,7 @@ fn refusal_line(alloc: Global, error: &TraceErr) -> Result<String, AllocError>
 ///
 /// # Errors
 /// Out of memory, or the writer failed; then a prefix of the line was written.
-pub fn write_refusal<W: Sink>(alloc: Global, error: &TraceErr, out: &mut W) -> Result<(), ListErr>
+pub fn write_refusal<W: Sink>(alloc: Global, error: &TraceErr, out: &mut W) -> Result<(), PrintErr>
     requires { W.broken out.old ≡ false }
     ensures ok { OnOk result (Appends (W.written out.old) (W.written out.new) (opening_text (TraceRefused error.now))) }
     ensures works { OnOk result (W.broken out.new ≡ false) }

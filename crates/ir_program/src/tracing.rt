@@ -7,18 +7,18 @@ ghost use Rattle.ir_program.specs.Bundle.{fault_words};
 ghost use Rattle.ir_program.specs.Listing.{shown, status_of, Stops, fault_of};
 ghost use Rattle.ir_files.specs.Writers.{writer_of, Took, Reports, fault_text};
 ghost use Rattle.ir_files.specs.declared.exit_status.ExitStatus.TheVariants.{Failed};
-ghost use Rattle.ir_program.specs.declared.list_err.ListErr.{ListErr};
+ghost use Rattle.ir_program.specs.declared.print_err.PrintErr.{PrintErr};
 
-use crate::fault::BundleErr;
-use crate::list_err::ListErr;
+use crate::fault::ProgramErr;
 use crate::listing::{write_listing, write_refusal};
+use crate::print_err::PrintErr;
 use ir_debug::Sink;
 use ir_files::{ExitStatus, tell};
 use ir_trace::{TraceErr, read_trace};
 use std::alloc::Global;
 
 // Writes what the bytes of a trace show; the status.
-fn show<W: Sink>(alloc: Global, trace: &[u8], out: &mut W) -> Result<ExitStatus, ListErr>
+fn show<W: Sink>(alloc: Global, trace: &[u8], out: &mut W) -> Result<ExitStatus, PrintErr>
     requires { W.broken out.old ≡ false }
     ensures ok { IfOk result (λ status. (status ≡ status_of (recorded_at trace.now)) × Appends (W.written out.old) (W.written out.new) (shown (recorded_at trace.now))) }
     ensures works { OnOk result (W.broken out.new ≡ false) }
@@ -29,7 +29,7 @@ fn show<W: Sink>(alloc: Global, trace: &[u8], out: &mut W) -> Result<ExitStatus,
             write_listing(alloc, &trace, out)?;
             Ok(ExitStatus::Done)
         }
-        Err(TraceErr::NoMem) => Err(ListErr::NoMem),
+        Err(TraceErr::NoMem) => Err(PrintErr::NoMem),
         Err(error) => {
             write_refusal(alloc, &error, out)?;
             Ok(ExitStatus::Refused)
@@ -53,14 +53,14 @@ pub fn trace_run<W: Sink, E: Sink>(
         × Took (writer_of (W.written out.old) (W.written out.new) (W.broken out.new)) (shown (recorded_at trace.now))
         × (W.broken out.new ≡ false) × (faults.new ≡ faults.old) }
     // Else what stopped it, what that leaves, and that it is reported.
-    ensures stopped { result ≡ Failed → (e : ListErr)
+    ensures stopped { result ≡ Failed → (e : PrintErr)
         × Stops e (writer_of (W.written out.old) (W.written out.new) (W.broken out.new)) (shown (recorded_at trace.now))
         × Reports (writer_of (E.written faults.old) (E.written faults.new) (E.broken faults.new)) (fault_text (fault_words (fault_of e))) }
 {
     match show(alloc, trace, out) {
         Ok(status) => status,
         Err(why) => {
-            tell(faults, BundleErr::from(why).words());
+            tell(faults, ProgramErr::from(why).words());
             ExitStatus::Failed
         }
     }

@@ -5,7 +5,7 @@ ghost use Rattle.std.specs.Prelude.{◌≡◌, false};
 use ir_debug::{DeviceErr, Sink, Source};
 use ir_files::WholeSink;
 use ir_object::{Given, OpenGate};
-use ir_program::{BundleErr, bundle, bundled};
+use ir_program::{ProgramErr, bundle, bundled};
 use std::test::Fail;
 use std::thread::Threads;
 use std::time::Clock;
@@ -275,7 +275,7 @@ fn each_read_fails(rt: HostRuntime) -> Result<(), Fail> {
             &mut reader,
             &mut writer,
         );
-        assert!(rt; matches!(ended, Err(BundleErr::Read)));
+        assert!(rt; matches!(ended, Err(ProgramErr::Read)));
         assert!(rt; ANSWERS.starts_with(writer.bytes.as_slice()));
     }
     Ok(())
@@ -296,7 +296,7 @@ fn each_write_fails(rt: HostRuntime) -> Result<(), Fail> {
             &mut reader,
             &mut writer,
         );
-        assert!(rt; matches!(ended, Err(BundleErr::Write)));
+        assert!(rt; matches!(ended, Err(ProgramErr::Write)));
         assert_eq!(rt; writer.bytes.len() as u64, calls_left);
         assert!(rt; ANSWERS.starts_with(writer.bytes.as_slice()));
     }

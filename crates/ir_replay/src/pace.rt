@@ -11,8 +11,9 @@ const TRIAL: u64 = 1 << 18;
 // A move of fewer steps begins with the workers, since it shows nothing of how fast the caller is.
 const FEWEST_FOR_TRIAL: u64 = 1 << 16;
 
-// A move that the caller ends in so many milliseconds is the caller's, where the trace has an event each so many steps. Where threads log often,
-// workers wait for each other, and are seldom much faster; where they log seldom, workers are faster once they have started.
+// A move that the caller ends in so many milliseconds is the caller's, by how often the trace has an event: more often than each `OFTEN` steps, not more
+// often than each `SELDOM`, or between. Where threads log often, workers wait for each other, and are seldom much faster; where they log seldom, workers
+// are faster once they have started.
 const OFTEN: u64 = 32;
 
 const SHORT_IF_OFTEN: u64 = 250;

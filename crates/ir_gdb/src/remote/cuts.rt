@@ -8,7 +8,7 @@ ghost use Rattle.ir_gdb.specs.Together.{Comes};
 
 use crate::remote::Remote;
 use ir_command::Direction;
-use ir_cut::{Cut, greatest_exact, least_exact};
+use ir_cut::{Cut, greatest_exact, least};
 use ir_timeline::last_position;
 use std::alloc::{AllocError, Global};
 
@@ -56,22 +56,24 @@ impl Remote {
         self.debugger.cut_with(alloc, thread, direction, position)
     }
 
-    // The cut at which all threads are when one has advanced to a position, and is there.
-    pub(crate) fn cut_ahead(
+    // The cut at which all threads are when one has advanced from a cut to a position, and is there. Takes time linear in the
+    // entries between both cuts and the logarithm of the entries before.
+    pub(crate) fn cut_on(
         &self,
         alloc: Global,
+        from: &Cut,
         thread: u32,
         position: u64,
     ) -> Result<Cut, AllocError>
         requires thread { thread < threads_of self.now.stub.desk.fitted }
-        requires within { (position_of self.now.stub thread ≤ position) × (position ≤ last_of self.now.stub.desk.fitted thread) }
+        requires from { IsCutOf self.now.stub.desk.fitted from.now }
+        requires within { (cut_of from.now thread ≤ position) × (position ≤ last_of self.now.stub.desk.fitted thread) }
         ensures cut { IfOk result (λ cut. IsCutOf self.now.stub.desk.fitted cut) }
-        ensures there { IfOk result (λ cut. EachRun self.now.stub.desk.fitted (λ run. cut_of cut thread ≡ position)) }
+        ensures there { IfOk result (λ cut. cut_of cut thread ≡ position) }
     {
-        least_exact();
-        self.debugger.fitted().known();
-        let forwards = Direction::Forwards;
-        self.debugger.cut_with(alloc, thread, forwards, position)
+        let fitted = self.debugger.fitted();
+        let t = thread as usize;
+        least(alloc, fitted, from, t, position)
     }
 
     // The cut at which all threads are when one has gone back to a position, and is there.

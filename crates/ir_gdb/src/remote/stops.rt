@@ -117,6 +117,18 @@ impl Remote {
         })
     }
 
+    // The pc of a thread, where all threads are at a cut.
+    fn pc_in<H: Hands>(&mut self, hands: &H, cut: &Cut, thread: u32) -> Result<u32, AllocError>
+        requires thread { thread < threads_of self.old.stub.desk.fitted }
+        requires cut { IsCutOf self.old.stub.desk.fitted cut.now }
+        ensures stub { self.new.stub ≡ spoken self.old.stub }
+        ensures pc { IfOk result (λ pc. EachRun self.old.stub.desk.fitted (λ run. pc ≡ (thread_at self.old.stub.desk.fitted run thread (cut_of cut.now thread)).core.pc)) }
+    {
+        self.debugger.visit(hands, cut)?;
+        let pc = self.visited(cut, thread).mach().pc();
+        Ok(pc)
+    }
+
     // The pc of a thread at a position that isn't below its own.
     pub(crate) fn pc_at<H: Hands>(
         &mut self,
@@ -130,13 +142,13 @@ impl Remote {
         ensures pc { IfOk result (λ pc. EachRun self.old.stub.desk.fitted (λ run. pc ≡ (thread_at self.old.stub.desk.fitted run thread position).core.pc)) }
     {
         self.speak();
-        let cut = self.cut_ahead(hands.alloc(), thread, position)?;
-        self.debugger.visit(hands, &cut)?;
-        let pc = self.visited(&cut, thread).mach().pc();
-        Ok(pc)
+        let here = self.here()?;
+        let cut = self.cut_on(hands.alloc(), &here, thread, position)?;
+        self.pc_in(hands, &cut, thread)
     }
 
-    // The first position above a thread's own at which its pc isn't in a range, if there is one.
+    // The first position above a thread's own at which its pc isn't in a range, if there is one. Each cut is found from the one
+    // before: found from the thread's own, each would take time linear in all entries up to it.
     fn leaves<H: Hands>(
         &mut self,
         hands: &H,
@@ -151,9 +163,11 @@ impl Remote {
         self.speak();
         let last = self.last(thread);
         let mut position = self.position(thread);
+        let mut at = self.here()?;
         'steps: while position < last {
             position += 1;
-            let pc = self.pc_at(hands, thread, position)?;
+            at = self.cut_on(hands.alloc(), &at, thread, position)?;
+            let pc = self.pc_in(hands, &at, thread)?;
             if pc < low || high <= pc {
                 return Ok(Some(position));
             }

@@ -1,10 +1,13 @@
 //! `ir asm`: a source in a file is assembled into another.
 
 ghost use Rattle.std.specs.Prelude.{◌≡◌, false};
+ghost use Rattle.std.specs.List.{All};
+ghost use Rattle.ir_image_run.specs.Mapping.{IsNamed};
 
 use crate::commands::maps::labels_into;
 use crate::commands::{bytes_of, is_lost, put_in_place, shown_path};
 use ir_arguments::AssembleArguments;
+use ir_asm::Labels;
 use ir_files::{ExitStatus, Folder, MOST_BYTES, WholeFile};
 use ir_image_run::asm_run;
 use ir_stream::Sink;
@@ -30,6 +33,24 @@ fn loses_file<D: Folder, E: Sink>(folder: &D, faults: &mut E, arguments: &Assemb
     }
     let would = "MAP would be written over IMAGE";
     is_lost(folder, faults, would, image, map)
+}
+
+// Writes the labels to a file, once the image is in its place: only then two names of a file that wasn't there are known to be of one.
+fn put_labels<D: Folder, E: Sink>(
+    alloc: Global,
+    folder: &D,
+    labels: &Labels,
+    image: &str,
+    map: &str,
+    faults: &mut E,
+) -> ExitStatus
+    requires { All IsNamed labels.now }
+{
+    let would = "MAP would be written over IMAGE";
+    if is_lost(folder, faults, would, image, map) {
+        return ExitStatus::BadArguments;
+    }
+    labels_into(alloc, folder, labels, map, faults)
 }
 
 // Assembles a file into another, and its labels into a third if one is named; each is in its place only once it is whole.
@@ -58,7 +79,8 @@ pub fn assemble_file<D: Folder, E: Sink>(
     let status = put_in_place(&mut file, ExitStatus::Done, source, faults);
     match &arguments.map {
         Some(map) if status == ExitStatus::Done => {
-            labels_into(alloc, folder, &labels, map.as_str(), faults)
+            let image = arguments.image.as_str();
+            put_labels(alloc, folder, &labels, image, map.as_str(), faults)
         }
         _ => status,
     }

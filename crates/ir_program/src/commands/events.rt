@@ -5,7 +5,7 @@ ghost use Rattle.std.specs.Prelude.{◌≡◌, false};
 use crate::commands::debug::explain_files;
 use crate::commands::maps::names_in;
 use crate::commands::{bytes_of, say};
-use crate::list_err::ListErr;
+use crate::print_err::PrintErr;
 use ir_arguments::EventsArguments;
 use ir_events::{events_text, pcs};
 use ir_files::{ExitStatus, Folder, MOST_BYTES};
@@ -24,7 +24,7 @@ fn print_run<O: Sink>(
     fitted: &Fitted,
     symbols: &SymbolTable,
     out: &mut O,
-) -> Result<ExitStatus, ListErr> {
+) -> Result<ExitStatus, PrintErr> {
     let pcs = pcs(alloc, fitted)?;
     let text = events_text(alloc, fitted, &pcs, symbols)?;
     write_all(out, text.as_slice())?;
@@ -38,14 +38,14 @@ fn print_fit<O: Sink>(
     trace: Trace,
     symbols: &SymbolTable,
     out: &mut O,
-) -> Result<ExitStatus, ListErr> {
+) -> Result<ExitStatus, PrintErr> {
     match fit(alloc, image, trace, &OpenGate) {
         Ok(fitted) => print_run(alloc, &fitted, symbols, out),
         Err(FitErr::Refused(verdict)) => {
             write_verdict(&verdict, out)?;
             Ok(ExitStatus::NotFit)
         }
-        Err(FitErr::NoMem) => Err(ListErr::NoMem),
+        Err(FitErr::NoMem) => Err(PrintErr::NoMem),
     }
 }
 
@@ -56,10 +56,10 @@ fn print_trace<O: Sink>(
     trace: &[u8],
     symbols: &SymbolTable,
     out: &mut O,
-) -> Result<ExitStatus, ListErr> {
+) -> Result<ExitStatus, PrintErr> {
     match read_trace(alloc, trace) {
         Ok(trace) => print_fit(alloc, image, trace, symbols, out),
-        Err(TraceErr::NoMem) => Err(ListErr::NoMem),
+        Err(TraceErr::NoMem) => Err(PrintErr::NoMem),
         Err(why) => {
             write_all(
                 out,
@@ -77,10 +77,10 @@ fn print_events<O: Sink>(
     trace: &[u8],
     symbols: &SymbolTable,
     out: &mut O,
-) -> Result<ExitStatus, ListErr> {
+) -> Result<ExitStatus, PrintErr> {
     match read_image(alloc, image) {
         Ok(image) => print_trace(alloc, image, trace, symbols, out),
-        Err(ImageErr::NoMem) => Err(ListErr::NoMem),
+        Err(ImageErr::NoMem) => Err(PrintErr::NoMem),
         Err(why) => {
             write_all(
                 out,
@@ -121,11 +121,11 @@ pub fn events_file<D: Folder, O: Sink, E: Sink>(
             }
             status
         }
-        Err(ListErr::NoMem) => {
+        Err(PrintErr::NoMem) => {
             say(faults, "memory ran out", "", "");
             ExitStatus::Failed
         }
-        Err(ListErr::Write) => {
+        Err(PrintErr::Write) => {
             say(faults, "standard output can't be written", "", "");
             ExitStatus::Failed
         }

@@ -2,8 +2,8 @@
 
 ghost use Rattle.std.specs.Prelude.{◌≡◌, OnSome, false};
 
-use crate::commands::bytes_of;
 use crate::commands::debug::explain_files;
+use crate::commands::{bytes_of, say};
 use ir_arguments::{DiffArguments, StaleArguments, ViewArguments, WhoArguments, WhyArguments};
 use ir_diff::diff_run;
 use ir_files::{ExitStatus, Folder, MOST_BYTES};
@@ -16,6 +16,13 @@ use ir_who::{Question, who_fit_run, who_run};
 use ir_why::{FitQuestion, why_fit_run, why_run};
 use ir_word::word_fit_run;
 use std::alloc::Global;
+
+// Why there is no picture, in words: the line that was printed says which of these it is.
+const NO_PICTURE: &str =
+    "no run has this trace, or a page would have too many boxes (--around T E shows a part): see the line that was printed";
+
+const NO_PICTURE_OF_RUN: &str =
+    "no run of this image has this trace, or a page would have too many boxes (--around T E shows a part): see the line that was printed";
 
 // The bytes of the file of a trace, and of that of an image if one is named.
 #[derive(Drop)]
@@ -237,10 +244,16 @@ pub fn view_file<D: Folder, O: Sink, E: Sink>(
     };
     let trace = given.trace.as_slice();
     let Some(image) = given.image() else {
-        return view_run(alloc, trace, &asked, out, faults);
+        let status = view_run(alloc, trace, &asked, out, faults);
+        if explains && status == ExitStatus::NotFit {
+            say(faults, NO_PICTURE, "", "");
+        }
+        return status;
     };
     let status = view_fit_run(alloc, image, trace, &asked, out, faults);
-    if explains {
+    if explains && status == ExitStatus::NotFit {
+        say(faults, NO_PICTURE_OF_RUN, "", "");
+    } else if explains {
         explain_files(alloc, image, trace, status, faults);
     }
     status

@@ -7,7 +7,7 @@ use Rattle.ir_debug.specs.declared.ended.SessionErr.{SessionErr}
 use Rattle.ir_debug.specs.Openings.{opening_of}
 use Rattle.ir_debug.specs.Session.{ReadsThrough}
 use Rattle.ir_debug.specs.Machine as opening
-use Rattle.ir_debug.proofs.Openings.{answered_in_part_of_opening_prefix, reads_up_to_unchanged_input_if_holds_of_empty, if_some_if_each_holds, session_of_refused_opening, reads_up_to_of_implied, if_some_of_implied, opens_ready_desk_if_opening_is_ready, appends_opening_text_of_ready_desk_if_opening_is_ready, read_fault_if_ended_by_read, write_fault_if_ended_by_write, served_session_if_ended_lines_lead, transcript_if_lines_answered, writes_in_part_if_lines_answered_in_part}
+use Rattle.ir_debug.proofs.Openings.{answered_in_part_of_opening_prefix, reads_up_to_unchanged_input_if_holds_of_empty, if_some_if_each_holds, session_of_refused_opening, reads_up_to_of_implied, if_some_of_implied, opens_ready_desk_if_opening_is_ready, appends_opening_text_of_ready_desk_if_opening_is_ready, read_fault_if_ended_by_read, write_fault_if_ended_by_write, served_session_if_ended_lines_lead, ready_transcript_if_lines_answered, writes_in_part_if_lines_answered_in_part}
 use Rattle.ir_debug.proofs.sessions.session_up_to.Goals as goal
 
 pub returns-in-Err-clause-write : goal.returns-in-Err-clause-write
@@ -63,7 +63,7 @@ returns-in-Ready-clause-read g c = λ e.
       r.1,
       reads_up_to_of_implied c.args.limit _ _ _ _ (λ consumed p. record {
         goes = p.0;
-        transcript = transcript_if_lines_answered _ _ _ _ _ _ _ (opens_ready_desk_if_opening_is_ready _ _ _ _ c.in-Ready.is c.in-Ok.ensures)
+        transcript = ready_transcript_if_lines_answered _ _ _ _ _ _ _ (opens_ready_desk_if_opening_is_ready _ _ _ _ c.in-Ready.is c.in-Ok.ensures)
             (appends_opening_text_of_ready_desk_if_opening_is_ready _ _ _ _ c.in-Ready.is c.in-Ok-announce.ensures.ok) p.1;
       }) r.2,
     )

@@ -1,6 +1,6 @@
 use Rattle.std.proofs.Common.{◌∙◌}
 use Rattle.std.proofs.lemmas.Result.{err_from_is_err_and}
-use Rattle.ir_program.specs.declared.list_err.ListErr.TheVariants.{Write}
+use Rattle.ir_program.specs.declared.print_err.PrintErr.TheVariants.{Write}
 use Rattle.ir_files.proofs.CallerLemmas.{if_err_holds_if_holds_of_handed_on_error}
 use Rattle.ir_program.proofs.Listed.{writer_failed_in_text_if_prefix_of_first_part_appended, writer_failed_in_text_if_prefix_of_second_part_appended, log_prefix_of_equal_events}
 use Rattle.ir_program.proofs.listing.put_thread.Goals as goal

@@ -1,7 +1,7 @@
 use Rattle.std.proofs.Common.{◌∙◌, length}
 use Rattle.std.proofs.lemmas.Result.{err_from_is_err_and}
 use Rattle.ir_program.specs.Listing.{header_line}
-use Rattle.ir_program.specs.declared.list_err.ListErr.TheVariants.{Write}
+use Rattle.ir_program.specs.declared.print_err.PrintErr.TheVariants.{Write}
 use Rattle.ir_files.proofs.CallerLemmas.{if_err_holds_if_holds_of_handed_on_error}
 use Rattle.ir_program.proofs.Listed.{writer_failed_in_text_if_prefix_of_first_part_appended, header_line_equal_if_parts_equal, stops_in_threads_listing_after_first}
 use Rattle.ir_program.proofs.listing.write_listing.Goals as goal

@@ -1,5 +1,6 @@
 use Rattle.std.proofs.Common.{◌≡◌, ◌≤◌, ◌-◌, suc}
-use Rattle.ir_cut.specs.Positions.{EachRun, last_of}
+use Rattle.ir_cut.specs.Positions.{EachRun, cut_of, last_of}
+use Rattle.ir_timeline.specs.Hand.{IsCutOf}
 use Rattle.ir_gdb.specs.Stub.{spoken}
 use Rattle.ir_gdb.specs.Stops.{position_of, StaysWithin}
 use Rattle.ir_gdb.proofs.remote.Remote.leaves.Given as goal
@@ -13,5 +14,7 @@ invariant-steps g l = record {
   last : l.last ≡ last_of l.fn.self.stub.desk.fitted l.thread;
   above : position_of l.fn.self.stub l.thread ≤ l.position;
   within : l.position ≤ l.last;
+  cut : IsCutOf l.self.stub.desk.fitted l.at;
+  there : cut_of l.at l.thread ≡ l.position;
   stays : EachRun l.fn.self.stub.desk.fitted (λ run. StaysWithin run l.fn.self.stub l.thread l.low l.high (position_of l.fn.self.stub l.thread) (suc l.position));
 }
