@@ -35,6 +35,7 @@ REFUSED = [
     ("record lost.img h.trc --chaos x", 2, "--chaos: 'x' is no number up to 18446744073709551615"),
     ("record lost.img h.trc --chaos 1 --order 0", 2, "the argument '--chaos <SEED>' cannot be used with '--order <LIST>'"),
     ("record lost.img h.trc --by walk", 2, "the following required arguments were not provided: --chaos <SEED>"),
+    ("record lost.img h.trc --order 0 --by walk", 2, "the argument '--order <LIST>' cannot be used with '--by <WAY>'"),
 ]
 
 # How many seeds that show a fault are looked at, each way.

@@ -191,6 +191,8 @@ def test_explaining(folder):
         wants(arguments, at_terminal(arguments, folder), (3, EXPLAINED))
         wants(f"{arguments}: d2.img", (folder / "d2.img").exists(), False)
     wants("no fault", at_terminal("asm --explain d.s d2.img", folder), (0, ""))
+    for words in ("view d.img", "stale d.img", "who d.img 0", "why d.img 0 0"):
+        wants(words, at_terminal(words, folder), (3, "ir: the trace is refused: these bytes are no trace\n"))
 
 
 def typed(arguments, lines, folder):

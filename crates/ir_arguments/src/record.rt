@@ -134,7 +134,12 @@ pub fn with_arguments<'a>(alloc: Global, command: Command<'a>) -> Result<Command
                 .conflicts_with(ORDER)?
                 .conflicts_with(ORDER_FILE)?,
         )?
-        .arg(by_arg(alloc).requires_arg(CHAOS)?)?;
+        .arg(
+            by_arg(alloc)
+                .requires_arg(CHAOS)?
+                .conflicts_with(ORDER)?
+                .conflicts_with(ORDER_FILE)?,
+        )?;
     with_options(alloc, command)?.arg(status_arg(alloc))
 }
 

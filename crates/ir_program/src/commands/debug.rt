@@ -63,6 +63,19 @@ fn explain<E: Sink>(alloc: Global, files: Files<'_>, status: ExitStatus, faults:
     }
 }
 
+// Says in words why a trace alone is refused, if it is.
+pub fn explain_trace<E: Sink>(alloc: Global, trace: &[u8], status: ExitStatus, faults: &mut E) {
+    if status != ExitStatus::Refused {
+        return;
+    }
+    let Err(why) = read_trace(alloc, trace) else {
+        return;
+    };
+    if let Ok(words) = format!(in alloc; "the trace is refused: {why}") {
+        say(faults, words.as_str(), "", "");
+    }
+}
+
 // Says in words why an image and a trace opened nothing, if they didn't.
 pub fn explain_files<E: Sink>(
     alloc: Global,

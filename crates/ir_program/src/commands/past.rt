@@ -2,7 +2,7 @@
 
 ghost use Rattle.std.specs.Prelude.{◌≡◌, OnSome, false};
 
-use crate::commands::debug::explain_files;
+use crate::commands::debug::{explain_files, explain_trace};
 use crate::commands::{bytes_of, say};
 use ir_arguments::{DiffArguments, StaleArguments, ViewArguments, WhoArguments, WhyArguments};
 use ir_diff::diff_run;
@@ -80,7 +80,11 @@ pub fn stale_file<D: Folder, O: Sink, E: Sink>(
     };
     let trace = given.trace.as_slice();
     let Some(image) = given.image() else {
-        return stale_run(alloc, trace, out, faults);
+        let status = stale_run(alloc, trace, out, faults);
+        if explains {
+            explain_trace(alloc, trace, status, faults);
+        }
+        return status;
     };
     let status = rests_run(alloc, image, trace, out, faults);
     if explains {
@@ -142,7 +146,11 @@ pub fn who_file<D: Folder, O: Sink, E: Sink>(
             object: arguments.object,
             version: arguments.version,
         };
-        return who_run(alloc, trace, &asked, out, faults);
+        let status = who_run(alloc, trace, &asked, out, faults);
+        if explains {
+            explain_trace(alloc, trace, status, faults);
+        }
+        return status;
     };
     let status = print_versions(alloc, image, trace, arguments, out, faults);
     if explains {
@@ -173,7 +181,11 @@ pub fn why_file<D: Folder, O: Sink, E: Sink>(
         most: arguments.lines,
     };
     let Some(image) = given.image() else {
-        return why_run(alloc, trace, &what, out, faults);
+        let status = why_run(alloc, trace, &what, out, faults);
+        if explains {
+            explain_trace(alloc, trace, status, faults);
+        }
+        return status;
     };
     let asked = FitQuestion {
         what,
@@ -247,6 +259,8 @@ pub fn view_file<D: Folder, O: Sink, E: Sink>(
         let status = view_run(alloc, trace, &asked, out, faults);
         if explains && status == ExitStatus::NotFit {
             say(faults, NO_PICTURE, "", "");
+        } else if explains {
+            explain_trace(alloc, trace, status, faults);
         }
         return status;
     };
