@@ -56,7 +56,7 @@ def converted(folder):
         wants(name, (folder / "bank.img").read_bytes(), files()[f"{name}_IMAGE"])
     whole = files()["BANK_ELF"]
     rows = ((b"x" + whole[1:], 2, "the file is no ELF file"), (whole[:10], 1, "a field or a segment passes the end of the file"),
-            (whole[:36] + b"\x01" + whole[37:], 5, "the flags name compressed instructions, floating-point registers or RV32E"))
+            (whole[:36] + b"\x01" + whole[37:], 5, "the flags name compressed instructions, floating-point registers, RV32E or another memory order"))
     for changed, number, words in rows:
         (folder / "bad.elf").write_bytes(changed)
         for more, explained in (("", ""), (" --explain", f"bad.elf: {words}\n")):

@@ -124,12 +124,12 @@ where
     let (alloc, folder) = (around.rt.alloc(), around.folder);
     match what {
         Print::Code(arguments) => list_file(alloc, folder, arguments, out, faults),
-        Print::Trace(arguments) => trace_file(alloc, folder, arguments, out, faults),
+        Print::Trace(arguments) => trace_file(alloc, folder, arguments, explains, out, faults),
         Print::Events(arguments) => { events_file(alloc, folder, arguments, explains, out, faults) }
         Print::Stale(arguments) => { stale_file(alloc, folder, arguments, explains, out, faults) }
         Print::Who(arguments) => who_file(alloc, folder, arguments, explains, out, faults),
         Print::Why(arguments) => why_file(alloc, folder, arguments, explains, out, faults),
-        Print::Diff(arguments) => diff_files(alloc, folder, arguments, out, faults),
+        Print::Diff(arguments) => diff_files(alloc, folder, arguments, explains, out, faults),
         Print::View(arguments) => view_file(alloc, folder, arguments, explains, out, faults),
         Print::Outcomes(arguments) => explore_file(around, arguments, out, faults),
     }

@@ -63,15 +63,24 @@ fn explain<E: Sink>(alloc: Global, files: Files<'_>, status: ExitStatus, faults:
     }
 }
 
-// Says in words why a trace alone is refused, if it is.
-pub fn explain_trace<E: Sink>(alloc: Global, trace: &[u8], status: ExitStatus, faults: &mut E) {
+// The name of the one trace that there is.
+pub const THE_TRACE: &str = "the trace";
+
+// Says in words why a trace alone is refused, if it is. The name says which trace it is.
+pub fn explain_trace<E: Sink>(
+    alloc: Global,
+    name: &str,
+    trace: &[u8],
+    status: ExitStatus,
+    faults: &mut E,
+) {
     if status != ExitStatus::Refused {
         return;
     }
     let Err(why) = read_trace(alloc, trace) else {
         return;
     };
-    if let Ok(words) = format!(in alloc; "the trace is refused: {why}") {
+    if let Ok(words) = format!(in alloc; "{name} is refused: {why}") {
         say(faults, words.as_str(), "", "");
     }
 }
