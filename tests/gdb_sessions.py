@@ -299,21 +299,23 @@ def machine_interface(folder, lines):
     # A gdb that says nothing more is ended, and then its answers are over.
     late = threading.Timer(120, gdb.kill)
     late.start()
-    with gdb:
-        for number, text in enumerate(lines):
-            gdb.stdin.write(f"{number}{text}\n")
+    try:
+        with gdb:
+            for number, text in enumerate(lines):
+                gdb.stdin.write(f"{number}{text}\n")
+                gdb.stdin.flush()
+                # a move is answered at once, and ends later
+                waits = [f"{number}^"] + ["*stopped"] * ("-exec-" in text)
+                for start in waits:
+                    for line in gdb.stdout:
+                        said.append(line)
+                        if line.startswith(start):
+                            break
+            gdb.stdin.write("-gdb-exit\n")
             gdb.stdin.flush()
-            # a move is answered at once, and ends later
-            waits = [f"{number}^"] + ["*stopped"] * ("-exec-" in text)
-            for start in waits:
-                for line in gdb.stdout:
-                    said.append(line)
-                    if line.startswith(start):
-                        break
-        gdb.stdin.write("-gdb-exit\n")
-        gdb.stdin.flush()
-        said += gdb.stdout.readlines()
-    late.cancel()
+            said += gdb.stdout.readlines()
+    finally:
+        late.cancel()
     return "".join(said)
 
 
@@ -495,6 +497,8 @@ def main():
     parser = parser_of_program(__doc__)
     parser.add_argument("names", metavar="NAME", nargs="*", help="only these sessions")
     asked = parser.parse_args()
+    if unknown := [name for name in asked.names if name not in SESSIONS and name not in CHECKS]:
+        parser.error(f"no session {unknown[0]}")
     use(asked.program)
     if not (shutil.which(GDB) and shutil.which(GCC)):
         print(f"{GDB} and {GCC} aren't both installed, so nothing is tested")
@@ -511,7 +515,7 @@ def main():
                 else:
                     CHECKS[name](folder)
                 print(f"{name}: passed", flush=True)
-            except (Wrong, subprocess.TimeoutExpired) as wrong:
+            except (Wrong, subprocess.TimeoutExpired, OSError) as wrong:
                 failed += 1
                 print(f"{name}: {wrong}", flush=True)
     sys.exit(finish(len(names) - failed, failed))
