@@ -97,7 +97,9 @@ fn order_arg<'a>(alloc: Global) -> Arg<'a> {
         .long(ORDER)
         .value_name("LIST")
         .allow_hyphen_values(true)
-        .help("Which thread takes each next step; without it, --order-file and --chaos the guest runs on real threads")
+        .help(
+            "Which thread takes each next step; without it, --order-file and --chaos the guest runs on real threads",
+        )
 }
 
 fn order_file_arg<'a>(alloc: Global) -> Arg<'a> {

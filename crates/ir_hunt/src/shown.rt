@@ -39,7 +39,9 @@ impl Shown {
         let seconds = (self.millis / 1000).max(1) as u64;
         let (seeds, rate) = (self.seeds, self.seeds / seconds);
         // The rate may have lost a digit, and then the line is shorter than the one before.
-        let _ = rt.eprint(format_args!("{BLANKS}\r{seeds} seeds, {rate} per second, up to {last}\r"));
+        let _ = rt.eprint(format_args!(
+            "{BLANKS}\r{seeds} seeds, {rate} per second, up to {last}\r"
+        ));
     }
 
     /// A stretch was tried: how many milliseconds it took. It is shown if a second has passed.

@@ -213,8 +213,7 @@ pub fn diff_files<D: Folder, O: Sink, E: Sink>(
     let Some(first) = bytes_of(alloc, folder, faults, arguments.first.as_str(), MOST_BYTES) else {
         return ExitStatus::Failed;
     };
-    let Some(second) = bytes_of(alloc, folder, faults, arguments.second.as_str(), MOST_BYTES)
-    else {
+    let Some(second) = bytes_of(alloc, folder, faults, arguments.second.as_str(), MOST_BYTES) else {
         return ExitStatus::Failed;
     };
     let (first, second) = (first.as_slice(), second.as_slice());
