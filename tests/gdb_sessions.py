@@ -158,7 +158,7 @@ SESSIONS = {
         ["ir-goto 1 30", "info threads", "monitor keep", "ir-goto 0 60", "ir-load 1", "info threads"],
         ["at 0 30 0|at [0-9]+ 30 ", r"2 .*\(at 30 of \d+\)", "kept 1", "at 60 ", r"\(at 30 of \d+\)"],
     ),
-    "26-moved-by-monitor": Session(
+    "16-moved-by-monitor": Session(
         "over",
         ["bt", "break fill", "continue", "info threads", "monitor start", "info threads", "print $pc", "bt"],
         [r"\(gdb\) bt\n#0 .*filler \(\) at .*\n\(gdb\) break", "hit Breakpoint 1", r"\* 1 .*fill \(last=4\)", "at 0 0", r"\* 1 .*filler \(\)", r"<filler>$",

@@ -195,6 +195,12 @@ def test_explaining(folder):
         wants(words, at_terminal(words, folder), (3, "ir: the trace is refused: these bytes are no trace\n"))
     both = "".join(f"ir: the {which} trace is refused: these bytes are no trace\n" for which in ("first", "second"))
     wants("diff", at_terminal("diff d.img d.img", folder), (3, both))
+    (folder / "d.elf").write_bytes(b"\x7fELF, and more")
+    refused = "ir: the image is refused, 2: these bytes are no image\n"
+    for words in ("record d.elf x.trc", "hunt d.elf x.trc --seeds 0+1 --until fault", "explore d.elf", "explore d.elf x.trc --until fault", "list d.elf"):
+        wants(words, at_terminal(words, folder), (3, f"{refused}ir: d.elf: this is an ELF file: `ir elf` makes an image of it\n"))
+    wants("a trace", at_terminal("record whole.trc x.trc", folder), (3, f"{refused}ir: whole.trc: this is a trace, and no image\n"))
+    wants("x.trc", (folder / "x.trc").exists(), False)
 
 
 def typed(arguments, lines, folder):

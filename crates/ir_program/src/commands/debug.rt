@@ -11,6 +11,7 @@ use ir_debug::{Sink, Source};
 use ir_files::{ExitStatus, Folder, MOST_BYTES};
 use ir_image::read_image;
 use ir_object::{Gate, Given};
+use ir_stream::next_byte;
 use ir_trace::read_trace;
 use std::alloc::{AllocError, Global};
 use std::thread::Threads;
@@ -116,7 +117,12 @@ pub struct Opening<'a> {
     pub explains: bool,
 }
 
-// A session of an image and a trace in files.
+// Whether nothing was opened.
+fn is_refusal(status: ExitStatus) -> bool {
+    matches!(status, ExitStatus::Refused | ExitStatus::NotFit)
+}
+
+// A session of an image and a trace in files. One of gdb that opens nothing ends only once gdb has sent something.
 pub fn debug_files<R, D, G, I, O, E>(
     around: &Surroundings<'_, R, D, G>,
     opening: Opening<'_>,
@@ -152,6 +158,10 @@ where
     };
     if opening.explains {
         explain_files(alloc, image, trace, status, faults);
+    }
+    if opening.speech == Speech::Packets && is_refusal(status) {
+        // gdb shows why only if its first packet can still be sent.
+        let _ = next_byte(reader);
     }
     status
 }
