@@ -1,4 +1,4 @@
-# The commands of the repository. Each needs the Rattle kit's `rt` and Python 3, and nothing else, but for the tests of the built program.
+# The commands of the repository. Each needs Linux, the Rattle kit's `rt` and Python 3; what else one needs is said there.
 
 .PHONY: all try run check test edits program-test view-test c-test gdb-test explore-test refuse mutate bench
 

@@ -99,15 +99,16 @@ def large():
 
 
 def explored(program, folder, source):
-    """The last line over a guest, the seconds, and the most memory in kilobytes."""
+    """The last line over a guest, after the exit status if that isn't 0, the seconds, and the most memory in kilobytes."""
     (folder / "guest.s").write_text(source, encoding="ascii")
     subprocess.run([program, "asm", "guest.s", "guest.img"], cwd=folder, check=True)
     start = time.monotonic()
     with (folder / "out").open("wb") as out:
         run = subprocess.Popen([program, "explore", "guest.img"], cwd=folder, stdout=out)
-        _, _, used = os.wait4(run.pid, 0)
+        _, status, used = os.wait4(run.pid, 0)
     seconds = time.monotonic() - start
-    return (folder / "out").read_text(encoding="ascii").splitlines()[-1], seconds, used.ru_maxrss
+    last = ["", *(folder / "out").read_text(encoding="ascii").splitlines()][-1]
+    return last if status == 0 else f"status {os.waitstatus_to_exitcode(status)}: {last}", seconds, used.ru_maxrss
 
 
 def main():

@@ -56,9 +56,15 @@ def started(program, folder, words, processors):
 def seconds_of(program, folder, words, sets):
     """The seconds in which as many runs as there are sets of processors end, one on each set."""
     start = time.monotonic()
-    for run in [started(program, folder, words, processors) for processors in sets]:
+    runs = [started(program, folder, words, processors) for processors in sets]
+    for run in runs:
         run.communicate()
-    return time.monotonic() - start
+    seconds = time.monotonic() - start
+    # A hunt here finds nothing.
+    wanted = 5 if words[0] == "hunt" else 0
+    if any(run.returncode != wanted for run in runs):
+        sys.exit(f"{words}: statuses {[run.returncode for run in runs]}")
+    return seconds
 
 
 def speeds(program, folder, image, seeds, turns):

@@ -134,8 +134,16 @@ class Programs:
             run = subprocess.Popen([self.program, "debug", *files], stdin=subprocess.PIPE, stdout=subprocess.DEVNULL)
             run.stdin.write(lines)
             run.stdin.close()
-            sizes.append(os.wait4(run.pid, 0)[2].ru_maxrss)
+            sizes.append(used_by(run).ru_maxrss)
         return min(sizes)
+
+
+def used_by(run):
+    """What a command used, which has to end with exit status 0."""
+    _, status, used = os.wait4(run.pid, 0)
+    if status:
+        sys.exit(f"{run.args}: status {os.waitstatus_to_exitcode(status)}")
+    return used
 
 
 def speeds(programs):
@@ -174,7 +182,7 @@ def switches(words, data):
     with subprocess.Popen(words, stdin=subprocess.PIPE, stdout=subprocess.DEVNULL) as run:
         run.stdin.write(data)
         run.stdin.close()
-        used = os.wait4(run.pid, 0)[2]
+        used = used_by(run)
     return used.ru_nvcsw + used.ru_nivcsw
 
 

@@ -55,8 +55,15 @@ typedef struct made_by_IR_THREAD *ir_entry(void);
 #define IR_THREAD(name) \
     static ir_word name##_body(void) __attribute__((used)); \
     ir_entry name __attribute__((naked)); \
-    struct made_by_IR_THREAD *name(void) { __asm__("la sp, ir_stack_top\n\tcall " #name "_body\n\tli a7, 1\n\tecall"); } \
+    struct made_by_IR_THREAD *name(void) { __asm__(IR_OUTERMOST_ "la sp, ir_stack_top\n\tcall " #name "_body\n\tli a7, 1\n\tecall"); } \
     static ir_word name##_body(void)
+
+/* No function calls a thread's first one: this tells a debugger, and adds no instruction. */
+#ifdef __GCC_HAVE_DWARF2_CFI_ASM
+#define IR_OUTERMOST_ ".cfi_undefined ra\n\t"
+#else
+#define IR_OUTERMOST_ ""
+#endif
 
 /* IR_THREADS(name, ..); says which threads there are, thread 0 first. A name may be there more than once. A guest has one IR_THREADS. */
 #define IR_THREADS(...) \

@@ -215,6 +215,9 @@ def main():
     asked = parser.parse_args()
     folders = [*TOP.glob("crates/*/must-fail"), *TOP.glob("crates/*/edits")]
     names = asked.crates or sorted({folder.parent.name for folder in folders})
+    unknown = [name for name in names if not (TOP / "crates" / name).is_dir()]
+    if unknown:
+        parser.error(f"no crate {unknown[0]}")
     rooms = [TOP / f".edits-{os.getpid()}-{number}" for number in range(max(1, asked.jobs))]
     counts = dict.fromkeys(SAID, 0)
     try:

@@ -34,13 +34,13 @@ def main():
         if line.startswith("== ") and name in sessions:
             print(f"\n{name}: " + ", ".join(commands_of(sessions[name])))
         elif found := ENDED.match(line):
-            ended += found[2] == "ended"
+            ended += (found[2], found[3]) == ("ended", "0")
         elif not line.startswith(("cases=", "rt:")):
             print(line)
     print(f"\n{UNPROVED}")
     if ended != len(sessions):
         print(run.stdout)
-        sys.exit(f"{len(sessions) - ended} of {len(sessions)} sessions did not end")
+        sys.exit(f"{len(sessions) - ended} of {len(sessions)} sessions did not end with status 0")
 
 
 if __name__ == "__main__":

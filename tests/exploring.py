@@ -643,7 +643,7 @@ def main():
             try:
                 check()
                 passed += 1
-            except (Wrong, subprocess.TimeoutExpired) as wrong:
+            except (Wrong, subprocess.TimeoutExpired, OSError) as wrong:
                 failed += 1
                 print(wrong, flush=True)
     sys.exit(finish(passed, failed))

@@ -158,6 +158,12 @@ SESSIONS = {
         ["ir-goto 1 30", "info threads", "monitor keep", "ir-goto 0 60", "ir-load 1", "info threads"],
         ["at 0 30 0|at [0-9]+ 30 ", r"2 .*\(at 30 of \d+\)", "kept 1", "at 60 ", r"\(at 30 of \d+\)"],
     ),
+    "16-moved-by-monitor": Session(
+        "over",
+        ["bt", "break fill", "continue", "info threads", "monitor start", "info threads", "print $pc", "bt"],
+        [r"\(gdb\) bt\n#0 .*filler \(\) at .*\n\(gdb\) break", "hit Breakpoint 1", r"\* 1 .*fill \(last=4\)", "at 0 0", r"\* 1 .*filler \(\)", r"<filler>$",
+         r"\(gdb\) bt\n#0 .*filler \(\) at .*\n"],
+    ),
 }
 
 
@@ -299,21 +305,23 @@ def machine_interface(folder, lines):
     # A gdb that says nothing more is ended, and then its answers are over.
     late = threading.Timer(120, gdb.kill)
     late.start()
-    with gdb:
-        for number, text in enumerate(lines):
-            gdb.stdin.write(f"{number}{text}\n")
+    try:
+        with gdb:
+            for number, text in enumerate(lines):
+                gdb.stdin.write(f"{number}{text}\n")
+                gdb.stdin.flush()
+                # a move is answered at once, and ends later
+                waits = [f"{number}^"] + ["*stopped"] * ("-exec-" in text)
+                for start in waits:
+                    for line in gdb.stdout:
+                        said.append(line)
+                        if line.startswith(start):
+                            break
+            gdb.stdin.write("-gdb-exit\n")
             gdb.stdin.flush()
-            # a move is answered at once, and ends later
-            waits = [f"{number}^"] + ["*stopped"] * ("-exec-" in text)
-            for start in waits:
-                for line in gdb.stdout:
-                    said.append(line)
-                    if line.startswith(start):
-                        break
-        gdb.stdin.write("-gdb-exit\n")
-        gdb.stdin.flush()
-        said += gdb.stdout.readlines()
-    late.cancel()
+            said += gdb.stdout.readlines()
+    finally:
+        late.cancel()
     return "".join(said)
 
 
@@ -495,6 +503,8 @@ def main():
     parser = parser_of_program(__doc__)
     parser.add_argument("names", metavar="NAME", nargs="*", help="only these sessions")
     asked = parser.parse_args()
+    if unknown := [name for name in asked.names if name not in SESSIONS and name not in CHECKS]:
+        parser.error(f"no session {unknown[0]}")
     use(asked.program)
     if not (shutil.which(GDB) and shutil.which(GCC)):
         print(f"{GDB} and {GCC} aren't both installed, so nothing is tested")
@@ -511,7 +521,7 @@ def main():
                 else:
                     CHECKS[name](folder)
                 print(f"{name}: passed", flush=True)
-            except (Wrong, subprocess.TimeoutExpired) as wrong:
+            except (Wrong, subprocess.TimeoutExpired, OSError) as wrong:
                 failed += 1
                 print(f"{name}: {wrong}", flush=True)
     sys.exit(finish(len(names) - failed, failed))

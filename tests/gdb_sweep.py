@@ -158,7 +158,7 @@ def main():
                 try:
                     hits += check_round(folder, guest, chance)
                     passed += 1
-                except (Wrong, subprocess.TimeoutExpired) as wrong:
+                except (Wrong, subprocess.TimeoutExpired, OSError) as wrong:
                     failed += 1
                     print(f"{guest}: {wrong}", flush=True)
             print(f"{guest}: {hits} stops", flush=True)

@@ -5,7 +5,7 @@ import signal
 import subprocess
 import time
 
-from lib import TOP, examples, assembled, program, run, said, shell, wants
+from lib import TOP, assembled, examples, interrupted, run, said, shell, wants
 
 # Each row: the arguments, the exit status, and what standard error says.
 REFUSED = [
@@ -131,11 +131,7 @@ def kept(folder):
     """None found, Ctrl-C or a full device: TRACE stays as it was."""
     (folder / "k.trc").write_bytes(b"an older trace")
     wants("none", run("hunt lost.img k.trc --seeds 0..99 --until fault", folder).returncode, 5)
-    command = [program(), "hunt", "lost.img", "k.trc", "--seeds", "0..18446744073709551615", "--until", "fault"]
-    with subprocess.Popen(command, cwd=folder, stdout=subprocess.DEVNULL, stderr=subprocess.DEVNULL) as started:
-        time.sleep(0.5)
-        started.send_signal(signal.SIGINT)
-        wants("the end", started.wait(10), -signal.SIGINT)
+    wants("the end", interrupted("hunt lost.img k.trc --seeds 0..18446744073709551615 --until fault", folder, 0.5), -signal.SIGINT)
     wants("TRACE", (folder / "k.trc").read_bytes(), b"an older trace")
     for condition in ("fault", "'!fault'"):
         ended = shell(f"./ir hunt lost.img k.trc --seeds 0..9 --until {condition} >/dev/full", folder)

@@ -4,6 +4,7 @@ import os
 import shlex
 import signal
 import subprocess
+import time
 from pathlib import Path
 
 TOP = Path(__file__).resolve().parent.parent
@@ -111,6 +112,17 @@ def run(arguments, folder, **more):
     more.setdefault("stderr", subprocess.PIPE)
     more.setdefault("timeout", 120)
     return subprocess.run([program(), *words], cwd=folder, check=False, **more)
+
+
+def interrupted(arguments, folder, seconds):
+    """The status of a run that is sent Ctrl-C after these seconds. It is ended if it goes on for ten more."""
+    with subprocess.Popen([program(), *shlex.split(arguments)], cwd=folder, stdout=subprocess.DEVNULL, stderr=subprocess.DEVNULL) as started:
+        try:
+            time.sleep(seconds)
+            started.send_signal(signal.SIGINT)
+            return started.wait(10)
+        finally:
+            started.kill()
 
 
 def shell(command, folder, typed=b""):

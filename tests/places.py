@@ -56,7 +56,7 @@ def converted(folder):
         wants(name, (folder / "bank.img").read_bytes(), files()[f"{name}_IMAGE"])
     whole = files()["BANK_ELF"]
     rows = ((b"x" + whole[1:], 2, "the file is no ELF file"), (whole[:10], 1, "a field or a segment passes the end of the file"),
-            (whole[:36] + b"\x01" + whole[37:], 5, "the flags name compressed instructions, floating-point registers or RV32E"))
+            (whole[:36] + b"\x01" + whole[37:], 5, "the flags name compressed instructions, floating-point registers, RV32E or another memory order"))
     for changed, number, words in rows:
         (folder / "bad.elf").write_bytes(changed)
         for more, explained in (("", ""), (" --explain", f"bad.elf: {words}\n")):
@@ -106,6 +106,17 @@ def one_file_by_two_names(folder):
         wants(image, (folder / image).read_bytes(), (folder / "whole.img").read_bytes())
 
 
+def no_label(folder):
+    """The map of a source without labels is an empty file, whatever was in its place."""
+    (folder / "none.s").write_text("addi a7, zero, 1\necall\n")
+    for name in ("none.map", "none.map", "older.map"):
+        (folder / "older.map").write_text("00010000 main\n")
+        wants(name, run(f"asm none.s none.img --map {name}", folder).returncode, 0)
+        wants(name, (folder / name).read_bytes(), b"")
+    wants("a folder", run("asm none.s none.img --map folder", folder).returncode, 1)
+    wants("parts", sorted(folder.glob("*.part*")), [])
+
+
 def placed(folder):
     """Each event is at the position and the address that a session shows."""
     (folder / "lost.s").write_text(examples()["lost_update"])
@@ -133,5 +144,5 @@ def placed(folder):
 def all_of_it(folder):
     """All tests of places, in a folder of their own."""
     (folder / "folder").mkdir(exist_ok=True)
-    for test in (converted, named, refused, one_file_by_two_names, placed):
+    for test in (converted, named, refused, one_file_by_two_names, no_label, placed):
         test(folder)

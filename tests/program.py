@@ -22,7 +22,7 @@ import hunting
 import pages
 import past
 import places
-from lib import BAD, DOUBLE, TOP, Wrong, assembled, counters, finish, program, run, shell, use, wants
+from lib import BAD, DOUBLE, TOP, Wrong, assembled, counters, finish, interrupted, program, run, shell, use, wants
 
 # Two threads; the first prints a byte, the second nothing.
 TWO = """
@@ -191,8 +191,16 @@ def test_explaining(folder):
         wants(arguments, at_terminal(arguments, folder), (3, EXPLAINED))
         wants(f"{arguments}: d2.img", (folder / "d2.img").exists(), False)
     wants("no fault", at_terminal("asm --explain d.s d2.img", folder), (0, ""))
-    for words in ("view d.img", "stale d.img", "who d.img 0", "why d.img 0 0"):
+    for words in ("view d.img", "stale d.img", "who d.img 0", "why d.img 0 0", "trace d.img"):
         wants(words, at_terminal(words, folder), (3, "ir: the trace is refused: these bytes are no trace\n"))
+    both = "".join(f"ir: the {which} trace is refused: these bytes are no trace\n" for which in ("first", "second"))
+    wants("diff", at_terminal("diff d.img d.img", folder), (3, both))
+    (folder / "d.elf").write_bytes(b"\x7fELF, and more")
+    refused = "ir: the image is refused, 2: these bytes are no image\n"
+    for words in ("record d.elf x.trc", "hunt d.elf x.trc --seeds 0+1 --until fault", "explore d.elf", "explore d.elf x.trc --until fault", "list d.elf"):
+        wants(words, at_terminal(words, folder), (3, f"{refused}ir: d.elf: this is an ELF file: `ir elf` makes an image of it\n"))
+    wants("a trace", at_terminal("record whole.trc x.trc", folder), (3, f"{refused}ir: whole.trc: this is a trace, and no image\n"))
+    wants("x.trc", (folder / "x.trc").exists(), False)
 
 
 def typed(arguments, lines, folder):
@@ -201,9 +209,11 @@ def typed(arguments, lines, folder):
     with subprocess.Popen([program(), *shlex.split(arguments)], cwd=folder, stdin=terminal, stdout=subprocess.PIPE, stderr=terminal) as process:
         os.close(terminal)
         os.write(control, "".join(f"{line}\n" for line in lines).encode() + b"\x04")
-        out = process.stdout.read()
-        status = process.wait(timeout=60)
-    return status, out, shown_at(control)
+        try:
+            out, _ = process.communicate(timeout=60)
+        finally:
+            process.kill()
+    return process.returncode, out, shown_at(control)
 
 
 def test_hints(folder):
@@ -516,11 +526,7 @@ def test_interrupt(folder):
     """Ctrl-C stops a recording, and TRACE stays as it was."""
     for order in ("", " --order 0x1000000"):
         (folder / "f.trc").write_bytes(b"an older trace")
-        command = [program()] + shlex.split(f"record forever.img f.trc --budget 1000000000000{order}")
-        with subprocess.Popen(command, cwd=folder, stdout=subprocess.DEVNULL, stderr=subprocess.DEVNULL) as started:
-            time.sleep(0.3)
-            started.send_signal(signal.SIGINT)
-            wants("the end", started.wait(10), -signal.SIGINT)
+        wants("the end", interrupted(f"record forever.img f.trc --budget 1000000000000{order}", folder, 0.3), -signal.SIGINT)
         wants("TRACE", (folder / "f.trc").read_bytes(), b"an older trace")
 
 

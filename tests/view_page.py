@@ -290,28 +290,32 @@ def main():
         kept.mkdir(exist_ok=True)
         texts = guests() | {"many": many(4, 12), "large": many(8, 1500)}
         browser = Browser(folder / "profile")
-        for name, text in texts.items():
-            trace = record(program, folder, name, text, 3)
-            forms = [("", [])] + [("_steps", ["--image", trace.with_suffix(".img")])] * (name != "large")
-            for form, words in forms + [("_part", ["--around", 0, 0, "--span", 12])] * (name == "many"):
-                page = subprocess.run([program, "view", str(trace), *map(str, words)], check=True, stdout=subprocess.PIPE).stdout.decode("ascii")
-                path = folder / f"{name}{form}.html"
-                path.write_text(page, encoding="ascii")
-                data = DATA.search(page)[1]
-                assert re.fullmatch(r"[0-9,:\[\]{}\n-]*", NAMES.sub("", data)), name
-                data = json.loads(data)
-                for dark in (False, True):
-                    browser.open(path.as_uri(), dark)
-                    least = check_contrast(browser, name)
-                    browser.picture(kept / f"{name}{form}_{'dark' if dark else 'light'}.png")
-                if data["boxes"] and not form:
-                    check_keys(browser, data)
-                    check_mouse(browser, data)
-                if form == "_steps":
-                    check_steps(browser, data)
-                assert not browser.errors, browser.errors
-                print(f"{name}{form}: {len(data['boxes'])} boxes, least contrast {least[0]:.1f} for text and {least[1]:.1f} for lines")
-        browser.close()
+        try:
+            for name, text in texts.items():
+                trace = record(program, folder, name, text, 3)
+                forms = [("", [])] + [("_steps", ["--image", trace.with_suffix(".img")])] * (name != "large")
+                for form, words in forms + [("_part", ["--around", 0, 0, "--span", 12])] * (name == "many"):
+                    page = subprocess.run([program, "view", str(trace), *map(str, words)], check=True, stdout=subprocess.PIPE).stdout.decode("ascii")
+                    path = folder / f"{name}{form}.html"
+                    path.write_text(page, encoding="ascii")
+                    data = DATA.search(page)[1]
+                    assert re.fullmatch(r"[0-9,:\[\]{}\n-]*", NAMES.sub("", data)), name
+                    data = json.loads(data)
+                    for dark in (False, True):
+                        browser.open(path.as_uri(), dark)
+                        least = check_contrast(browser, name)
+                        browser.picture(kept / f"{name}{form}_{'dark' if dark else 'light'}.png")
+                    if data["boxes"] and not form:
+                        check_keys(browser, data)
+                        check_mouse(browser, data)
+                    if form == "_steps":
+                        check_steps(browser, data)
+                    assert not browser.errors, browser.errors
+                    print(f"{name}{form}: {len(data['boxes'])} boxes, least contrast {least[0]:.1f} for text and {least[1]:.1f} for lines")
+            browser.close()
+        finally:
+            browser.process.kill()
+            browser.process.wait()
     print("view page: no error, keys and clicks do what the help says, contrast suffices, the data is digits")
 
 

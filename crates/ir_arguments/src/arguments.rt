@@ -21,9 +21,10 @@ const AFTER: &str = "A session of a source of your own:
 Without a subcommand `ir` reads standard input: a line with an image in hexadecimal, a line with its trace in
 hexadecimal, and then the commands of `ir debug`, a line each. With xxd for the hexadecimal:
   { for file in guest.img guest.trc; do xxd -p $file | tr -d '\\n'; echo; done; echo end; echo regs 0; } | ir
-Exit status: 0 done, 1 a fault, 2 bad arguments, 3 a refused source, ELF file, MAP, LIST, image or trace, 4 a trace that doesn't
-fit or contradicts itself, 5 a thread that didn't end by END with code 0, if `ir record` was called with --status, no seed that
-`ir hunt` found, or a search of `ir explore` that stopped, or found no outcome that was asked for.
+Exit status: 0 done, 1 a fault, 2 bad arguments, 3 a refused source, ELF file, MAP, LIST, COND, image or trace, or a guest that
+needs the second profile, 4 a trace that doesn't fit or contradicts itself, 5 a thread that didn't end by END with code 0, if
+`ir record` was called with --status, no seed that `ir hunt` found, or a search of `ir explore` that stopped, or found no outcome
+that was asked for.
 ";
 
 // The parser of all arguments.

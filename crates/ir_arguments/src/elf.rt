@@ -19,7 +19,7 @@ A file that is no guest is reported on standard error as `elf refused N`. It is 
    2 the file is no ELF file
    3 the file isn't of 32 bits, little-endian, version 1
    4 the file is no linked RISC-V program
-   5 the flags name compressed instructions, floating-point registers or RV32E
+   5 the flags name compressed instructions, floating-point registers, RV32E or another memory order
    6 the program headers aren't of 32 bytes, or they aren't 1 to 64
    7 the program is dynamic, wants an interpreter or has thread-local variables
    8 a segment isn't within the code's, the memory's or the table's addresses

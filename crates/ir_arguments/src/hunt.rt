@@ -15,9 +15,9 @@ const SEEDS: &str = "seeds";
 /// What follows the help of `ir hunt`.
 pub const HUNT_AFTER: &str =
     "Each seed gives one order of the guest's threads, always the same. The guest is run by the order of A, A+1 and so on up to
-B, on all processors. The lowest seed whose run fulfils each COND is recorded again: TRACE is written, and then
-`found seed S order LIST` and the lines of `ir record`. LIST is for `ir record --order`. If no seed does, `none A..B` is
-written and nothing else, and the exit status is 5. A+N is N seeds from A on.
+B, on all processors. The lowest seed whose run fulfils each COND is recorded again: `found seed S order LIST` is printed, then
+TRACE is written, and the lines of `ir record` follow. LIST is for `ir record --order`. If no seed does, `none A..B` is printed
+and nothing is written, and the exit status is 5. A+N is N seeds from A on.
 Threads change places only before an entry, and when one is done; with P 2 also before a leave. The ways to choose:
    walk    each thread that can go on has the same chance
    pct:D   the thread of the highest priority goes on. Priorities are drawn; at D - 1 drawn places the thread that would go on

@@ -30,8 +30,8 @@ pub struct Chaos {
 
 /// What follows the help of `ir record`.
 pub const RECORD_AFTER: &str =
-    "Without LIST each thread of the guest runs on a thread of its own, and TRACE is of the run that came about. Recordings of
-one guest, with the same arguments, may differ in which thread enters an object first, in what CLOCK answers, and in what
+    "Without LIST and SEED each thread of the guest runs on a thread of its own, and TRACE is of the run that came about. Recordings
+of one guest, with the same arguments, may differ in which thread enters an object first, in what CLOCK answers, and in what
 follows from these. They don't differ otherwise. A thread that waits for an object takes no step, and the budget doesn't end
 it. It continues when the threads that hold the object have left or ended, which their budgets see to. At a terminal standard
 error shows the steps so far, once a second. Ctrl-C stops a recording, and TRACE stays as it was.
@@ -44,7 +44,7 @@ the thread doesn't try, its step is as that of `T`.
 With SEED all run on one thread too, by the order that SEED gives: `ir hunt --help` says how. The same SEED gives the same order.
 A guest that polls enters an object again and again until a word there changes. It may take hundreds of turns before the
 thread that changes the word gets in. It then ends by 13, its budget spent, though nothing is stuck: give a larger B, or LIST.
-CLOCK gives milliseconds since the start, modulo 2^32; with LIST it counts its own calls from 0, in each thread.
+CLOCK gives milliseconds since the start, modulo 2^32; with LIST or SEED it counts its own calls from 0, in each thread.
 RANDOM gives PCG32's words, started by S plus the thread's number. Each thread reads its own copy of FILE, of at most
 1048576 bytes, or nothing. TRACE is written to a new file, TRACE.part, which is renamed once it is whole.
 With P 2 guests may call TRY_WRITE too, call 13, and TRACE is of the second form, IRT2. With P 1 it is an unknown call, TRACE
@@ -97,7 +97,9 @@ fn order_arg<'a>(alloc: Global) -> Arg<'a> {
         .long(ORDER)
         .value_name("LIST")
         .allow_hyphen_values(true)
-        .help("Which thread takes each next step; without it the guest runs on real threads")
+        .help(
+            "Which thread takes each next step; without it, --order-file and --chaos the guest runs on real threads",
+        )
 }
 
 fn order_file_arg<'a>(alloc: Global) -> Arg<'a> {

@@ -173,8 +173,8 @@ fn replayed_by_threads<R: Threads + Clock + Print + Sync>(
     }
 }
 
-// The same of a trace that is only read, or is seen to be coherent too.
-fn whole_text(alloc: Global, trace: &Trace, is_judged: bool) -> Result<u64> {
+// How many steps all threads take of a trace that is only read, or judged for coherence too.
+fn read_steps(alloc: Global, trace: &Trace, is_judged: bool) -> Result<u64> {
     if is_judged {
         coherent(alloc, trace).ok().context("a coherent trace")?;
     }
@@ -211,8 +211,8 @@ fn main(rt: HostRuntime) -> Result<()> {
                 "fit" => fitted(alloc, image, trace)?,
                 "replay" => replayed(&rt, alloc, image, trace)?,
                 "replay-threads" => replayed_by_threads(&rt, alloc, image, trace)?,
-                "read" => whole_text(alloc, &trace, false)?,
-                "coherent" => whole_text(alloc, &trace, true)?,
+                "read" => read_steps(alloc, &trace, false)?,
+                "coherent" => read_steps(alloc, &trace, true)?,
                 _ => bail!("a mode"),
             }
         }

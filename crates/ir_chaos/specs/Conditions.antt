@@ -84,7 +84,8 @@ abbrev pub occurs_in : List ℕ → List ℕ → Bool
 occurs_in text [] = starts_with eqb [] text
 occurs_in text (x ∷ bytes) = starts_with eqb (x ∷ bytes) text || occurs_in text bytes
 
--- whether a fact is so of what a run came to; nothing is so of a thread, an object or a word that there isn't but that a word is 0
+-- whether a fact is so of what a run came to; nothing is so of a thread, an object or a word that there isn't but that a word is 0, and that an
+-- empty text was printed
 abbrev pub is_so : Fact → Outcome → Bool
 is_so (End thread number) o = ends_by number (slice_index_or o.ends thread None)
 is_so (Code thread code) o = exits_with code (slice_index_or o.ends thread None)

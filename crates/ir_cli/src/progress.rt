@@ -138,9 +138,13 @@ impl<R: Clock + Eprint> Observer for Progress<'_, R> {
             return;
         }
         self.stands.store(true, Ordering::Relaxed);
-        let outcomes = self.outcomes.load(Ordering::Relaxed);
+        // A search for more switches begins again: none of its outcomes is known before its first level ends, and its line is shorter.
+        let outcomes = match switches {
+            0 => 0,
+            _ => self.outcomes.load(Ordering::Relaxed),
+        };
         let _ = self.rt.eprint(format_args!(
-            "{states} states, {switches} switches, {outcomes} outcomes\r"
+            "{BLANKS}\r{states} states, {switches} switches, {outcomes} outcomes\r"
         ));
     }
 

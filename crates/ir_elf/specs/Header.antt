@@ -29,7 +29,7 @@ machine_field = fixed 2 243 Kind
 abbrev pub version_field : Field Refusal
 version_field = fixed 4 1 Kind
 
--- no compressed instructions, no floating-point registers, not RV32E
+-- no compressed instructions, no floating-point registers, not RV32E, no other memory order
 abbrev pub flags_field : Field Refusal
 flags_field = fixed 4 0 Flags
 

@@ -16,7 +16,7 @@ pub enum Refusal {
     Class,
     /// The file is no linked RISC-V program.
     Kind,
-    /// The flags name compressed instructions, floating-point registers or RV32E.
+    /// The flags aren't 0: they name compressed instructions, floating-point registers, RV32E or another memory order.
     Flags,
     /// The program headers aren't of 32 bytes, or they aren't 1 to 64.
     Headers,
@@ -71,7 +71,7 @@ impl Refusal {
             Refusal::Class => "the file isn't of 32 bits, little-endian, version 1",
             Refusal::Kind => "the file is no linked RISC-V program",
             Refusal::Flags =>
-                "the flags name compressed instructions, floating-point registers or RV32E",
+                "the flags name compressed instructions, floating-point registers, RV32E or another memory order",
             Refusal::Headers => "the program headers aren't of 32 bytes, or they aren't 1 to 64",
             Refusal::Dynamic =>
                 "the program is dynamic, wants an interpreter or has thread-local variables",

@@ -10,9 +10,11 @@ use Rattle.ir_graph.specs.Reached.{AllReached}
 use Rattle.ir_graph.specs.Setup.{IsCountedOf}
 use Rattle.ir_image.specs.Guest.{Guest, guest_at}
 use Rattle.ir_order.specs.Recording.{IsPlannedInTurns, IsOfRun}
+use Rattle.ir_order.specs.Spelling.{IsListOf}
 use Rattle.ir_outcomes.specs.Explored.{IsAt, AreExplored}
 use Rattle.ir_outcomes.specs.Shown.{outcome_by, switches_by}
 use Rattle.ir_outcomes.specs.declared.shown.Shown.{Shown}
+use Rattle.ir_record.specs.Recording.{turns_of_items}
 use Rattle.ir_record.specs.Refusing.{Turn}
 use Rattle.ir_record_run.specs.Order.{order_of}
 use Rattle.ir_record_run.specs.Plan.{Plan}
@@ -45,7 +47,8 @@ pub record IsHit (guest : Guest) (plan : ExplorePlan) (conditions : List Conditi
   pub switched : switches_by (setup_of guest plan) most_budget run ≡ level
   pub fewest : NeverWithin (setup_of guest plan) conditions level
 
--- The outcomes of the guest are printed up to the first that fulfils each condition, and then which one that is. Its run is the one that is recorded.
+-- The outcomes of the guest are printed up to the first that fulfils each condition, and then which one that is, with a list of its turns. Its run is
+-- the one that is recorded.
 pub record IsHitText (guest : Guest) (plan : ExplorePlan) (conditions : List Condition) (list text : List ℕ) : Type 0 where
   pub known : Known
   pub explored : AreExplored (setup_of guest plan) known.flats known.levels known.outcomes
@@ -53,6 +56,7 @@ pub record IsHitText (guest : Guest) (plan : ExplorePlan) (conditions : List Con
   pub shown : Shown
   pub state : SourcedFlat
   pub at : IsAt known.flats known.outcomes place shown state
+  pub listed : IsListOf list (turns_of_items shown.turns.items)
   pub first : NoneBefore guest conditions known.flats known.outcomes place
   pub fulfils : fulfils_each guest conditions (outcome_of (tables state.flat)) ≡ true
   pub hit : IsHit guest plan conditions shown.level list

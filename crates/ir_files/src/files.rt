@@ -70,7 +70,7 @@ pub fn read_file<D: Folder>(
     }
 }
 
-// Writes some bytes from the prefix, again where a signal interrupts it.
+// Writes a prefix of the bytes, and gives its length: at least one byte, if there are any. Tries again where a signal interrupts it.
 pub fn put<W: Write>(file: &mut W, bytes: &[u8]) -> Result<usize, ErrorKind>
     ensures count { IfOk result (λ n. n ≤ length bytes.now) }
     ensures some { result ≡ Ok 0 → bytes.now ≡ [] }

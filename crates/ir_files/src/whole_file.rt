@@ -198,6 +198,12 @@ impl<D: Folder> WholeSink for WholeFile<'_, D> {
         ensures stays { OnOk result (self.new.failed ≡ self.old.failed) }
         ensures err { OnErr result (self.new.failed ≡ true) }
     {
+        // No byte was written: the file is empty, and isn't made yet.
+        if self.file.is_none() && self.beside.is_none() {
+            if let Err(why) = self.make() {
+                return Err(self.fail(why));
+            }
+        }
         if let Some(beside) = &self.beside {
             if let Err(error) = self.folder.rename(beside.as_str(), self.place) {
                 return Err(self.fail(reason(error.kind())));

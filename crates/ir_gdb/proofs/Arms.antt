@@ -18,7 +18,7 @@ use Rattle.ir_packet.specs.declared.request.Request.{Request}
 use Rattle.ir_packet.specs.declared.request.Request.TheVariants as request
 use Rattle.ir_debug.specs.Machine.{quits}
 use Rattle.ir_gdb.proofs.Answering.{sent_answer_to_packet, sent_part_of_answer_to_packet}
-use Rattle.ir_gdb.specs.Connection.{Link, sent, sign, unacknowledged, is_copy, is_packet, before_reply, AnswersLine, AnswersBy, AnswersRequest, AnswersPacket, AnswersNew, AnswersItem, AnswersItemBy, ends_request, ends_by, ends, Sent, SentInPart}
+use Rattle.ir_gdb.specs.Connection.{Link, sent, sign, unacknowledged, is_copy, is_packet, before_new_reply, before_reply_by, before_reply, AnswersLine, AnswersBy, AnswersRequest, AnswersPacket, AnswersNew, AnswersItem, AnswersItemBy, ends_request, ends_by, ends, Sent, SentInPart}
 
 -- ---- requests
 
@@ -148,16 +148,16 @@ module _ (l : Link) (payload : List ℕ) (f : Found) (next : Link) (w w' : Optio
       (record { text = s.text; is = s.is; grown = s.grown })
 
   pub packet_answered_part : f ≡ found.Packet → SentInPart (AnswersPacket l payload) (sign l (codes "+")) w w'
-      → SentInPart (AnswersNew l (item_found f payload)) (before_reply l (item_found f payload)) w w'
-  packet_answered_part is s = subst (λ (x : Found). SentInPart (AnswersNew l (item_found x payload)) (before_reply l (item_found x payload)) w w')
+      → SentInPart (AnswersNew l (item_found f payload)) (before_new_reply l (item_found f payload)) w w'
+  packet_answered_part is s = subst (λ (x : Found). SentInPart (AnswersNew l (item_found x payload)) (before_new_reply l (item_found x payload)) w w')
       (sym is) (record { text = s.text; is = s.is; grown = s.grown })
 
   pub long_answered : f ≡ found.TooLong → Sent (AnswersNew l stream.TooLong) next w w' → Sent (AnswersNew l (item_found f payload)) next w w'
   long_answered is s = subst (λ (x : Found). Sent (AnswersNew l (item_found x payload)) next w w') (sym is) s
 
   pub long_answered_part : f ≡ found.TooLong → SentInPart (AnswersNew l stream.TooLong) [] w w'
-      → SentInPart (AnswersNew l (item_found f payload)) (before_reply l (item_found f payload)) w w'
-  long_answered_part is s = subst (λ (x : Found). SentInPart (AnswersNew l (item_found x payload)) (before_reply l (item_found x payload)) w w')
+      → SentInPart (AnswersNew l (item_found f payload)) (before_new_reply l (item_found f payload)) w w'
+  long_answered_part is s = subst (λ (x : Found). SentInPart (AnswersNew l (item_found x payload)) (before_new_reply l (item_found x payload)) w w')
       (sym is) s
 
   pub bad_answered : f ≡ found.BadSum → next ≡ l → Appends w w' (sign l (codes "-")) → Sent (AnswersNew l (item_found f payload)) next w w'
@@ -165,8 +165,8 @@ module _ (l : Link) (payload : List ℕ) (f : Found) (next : Link) (w w' : Optio
       (record { text = sign l (codes "-"); is = (refl, same); grown = grown })
 
   pub bad_answered_part : f ≡ found.BadSum → AppendsPrefix w w' (sign l (codes "-"))
-      → SentInPart (AnswersNew l (item_found f payload)) (before_reply l (item_found f payload)) w w'
-  bad_answered_part is grown = subst (λ (x : Found). SentInPart (AnswersNew l (item_found x payload)) (before_reply l (item_found x payload)) w w')
+      → SentInPart (AnswersNew l (item_found f payload)) (before_new_reply l (item_found f payload)) w w'
+  bad_answered_part is grown = subst (λ (x : Found). SentInPart (AnswersNew l (item_found x payload)) (before_new_reply l (item_found x payload)) w w')
       (sym is) (record { text = sign l (codes "-"); is = inl (l, (refl, refl)); grown = grown })
 
 module _ (l : Link) (payload : List ℕ) (f : Found) (next : Link) (w : Option (List ℕ)) where
@@ -208,14 +208,9 @@ module _ (l : Link) (item : Item) where
       → Sent (AnswersItem l item) next w w'
   new_sent next w w' new s = record { text = s.text; is = new_is (is_copy l && is_packet item) s.text next new s.is; grown = s.grown }
 
-  part_is : (text before : List ℕ) → (is_copy l && is_packet item) ≡ false → ((next : Link) × AnswersNew l item text next) ⊎ (text ≡ before)
-      → ((next : Link) × AnswersItem l item text next) ⊎ (text ≡ before)
-  part_is text before new (inl (next, is)) = inl (next, new_is (is_copy l && is_packet item) text next new is)
-  part_is text before new (inr none) = inr none
-
-  pub new_part : (before : List ℕ) (w w' : Option (List ℕ)) → (is_copy l && is_packet item) ≡ false → SentInPart (AnswersNew l item) before w w'
-      → SentInPart (AnswersItem l item) before w w'
-  new_part before w w' new s = record { text = s.text; is = part_is s.text before new s.is; grown = s.grown }
+  pub new_part : (w w' : Option (List ℕ)) → (is_copy l && is_packet item) ≡ false → SentInPart (AnswersNew l item) (before_new_reply l item) w w'
+      → SentInPart (AnswersItem l item) (before_reply l item) w w'
+  new_part w w' new s = subst (λ (b : Bool). SentInPart (AnswersItemBy b l item) (before_reply_by b l item) w w') (sym new) s
 
 pub copied_packet_ends_no_connection : (l : Link) (item : Item) → (is_copy l && is_packet item) ≡ true → ends l item ≡ false
 copied_packet_ends_no_connection l item both = by_copy (is_copy l) both

@@ -182,14 +182,22 @@ abbrev pub SendsOrFails : {D A E : Type 0} → (D → Option (List ℕ)) → (D 
 SendsOrFails written broken May before next old new result =
     WritesOrFails broken old new (Sent May next (written old) (written new)) (SentInPart May before (written old) (written new)) result
 
+-- what is written for an item that is no copy before the reply is known
+abbrev pub before_new_reply : Link → Item → List ℕ
+before_new_reply l (Packet payload) = sign l (codes "+")
+before_new_reply l BadSum = []
+before_new_reply l TooLong = []
+before_new_reply l Interrupt = []
+before_new_reply l Acknowledged = []
+before_new_reply l Refused = []
+
 -- what is written for an item before the reply is known
+abbrev pub before_reply_by : Bool → Link → Item → List ℕ
+before_reply_by true l item = []
+before_reply_by false l item = before_new_reply l item
+
 abbrev pub before_reply : Link → Item → List ℕ
-before_reply l (Packet payload) = sign l (codes "+")
-before_reply l BadSum = []
-before_reply l TooLong = []
-before_reply l Interrupt = []
-before_reply l Acknowledged = []
-before_reply l Refused = []
+before_reply l item = before_reply_by (is_copy l && is_packet item) l item
 
 -- it took all answers but that to the last item, none of which ends the connection, and a prefix of that one
 pub record WroteInPart (l : Link) (items : List Item) (old new : Option (List ℕ)) : Type 0 where

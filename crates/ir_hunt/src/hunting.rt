@@ -14,7 +14,7 @@ ghost use Rattle.ir_record_run.specs.declared.record_fault.RecordFault.TheVarian
 ghost use Rattle.ir_chaos.specs.Conditions.{as_condition};
 ghost use Rattle.ir_hunt.specs.Finding.{IsFound, IsFoundIn, IsFinding, by_list};
 ghost use Rattle.ir_hunt.specs.Lines.{found_line, none_line};
-ghost use Rattle.ir_hunt.specs.Stopping.{RefusesHunt, IsTold, IsHuntLine};
+ghost use Rattle.ir_hunt.specs.Stopping.{RefusesHunt, IsTold, IsHuntLine, TellsLeftOut};
 
 use crate::plan::{HuntPlan, Seeds};
 use crate::report::{found_line, none_line};
@@ -173,6 +173,7 @@ fn told<E: Sink>(faults: &mut E, why: RecordFault) -> ExitStatus
 // Reports how many runs were left out, if any were.
 fn tell_left_out<E: Sink>(alloc: Global, faults: &mut E, count: u64)
     requires { E.broken faults.old ≡ false }
+    ensures { (faults.new ≡ faults.old) ⊎ TellsLeftOut (writer_of (E.written faults.old) (E.written faults.new) (E.broken faults.new)) }
 {
     if count == 0 {
         return;
@@ -233,6 +234,8 @@ where
         × Appends (O.written out.old) (O.written out.new) (found_line seed list ++ lines_of recorded))) }
     ensures whole { IfOk result (λ o. IfSome o (λ _. W.whole files.new.trace ≡ true)) }
     ensures quiet { IfOk result (λ o. IfSome o (λ _. faults.new ≡ faults.old)) }
+    // Where none was found, how many seeds were left out may be told, and nothing else is.
+    ensures left_out { IfOk result (λ o. (faults.new ≡ faults.old) ⊎ TellsLeftOut (writer_of (E.written faults.old) (E.written faults.new) (E.broken faults.new))) }
     // Else nothing was written; or the line failed; or what was found is said, and its recording stopped.
     ensures stopped { IfErr result (λ status. (e : RecordFault) × (status ≡ fault_status e) × (
         (RefusesHunt e image.now plan.now.record × (files.new.trace ≡ files.old.trace) × (files.new.outputs ≡ files.old.outputs) × (out.new ≡ out.old)

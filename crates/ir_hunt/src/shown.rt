@@ -38,7 +38,10 @@ impl Shown {
         self.stands = true;
         let seconds = (self.millis / 1000).max(1) as u64;
         let (seeds, rate) = (self.seeds, self.seeds / seconds);
-        let _ = rt.eprint(format_args!("{seeds} seeds, {rate} per second, up to {last}\r"));
+        // The rate may have lost a digit, and then the line is shorter than the one before.
+        let _ = rt.eprint(format_args!(
+            "{BLANKS}\r{seeds} seeds, {rate} per second, up to {last}\r"
+        ));
     }
 
     /// A stretch was tried: how many milliseconds it took. It is shown if a second has passed.

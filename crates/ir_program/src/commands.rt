@@ -17,7 +17,7 @@ pub mod recording;
 pub mod trace;
 pub mod until;
 
-use ir_files::{ExitStatus, Folder, WholeSink, loses, read_file, tell_of};
+use ir_files::{ExitStatus, Folder, MOST_BYTES, WholeSink, loses, read_file, tell_of};
 use ir_stream::Sink;
 use std::alloc::Global;
 
@@ -47,6 +47,32 @@ pub fn bytes_of<D: Folder, E: Sink>(
             }
             None
         }
+    }
+}
+
+// Says in words what the file of a refused image is, if its first bytes tell.
+pub fn explain_image<D: Folder, E: Sink>(
+    alloc: Global,
+    folder: &D,
+    path: &str,
+    status: ExitStatus,
+    faults: &mut E,
+) {
+    if status != ExitStatus::Refused {
+        return;
+    }
+    let Ok(bytes) = read_file(alloc, folder, path, MOST_BYTES) else {
+        return;
+    };
+    if bytes.starts_with(b"\x7FELF") {
+        say(
+            faults,
+            path,
+            ": ",
+            "this is an ELF file: `ir elf` makes an image of it",
+        );
+    } else if bytes.starts_with(b"IRT") {
+        say(faults, path, ": ", "this is a trace, and no image");
     }
 }
 

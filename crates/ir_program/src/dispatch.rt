@@ -12,9 +12,9 @@ use crate::commands::hunt::hunt_file;
 use crate::commands::list::list_file;
 use crate::commands::past::{diff_files, stale_file, view_file, who_file, why_file};
 use crate::commands::record::record_file;
-use crate::commands::say;
 use crate::commands::trace::trace_file;
 use crate::commands::until::until_file;
+use crate::commands::{explain_image, say};
 use crate::prompting::Prompting;
 use ir_arguments::{Asked, Make, Print, parsed};
 use ir_debug::{Sink, Source};
@@ -104,6 +104,21 @@ fn make<D: Folder, E: Sink>(
     }
 }
 
+// The exit status of a command over an image. If a person looks on, it is said in words what a refused image is.
+fn over_image<D: Folder, E: Sink>(
+    alloc: Global,
+    folder: &D,
+    image: &str,
+    explains: bool,
+    status: ExitStatus,
+    faults: &mut E,
+) -> ExitStatus {
+    if explains {
+        explain_image(alloc, folder, image, status, faults);
+    }
+    status
+}
+
 // Prints lines about files.
 fn print<R, D, G, O, E>(
     around: &Surroundings<'_, R, D, G>,
@@ -123,15 +138,23 @@ where
 {
     let (alloc, folder) = (around.rt.alloc(), around.folder);
     match what {
-        Print::Code(arguments) => list_file(alloc, folder, arguments, out, faults),
-        Print::Trace(arguments) => trace_file(alloc, folder, arguments, out, faults),
+        Print::Code(arguments) => {
+            let status = list_file(alloc, folder, arguments, out, faults);
+            let image = arguments.image.as_str();
+            over_image(alloc, folder, image, explains, status, faults)
+        }
+        Print::Trace(arguments) => trace_file(alloc, folder, arguments, explains, out, faults),
         Print::Events(arguments) => { events_file(alloc, folder, arguments, explains, out, faults) }
         Print::Stale(arguments) => { stale_file(alloc, folder, arguments, explains, out, faults) }
         Print::Who(arguments) => who_file(alloc, folder, arguments, explains, out, faults),
         Print::Why(arguments) => why_file(alloc, folder, arguments, explains, out, faults),
-        Print::Diff(arguments) => diff_files(alloc, folder, arguments, out, faults),
+        Print::Diff(arguments) => diff_files(alloc, folder, arguments, explains, out, faults),
         Print::View(arguments) => view_file(alloc, folder, arguments, explains, out, faults),
-        Print::Outcomes(arguments) => explore_file(around, arguments, out, faults),
+        Print::Outcomes(arguments) => {
+            let status = explore_file(around, arguments, out, faults);
+            let image = arguments.image.as_str();
+            over_image(alloc, folder, image, explains, status, faults)
+        }
     }
 }
 
@@ -174,11 +197,19 @@ where
         Asked::Session => bundled_session(rt, &hands, terminals.input, input, out, faults),
         Asked::Make(what) => make(alloc, folder, &what, terminals.faults, faults),
         Asked::Record(arguments) => {
-            record_file(&around, &arguments, terminals.faults, out, faults)
+            let status = record_file(&around, &arguments, terminals.faults, out, faults);
+            let image = arguments.image.as_str();
+            over_image(alloc, folder, image, terminals.faults, status, faults)
         }
-        Asked::Hunt(arguments) => hunt_file(&around, &arguments, terminals.faults, out, faults),
+        Asked::Hunt(arguments) => {
+            let status = hunt_file(&around, &arguments, terminals.faults, out, faults);
+            let image = arguments.image.as_str();
+            over_image(alloc, folder, image, terminals.faults, status, faults)
+        }
         Asked::Until(arguments) => {
-            until_file(&around, &arguments, terminals.faults, out, faults)
+            let status = until_file(&around, &arguments, terminals.faults, out, faults);
+            let image = arguments.explore.image.as_str();
+            over_image(alloc, folder, image, terminals.faults, status, faults)
         }
         Asked::Debug(arguments) => {
             let mut input = Prompting::new(input, rt, terminals.input);

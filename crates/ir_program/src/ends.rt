@@ -2,7 +2,7 @@
 
 use crate::commands::say;
 use ir_stream::Sink;
-use ir_thread::End;
+use ir_thread::{End, Profile};
 use ir_trace::Trace;
 use std::alloc::{AllocError, Global};
 
@@ -43,7 +43,17 @@ pub fn all_ended(trace: &Trace) -> bool {
         .all(|thread| thread.end() == End::Exit(0))
 }
 
-/// Reports each other end, in a line each.
+// Whether a thread ended by a call that may be known in the second profile.
+fn has_unknown_call(trace: &Trace) -> bool {
+    let is_first = trace.profile() == Profile::One;
+    is_first
+        && trace
+            .threads()
+            .iter()
+            .any(|thread| thread.end() == End::UnknownCall)
+}
+
+/// Reports each other end, in a line each. If a call was unknown that the second profile may have, that is said.
 pub fn tell_ends<E: Sink>(alloc: Global, trace: &Trace, faults: &mut E) {
     for (number, thread) in trace.threads().iter().enumerate() {
         if thread.end() != End::Exit(0) {
@@ -51,5 +61,8 @@ pub fn tell_ends<E: Sink>(alloc: Global, trace: &Trace, faults: &mut E) {
                 say(faults, line.as_str(), "", "");
             }
         }
+    }
+    if has_unknown_call(trace) {
+        say(faults, "TRY_WRITE is a call with --profile 2 only", "", "");
     }
 }

@@ -79,7 +79,7 @@ impl Remote {
     /// Puts the reply to a request at the end.
     ///
     /// # Errors
-    /// Out of memory, and nothing has changed.
+    /// Out of memory: no thread has moved, and nothing is set.
     pub fn reply<H: Hands>(
         &mut self,
         hands: &H,

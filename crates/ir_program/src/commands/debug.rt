@@ -11,6 +11,7 @@ use ir_debug::{Sink, Source};
 use ir_files::{ExitStatus, Folder, MOST_BYTES};
 use ir_image::read_image;
 use ir_object::{Gate, Given};
+use ir_stream::next_byte;
 use ir_trace::read_trace;
 use std::alloc::{AllocError, Global};
 use std::thread::Threads;
@@ -63,15 +64,24 @@ fn explain<E: Sink>(alloc: Global, files: Files<'_>, status: ExitStatus, faults:
     }
 }
 
-// Says in words why a trace alone is refused, if it is.
-pub fn explain_trace<E: Sink>(alloc: Global, trace: &[u8], status: ExitStatus, faults: &mut E) {
+// The name of the one trace that there is.
+pub const THE_TRACE: &str = "the trace";
+
+// Says in words why a trace alone is refused, if it is. The name says which trace it is.
+pub fn explain_trace<E: Sink>(
+    alloc: Global,
+    name: &str,
+    trace: &[u8],
+    status: ExitStatus,
+    faults: &mut E,
+) {
     if status != ExitStatus::Refused {
         return;
     }
     let Err(why) = read_trace(alloc, trace) else {
         return;
     };
-    if let Ok(words) = format!(in alloc; "the trace is refused: {why}") {
+    if let Ok(words) = format!(in alloc; "{name} is refused: {why}") {
         say(faults, words.as_str(), "", "");
     }
 }
@@ -107,7 +117,12 @@ pub struct Opening<'a> {
     pub explains: bool,
 }
 
-// A session of an image and a trace in files.
+// Whether nothing was opened.
+fn is_refusal(status: ExitStatus) -> bool {
+    matches!(status, ExitStatus::Refused | ExitStatus::NotFit)
+}
+
+// A session of an image and a trace in files. One of gdb that opens nothing ends only once gdb has sent something.
 pub fn debug_files<R, D, G, I, O, E>(
     around: &Surroundings<'_, R, D, G>,
     opening: Opening<'_>,
@@ -143,6 +158,10 @@ where
     };
     if opening.explains {
         explain_files(alloc, image, trace, status, faults);
+    }
+    if opening.speech == Speech::Packets && is_refusal(status) {
+        // gdb shows why only if its first packet can still be sent.
+        let _ = next_byte(reader);
     }
     status
 }

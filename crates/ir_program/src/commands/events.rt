@@ -5,6 +5,8 @@ ghost use Rattle.std.specs.Prelude.{◌≡◌, false};
 use crate::commands::debug::explain_files;
 use crate::commands::maps::names_in;
 use crate::commands::{bytes_of, say};
+use crate::fault::ProgramErr;
+use crate::listing::write_refusal;
 use crate::print_err::PrintErr;
 use ir_arguments::EventsArguments;
 use ir_events::{events_text, pcs};
@@ -56,15 +58,14 @@ fn print_trace<O: Sink>(
     trace: &[u8],
     symbols: &SymbolTable,
     out: &mut O,
-) -> Result<ExitStatus, PrintErr> {
+) -> Result<ExitStatus, PrintErr>
+    requires { O.broken out.old ≡ false }
+{
     match read_trace(alloc, trace) {
         Ok(trace) => print_fit(alloc, image, trace, symbols, out),
         Err(TraceErr::NoMem) => Err(PrintErr::NoMem),
         Err(why) => {
-            write_all(
-                out,
-                refusal_line(b"trace refused ", why.number()).as_slice(),
-            )?;
+            write_refusal(alloc, &why, out)?;
             Ok(ExitStatus::Refused)
         }
     }
@@ -77,7 +78,9 @@ fn print_events<O: Sink>(
     trace: &[u8],
     symbols: &SymbolTable,
     out: &mut O,
-) -> Result<ExitStatus, PrintErr> {
+) -> Result<ExitStatus, PrintErr>
+    requires { O.broken out.old ≡ false }
+{
     match read_image(alloc, image) {
         Ok(image) => print_trace(alloc, image, trace, symbols, out),
         Err(ImageErr::NoMem) => Err(PrintErr::NoMem),
@@ -121,12 +124,8 @@ pub fn events_file<D: Folder, O: Sink, E: Sink>(
             }
             status
         }
-        Err(PrintErr::NoMem) => {
-            say(faults, "memory ran out", "", "");
-            ExitStatus::Failed
-        }
-        Err(PrintErr::Write) => {
-            say(faults, "standard output can't be written", "", "");
+        Err(why) => {
+            say(faults, ProgramErr::from(why).words(), "", "");
             ExitStatus::Failed
         }
     }

@@ -1,8 +1,8 @@
-//! `ir stale`, `ir who`, `ir diff` and `ir view`: what the traces in files say of their past is printed.
+//! `ir stale`, `ir who`, `ir why`, `ir diff` and `ir view`: what the traces in files say of their past is printed.
 
 ghost use Rattle.std.specs.Prelude.{◌≡◌, OnSome, false};
 
-use crate::commands::debug::{explain_files, explain_trace};
+use crate::commands::debug::{THE_TRACE, explain_files, explain_trace};
 use crate::commands::{bytes_of, say};
 use ir_arguments::{DiffArguments, StaleArguments, ViewArguments, WhoArguments, WhyArguments};
 use ir_diff::diff_run;
@@ -82,7 +82,7 @@ pub fn stale_file<D: Folder, O: Sink, E: Sink>(
     let Some(image) = given.image() else {
         let status = stale_run(alloc, trace, out, faults);
         if explains {
-            explain_trace(alloc, trace, status, faults);
+            explain_trace(alloc, THE_TRACE, trace, status, faults);
         }
         return status;
     };
@@ -148,7 +148,7 @@ pub fn who_file<D: Folder, O: Sink, E: Sink>(
         };
         let status = who_run(alloc, trace, &asked, out, faults);
         if explains {
-            explain_trace(alloc, trace, status, faults);
+            explain_trace(alloc, THE_TRACE, trace, status, faults);
         }
         return status;
     };
@@ -183,7 +183,7 @@ pub fn why_file<D: Folder, O: Sink, E: Sink>(
     let Some(image) = given.image() else {
         let status = why_run(alloc, trace, &what, out, faults);
         if explains {
-            explain_trace(alloc, trace, status, faults);
+            explain_trace(alloc, THE_TRACE, trace, status, faults);
         }
         return status;
     };
@@ -198,11 +198,12 @@ pub fn why_file<D: Folder, O: Sink, E: Sink>(
     status
 }
 
-// Prints what the traces in two files have in common.
+// Prints what the traces in two files have in common. If a person looks on, it is said in words which of them is refused, and why.
 pub fn diff_files<D: Folder, O: Sink, E: Sink>(
     alloc: Global,
     folder: &D,
     arguments: &DiffArguments,
+    explains: bool,
     out: &mut O,
     faults: &mut E,
 ) -> ExitStatus
@@ -212,10 +213,16 @@ pub fn diff_files<D: Folder, O: Sink, E: Sink>(
     let Some(first) = bytes_of(alloc, folder, faults, arguments.first.as_str(), MOST_BYTES) else {
         return ExitStatus::Failed;
     };
-    match bytes_of(alloc, folder, faults, arguments.second.as_str(), MOST_BYTES) {
-        Some(second) => diff_run(alloc, first.as_slice(), second.as_slice(), out, faults),
-        None => ExitStatus::Failed,
+    let Some(second) = bytes_of(alloc, folder, faults, arguments.second.as_str(), MOST_BYTES) else {
+        return ExitStatus::Failed;
+    };
+    let (first, second) = (first.as_slice(), second.as_slice());
+    let status = diff_run(alloc, first, second, out, faults);
+    if explains {
+        explain_trace(alloc, "the first trace", first, status, faults);
+        explain_trace(alloc, "the second trace", second, status, faults);
     }
+    status
 }
 
 // What the arguments ask of a picture.
@@ -260,7 +267,7 @@ pub fn view_file<D: Folder, O: Sink, E: Sink>(
         if explains && status == ExitStatus::NotFit {
             say(faults, NO_PICTURE, "", "");
         } else if explains {
-            explain_trace(alloc, trace, status, faults);
+            explain_trace(alloc, THE_TRACE, trace, status, faults);
         }
         return status;
     };

@@ -3,25 +3,31 @@
 ghost use Rattle.std.specs.Prelude.{◌≡◌, false};
 
 use crate::commands::bytes_of;
+use crate::commands::debug::{THE_TRACE, explain_trace};
 use crate::tracing::trace_run;
 use ir_arguments::TraceArguments;
 use ir_files::{ExitStatus, Folder, MOST_BYTES};
 use ir_stream::Sink;
 use std::alloc::Global;
 
-// Prints the trace in a file.
+// Prints the trace in a file. If a person looks on, it is said in words why it is refused, if it is.
 pub fn trace_file<D: Folder, O: Sink, E: Sink>(
     alloc: Global,
     folder: &D,
     arguments: &TraceArguments,
+    explains: bool,
     out: &mut O,
     faults: &mut E,
 ) -> ExitStatus
     requires writes { O.broken out.old ≡ false }
     requires reports { E.broken faults.old ≡ false }
 {
-    match bytes_of(alloc, folder, faults, arguments.trace.as_str(), MOST_BYTES) {
-        Some(bytes) => trace_run(alloc, bytes.as_slice(), out, faults),
-        None => ExitStatus::Failed,
+    let Some(bytes) = bytes_of(alloc, folder, faults, arguments.trace.as_str(), MOST_BYTES) else {
+        return ExitStatus::Failed;
+    };
+    let status = trace_run(alloc, bytes.as_slice(), out, faults);
+    if explains {
+        explain_trace(alloc, THE_TRACE, bytes.as_slice(), status, faults);
     }
+    status
 }

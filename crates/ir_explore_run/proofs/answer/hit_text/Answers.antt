@@ -43,9 +43,8 @@ returns c = λ cs none (x, s, at, does).
     let next : place + 1 ≡ suc place = omega arith in
     let turns = c.as_slice.ensures.value ∙ ap (λ (z : Shown). z.turns.items) same in
     let some = shown_order_is_not_empty (setup_of guest c.args.plan.now) s x.level (turns_of_items x.turns.items) c.entries.ensures.within.some_thread (c.requires.explored.shown place x s at) in
-    let spells : SpellsTurns list (turns_of_items x.turns.items) =
-    list_spells_if_order_not_empty list (turns_of_items x.turns.items)
-    (subst (λ (ts : List Item). IsListOf list (turns_of_items ts)) turns c.in_ok-list.ensures) some in
+    let listed : IsListOf list (turns_of_items x.turns.items) = subst (λ (ts : List Item). IsListOf list (turns_of_items ts)) turns c.in_ok-list.ensures in
+    let spells : SpellsTurns list (turns_of_items x.turns.items) = list_spells_if_order_not_empty list (turns_of_items x.turns.items) listed some in
     record {
       known = known_of c.args.explored.now;
       explored = c.requires.explored;
@@ -53,6 +52,7 @@ returns c = λ cs none (x, s, at, does).
       shown = x;
       state = s;
       at = at;
+      listed = listed;
       first = none;
       fulfils = does;
       same = (c.requires.explored.shown place x s at).same;

@@ -1,7 +1,6 @@
 use Rattle.std.proofs.Common.{◌∙◌, refl, sym, ap}
 use Rattle.ir_stream.specs.Endings.{flow_after}
 use Rattle.ir_packet.specs.Reading.{item_found}
-use Rattle.ir_gdb.specs.Connection.{before_reply}
 use Rattle.ir_stream.proofs.CallerLemmas.{writes_or_fails_if_all_written, writes_or_fails_is_monotone}
 use Rattle.ir_gdb.proofs.Arms.{copy_dropped, copied_packet_ends_no_connection, new_sent, new_part, ok_flow_of_ends_by_is_flow_of_ends_unless_copy}
 use Rattle.ir_gdb.proofs.connection.Connection.take.Goals as goal
@@ -20,8 +19,7 @@ returns-clause-writes g c = writes_or_fails_is_monotone c.take_new.result
     c.take_new.new.self.link (g.W.Sink.written c.args.writer.now) (g.W.Sink.written c.take_new.new.writer)
     (sym (c.is_copy.ensures c.args.self.now.reading.payload) ∙ c.if-is_copy.false))
     (new_part c.args.self.now.link
-    (item_found c.args.found c.args.self.now.reading.payload)
-    (before_reply c.args.self.now.link (item_found c.args.found c.args.self.now.reading.payload)) (g.W.Sink.written c.args.writer.now)
+    (item_found c.args.found c.args.self.now.reading.payload) (g.W.Sink.written c.args.writer.now)
     (g.W.Sink.written c.take_new.new.writer) (sym (c.is_copy.ensures c.args.self.now.reading.payload) ∙ c.if-is_copy.false))
     c.take_new.ensures.writes
 
