@@ -1,11 +1,12 @@
 #!/usr/bin/env python3
-"""Counts how long the sentences of the pages are.
+"""Counts how long the sentences of the pages are, and how often some words stand in them.
 
-python3 scripts/sentences.py [--over N] [--cells N] [PAGE ..]
+python3 scripts/sentences.py [--over N] [--cells N] [--words] [PAGE ..]
 
 Without PAGE it reads README.md, the pages of docs and of its folders, and examples/README.md. It prints a line for each page: its
 sentences, the words of one on average, at the ninetieth percentile and of the longest, and the words of the longest cell of a table. With
---over it also prints each sentence of more than N words, with the page and the paragraph's line; with --cells each such cell of a table.
+--over it also prints each sentence of more than N words, with the page and the paragraph's line; with --cells each such cell of a table. With
+--words it prints instead, for all pages together, how often each of some words stands in a thousand words of prose and of cells.
 
 Headings, tables, indented lines and fenced blocks hold no sentences. A paragraph or an item of a list is divided after `.`, `!` and `?` if a
 blank follows and then a capital letter, a digit, a quotation, a crate, or a mark of emphasis, code or a link. Code between backquotes is
@@ -21,6 +22,17 @@ END = re.compile(r"(?:(?<=[.!?])|(?<=[.!?][*)\"])|(?<=[.!?]\*\*))\s+(?=[A-Z0-9`\
 CODE = re.compile(r"`[^`]*`")
 LINK = re.compile(r"\[([^\]]*)\]\([^)]*\)")
 WORD = re.compile(r"[\w']+(?:[-.,/][\w']+)*")
+# Words that make a page read like a translation where they are frequent. "one" is counted as a number too.
+COUNTED = {
+    "one": r"\bones?\b",
+    "which": r"\bwhich\b",
+    "alone": r"\balone\b",
+    "that of": r"\b(?:that|those) of\b",
+    "of which": r"\bof which\b",
+    "as many": r"\bas many\b",
+    "comes to": r"\bcomes? to\b",
+    "because": r"\bbecause\b",
+}
 
 
 def words_of(text):
@@ -61,20 +73,32 @@ def cells_of(text):
             yield from ((number, cell.strip()) for cell in CODE.sub("`code`", line).strip("|").split("|"))
 
 
+def word_counts(texts):
+    """How many words the texts have, and how often each of the counted words stands in a thousand of them."""
+    prose = " ".join(LINK.sub(r"\1", CODE.sub("code", piece)) for text in texts for _, piece in [*sentences_of(text), *cells_of(text)])
+    count = len(WORD.findall(prose))
+    return count, {word: 1000 * len(re.findall(form, prose, re.IGNORECASE)) / max(1, count) for word, form in COUNTED.items()}
+
+
 def pages():
     """The pages that people read."""
     return [TOP / "README.md", *sorted((TOP / "docs").rglob("*.md")), TOP / "examples" / "README.md"]
 
 
 def main():
-    words = sys.argv[1:]
+    words = [word for word in sys.argv[1:] if word != "--words"]
     most = {"--over": None, "--cells": None}
     while len(words) > 1 and words[0] in most and words[1].isdigit():
         most[words[0]], words = int(words[1]), words[2:]
     if any(word.startswith("-") for word in words):
         print(__doc__)
         sys.exit(2)
-    for page in [Path(word) for word in words] or [page for page in pages() if page.exists()]:
+    chosen = [Path(word) for word in words] or [page for page in pages() if page.exists()]
+    if "--words" in sys.argv:
+        count, often = word_counts([page.read_text(encoding="utf-8") for page in chosen])
+        print(f"{count} words; in a thousand: " + ", ".join(f"{word} {number:.2f}" for word, number in often.items()))
+        return
+    for page in chosen:
         text = page.read_text(encoding="utf-8")
         found = [(words_of(sentence), number, sentence) for number, sentence in sentences_of(text)]
         cells = [(words_of(cell), number, cell) for number, cell in cells_of(text)]
