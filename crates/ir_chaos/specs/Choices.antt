@@ -33,17 +33,17 @@ chosen (Highest p) ready = ((chosen_highest p ready).0, Highest (chosen_highest 
 abbrev pub before_rounds : Chooser
 before_rounds = Rounds 255
 
--- the chooser of a seed that chooses so, for a guest of `threads` threads, whose run in rounds has `choices` choices
-abbrev pub chooser_by : Way → ℕ → ℕ → ℕ → Chooser
+-- the chooser of a seed that chooses so, for a guest of `threads` threads, in whose run in rounds each has as many choices
+abbrev pub chooser_by : Way → ℕ → ℕ → List ℕ → Chooser
 chooser_by way.Walk seed threads choices = Walk (generator_of seed)
 chooser_by (way.Priorities depth) seed threads choices = Highest (first_ranking threads choices (depth - 1) (generator_of seed))
 chooser_by way.Mix seed threads choices = Walk (generator_of seed)
 
-abbrev pub chooser_of : Way → ℕ → ℕ → ℕ → Chooser
+abbrev pub chooser_of : Way → ℕ → ℕ → List ℕ → Chooser
 chooser_of by seed threads choices = chooser_by (way_of by seed) seed threads choices
 
 -- it can choose of the threads of a guest that has `threads` threads
 abbrev pub Serves : ℕ → Chooser → Type 0
 Serves threads (Rounds last) = ⊤
 Serves threads (Walk g) = ⊤
-Serves threads (Highest p) = length p.priorities ≡ threads
+Serves threads (Highest p) = (length p.priorities ≡ threads) × (length p.taken ≡ threads)

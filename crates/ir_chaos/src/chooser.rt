@@ -54,7 +54,7 @@ impl Chooser {
         Chooser::Rounds(u8::MAX)
     }
 
-    /// The chooser of a seed, for a guest of `threads` threads, whose run in rounds has `choices` choices.
+    /// The chooser of a seed, for a guest of `threads` threads, in whose run in rounds each thread has as many choices.
     ///
     /// # Errors
     /// Out of memory.
@@ -63,10 +63,10 @@ impl Chooser {
         way: Way,
         seed: u64,
         threads: usize,
-        choices: u32,
+        choices: &[u32],
     ) -> Result<Chooser, AllocError>
-        requires { 0 < choices }
-        ensures value { IfOk result (λ c. c ≡ chooser_of way seed threads choices) }
+        requires { length choices.now < 256 }
+        ensures value { IfOk result (λ c. c ≡ chooser_of way seed threads choices.now) }
         ensures serves { IfOk result (λ c. Serves threads c) }
     {
         let mut random = generator_of(seed);

@@ -1,10 +1,11 @@
 //! A choice by priorities.
 
-ghost use Rattle.ir_chaos.specs.Ranking.{Ranking, leader, fallen, chosen_highest, first_priorities, after_words, first_places, first_ranking};
-ghost use Rattle.std.specs.Prelude.{◌≡◌, ◌<◌, length, All, IfOk, OnOk};
+ghost use Rattle.ir_chaos.specs.Ranking.{Ranking, leader, fallen, chosen_highest, first_priorities, after_words, place_from, choices_from, choices_in, first_places, first_ranking};
+ghost use Rattle.std.specs.Prelude.{◌≡◌, ◌<◌, length, All, IfOk, OnOk, replicate};
 ghost use Rattle.std.specs.List.{Contains};
 
 use crate::draw::draw;
+use crate::place::Place;
 use rand_core::utils::NextWord;
 use rand_pcg::Pcg32;
 use std::alloc::{AllocError, Global};
@@ -24,10 +25,10 @@ const FEWEST_IN_A_ROW: u64 = 16;
 pub struct Ranking {
     // The priority of each thread.
     pub priorities: Vec<u64>,
-    // Where threads fall, counted from the last choice, which is 1.
-    pub places: Vec<u64>,
-    // How many choices are still to come.
-    pub left: u64,
+    // Where threads fall.
+    pub places: Vec<Place>,
+    // How often each thread was chosen.
+    pub taken: Vec<u64>,
     // The thread that was chosen last.
     pub last: u8,
     // How many times in a row it may still be chosen before it falls as soon as another could go.
@@ -43,7 +44,7 @@ impl Model for Ranking {
 
     ghost Value = { Ranking };
 
-    ghost view = { λ r. record { priorities = r.priorities.items; places = r.places.items; left = r.left; last = r.last; patience = r.patience; limit = r.limit; lowest = r.lowest } };
+    ghost view = { λ r. record { priorities = r.priorities.items; places = r.places.items; taken = r.taken.items; last = r.last; patience = r.patience; limit = r.limit; lowest = r.lowest } };
 }
 
 // Who goes of these threads: the first of the highest priority.
@@ -76,44 +77,82 @@ fn priorities(alloc: Global, random: &mut Pcg32, threads: usize) -> Result<Vec<u
     Ok(priorities)
 }
 
-// `count` places, each one of `choices` choices.
+// How many choices there are, at least 1, where each thread has as many of them.
+fn choices_in(choices: &[u32]) -> u32
+    ensures value { result ≡ choices_in choices.now }
+    ensures some { 0 < result }
+{
+    let mut total = 0u32;
+    'threads: for count in choices {
+        total = total.saturating_add(*count);
+    }
+    total.max(1)
+}
+
+// The place at this one of all choices, where those of thread 0 come first.
+fn place_at(choices: &[u32], number: u32) -> Place
+    requires few { length choices.now < 256 }
+    ensures { result ≡ place_from 0 choices.now number }
+{
+    let mut choice = number;
+    'threads: for thread in 0..choices.len() {
+        if choice < choices[thread] {
+            return Place::new(thread as u8, choice);
+        }
+        choice -= choices[thread];
+    }
+    Place::new(choices.len() as u8, choice)
+}
+
+// `count` places, each at one of the choices.
 fn places(
     alloc: Global,
     random: &mut Pcg32,
-    choices: u32,
+    choices: &[u32],
     count: u32,
-) -> Result<Vec<u64>, AllocError>
-    requires { 0 < choices }
-    ensures { IfOk result (λ v. v.items ≡ first_places choices count random.old) }
+) -> Result<Vec<Place>, AllocError>
+    requires few { length choices.now < 256 }
+    ensures { IfOk result (λ v. v.items ≡ first_places choices.now count random.old) }
 {
+    let total = choices_in(choices);
     let mut places = Vec::new(alloc);
     'places: for _ in 0..count {
-        let place = draw(random, choices);
-        places.push(place as u64 + 1)?;
+        let number = draw(random, total);
+        places.push(place_at(choices, number))?;
     }
     Ok(places)
 }
 
+// So many zeros.
+fn zeros(alloc: Global, count: usize) -> Result<Vec<u64>, AllocError>
+    ensures { IfOk result (λ v. v.items ≡ replicate count 0) }
+{
+    let mut zeros = Vec::with_capacity(alloc, count)?;
+    zeros.resize(count, 0)?;
+    Ok(zeros)
+}
+
 impl Ranking {
-    // The ranking of `threads` threads, of whose runs one has `choices` choices, with `count` places.
+    // The ranking of `threads` threads, in one of whose runs each has as many choices, with `count` places.
     pub fn new(
         alloc: Global,
         random: &mut Pcg32,
         threads: usize,
-        choices: u32,
+        choices: &[u32],
         count: u32,
     ) -> Result<Ranking, AllocError>
-        requires { 0 < choices }
-        ensures value { IfOk result (λ r. r ≡ first_ranking threads choices count random.old) }
+        requires few { length choices.now < 256 }
+        ensures value { IfOk result (λ r. r ≡ first_ranking threads choices.now count random.old) }
         ensures threads { IfOk result (λ r. length r.priorities ≡ threads) }
+        ensures counted { IfOk result (λ r. length r.taken ≡ threads) }
     {
         let priorities = priorities(alloc, random, threads)?;
         let places = places(alloc, random, choices, count)?;
-        let limit = (choices as u64).max(FEWEST_IN_A_ROW);
+        let limit = (choices_in(choices) as u64).max(FEWEST_IN_A_ROW);
         Ok(Ranking {
             priorities,
             places,
-            left: choices as u64,
+            taken: zeros(alloc, threads)?,
             last: 0,
             patience: limit,
             limit,
@@ -121,17 +160,20 @@ impl Ranking {
         })
     }
 
-    // Whoever would go falls at each place that is reached.
+    // Whoever would go falls at each place that it has reached.
     fn fall(&mut self, ready: &[u8])
         requires some { 0 < length ready.now }
         requires within { All (λ t. t < length self.old.priorities) ready.now }
-        ensures value { self.new ≡ record self.old { priorities = fallen ready.now self.old.left 0 self.old.places self.old.priorities } }
+        requires counted { length self.old.taken ≡ length self.old.priorities }
+        ensures value { self.new ≡ record self.old { priorities = fallen ready.now self.old.taken 0 self.old.places self.old.priorities } }
         ensures threads { length self.new.priorities ≡ length self.old.priorities }
     {
         'places: for number in 0..self.places.len() {
-            if self.places[number] == self.left {
-                let thread = leader(self.priorities.as_slice(), ready);
-                self.priorities[thread as usize] = FALLEN_PRIORITY + number as u64;
+            let thread = leader(self.priorities.as_slice(), ready);
+            let taken = self.taken[thread as usize];
+            if self.places[number].is_reached(thread, taken) {
+                let before = self.priorities[thread as usize];
+                self.priorities[thread as usize] = before.min(FALLEN_PRIORITY + number as u64);
             }
         }
     }
@@ -140,9 +182,11 @@ impl Ranking {
     pub fn choose(&mut self, ready: &[u8]) -> u8
         requires some { 0 < length ready.now }
         requires within { All (λ t. t < length self.old.priorities) ready.now }
+        requires counted { length self.old.taken ≡ length self.old.priorities }
         ensures value { (result, self.new) ≡ chosen_highest self.old ready.now }
         ensures member { Contains ready.now result }
         ensures threads { length self.new.priorities ≡ length self.old.priorities }
+        ensures counted { length self.new.taken ≡ length self.old.taken }
     {
         self.fall(ready);
         let thread = leader(self.priorities.as_slice(), ready);
@@ -151,7 +195,8 @@ impl Ranking {
         } else {
             self.limit
         };
-        self.left = self.left.saturating_sub(1);
+        let taken = self.taken[thread as usize];
+        self.taken[thread as usize] = taken.saturating_add(1);
         self.last = thread;
         self.patience = before.saturating_sub(1);
         if self.patience == 0 && ready.len() > 1 {

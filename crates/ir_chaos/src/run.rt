@@ -27,6 +27,9 @@ const MOST_READY: usize = MOST_THREADS as usize;
 // The threads that have a step.
 type Ready = ArrayVec<u8, MOST_READY>;
 
+/// How often each thread was chosen in a run; 0 for those that a guest doesn't have.
+pub type Choices = [u32; MOST_READY];
+
 impl<W: World> Runner<'_, W> {
     // Thread t takes the step that it asks, and it is noted.
     fn step(&mut self, t: usize, asked: Ask) -> Result<(), Stop>
@@ -148,11 +151,11 @@ impl<W: World> Runner<'_, W> {
     }
 
     /// The whole run by the chooser, from the guest's start. Its steps are added to the turns. Where
-    /// there are tries, a thread also rests before it leaves an object. How many choices it made is not proved.
+    /// there are tries, a thread also rests before it leaves an object. How often each thread was chosen is not proved.
     ///
     /// # Errors
     /// `Stop::World` if a thread's world fails; `Stop::TooLong` if the turns don't fit. The guest is then on the way.
-    pub fn run(&mut self, tries: bool, chooser: &mut Chooser) -> Result<u32, Stop>
+    pub fn run(&mut self, tries: bool, chooser: &mut Chooser) -> Result<Choices, Stop>
         requires start { IsStartOfGuest self.old.flat }
         requires ready { IsReady W.broken self.old }
         requires serves { Serves (length self.old.flat.threads) chooser.old }
@@ -162,14 +165,16 @@ impl<W: World> Runner<'_, W> {
         ensures told { IfErr result (Tells W.broken self.new) }
     {
         self.go_to_rests(tries)?;
-        let mut choices = 0u32;
+        let mut choices = [0; MOST_READY];
         'choices: loop {
             let ready = self.ready();
             if ready.is_empty() {
                 return Ok(choices);
             }
             let thread = chooser.choose(self.flat.threads().len(), ready.as_slice());
-            choices = choices.saturating_add(1);
+            if let Some(count) = choices.get_mut(thread as usize) {
+                *count = count.saturating_add(1);
+            }
             self.turn(tries, thread as usize)?;
         }
     }

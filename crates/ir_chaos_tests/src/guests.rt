@@ -6,7 +6,7 @@ ghost use Rattle.std.specs.Prelude.{IfOk};
 
 use crate::silent::{Silent, worlds};
 use ir_asm::assemble;
-use ir_chaos::{Chooser, Runner, Stop, Way};
+use ir_chaos::{Choices, Chooser, Runner, Stop, Way};
 use ir_flat::Flat;
 use ir_image::Image;
 use ir_thread::Profile;
@@ -46,8 +46,8 @@ main:   addi a0, zero, 0
         ecall
 ";
 
-// How many entries it makes.
-pub const ENTRIES: u32 = 4;
+// How many entries each thread makes.
+pub const ENTRIES: Choices = [2, 2, 0, 0, 0, 0, 0, 0, 0, 0, 0, 0, 0, 0, 0, 0];
 
 // The guest, which the profile allows.
 fn allowed(profile: Profile, image: Image) -> Result<Image, Fail>
@@ -67,7 +67,7 @@ pub fn lost_update(alloc: Global) -> Result<Image, Fail>
 }
 
 // How many choices a run made, or why it stopped, and the guest and its turns.
-pub type Ran<'a> = (Result<u32, Stop>, Runner<'a, Silent>);
+pub type Ran<'a> = (Result<Choices, Stop>, Runner<'a, Silent>);
 
 // A run of the guest by a seed, with room for `room` turns.
 pub fn run<'a>(
@@ -82,7 +82,7 @@ pub fn run<'a>(
     let flat = Flat::start(alloc, image, 1000, Profile::One)?;
     let threads = flat.threads().len();
     let worlds = worlds(alloc, threads)?;
-    let mut chooser = Chooser::of_seed(alloc, way, seed, threads, ENTRIES)?;
+    let mut chooser = Chooser::of_seed(alloc, way, seed, threads, &ENTRIES)?;
     let turns = Vec::with_capacity(alloc, room)?;
     let mut runner = Runner {
         flat,

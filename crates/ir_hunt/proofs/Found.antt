@@ -83,7 +83,7 @@ planned_run_fulfils_wanted_stale guest plan order None run h planned = tt
 planned_run_fulfils_wanted_stale guest plan order (Some has) run h planned = h run planned
 
 -- the list of a seed's turns, where what its run came to fulfils each condition, and the run has what is wanted of its stale writes
-pub is_found_if_seed_run_fulfils : (guest : Guest) (plan : Plan) (way : Way) (seed choices : ℕ) (conditions : List Condition) (wanted : Option Bool) (b : Moment) (list : List ℕ)
+pub is_found_if_seed_run_fulfils : (guest : Guest) (plan : Plan) (way : Way) (seed : ℕ) (choices : List ℕ) (conditions : List Condition) (wanted : Option Bool) (b : Moment) (list : List ℕ)
     → RanBy guest plan (chooser_of way seed (length guest.entries) choices) b
     → ((t : ℕ) → t < length guest.entries → IsAnswered (origin_of true plan.random plan.input t) (answers_at b.answers t))
     → list_all (λ c. fulfils c (outcome_of b.flat)) conditions ≡ true → IsWanted guest plan (order_of_turns b.turns) wanted true

@@ -39,7 +39,7 @@ has_tries One = false
 has_tries Two = true
 
 -- the complete run of the guest by the chooser of a seed
-abbrev pub IsOfSeed : Guest → Plan → Way → ℕ → ℕ → List Step → Type 0
+abbrev pub IsOfSeed : Guest → Plan → Way → ℕ → List ℕ → List Step → Type 0
 IsOfSeed guest plan way seed choices run = IsSchedule (has_tries plan.profile) (machine (first guest plan)) (length (first guest plan).threads)
     (tables (first guest plan)) (chooser_of way seed (length guest.entries) choices) run
 
@@ -48,7 +48,7 @@ pub record IsFound (guest : Guest) (plan : Plan) (way : Way) (seed : ℕ) (condi
   pub order : List ℕ
   pub spelled : order_of (length guest.entries) list ≡ Some (plain_turns order)
   pub run : List Step
-  pub choices : ℕ
+  pub choices : List ℕ
   pub of_seed : IsOfSeed guest plan way seed choices run
   pub planned : IsPlanned guest plan order run
   pub fulfilled : FulfilsEach guest plan conditions run

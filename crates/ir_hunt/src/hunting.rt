@@ -20,7 +20,7 @@ use crate::plan::{HuntPlan, Seeds};
 use crate::report::{found_line, none_line};
 use crate::search::{Search, lowest_seed};
 use crate::seeker::{Lost, Seeker};
-use ir_chaos::Way;
+use ir_chaos::{Choices, Way};
 use ir_files::{ExitStatus, OutputSink, WholeSink, tell};
 use ir_image::Image;
 use ir_object::OpenGate;
@@ -47,10 +47,9 @@ fn list_of_seed<C: Clock>(
     image: &Image,
     plan: &HuntPlan<'_>,
     seed: u64,
-    choices: u32,
+    choices: &Choices,
 ) -> Result<Option<String>, RecordFault>
     requires allowed { IsAllowed plan.now.record.profile image.now }
-    requires choices { 0 < choices }
     ensures found { IfOk result (λ o. IfSome o (λ list. IsFound image.now plan.now.record plan.now.way seed (map as_condition plan.now.conditions.now) plan.now.stale (string_bytes list))) }
     ensures err { IfErr result (λ e. e ≡ NoMem) }
 {
@@ -91,7 +90,7 @@ pub fn order_of_seed<C: Clock>(
         is_shown: false,
     };
     let choices = Seeker::new(alloc, clock, guest, &plan)?.choices()?;
-    list_of_seed(alloc, clock, guest, &plan, seed, choices)
+    list_of_seed(alloc, clock, guest, &plan, seed, &choices)
 }
 
 // What a hunt comes to: the line that says so, what was found, and how many runs were left out.
@@ -121,7 +120,7 @@ fn found_by<R: Threads + Clock + Sync + Eprint>(
     let Some(seed) = found else {
         return Ok((None, left_out));
     };
-    match list_of_seed(alloc, rt, image, plan, seed, choices)? {
+    match list_of_seed(alloc, rt, image, plan, seed, &choices)? {
         Some(list) => Ok((Some(Found { seed, list }), left_out)),
         None => Ok((None, left_out)),
     }

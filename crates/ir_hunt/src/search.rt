@@ -10,6 +10,7 @@ use crate::seeker::{Lost, Seeker};
 use crate::shown::Shown;
 use crate::stretches::Stretches;
 use crossbeam_utils::CachePadded;
+use ir_chaos::Choices;
 use ir_image::Image;
 use std::alloc::{AllocError, Global};
 use std::thread::{self, Threads};
@@ -22,7 +23,7 @@ const MOST_WORKERS: usize = 64;
 #[derive(Drop)]
 struct Worker<'a, C> {
     seeker: Seeker<'a, C>,
-    choices: u32,
+    choices: Choices,
     // The lowest of its seeds that fulfils.
     found: Option<u64>,
     // How many runs weren't followed to their ends.
@@ -30,13 +31,12 @@ struct Worker<'a, C> {
     failed: bool,
     // Aligned, so that no two workers write to one line of the processor's memory.
     apart: CachePadded<()>,
-    ghost some: { 0 < choices },
 }
 
 impl<C: Clock> Worker<'_, C> {
     // Tries a seed: whether it is the end of its stretch.
     fn try_seed(&mut self, seed: u64) -> bool {
-        match self.seeker.fulfils(seed, self.choices) {
+        match self.seeker.fulfils(seed, &self.choices) {
             Ok(true) => self.found = Some(seed),
             Ok(false) => return false,
             Err(Lost::TooLong) => {
@@ -77,8 +77,8 @@ impl<C: Clock> Worker<'_, C> {
 pub struct Search {
     /// The lowest seed that fulfils.
     pub found: Option<u64>,
-    /// How many choices the run in rounds has.
-    pub choices: u32,
+    /// How often each thread is chosen in the run in rounds.
+    pub choices: Choices,
     /// How many runs weren't followed to their ends.
     pub left_out: u64,
 }
@@ -112,10 +112,9 @@ fn workers<'a, R: Threads + Clock>(
     image: &'a Image,
     plan: &'a HuntPlan<'a>,
     count: usize,
-    choices: u32,
+    choices: Choices,
 ) -> Result<Vec<Worker<'a, R>>, AllocError>
     requires allowed { IsAllowed plan.now.record.profile image.now }
-    requires choices { 0 < choices }
 {
     let mut workers = Vec::with_capacity(alloc, count)?;
     for _ in 0..count {
@@ -177,7 +176,6 @@ pub fn lowest_seed<R: Threads + Clock + Sync + Eprint>(
     plan: &HuntPlan<'_>,
 ) -> Result<Search, AllocError>
     requires { IsAllowed plan.now.record.profile image.now }
-    ensures { IfOk result (λ s. 0 < s.choices) }
 {
     let choices = Seeker::new(alloc, rt, image, plan)?.choices()?;
     let count = worker_count(rt, plan.seeds);

@@ -15,9 +15,9 @@ ghost use Rattle.ir_hunt.specs.Stale.{IsWanted};
 
 use crate::plan::HuntPlan;
 use crate::stale::is_wanted;
-use ir_chaos::{Chooser, Runner, Stop};
+use ir_chaos::{Choices, Chooser, Runner, Stop};
 use ir_flat::Flat;
-use ir_image::Image;
+use ir_image::{Image, MOST_THREADS};
 use ir_record::Turns;
 use ir_sources::{ProgramWorld, Time, worlds};
 use ir_thread::Profile;
@@ -137,8 +137,8 @@ impl<'a, C: Clock> Seeker<'a, C> {
         Ok(())
     }
 
-    // The run by a chooser, and how many choices it made.
-    fn run(&mut self, chooser: &mut Chooser) -> Result<u32, Lost>
+    // The run by a chooser, and how often each thread was chosen.
+    fn run(&mut self, chooser: &mut Chooser) -> Result<Choices, Lost>
         requires serves { Serves (length self.old.image.now.entries) chooser.old }
         ensures image { self.new.image ≡ self.old.image }
         ensures plan { self.new.plan ≡ self.old.plan }
@@ -150,19 +150,18 @@ impl<'a, C: Clock> Seeker<'a, C> {
         Ok(self.runner.run(tries, chooser)?)
     }
 
-    /// How many choices the run in rounds has, at least 1; as many as a run may have where it has too many.
+    /// How often each thread is chosen in the run in rounds; the limit on turns for each place of a thread if it has too many.
     ///
     /// # Errors
     /// Out of memory.
-    pub fn choices(&mut self) -> Result<u32, AllocError>
+    pub fn choices(&mut self) -> Result<Choices, AllocError>
         ensures image { self.new.image ≡ self.old.image }
         ensures plan { self.new.plan ≡ self.old.plan }
-        ensures some { IfOk result (λ n. 0 < n) }
     {
         match self.run(&mut Chooser::rounds()) {
             Err(Lost::NoMem) => Err(AllocError),
-            Err(Lost::TooLong) => Ok(MOST_TURNS as u32),
-            Ok(choices) => Ok(choices.max(1)),
+            Err(Lost::TooLong) => Ok([MOST_TURNS as u32; MOST_THREADS as usize]),
+            Ok(choices) => Ok(choices),
         }
     }
 
@@ -197,11 +196,10 @@ impl<'a, C: Clock> Seeker<'a, C> {
     ///
     /// # Errors
     /// It wasn't followed to its end.
-    pub fn fulfils(&mut self, seed: u64, choices: u32) -> Result<bool, Lost>
-        requires { 0 < choices }
+    pub fn fulfils(&mut self, seed: u64, choices: &Choices) -> Result<bool, Lost>
         ensures image { self.new.image ≡ self.old.image }
         ensures plan { self.new.plan ≡ self.old.plan }
-        ensures ran { OnOk result (RanBy self.old.image.now self.old.plan.now.record (chooser_of self.old.plan.now.way seed (length self.old.image.now.entries) choices) (moment_of (λ w. w.answers.items) self.new.runner)) }
+        ensures ran { OnOk result (RanBy self.old.image.now self.old.plan.now.record (chooser_of self.old.plan.now.way seed (length self.old.image.now.entries) choices.now) (moment_of (λ w. w.answers.items) self.new.runner)) }
         ensures some { OnOk result (order_of_turns self.new.runner.turns.items ≢ []) }
         ensures each { IfOk result (λ b. b ≡ true → list_all (λ c. fulfils (as_condition c) (outcome_of self.new.runner.flat)) self.old.plan.now.conditions.now ≡ true) }
         ensures wanted { IfOk result (λ b. b ≡ true → IsWanted self.old.image.now self.old.plan.now.record (order_of_turns self.new.runner.turns.items) self.old.plan.now.stale true) }

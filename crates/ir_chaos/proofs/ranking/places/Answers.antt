@@ -4,9 +4,10 @@ use Rattle.ir_chaos.proofs.Words.{first_places_step, drawn_places_are_whole_at_e
 use Rattle.ir_chaos.proofs.ranking.places.Goals as goal
 
 pub places-preserved : goal.places-preserved
-places-preserved c = first_places_step c.args.choices c.args.count c.places.counter c.draw-place.result c.places.random c.draw-place.new.random
-    c.places.places.items c.push.new.self.items c.places-test.true c.draw-place.ensures.drawn c.in_ok-push.ensures.items ∙ c.places.invariant
+places-preserved c = first_places_step c.args.choices.now c.args.count c.places.counter c.choices_in-total.result c.draw-number.result c.place_at.result c.places.random
+    c.draw-number.new.random c.places.places.items c.push.new.self.items c.places-test.true c.choices_in-total.ensures.value c.draw-number.ensures.drawn c.place_at.ensures
+    c.in_ok-push.ensures.items ∙ c.places.invariant
 
 pub returns : goal.returns
-returns c = drawn_places_are_whole_at_end c.args.choices c.args.count c.places.counter c.places.random c.places.places.items
-    (first_places c.args.choices c.args.count c.args.random.now) c.places-test.false c.places.invariant
+returns c = drawn_places_are_whole_at_end c.args.choices.now c.args.count c.places.counter c.places.random c.places.places.items
+    (first_places c.args.choices.now c.args.count c.args.random.now) c.places-test.false c.places.invariant

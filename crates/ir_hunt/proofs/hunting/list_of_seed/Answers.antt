@@ -25,7 +25,7 @@ returns-in-Ok-true-clause-found g c =
     let spells = subst (λ (ts : List Turns). order_of_turns ts ≢ [] → Spells list (order_of_turns ts)) c.turns.ensures
     c.in_ok-list_of-in-Ok-true.ensures.spelled c.in-Ok-true.ensures.some in
     let found : IsFound s.image.now s.plan.now.record s.plan.now.way c.args.seed (map as_condition s.plan.now.conditions.now) s.plan.now.stale list =
-    is_found_if_seed_run_fulfils s.image.now s.plan.now.record s.plan.now.way c.args.seed c.args.choices (map as_condition s.plan.now.conditions.now) s.plan.now.stale
+    is_found_if_seed_run_fulfils s.image.now s.plan.now.record s.plan.now.way c.args.seed c.args.choices.now (map as_condition s.plan.now.conditions.now) s.plan.now.stale
     (moment_of (λ w. w.answers.items) f.runner) list c.in-Ok-true.ensures.ran
     (worlds_answered_by_own_origins (λ w. made_with w.time w.seed w.file.now) (λ w. w.answers.items) (λ w. (w.sources, w.gave)) true
     s.plan.now.record.random s.plan.now.record.input f.runner.worlds.items (length s.image.now.entries) made) holds (c.in-Ok-true.ensures.wanted c.in-Ok-true.field-0-test) spells in

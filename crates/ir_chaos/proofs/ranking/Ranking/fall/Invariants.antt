@@ -5,11 +5,11 @@ use Rattle.ir_chaos.proofs.ranking.Ranking.fall.Given as goal
 abbrev pub invariant-places : goal.invariant-places
 invariant-places l = record {
   places : l.self-inside.places.items ≡ l.fn.self.places;
-  left : l.self-inside.left ≡ l.fn.self.left;
+  taken : l.self-inside.taken.items ≡ l.fn.self.taken;
   last : l.self-inside.last ≡ l.fn.self.last;
   patience : l.self-inside.patience ≡ l.fn.self.patience;
   limit : l.self-inside.limit ≡ l.fn.self.limit;
   lowest : l.self-inside.lowest ≡ l.fn.self.lowest;
   threads : length l.self-inside.priorities.items ≡ length l.fn.self.priorities;
-  rest : fallen l.ready l.fn.self.left l.number (drop l.number l.fn.self.places) l.self-inside.priorities.items ≡ fallen l.ready l.fn.self.left 0 l.fn.self.places l.fn.self.priorities;
+  rest : fallen l.ready l.fn.self.taken l.number (drop l.number l.fn.self.places) l.self-inside.priorities.items ≡ fallen l.ready l.fn.self.taken 0 l.fn.self.places l.fn.self.priorities;
 }
