@@ -1,6 +1,6 @@
 # The commands of the repository. Each needs Linux, the Rattle kit's `rt` and Python 3; what else one needs is said there.
 
-.PHONY: all try run check test edits program-test view-test c-test gdb-test explore-test refuse mutate bench
+.PHONY: all try run check install uninstall dist clean definitions test edits program-test view-test c-test threads-test gdb-test explore-test refuse mutate bench
 
 all: ir
 
@@ -10,21 +10,71 @@ SOURCES := crates.txt $(shell find crates -name out -prune -o -type f -name '*.r
 ir: $(SOURCES)
 	python3 scripts/prove.py ir_cli
 	cd crates/ir_cli && python3 ../../scripts/rt.py run < stdin > out.txt && cmp out.txt stdout && rm out.txt
-	cp crates/ir_cli/out/ir_cli ir
+	install -m 755 crates/ir_cli/out/ir_cli ir.part
+	python3 scripts/stamp.py ir.part proved
+	mv ir.part ir
 	@echo "The program is ./ir"
 
-# A first look before anything is proved: sessions of examples/sessions, in about a minute.
-try:
-	python3 scripts/try_unproved.py
+# The program with checks in place of proofs, in some two minutes: every subcommand, hundreds of times slower, meant for small guests.
+ir-unproved: $(SOURCES)
+	python3 scripts/unproved.py ir-unproved.part
+	python3 scripts/stamp.py ir-unproved.part unproved
+	mv ir-unproved.part ir-unproved
+	@echo "The program is ./ir-unproved: not proved, checked at run time, hundreds of times slower, meant for small guests. \`make\` proves it, as ./ir"
 
-# A first session, by the program if it is built, else by a build that isn't proved.
+# A first look before anything is proved: the sessions of examples/sessions and the first hunt of the README, by that program.
+try: ir-unproved
+	python3 scripts/try_unproved.py ./ir-unproved
+
+# A first session, by ./ir if it is there, else by ./ir-unproved.
 run:
-	@if [ -x ir ]; then ./ir < crates/ir_cli/stdin; else python3 scripts/try_unproved.py; fi
+	@if [ -x ir ]; then ./ir < crates/ir_cli/stdin; else $(MAKE) --no-print-directory ir-unproved && ./ir-unproved < crates/ir_cli/stdin; fi
 
-# The quick test: the layout and the pages, and the program as a person runs it, if it is built.
+# The quick test: the layout and the pages, and the program as a person runs it: all of tests/program.py by ./ir, or else what ends in some minutes
+# by ./ir-unproved.
+QUICK = arguments explaining hints own_files parts names outputs profiles trace closed_streams closed_pipe failed_sessions sessions help
 check:
 	python3 scripts/rooms.py
-	@if [ -x ir ]; then python3 tests/program.py ./ir; else echo "./ir isn't built, so its tests aren't run; \`make\` builds it"; fi
+	@if [ -x ir ]; then python3 tests/program.py ./ir; else $(MAKE) --no-print-directory ir-unproved && python3 tests/program.py ./ir-unproved $(QUICK); fi
+
+# Puts the built program, its manual page, bash's completion and the files for guests from C below PREFIX, or takes them away. They build nothing.
+PREFIX ?= /usr/local
+SHARE = $(DESTDIR)$(PREFIX)/share
+# Where the options for guests from C find their files.
+GUEST = $(PREFIX)/share/ir
+
+install:
+	@[ -x ir ] || { echo "./ir isn't built: \`make\` builds it"; exit 1; }
+	install -D -m 755 ir $(DESTDIR)$(PREFIX)/bin/ir
+	install -D -m 644 man/ir.1 $(SHARE)/man/man1/ir.1
+	install -D -m 644 completions/ir.bash $(SHARE)/bash-completion/completions/ir
+	install -D -m 644 -t $(SHARE)/ir guest/ir.h guest/ir.ld guest/ir_mem.c examples/ir.gdb
+	sed 's|guest|$(GUEST)|g' guest/ir.opts > $(SHARE)/ir/ir.opts
+
+uninstall:
+	rm -f $(DESTDIR)$(PREFIX)/bin/ir $(SHARE)/man/man1/ir.1 $(SHARE)/bash-completion/completions/ir
+	rm -rf $(SHARE)/ir
+
+# A tarball of the built program and what belongs to it, with the commit and the kit: the same bytes each time for the same ./ir.
+NAME = ir-$(shell ./ir --version | cut -d' ' -f2)-x86_64-linux
+dist:
+	@[ -x ir ] || { echo "./ir isn't built: \`make\` builds it"; exit 1; }
+	rm -rf .dist
+	$(MAKE) --no-print-directory -s install DESTDIR=$(CURDIR)/.dist PREFIX=/$(NAME) GUEST=share/ir
+	cp -r README.md CHANGELOG.md docs examples .dist/$(NAME)/share/ir/
+	git rev-parse HEAD > .dist/$(NAME)/share/ir/COMMIT
+	rt version > .dist/$(NAME)/share/ir/KIT
+	tar --sort=name --owner=0 --group=0 --numeric-owner --mode=go-w --mtime=@$$(git log -1 --format=%ct) -C .dist -c $(NAME) | gzip -n > $(NAME).tar.gz
+	rm -rf .dist
+	@sha256sum $(NAME).tar.gz
+
+# Removes what was built and proved, some 12 GB: the next `make` begins from nothing.
+clean:
+	rm -rf crates/*/out ir ir.part ir-unproved ir-unproved.part .dist .bench ir-*.tar.gz
+
+# Prints an index of the definitions in specs/.
+definitions:
+	@python3 scripts/definitions.py --index
 
 # The merge gate: the rooms of the crates, and then every proof from nothing, must-fail edits, tests, programs.
 test:
@@ -48,6 +98,10 @@ view-test: ir
 # Guests from C: compiled at four levels, converted, recorded, hunted in. Needs riscv64-unknown-elf-gcc beside, and says so if it isn't there.
 c-test: ir
 	python3 tests/c_guests.py ./ir
+
+# Ordinary C programs with threads as guests, against what they do natively. Needs riscv64-unknown-elf-gcc beside, and says so if it isn't there.
+threads-test: ir
+	python3 tests/threads.py ./ir
 
 # A real gdb over recordings of guests from C. Needs gdb-multiarch and riscv64-unknown-elf-gcc beside, and says so if they aren't there.
 gdb-test: ir

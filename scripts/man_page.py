@@ -3,9 +3,10 @@
 
 python3 scripts/man_page.py [--check]
 
-Reads the help texts in crates/ir_arguments/src and the exit statuses in docs/reference/command-line.md. Writes man/ir.1, and the tables of
-arguments and options in command-line.md. With --check it writes nothing, prints each difference in a line, and then fails. In both cases it
-looks whether docs/reference has the commands, openings, events, calls, ends and causes that the help has.
+Reads the help texts in crates/ir_arguments/src and the exit statuses in docs/reference/exit-status.md. Writes man/ir.1, the head of each
+page docs/reference/ir-NAME.md (what the subcommand does, how it is typed, its arguments and options), and the table of subcommands in the
+index. With --check it writes nothing, prints each difference in a line, and then fails. In both cases it looks whether docs/reference has the
+commands, openings, events, calls, ends, causes and conditions that the help has.
 """
 import re
 import sys
@@ -14,7 +15,7 @@ from pathlib import Path
 TOP = Path(__file__).resolve().parent.parent
 ARGUMENTS = TOP / "crates" / "ir_arguments" / "src"
 REFERENCE = TOP / "docs" / "reference"
-COMMAND_LINE = REFERENCE / "command-line.md"
+INDEX = REFERENCE / "README.md"
 MAN_PAGE = TOP / "man" / "ir.1"
 
 TEXT = r'"((?:[^"\\]|\\.)*)"'
@@ -32,6 +33,8 @@ PUT = re.compile(r"(\w+)_arg\(\s*alloc|(with_options)\(alloc")
 VALUE = re.compile(r"\.value_name\(" + TEXT)
 VALUES = re.compile(r"\.value_names\(&\[([^\]]*)\]")
 DEFAULT = re.compile(r"\.default_value\(" + TEXT)
+# The version, as a text or by the name of a constant.
+VERSION = re.compile(rf"\.version\((?:{TEXT}|(\w+))")
 # A cell of a row with several numbers and what each means.
 NUMBERED = re.compile(r"(\d+) (\S.*)")
 CODE = re.compile(r"`([^`]*)`")
@@ -39,18 +42,19 @@ LINK = re.compile(r"\[([^\]]*)\]\([^)]*\)")
 # The headings of the tables with the commands of a session.
 COMMAND_TABLES = ("Moves", "Points", "What is shown", "Kept cuts")
 # A line that is set in further than any key goes on with the line before.
-CONTINUED = 12
+CONTINUED = 8
 
 
 class Subcommand:
-    """A subcommand: its name, what it does, its arguments and options as pairs of form and help, and what follows its help."""
+    """A subcommand: its name, what it does, its arguments and options as pairs of form and help, the options that have to be given, and what
+    follows its help."""
 
-    def __init__(self, name, about, arguments, options, after):
-        self.name, self.about, self.arguments, self.options, self.after = name, about, arguments, options, after
+    def __init__(self, name, about, arguments, options, needed, after):
+        self.name, self.about, self.arguments, self.options, self.needed, self.after = name, about, arguments, options, needed, after
 
     def usage(self):
         """How it is typed."""
-        return " ".join(["ir", self.name, *(["[OPTIONS]"] if self.options else []), *(form for form, _ in self.arguments)])
+        return " ".join(["ir", self.name, *(["[OPTIONS]"] if self.options else []), *self.needed, *(form for form, _ in self.arguments)])
 
 
 def source_of(module):
@@ -69,13 +73,13 @@ def constants_of(source):
 
 
 def options_of(source, files):
-    """The options of a source by their functions' names, each with its form and its help."""
+    """The options of a source by their functions' names, each with its form, its help, and whether it has to be given."""
     constants, found = files | constants_of(source), {}
     for function, name, body, text in OPTION.findall(source):
         value, values, default = VALUE.search(body), VALUES.search(body), DEFAULT.search(body)
         named = re.findall(TEXT, values[1]) if values else [value[1]] if value else []
         form = " ".join([f"--{constants[name]}", *named])
-        found[function] = (form, text + (f" [default: {default[1]}]" if default else ""))
+        found[function] = (form, text + (f" [default: {default[1]}]" if default else ""), ".required(true)" in body)
     return found
 
 
@@ -97,13 +101,15 @@ def subcommands():
         source = source_of(module)
         options, forms = shared | options_of(source, files), []
         if image := FROM_IMAGE.search(source):
-            options["from_image"] = ("--image IMAGE", meant(image[1]))
+            options["from_image"] = ("--image IMAGE", meant(image[1]), False)
         for function in named_in(source, PUT_TOGETHER):
             forms += named_in(recording, SHARED) if function == "with_options" else [function]
         constants = files | constants_of(source)
         arguments = [(constants[needed], text) if needed else (f"[{constants[other]}]", more)
                      for needed, text, other, more in ARGUMENT.findall(source)]
-        found.append(Subcommand(name, about, arguments, [options[form] for form in forms if form in options], constants[after]))
+        named = [options[form] for form in forms if form in options]
+        needed = [form for form, _, is_needed in named if is_needed]
+        found.append(Subcommand(name, about, arguments, [row[:2] for row in named], needed, constants[after]))
     return found
 
 
@@ -168,22 +174,34 @@ def section_of(page, heading):
     return rows[2:]
 
 
-def table_of(subcommand):
-    """The table of its arguments and options, in Markdown."""
-    rows = [f"| `{form}` | {text} |" for form, text in subcommand.arguments + subcommand.options]
-    return "\n".join(["| Argument | Says |", "|---|---|", *rows]) + "\n"
+def table_of(head, rows):
+    """A table in Markdown."""
+    return "\n".join([head, "|---|---|", *(f"| {key} | {text} |" for key, text in rows)]) + "\n"
 
 
-def command_line():
-    """The page command-line.md, with the tables as the help has them."""
-    text = COMMAND_LINE.read_text(encoding="utf-8")
-    for subcommand in subcommands():
-        table = table_of(subcommand)
-        place = rf"(\n## ir {subcommand.name}\n\n)(?:\|[^\n]*\n)+"
-        text, count = re.subn(place, lambda found, table=table: found[1] + table, text)
-        if count != 1:
-            raise SystemExit(f"{COMMAND_LINE.relative_to(TOP)}: no table below `## ir {subcommand.name}`")
+def head_of_page(subcommand):
+    """The start of its page, in Markdown: what it does, how it is typed, its arguments and options."""
+    table = table_of("| Argument | Says |", [(f"`{form}`", text) for form, text in subcommand.arguments + subcommand.options])
+    return f"# ir {subcommand.name}\n\n{subcommand.about}.\n\n```\n{subcommand.usage()}\n```\n\n{table}"
+
+
+def with_made(path, place, made):
+    """A page with what is made in its place."""
+    text = path.read_text(encoding="utf-8") if path.exists() else ""
+    text, count = re.subn(place, lambda _: made, text, count=1)
+    if count != 1:
+        raise SystemExit(f"{path.relative_to(TOP)}: has no place for what scripts/man_page.py makes")
     return text
+
+
+def pages():
+    """Each page of the reference that has made parts, with the text that it has to have."""
+    all_ = subcommands()
+    rows = [(f"[`ir {subcommand.name}`](ir-{subcommand.name}.md)", subcommand.about) for subcommand in all_]
+    yield INDEX, with_made(INDEX, r"\| Command \| Does \|\n(?:\|[^\n]*\n)+", table_of("| Command | Does |", rows))
+    for subcommand in all_:
+        path = REFERENCE / f"ir-{subcommand.name}.md"
+        yield path, with_made(path, r"\A# ir \w+\n(?:[^|]*\n)?(?:\|[^\n]*\n)+", head_of_page(subcommand))
 
 
 def first_code(rows):
@@ -215,6 +233,8 @@ def disagreements():
     for number, text in causes:
         if not reasons.get(number, text).startswith(text):
             yield f"docs/reference/assembler.md: cause {number} isn't `{text}`, as the help has it"
+    _, conditions = after["hunt"]
+    yield from differing("the condition", {form for form, _ in conditions}, first_code(section_of("conditions", "The conditions")) - {"!COND"})
 
 
 # The manual page.
@@ -247,9 +267,11 @@ def section(text):
 
 def head_of(source, all_):
     """The page from its title to what the program is, in roff."""
-    version, constants = re.search(r"\.version\(" + TEXT, source)[1], constants_of(source)
-    about = constants["ABOUT"]
-    yield ".\\\" Made by scripts/man_page.py from the texts of --help and docs/reference/command-line.md: change those."
+    constants = constants_of(source)
+    literal, name = VERSION.search(source).groups()
+    # What a build says of itself after its version is no part of the page.
+    version, about = (literal or constants[name]).split()[0], constants["ABOUT"]
+    yield ".\\\" Made by scripts/man_page.py from the texts of --help and docs/reference/exit-status.md: change those."
     yield f'.TH IR 1 "" "ir {version}" "User Commands"'
     yield from (".SH NAME", f"ir \\- {roff(about[0].lower() + about[1:])}", ".ad l", ".nh")
     yield from (".SH SYNOPSIS", ".nf", *(f"\\fB{roff(subcommand.usage())}\\fP" for subcommand in all_), "\\fBir\\fP", ".fi")
@@ -269,14 +291,14 @@ def man_page():
     lines = [*head_of(source_of("arguments"), all_)]
     for subcommand in all_:
         lines += part_of(subcommand)
-    lines += [".SH EXIT STATUS", *items([(row[0], f"({row[1]}) {row[2]}") for row in section_of("command-line", "Exit statuses")])]
+    lines += [".SH EXIT STATUS", *items([(row[0], f"({row[1]}) {row[2]}") for row in section_of("exit-status", "The statuses")])]
     lines += [".SH SEE ALSO", "docs/guide/tutorial.md, docs/reference/README.md"]
     return "\n".join(lines) + "\n"
 
 
 def differences():
     """Each difference between the help and the pages that have its texts, in lines."""
-    for path, wanted in ((MAN_PAGE, man_page()), (COMMAND_LINE, command_line())):
+    for path, wanted in ((MAN_PAGE, man_page()), *pages()):
         if not path.exists() or path.read_text(encoding="utf-8") != wanted:
             yield f"{path.relative_to(TOP)}: isn't what scripts/man_page.py makes"
     yield from disagreements()
@@ -286,7 +308,8 @@ def main():
     if sys.argv[1:] not in ([], ["--check"]):
         sys.exit(__doc__)
     if not sys.argv[1:]:
-        COMMAND_LINE.write_text(command_line(), encoding="utf-8")
+        for path, wanted in [*pages()]:
+            path.write_text(wanted, encoding="utf-8")
         MAN_PAGE.parent.mkdir(exist_ok=True)
         MAN_PAGE.write_text(man_page(), encoding="utf-8")
     found = list(differences())

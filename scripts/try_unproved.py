@@ -1,46 +1,48 @@
 #!/usr/bin/env python3
-"""Runs the sessions of examples/sessions on a build that isn't proved yet, in about a minute.
+"""Shows a first look at the program: the sessions of examples/sessions, and the first hunt of the README.
 
-python3 scripts/try_unproved.py
+python3 scripts/try_unproved.py PROGRAM
 
-Each file there is what a session reads: an image and a trace, a line of hexadecimal digits each, and then commands. `rt try` builds the
-program with checks instead of proofs, and gives it each file in turn. Prints the commands and the answers. Wants the Rattle kit's `rt`.
+Each file of examples/sessions is what a session reads: an image and a trace, a line of hexadecimal digits each, and then commands. Prints the
+commands and the answers, and ends with status 1 if one of them fails.
 """
-import re
 import subprocess
 import sys
+import tempfile
 from pathlib import Path
 
 TOP = Path(__file__).resolve().parent.parent
 SESSIONS = TOP / "examples" / "sessions"
-UNPROVED = "this build isn't proved yet; `make` proves it, in about an hour"
-# What `rt try` says beside what the program writes.
-ENDED = re.compile(r"^case=(\S+) run=(\S+) status=(\d+)")
+HUNT = (
+    ("asm", str(TOP / "examples" / "lost_update.s"), "lost.img"),
+    ("hunt", "lost.img", "lost.trc", "--seeds", "0+1000", "--until", "!word 0 0 2"),
+    ("stale", "lost.trc"),
+)
 
 
 def commands_of(session):
-    """The commands that a session reads, behind its image and its trace."""
+    """The commands that a session reads, after its image and its trace."""
     return session.read_text(encoding="ascii").splitlines()[2:]
 
 
 def main():
-    sessions = {session.name: session for session in sorted(SESSIONS.iterdir())}
-    print(UNPROVED, flush=True)
-    run = subprocess.run(["rt", "try", "--cases", str(SESSIONS)], cwd=TOP / "crates" / "ir_cli", text=True, errors="replace",
-                         stdout=subprocess.PIPE, stderr=subprocess.STDOUT, check=False)
-    ended = 0
-    for line in run.stdout.splitlines():
-        name = line.removeprefix("== ")
-        if line.startswith("== ") and name in sessions:
-            print(f"\n{name}: " + ", ".join(commands_of(sessions[name])))
-        elif found := ENDED.match(line):
-            ended += (found[2], found[3]) == ("ended", "0")
-        elif not line.startswith(("cases=", "rt:")):
-            print(line)
-    print(f"\n{UNPROVED}")
-    if ended != len(sessions):
-        print(run.stdout)
-        sys.exit(f"{len(sessions) - ended} of {len(sessions)} sessions did not end with status 0")
+    if len(sys.argv) != 2:
+        sys.exit("usage: python3 scripts/try_unproved.py PROGRAM")
+    program = Path(sys.argv[1]).resolve()
+    for session in sorted(SESSIONS.iterdir()):
+        print(f"\n{session.name}: " + ", ".join(commands_of(session)), flush=True)
+        with open(session, "rb") as typed:
+            status = subprocess.run([program], stdin=typed, check=False).returncode
+        if status != 0:
+            sys.exit(f"{session.name} ended with status {status}")
+    with tempfile.TemporaryDirectory() as folder:
+        for words in HUNT:
+            shown = [word.replace(f"{TOP}/", "") for word in words]
+            print(f"\n$ ./{program.name} " + " ".join(f"'{word}'" if " " in word else word for word in shown), flush=True)
+            status = subprocess.run([program, *words], cwd=folder, check=False).returncode
+            if status != 0:
+                sys.exit(f"ir {words[0]} ended with status {status}")
+    print(f"\nTo go on: ./{program.name} --help, and docs/guide/tutorial.md")
 
 
 if __name__ == "__main__":

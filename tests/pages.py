@@ -1,5 +1,6 @@
-"""Tests of what the pages say: the commands of the README, the guide and the examples, the sessions of examples, and the help."""
+"""Tests of what the pages say: the commands of the README, the guide, the reference and the examples, the sessions of examples, and the help."""
 import re
+import shlex
 import sys
 
 from lib import TOP, Wrong, assembled, examples, program, recorded, run, shell, wants
@@ -37,24 +38,39 @@ def matches(found, wanted):
     return bool(found) and found[0] == wanted[0] and matches(found[1:], wanted[1:])
 
 
+# Pages of the guide whose commands want a compiler or gdb: c_guests.py and gdb_sessions.py run them, and the tests of guest/threads.
+ELSEWHERE = ("c-guests.md", "gdb.md", "threads.md")
+# Pages of the guide without commands.
+SILENT = ("concepts.md", "when.md")
+
+
+def run_page(page, place, is_bounded):
+    """Runs the commands of a page in a folder, and compares what each writes with what follows it there. `make` isn't run."""
+    (place / "ir").symlink_to(program())
+    for name in ("crates", "docs", "examples"):
+        (place / name).symlink_to(TOP / name)
+    commands = [row for row in commands_of(page.read_text()) if row[0].split()[0] != "make"]
+    for command, typed, wanted in commands:
+        if "ulimit -v" in command and not is_bounded:
+            continue
+        ended = shell(command, place, "".join(f"{line}\n" for line in typed).encode())
+        if not matches(ended.stdout.decode().splitlines(), wanted):
+            raise Wrong(f"{page.relative_to(TOP)}: {command}: wrote {ended.stdout.decode()!r}")
+        wants(f"{page.relative_to(TOP)}: {command}: standard error", ended.stderr, b"")
+    return len(commands)
+
+
 def test_pages(folder):
-    """Each command of the README, of the guide and of the page of the examples writes what follows it there; `make` isn't run. The pages of
-    guests from C and of gdb are run by c_guests.py and gdb_sessions.py, since they want their compiler."""
-    guide = [page for page in sorted((TOP / "docs" / "guide").glob("*.md")) if page.name not in ("c-guests.md", "gdb.md")]
-    pages = [TOP / "README.md", *guide, TOP / "examples" / "README.md"]
-    for number, page in enumerate(pages):
+    """Each command of the README, the guide, the reference and the page of the examples writes what follows it there. A build with
+    AddressSanitizer can't start under a bound of its memory, so commands that set a bound are left out for it."""
+    guide = [page for page in sorted((TOP / "docs" / "guide").glob("*.md")) if page.name not in ELSEWHERE]
+    reference = sorted((TOP / "docs" / "reference").glob("*.md"))
+    is_bounded = shell(f"ulimit -v 1000000; exec {shlex.quote(program())} --version", folder).returncode == 0
+    for number, page in enumerate([TOP / "README.md", *guide, *reference, TOP / "examples" / "README.md"]):
         place = folder / f"page{number}"
         place.mkdir()
-        (place / "ir").symlink_to(program())
-        for name in ("crates", "docs", "examples"):
-            (place / name).symlink_to(TOP / name)
-        commands = [row for row in commands_of(page.read_text()) if row[0].split()[0] != "make"]
-        for command, typed, wanted in commands:
-            ended = shell(command, place, "".join(f"{line}\n" for line in typed).encode())
-            if not matches(ended.stdout.decode().splitlines(), wanted):
-                raise Wrong(f"{page.relative_to(TOP)}: {command}: wrote {ended.stdout.decode()!r}")
-            wants(f"{page.relative_to(TOP)}: {command}: standard error", ended.stderr, b"")
-        if not commands and page.name != "concepts.md":
+        count = run_page(page, place, is_bounded)
+        if not count and page.name not in SILENT and page not in reference:
             raise Wrong(f"{page.relative_to(TOP)} has no commands")
 
 
@@ -75,9 +91,15 @@ def test_sessions(folder):
         wants(name, (ended.returncode, ended.stdout[:6], ended.stdout[-4:], ended.stderr), (0, b"ready\n", b"bye\n", b""))
 
 
+def bracketed(word):
+    """A word of a subcommand's use as its help has it: what stands for something else is between brackets."""
+    return f"<{word}>" if word[0].isupper() else word
+
+
 def lines_of_help(subcommand):
     """The lines of a subcommand's help that the manual page has too, without the blanks between an option and its text."""
     yield subcommand.about
+    yield "Usage: " + " ".join(bracketed(word) for word in subcommand.usage().split())
     for form, text in subcommand.arguments + subcommand.options:
         name, blank, value = form.partition(" ")
         form = " ".join([name, *(f"<{word}>" for word in value.split())]) if blank else name if name.startswith(("--", "[")) else f"<{name}>"

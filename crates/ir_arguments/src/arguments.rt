@@ -9,6 +9,10 @@ use std::{env, io};
 
 const ABOUT: &str = "A proved record and replay debugger for guests of RV32IM threads";
 
+// The version, and what this build is of. `scripts/stamp.py` puts the commit in place of the dashes, and `was` in place of `not` if
+// the program was proved.
+const VERSION: &str = "0.1.0 (commit ------------, not proved)";
+
 const AFTER: &str = "A session of a source of your own:
   ir asm guest.s guest.img
   ir record guest.img guest.trc
@@ -30,7 +34,7 @@ that was asked for.
 // The parser of all arguments.
 fn command<'a>(alloc: Global) -> Result<Command<'a>, AllocError> {
     let mut command = Command::new(alloc, "ir")
-        .version("0.1.0")
+        .version(VERSION)
         .about(ABOUT)
         .after_help(AFTER);
     for subcommand in &SUBCOMMANDS {

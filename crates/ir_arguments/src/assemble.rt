@@ -31,10 +31,10 @@ Instructions, a form a line; TARGET is a label, `.+N` or `.-N`, and V a number, 
   jal rd, TARGET         a distance from -1048576 to 1048574, even
   lui rd, V              so auipc; V, the upper 20 bits, from 0 to 1048575
   li rd, V               two instructions, LUI and ADDI; V from -2147483648 to 4294967295, or a label
-  fence rd, rs1, V       or `fence` alone; V from 0 to 4095
+  fence rd, rs1, V       or just `fence`; V from 0 to 4095
   ecall                  so ebreak, nop
 Registers are x0 to x31, or zero, ra, sp, gp, tp, t0 to t6, s0 (fp) to s11, a0 to a7.
-Calls, made by `ecall` with the number in a7, 13 under `--profile 2` alone; one without an answer keeps all registers:
+Calls, made by `ecall` with the number in a7, 13 only under `--profile 2`; a call without an answer keeps all registers:
    1  END          a0 code                        the thread ends
    2  PUTC         a0                             prints its low byte
    3  PUTN         a0                             prints it in decimal, with its sign, and a line feed

@@ -7,18 +7,19 @@ use std::alloc::{AllocError, Global};
 
 /// What follows the help of `ir diff`.
 pub const DIFF_AFTER: &str =
-    "Two recordings of a guest, say a bad and a good one, begin alike and then part. The first line is `common C0 C1 ..`: of each
-thread the first C events are common. Such an event is the same in both. If it is an entry, it finds the first words, or
+    "Two recordings of a guest, say a bad and a good recording, begin alike and then part. The first line is `common C0 C1 ..`: of
+each thread the first C events are common. Such an event is the same in both. If it is an entry, it finds the first words, or
 what a common event made. If the budgets differ, the next line is `budget A and B`. Then comes for each thread:
   thread T same                                  all events are common, and the end, the code and the steps are equal
-  thread T differs event E READY                 else; E is its first event that isn't common
+  thread T differs event E READY                 otherwise; E is its first event that isn't common
   1 EVENT by thread U event F                    what FIRST has there: the event as `ir trace` prints it and, of an entry,
                                                  who made the version that it finds; or `end E code C steps S`
   2 EVENT by first words                         the same of SECOND; here the entry finds the object's first words
 READY is empty, `ready in 1`, `ready in 2` or `ready in 1 and 2`: in these traces all that the event needs of other threads is
-common. Threads that are ready are where the runs part. The others follow from that.
-If the threads differ in number, the one line is `header differs 1`. If the objects do, it is `header differs 2`. A refused or
-incoherent trace has the one line that `ir stale` has, the first file first.
+common. Look at the threads that are ready first: the runs part there, and the others follow. If a thread held an object over an
+event that isn't common, a thread that is ready may only follow too.
+If the threads differ in number, the single line is `header differs 1`. If the objects do, it is `header differs 2`. A refused or
+incoherent trace has the line that `ir stale` has, the first file first.
 Exit status: 0 printed, 1 a file that can't be read or standard output that can't be written, 2 bad arguments, 3 a refused
 trace, 4 an incoherent trace or headers that differ.
 ";

@@ -17,39 +17,38 @@ use std::alloc::{AllocError, Global};
 /// What follows the help of `ir explore`.
 pub const EXPLORE_AFTER: &str =
     "The outcome of a run is how each thread ended, with which code, what it printed, and the words of each object. Each different
-outcome of the guest is printed once, without TRACE as it is found, by rising number of switches: how often another thread makes
-the next entry, or tries to. A try may be refused, which is `T!` in LIST, or enter if no thread is in the object.
+outcome of the guest is printed once, by rising number of switches: how often the thread changes that makes the next entry or
+try. A try may be refused, which is `T!` in LIST, or enter if no thread is in the object.
   outcome K switches C order LIST                `ir record --order LIST` with the same S, FILE and profile records a run that has
                                                  it, in a budget that suffices
   thread T end E code C out N                    each thread; then the N bytes that it printed, up to 32 a line
   object O words W0 W1 ..                        each object whose words aren't its first words
-  hang switches C order LIST                     LIST leads to where no run comes to an end any more, if there is such a place
-The last line says how the search ended, by K outcomes and N states in which each thread is before an entry or a try, or
+  hang switches C order LIST                     LIST leads to where no schedule reaches an end any more, if there is such a place
+The last line says how the search ended, with K outcomes and N states in which each thread is before an entry or a try, or
 done:
   finished outcomes K states N hangs H           all outcomes are printed: each complete run of the guest has one of them. From H
-                                                 states no run comes to an end any more
-  covered C outcomes K states N                  all outcomes of runs of at most C switches are, as --switches C wants
+                                                 states no run reaches an end any more
+  covered C outcomes K states N                  all outcomes of runs of at most C switches are printed, as --switches C wants
   stopped WHY covered C outcomes K states N      it stopped before: what is printed is right, and complete up to C switches; `-`
-                                                 is for not at all. WHY is `states`, there are as many as there may be; `private
-                                                 T`, thread T took as many steps without an entry or a try as it may; `world T`,
-                                                 thread T has called CLOCK as often as can be counted; `log T`, a log is full;
-                                                 `order N`; or `memory`
+                                                 is for not at all. WHY is `states`, the limit is reached; `private T`, thread T
+                                                 reached the limit of steps without an entry or a try; `world T`, thread T has
+                                                 called CLOCK too often to be counted; `log T`, a log is full; `order N`; or
+                                                 `memory`
 Without a last line, after a fault, what is printed is right, but nothing says how complete it is.
-Runs in which a budget is spent or a log is full have no outcome. CLOCK, RANDOM and INPUT are answered as `ir record --order`
-answers them: CLOCK counts the calls of each thread from 0, and S and FILE say the rest. So the outcomes are those of this S and
-this FILE. What a thread has changed in its private memory is kept
-once for all states in which the thread is the same. At a terminal standard error shows once a second how many states were
-found, after how many switches, and how many outcomes by the end of the level before.
+All this is about the runs in which no budget is spent and no log is full, and in which CLOCK, RANDOM and INPUT answer as
+`ir record --order` answers them: CLOCK counts the calls of each thread from 0, and S and FILE say the rest. A recording by
+real threads answers CLOCK with milliseconds, so its outcome may be a different one. At a terminal standard error shows once a
+second how many states were found, after how many switches, and how many outcomes by the end of the level before.
 With TRACE and COND the outcomes are printed up to the first that fulfils each COND, and the search ends there. Then come
   found outcome K switches C order LIST          no complete run of fewer than C switches has an outcome that fulfils them
 and the lines of `ir record`. TRACE is written as `ir record IMAGE TRACE --order LIST --budget 1000000000000` writes it, with
 the same S, FILE and profile.
 If none fulfils them, the lines are those without COND, and TRACE isn't written. After `finished` no complete run of the guest
-has an outcome that does, and after `covered C` and `stopped WHY covered C` none of at most C switches. COND is one argument, as in
-`ir hunt`: `end T E`, `code T V`, `word O I V`, `out T TEXT`, `fault`, or one of them after `!`.
+has an outcome that does, and after `covered C` and `stopped WHY covered C` none of at most C switches. COND is a single argument,
+as in `ir hunt`: `end T E`, `code T V`, `word O I V`, `out T TEXT`, `fault`, or one of them after `!`.
 Exit status: 0 finished or covered, 1 a file that can't be read or written, memory that ran out outside the search, or standard
 output that can't be written, 2 bad arguments, 3 a refused image, or a guest with more threads or objects than the profile takes,
-or a COND about what the guest hasn't, 5 stopped. With COND: 0 found, 5 none was found.
+or a COND about what the guest hasn't, 5 stopped. With COND: 0 found, 5 none was found, whatever the last line says.
 ";
 
 const STATES: &str = "states";

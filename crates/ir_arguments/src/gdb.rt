@@ -12,11 +12,11 @@ pub const GDB_AFTER: &str =
   $ gdb-multiarch guest.elf
   (gdb) source examples/ir.gdb
   (gdb) target remote | ir gdb guest.img guest.trc
-The ELF file is the one that the image was made of, with debug information. It is read by gdb alone.
+The ELF file is the one that the image was made of, with debug information. Only gdb reads it.
 All of gdb's commands that look, stop and move work, backwards too. Nothing can be changed: `set var` and `call` are refused.
   continue                      to the next hit of any thread, in an order that the run allows
   reverse-continue              the same backwards
-  set scheduler-locking on      moves one thread alone: the others go as far as they must, and don't stop it
+  set scheduler-locking on      moves only the current thread: the others go as far as they must, and don't stop it
   watch X                       counts for the thread that moves, since each thread has memory of its own
   monitor LINE                  a command of `ir debug`, such as `monitor pos`
   x/8xw 0x80000040              object 1: object O is 64 bytes of memory from 0x80000000 + 64 * O on

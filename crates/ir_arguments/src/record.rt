@@ -31,22 +31,22 @@ pub struct Chaos {
 /// What follows the help of `ir record`.
 pub const RECORD_AFTER: &str =
     "Without LIST and SEED each thread of the guest runs on a thread of its own, and TRACE is of the run that came about. Recordings
-of one guest, with the same arguments, may differ in which thread enters an object first, in what CLOCK answers, and in what
+of a guest, with the same arguments, may differ in which thread enters an object first, in what CLOCK answers, and in what
 follows from these. They don't differ otherwise. A thread that waits for an object takes no step, and the budget doesn't end
-it. It continues when the threads that hold the object have left or ended, which their budgets see to. At a terminal standard
+it. It continues when the threads that hold the object have left or ended, as their budgets make them do. At a terminal standard
 error shows the steps so far, once a second. Ctrl-C stops a recording, and TRACE stays as it was.
-With LIST all run on one thread, and recordings don't differ. LIST is items joined by commas: `T` is one step of thread T,
+With LIST all run on a single thread, and recordings don't differ. LIST is items joined by commas: `T` is a step of thread T,
 and `TxN` is N steps of it, N from 1 to 1000000. A turn of a thread that is done or must wait takes no step. After the list,
-rounds over the threads from 0 on take one step of each that has one, until all are done. 1x18 lets thread 1 take 18 steps
+rounds over the threads from 0 on take a step of each that has a step left, until all are done. 1x18 lets thread 1 take 18 steps
 before thread 0 takes its first. 0x10 is ten steps of thread 0, and no hexadecimal number. A line feed may end LISTFILE.
 `T!` is a step of thread T in which a try is answered 0 whether or not a thread holds the object, and `T!xN` is N such steps. If
-the thread doesn't try, its step is as that of `T`.
-With SEED all run on one thread too, by the order that SEED gives: `ir hunt --help` says how. The same SEED gives the same order.
+the thread doesn't try, its step is the same as of `T`.
+With SEED all run on a single thread too, by the order that SEED gives: `ir hunt --help` says how. The same SEED gives the same order.
 A guest that polls enters an object again and again until a word there changes. It may take hundreds of turns before the
-thread that changes the word gets in. It then ends by 13, its budget spent, though nothing is stuck: give a larger B, or LIST.
+thread that changes the word gets in. It may end by 13, its budget spent, though with other turns it would have ended well: give a larger B, or LIST.
 CLOCK gives milliseconds since the start, modulo 2^32; with LIST or SEED it counts its own calls from 0, in each thread.
 RANDOM gives PCG32's words, started by S plus the thread's number. Each thread reads its own copy of FILE, of at most
-1048576 bytes, or nothing. TRACE is written to a new file, TRACE.part, which is renamed once it is whole.
+1048576 bytes, or nothing. TRACE is written to a new file, TRACE.part, and renamed once it is whole.
 With P 2 guests may call TRY_WRITE too, call 13, and TRACE is of the second form, IRT2. With P 1 it is an unknown call, TRACE
 is an IRT1, and a guest has at most 8 threads and 16 objects. A try is answered 0 if another thread holds the object. It may
 also be answered 0 if none does; with LIST only in a step of `T!`.

@@ -12,20 +12,20 @@ others wrote over what the thread had read, before it wrote. The first line is `
 write entries. Then comes a line for each, by rising thread and event:
   thread T event E write O version W read event I version V overwritten by thread U event F
 The write entry is at version W, and the read entry, event I of thread T, was at version V. Event F of thread U was the first
-to write over version V. Events are numbered as in `ir trace`. A trace alone can't say whether a thread looked again in
-the entry in which it wrote. So a right guest that does is listed too.
+to write over version V. Events are numbered as in `ir trace`. A trace has no values, so a right guest is listed too if it looks
+again in its write entry.
 With --image only the stale writes are listed that rest on what was read: if the thread had read the words that were there
-when it wrote, it would have put another value into the object, or would have come to another call, object or word, or not
-to the same call within 65536 steps more. Each event has its step, and the line goes on:
+when it wrote, it would have put a different value into the object, or would have made a different call, or with a different
+object or word, or not the same call within 65536 steps more. Each event has its step, and the line goes on:
   word K was X is Y value
-Word K is the lowest that the thread read and that is another when it writes; X and Y are the words in hexadecimal digits.
-It ends in `value` if another value would have been put, and else in `way`. A write entry in which nothing is put isn't
-listed.
-If TRACE is no trace, the one line is `trace refused N`, and `incoherent thread T event E cause C` if its events don't fit
-together, as `ir debug` has it. With --image it is `image refused N` if IMAGE is no image, and the lines with which
+Word K is the lowest that the thread read and that is different when it writes; X and Y are the words in hexadecimal digits.
+The line ends in `value` if the thread would have put a different value, and otherwise in `way`. A write entry in which nothing
+is put isn't listed.
+If TRACE is no trace, the single line is `trace refused N`, and `incoherent thread T event E cause C` if its events contradict
+each other, as `ir debug` has it. With --image it is `image refused N` if IMAGE is no image, and the lines with which
 `ir debug` begins if the trace is of no run of the image.
 Exit status: 0 printed, also if there are stale writes, 1 a file that can't be read or standard output that can't be
-written, 2 bad arguments, 3 a refused image or trace, 4 an incoherent trace, or one of no run of the image.
+written, 2 bad arguments, 3 a refused image or trace, 4 an incoherent trace, or a trace of no run of the image.
 ";
 
 /// Whose stale writes are printed.

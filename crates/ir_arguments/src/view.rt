@@ -9,20 +9,20 @@ use std::alloc::{AllocError, Global};
 
 /// What follows the help of `ir view`.
 pub const VIEW_AFTER: &str =
-    "The page is one HTML file for a browser, which loads nothing else: `ir view guest.trc > guest.html`. Each thread has a lane, from
-left to right, and each event a box: filled for a write entry, pale for a read entry. An arrow leads from a write to each
-thread that sees what it wrote. Boxes are placed so that each event is right of all that it needs, and no further. That is an
-order that the run may have had, not its times. Repeated reads of one version, and repeated refused tries, are one box. The
-writes that `ir stale` lists are marked. The button Keys lists what the keys do, and #T.E after the page's name shows event E
-of thread T.
+    "The page is a single HTML file for a browser, and loads nothing else: `ir view guest.trc > guest.html`. Each thread has a lane,
+from left to right, and each event a box: filled for a write entry, pale for a read entry. An arrow leads from a write to each
+thread that sees what it wrote. Each box is right of the boxes that it needs, and no further. That isn't its time. An event
+that a thread logs while it holds an object may be drawn right of an event that came after it in every run. Repeated reads of the
+same version, and repeated refused tries, are a single box. The writes that `ir stale` lists are marked. The button Keys lists
+what the keys do, and #T.E after the page's name shows event E of thread T.
   --json            the data of the page: for each box its thread, its first event, its number of events, the event's
                     number in a trace's bytes, object or value, version, readers, and where it starts and ends
   --chrome          the same as events in the Trace Event format, for Perfetto and other viewers
-If events need each other in a circle, which is so in no run, the one line is `circle thread T event E`, the first event that
-can't be placed. If a page would have over 200000 boxes, the one line is `too many boxes N`. A refused or incoherent trace has
-the one line that `ir stale` has.
+If events need each other in a cycle, no run has the trace, and the single line is `circle thread T event E`: the lowest thread
+that is stuck, and its next event. If a page would have over 200000 boxes, the single line is `too many boxes N`. A refused or
+incoherent trace has the line that `ir stale` has.
 Exit status: 0 printed, 1 a file that can't be read or standard output that can't be written, 2 bad arguments, or an event
-that the trace doesn't have, 3 a refused trace or image, 4 an incoherent trace, one of no run of the image, a circle or too many
+that the trace doesn't have, 3 a refused trace or image, 4 an incoherent trace, a trace of no run of the image, a cycle or too many
 boxes.
 ";
 
@@ -64,7 +64,7 @@ fn json_arg<'a>(alloc: Global) -> Arg<'a> {
     Arg::new(alloc, JSON)
         .long(JSON)
         .action(ArgAction::SetTrue)
-        .help("Prints the data of the page alone")
+        .help("Prints only the data of the page")
 }
 
 fn chrome_arg<'a>(alloc: Global) -> Arg<'a> {
@@ -80,7 +80,7 @@ fn around_arg<'a>(alloc: Global) -> Arg<'a> {
         .num_args(2)
         .value_names(&["T", "E"])
         .allow_negative_numbers(true)
-        .help("Shows the boxes near event E of thread T alone")
+        .help("Shows only the boxes near event E of thread T")
 }
 
 fn span_arg<'a>(alloc: Global) -> Arg<'a> {

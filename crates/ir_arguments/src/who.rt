@@ -8,20 +8,20 @@ use std::alloc::{AllocError, Global};
 /// What follows the help of `ir who`.
 pub const WHO_AFTER: &str =
     "An object has its first words at version 0, and each write entry makes the next version. Without V the first line is
-`object O versions N`. Then comes a line for each version, the last of which says who wrote last:
+`object O versions N`. Then comes a line for each version, and the last line says who wrote last:
   version 0 by first words readers R             R read entries are at version 0
   version V by thread T event E readers R        event E of thread T made version V, and R read entries are at it
 With V there is the line of that version. Then come its read entries, by rising thread and event, and who wrote over it:
   read thread T event E                          event E of thread T read it
   overwritten by thread T event E                event E of thread T wrote over it; or `last`, if no thread did
-With --word K the lines are those of version 0 and of each version in which word K is another than in the version before:
+With --word K there are lines of version 0 and of each version in which word K differs from the version before:
   version V by thread T event E step S word K W  W is the word in hexadecimal, and S how many steps thread T takes before the last
                                                  PUT of word K between event E and its leave
-Events are numbered as in `ir trace`. With --image each has ` step S` behind it, how many steps its thread takes before it;
-behind `by` before it leaves the object, from when on the version is there.
+Events are numbered as in `ir trace`. With --image each has ` step S` after it, how many steps its thread takes before it;
+after `by` how many it takes before it leaves the object: from then on the version is there.
 What is refused has the lines that `ir stale` has.
 Exit status: 0 printed, 1 a file that can't be read or standard output that can't be written, 2 bad arguments, or an object, a
-version or a word that isn't there, 3 a refused image or trace, 4 an incoherent trace, or one of no run of the image.
+version or a word that isn't there, 3 a refused image or trace, 4 an incoherent trace, or a trace of no run of the image.
 ";
 
 /// The number of the object.
@@ -53,7 +53,7 @@ fn word_arg<'a>(alloc: Global) -> Arg<'a> {
         .long(WORD)
         .value_name("K")
         .allow_negative_numbers(true)
-        .help("The number of a word of the object: the versions in which it is another than before")
+        .help("The number of a word of the object: only the versions that change it")
 }
 
 /// The command with its arguments.

@@ -10,21 +10,22 @@ use std::alloc::{AllocError, Global};
 /// What follows the help of `ir why`.
 pub const WHY_AFTER: &str =
     "Prints why event E of thread T came when it did. The first line is the event, as in `ir trace`. Then come
-  needs thread U event F ENTRY                   an entry of another thread that has to be left before
-  past C C ..                                    for each thread how many of its events are before this one
+  needs thread U event F ENTRY                   an entry of a different thread that has to be left before
+  past C C ..                                    for each thread how many of its events are before this event
   since thread T event E waited for thread U event F
-A read entry needs the write entry that made its version. A write entry needs that one too, and each read entry of the
-version that it writes over. An event is before another if it is an earlier one of its thread, or is needed, or is before one
-that is. The chain of waits begins at the last event of T, up to E, that needs another thread. Of what that event needs it
-names the one that `ir view` places furthest right. Then it goes on from there.
+A read entry needs the write entry that made its version. A write entry needs that entry too, and each read entry of the
+version that it writes over. An event is before this event if it is an earlier event of its thread, if it is needed, or if it is
+before an event that is. The chain of waits begins at the last event of T, up to E, that needs other threads. Of what that event
+needs it names the entry that `ir view` places furthest right. Then it continues from there. If a thread waited for a second
+object while it held the first, the chain doesn't follow that wait.
 With --image each event has the position before its step, as ` step S`. What is needed has where its thread leaves the object,
-as ` left at step S`, and so have what was waited for. There is one line more:
-  least P P ..                                   the least consistent cut with T just behind E: what `goto T S+1` answers
-With --at P0,P1,.. too, the positions of a consistent cut, what is needed is ` met` if it is left there, or else ` open`.
-If events need each other in a circle, which is so in no run, the one line is `circle thread T event E`, the first event that
-can't be placed. What is refused has the lines that `ir stale` has.
+as ` left at step S`, and so have what was waited for. There is a line more:
+  least P P ..                                   the least consistent cut with T just after E: what `goto T S+1` answers
+With --at P0,P1,.. too, the positions of a consistent cut, what is needed is ` met` if it is left there, or otherwise ` open`.
+If events need each other in a cycle, no run has the trace, and the single line is `circle thread T event E`: the lowest thread
+that is stuck, and its next event. What is refused has the lines that `ir stale` has.
 Exit status: 0 printed, 1 a file that can't be read or standard output that can't be written, 2 bad arguments, an event that
-the trace doesn't have, or positions that are no consistent cut, 3 a refused image or trace, 4 an incoherent trace, a circle,
+the trace doesn't have, or positions that are no consistent cut, 3 a refused image or trace, 4 an incoherent trace, a cycle,
 or a trace of no run of the image.
 ";
 
@@ -69,7 +70,7 @@ fn at_arg<'a>(alloc: Global) -> Arg<'a> {
         .value_name("P0,P1,..")
         .allow_negative_numbers(true)
         .help(
-            "The positions of a consistent cut, one for each thread: which of the entries that are needed have been left there",
+            "The positions of a consistent cut, a position for each thread: tells if what is needed has been left there",
         )
 }
 
@@ -86,7 +87,7 @@ pub fn with_arguments<'a>(alloc: Global, command: Command<'a>) -> Result<Command
         .arg(lines_arg(alloc))?
         .arg(from_image_arg(
             alloc,
-            "The file with the image: the steps of the events and of the leaves, and the least cut behind the event",
+            "The file with the image: the steps of the events and of the leaves, and the least cut that has the event",
         ))?
         .arg(at_arg(alloc).requires_arg(FROM_IMAGE)?)
 }

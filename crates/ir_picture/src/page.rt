@@ -48,12 +48,11 @@ button.bad { color: var(--mark); border-color: var(--mark); font-weight: 600; }
 .mark { color: var(--mark); } #info .mark { font-weight: 600; }
 #info button.ev { padding: 0 7px; margin: 0 2px; font-size: 12.5px; }
 #cmds { display: grid; grid-template-columns: auto auto auto; gap: 4px 10px; align-content: start; align-items: center; }
-#cmds { font-size: 13px; color: var(--soft); }
 ";
 
 /// Part 2 of what comes before the data.
-pub const HEAD_2: &str =
-    "code, kbd { font-family: ui-monospace, \"DejaVu Sans Mono\", monospace; font-size: 12.5px; color: var(--ink); }
+pub const HEAD_2: &str = "#cmds { font-size: 13px; color: var(--soft); }
+code, kbd { font-family: ui-monospace, \"DejaVu Sans Mono\", monospace; font-size: 12.5px; color: var(--ink); }
 kbd { border: 1px solid var(--line); border-bottom-width: 2px; border-radius: 4px; padding: 0 5px; }
 dialog { color: var(--ink); background: var(--card); border: 1px solid var(--line); border-radius: 10px; max-width: 560px; }
 dialog td { padding: 2px 12px 2px 0; vertical-align: top; } dialog td:first-child { white-space: nowrap; }
@@ -95,11 +94,10 @@ dialog td { padding: 2px 12px 2px 0; vertical-align: top; } dialog td:first-chil
     <tr data-if=\"spaced\"><td><kbd>L</kbd></td><td>events evenly spaced, or as wide as their steps</td></tr>
     <tr><td><kbd>G</kbd></td><td>type a thread and an event to show</td></tr>
     <tr><td><kbd>Esc</kbd></td><td>choose nothing</td></tr>
-    <tr><td>click</td><td>a box: choose it; an object's name: that object alone, and all again</td></tr>
+    <tr><td>click</td><td>a box: choose it; an object's name: only that object, and all again</td></tr>
     <tr><td>drag</td><td>the lanes, or the strip above them: move left and right</td></tr>
   </table>
-  <p>Each event is right of all that it needs, and no further. That is an order that the run may have had, not its times. Two
-  events may have happened in either order if no path along lanes and arrows leads from one to the other.</p>
+  <p>Each event is right of all that it needs, and no further. That isn't its time, and not always an order that the run may have had.</p>
   <form method=\"dialog\"><button>Close</button></form>
 </dialog>
 <script type=\"application/json\" id=\"run\">";
