@@ -1,12 +1,11 @@
 #!/usr/bin/env python3
-"""Makes two pages of the definitions in specs/: docs/internals/headline.md, the relations by which the main theorem is read, as they are; and
-docs/internals/definitions.md, what the headline rests on, in files and lines, and an index of all definitions.
+"""Makes docs/internals/headline.md of the definitions in specs/: the relations by which the main theorem is read, as they are.
 
-python3 scripts/definitions.py [--check]
+python3 scripts/definitions.py [--check | --index]
 
-With --check it writes nothing and prints a line for each page that differs, and then fails; scripts/rooms.py prints these lines too. The pages
-themselves have to be as they would be made. The tables of docs/internals/theorem.md have to name the files to which the contracts of PARTS lead. Each
-call and each edit that docs/internals/contracts.md names has to be one of some crate. Each crate has to have its words in
+--index prints an index of the definitions that contracts name, and makes nothing. --check writes nothing, prints a line for each fault and then fails;
+scripts/rooms.py prints these lines too. The page has to be as it would be made. The tables of docs/internals/theorem.md have to name the files to which
+the contracts of PARTS lead. Each call that docs/internals/contracts.md names has to be one of some crate. Each crate has to have its words in
 docs/internals/architecture.md.
 
 A contract leads to the definitions that it names, and these to those that they name: names are followed by the `use` lines of their file. A type
@@ -24,8 +23,7 @@ from textwrap import wrap
 
 TOP = Path(__file__).resolve().parent.parent
 PAGES = TOP / "docs" / "internals"
-PAGE = PAGES / "definitions.md"
-FIRST_PAGE = PAGES / "headline.md"
+PAGE = PAGES / "headline.md"
 MOST_WORDS = 30
 
 # Each part of the headline: its name, its heading in theorem.md, and the functions and traits whose contracts it is.
@@ -44,38 +42,58 @@ PARTS = [
     ("`advance`, beside these", "### Advance", {"ir_replay/src/moves.rt": ["advance", "advance_in_order"]}),
 ]
 
-# The first page: its parts, each with what comes before the definitions and their places.
+# Other calls, of which theorem.md only counts what they rest on beside the headline.
+FURTHER = [
+    ("`explore_run`", {"ir_explore_run/src/run.rt": ["explore_run"]}),
+    ("`explore_until`", {"ir_explore_run/src/until.rt": ["explore_until"]}),
+    ("`hunt_run`", {"ir_hunt/src/hunting.rt": ["hunt_run"]}),
+    ("`connect` of `ir gdb`", {"ir_gdb/src/session.rt": ["connect"]}),
+]
+
+# The page: its parts, each with what comes before the definitions and their places.
 FIRST = [
-    ("A session", """`session` of [sessions.rt](../../crates/ir_debug/src/sessions.rt) reads `input` and writes. If no device fails and memory doesn't run out
-before the opening lines, its contract says `Session`: there is a transcript for the lines up to and with the first that quits, and the writer took its
-text, whatever threads replayed.""",
+    ("A session", """`session` of [sessions.rt](../../crates/ir_debug/src/sessions.rt) reads `input` and writes.
+If no device fails and memory lasts up to the opening lines, its contract says `Session`.
+There is a transcript for the lines up to and with the first that quits, and the writer took its text.
+It doesn't matter how the replaying threads were scheduled.""",
      [("ir_debug", "Session", "Session"), ("ir_debug", "Session", "Transcript"), ("ir_debug", "Session", "SessionText"),
       ("ir_stream", "Answers", "LinesAnswered")]),
-    ("What opens", """The bytes of image and trace are judged. A trace opens a ready machine exactly if some complete run of the guest has it. `IsWhole` says
-that a run is complete and has the trace. Not here: what a run is (`IsRun`, in Run).""",
-     [("ir_debug", "Machine", "Opens"), ("ir_debug", "Machine", "OpensImage"), ("ir_debug", "Machine", "OpensTrace"), ("ir_debug", "Machine", "OpensFit"), ("ir_fit", "Fit", "IsRunOf"), ("ir_runs", "Run", "IsWhole"),
+    ("What opens", """The bytes of image and trace are judged.
+A trace opens a ready machine exactly if some complete run of the guest has it.
+`IsWhole` says that a run is complete and has the trace.
+What a run is (`IsRun`) stands in Run.""",
+     [("ir_debug", "Machine", "Opens"), ("ir_debug", "Machine", "OpensImage"), ("ir_debug", "Machine", "OpensTrace"),
+      ("ir_debug", "Machine", "OpensFit"), ("ir_fit", "Fit", "IsRunOf"), ("ir_runs", "Run", "IsWhole"),
       ("ir_fit", "Fit", "IsRefused"), ("ir_fit", "Fit", "IsVerdictOnTrace")]),
-    ("What a line is answered", """`Desk` is the small machine: the guest with its trace, a position of each thread, points and kept cuts. What it answers is said for each run with the
-trace. Not here: `Desk`, what each command is answered (`CarriesOut`), and what is shown, which is read off the run at the cut (`shown`); all three are in Machine.""",
-     [("ir_debug", "Machine", "Replies"), ("ir_debug", "Machine", "RepliesBy"), ("ir_debug", "Machine", "Answers"), ("ir_debug", "Machine", "AnswersBy"),
+    ("What a line is answered", """`Desk` is the small machine: the guest with its trace, a position for each thread, points and kept cuts.
+Its answers are defined for each run with the trace.
+It is `fresh` before its first answer and after a move, as `may_lack` asks.
+The answer to each command (`CarriesOut`) and what a show reads off the run at the cut (`shown`) stand in Machine.""",
+     [("ir_debug", "Machine", "Desk"), ("ir_debug", "Machine", "Kept"), ("ir_debug", "Machine", "Replies"),
+      ("ir_debug", "Machine", "RepliesBy"), ("ir_debug", "Machine", "Answers"), ("ir_debug", "Machine", "AnswersBy"),
       ("ir_debug", "Machine", "Gives"), ("ir_debug", "Machine", "Refuses")]),
-    ("Where a move leads", """A move takes the least consistent cut with the thread at the position, or backwards the greatest. `cont` and `rcont` stop at the first hit, or the last.""",
+    ("Where a move leads", """A move forwards takes the least consistent cut with the thread at the position, and a move backwards the greatest.
+`cont` stops at the first hit, and `rcont` at the last.""",
      [("ir_debug", "Machine", "StopsAt"), ("ir_debug", "Machine", "Leads"), ("ir_debug", "Machine", "Continues"),
       ("ir_runs", "Run", "IsLeast"), ("ir_runs", "Run", "Consistent"), ("ir_runs", "Run", "IsNeededBy")]),
 ]
 
 FIRST_HEAD = """# The headline
 
-The relations by which the [main theorem](theorem.md) is read, word for word as they are in `specs/`, but for what marks a definition as public or as one that
-proofs see through. `python3 scripts/definitions.py` makes this page.
-`A × B` is and, `A ⊎ B` or, `A → ⊥` not; `(x : T) × P` is that there is an x, `(x : T) → P` that it holds of each.
-[Notation](theorem.md#how-to-read-it) has the rest. A record says each of its fields.
+The relations by which the [main theorem](theorem.md) is read, word for word as they are in `specs/`.
+Only the marks that make a definition public, or let proofs see through it, are left out.
+`python3 scripts/definitions.py` makes this page.
+
+`A × B` is *and*, `A ⊎ B` is *or*, `A → ⊥` is *not*.
+`(x : T) × P` says that there is an x, and `(x : T) → P` says it of each x.
+A record states each of its fields.
+The rest of the [notation](theorem.md#how-to-read-it) is explained there.
 """
 
 FIRST_TAIL = """
 ## Where the other names are
 
-What these definitions name, and this page doesn't have:
+These definitions also name:
 
 """
 
@@ -91,21 +109,9 @@ PINNED = {("ir_isa", "Decoded", "instruction_of"): ("ir_isa/src/laws.rt", "found
 
 HEAD = """# Definitions
 
-`python3 scripts/definitions.py` makes this page of the comments in `specs/`, and the gate refuses it if it differs. What to read first, and in
-which order, is in [theorem](theorem.md).
-
-## What the headline rests on
-
-The files of the tables of [theorem](theorem.md#what-a-reader-has-to-believe). They hold more than what is needed of them. The last two columns
-count the definitions to which the contracts lead, and the lines of these without comments, imports and blank lines.
-
-"""
-INDEX = """
-## Index
-
-The definitions that the public calls and types of the crates name in contracts, laws and invariants, by crate and file. Those to which the
-headline leads are in **bold**. A definition without a comment has its type instead. A comment of more than 30 words is cut (`..`). A file that
-has none of them states what holds inside its crate.
+The definitions that the public calls and types of the crates name in contracts, laws and invariants, by crate and file. The headline leads to those
+in **bold**. A definition without a comment has its type instead. A comment of more than 30 words is cut (`..`). A file without any states what holds
+inside its crate. What to read first, and in which order, is in docs/internals/theorem.md.
 """
 
 USE = re.compile(r"^\s*(?:ghost )?(?:pub )?use Rattle\.(ir_\w+)\.specs\.([\w.]+?)(?:\.\{([^}]*)\}| as (\w+))?;?\s*$", re.MULTILINE)
@@ -298,11 +304,30 @@ def rows():
     return [*found, ("in all", total), ("of these the restated RISC-V manual", manual), ("beside the manual", [*map(int.__sub__, total, manual)])]
 
 
+def table(found):
+    """A table of such rows."""
+    yield "| Part | Files | Lines | Definitions | Their lines |\n|---|---|---|---|---|"
+    for title, row in found:
+        yield f"| {title} | " + " | ".join(f"{number:,}" for number in row) + " |"
+
+
 def counts():
     """The table of what the headline rests on."""
-    yield "| Part | Files | Lines | Definitions | Their lines |\n|---|---|---|---|---|"
-    for title, row in rows():
-        yield f"| {title} | " + " | ".join(f"{number:,}" for number in row) + " |"
+    return table(rows())
+
+
+def further():
+    """The table of what the other calls rest on, each beside the headline and the calls before it."""
+    known = {definition for _, _, _, definitions in parts() for definition in definitions}
+    files = {(crate, name) for crate, name, _ in known}
+    found = []
+    for title, contracts in FURTHER:
+        more = led_to(contracts) - known
+        added = {(crate, name) for crate, name, _ in more} - files
+        found.append((title, count(added, more)))
+        known |= more
+        files |= added
+    return table([*found, ("in all", [sum(row[i] for _, row in found) for i in range(4)])])
 
 
 def aim_faults():
@@ -365,7 +390,7 @@ def index():
 
 
 def quoted(crate, name, item):
-    """A definition with its comment, as its file has it, without what marks it as public."""
+    """A definition with its comment, as its file has it, but for what marks it as public."""
     found = module(crate, name).definitions[item]
     says = wrap(found.says, 138, initial_indent="-- ", subsequent_indent="-- ")
     return "\n".join([*says, *(re.sub(r"^(\s*)(?:abbrev |unfoldable )?pub ", r"\1", line) for line in found.lines)])
@@ -384,19 +409,14 @@ def others():
         yield f"- [{name}](../../crates/{crate}/specs/{name.replace('.', '/')}.antt) of {crate}: {', '.join(files[crate, name])}"
 
 
-def first_page():
-    """The first page as it has to be."""
+def page():
+    """The page as it has to be."""
     text = FIRST_HEAD
     for heading, says, places in FIRST:
         files = dict.fromkeys(f"[{name}](../../crates/{crate}/specs/{name}.antt) of {crate}" for crate, name, _ in places)
         blocks = "\n\n".join(quoted(*place) for place in places)
         text += f"\n## {heading}\n\n{says}\n\nFrom {', '.join(files)}:\n\n```\n{blocks}\n```\n"
     return text + FIRST_TAIL + "\n".join(others()) + "\n"
-
-
-def page():
-    """The page as it has to be."""
-    return HEAD + "\n".join(counts()) + "\n" + INDEX + "\n".join(index()) + "\n"
 
 
 def listed(heading):
@@ -439,25 +459,21 @@ def double_faults():
 
 
 def name_faults():
-    """What contracts.md names and no crate has, and the crates of which architecture.md says nothing."""
-    edits = {path.stem for path in (TOP / "crates").glob("*/*/*.edit")}
+    """The calls that contracts.md names and no crate has, and the crates of which architecture.md says nothing."""
     calls = {name for path in (TOP / "crates").glob("*/src/**/*.rt") for name in CALL.findall(path.read_text(encoding="utf-8"))}
-    for line in (PAGES / "contracts.md").read_text(encoding="utf-8").partition("\n## Tested")[0].splitlines():
-        if line.startswith("|"):
-            _, call, *edit = line.strip("|").split("|")
-            named = [name for path in re.findall(r"`([\w:]+)`", call) for name in path.split("::")]
-            yield from (f"docs/internals/contracts.md: no crate has the call {name}" for name in named if name not in calls)
-            named = re.findall(r"`(\w+)`", "".join(edit))
-            yield from (f"docs/internals/contracts.md: no crate has the edit {name}" for name in named if name not in edits)
+    text = (PAGES / "contracts.md").read_text(encoding="utf-8").partition("\n## Tested")[0]
+    cells = [line.strip("|").split("|")[-1] for line in text.splitlines() if line.startswith("|")]
+    for words in [*cells, *re.findall(r"^Calls?: (.*)$", text, re.MULTILINE)]:
+        named = [name for path in re.findall(r"`([\w:]+)`", words) for name in path.split("::")]
+        yield from (f"docs/internals/contracts.md: no crate has the call {name}" for name in named if name not in calls)
     known = set(re.findall(r"\bir_\w+", (PAGES / "architecture.md").read_text(encoding="utf-8")))
     yield from (f"docs/internals/architecture.md: says nothing of {crate}" for crate in crates() if crate not in known)
 
 
 def faults():
     """What differs on the pages, a line each."""
-    for path, text in ((PAGE, page()), (FIRST_PAGE, first_page())):
-        if not path.exists() or path.read_text(encoding="utf-8") != text:
-            yield f"{path.relative_to(TOP)}: isn't what specs/ says: run python3 scripts/definitions.py"
+    if not PAGE.exists() or PAGE.read_text(encoding="utf-8") != page():
+        yield f"{PAGE.relative_to(TOP)}: isn't what specs/ says: run python3 scripts/definitions.py"
     yield from table_faults()
     yield from double_faults()
     yield from name_faults()
@@ -469,11 +485,13 @@ def main():
         found = list(faults())
         print("\n".join(found) or "definitions: the pages are as specs/ and the contracts say")
         return 1 if found else 0
+    if sys.argv[1:] == ["--index"]:
+        print(HEAD + "\n".join(index()))
+        return 0
     if sys.argv[1:]:
         print(__doc__)
         return 2
     PAGE.write_text(page(), encoding="utf-8")
-    FIRST_PAGE.write_text(first_page(), encoding="utf-8")
     return 0
 
 
