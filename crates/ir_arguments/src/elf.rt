@@ -29,7 +29,8 @@ A file that is no guest is reported on standard error as `elf refused N`. It is 
   12 there is no table of threads and objects
   13 the table has no known form, a wrong number of threads, or no whole objects
   14 a thread's entry is no place in the code
-With --explain, and at a terminal without it, a line with the file and these words follows.
+With --explain, and at a terminal without it, a line with the file and these words follows. Of a file that is converted a line on
+standard error then says how many bytes of variables each thread has for itself, if there are any: no thread shares them.
 Exit status: 0 converted, 1 a file that can't be read or written, 2 bad arguments, 3 a refused file.
 ";
 
@@ -48,7 +49,9 @@ fn explain_arg<'a>(alloc: Global) -> Arg<'a> {
     Arg::new(alloc, EXPLAIN)
         .long(EXPLAIN)
         .action(ArgAction::SetTrue)
-        .help("Explains a refusal in a second line, as is done at a terminal")
+        .help(
+            "Explains a refusal, or tells how many bytes of variables each thread has for itself, as is done at a terminal",
+        )
 }
 
 /// The command with its arguments.

@@ -1,5 +1,5 @@
 -- What is read is within the limits of a guest.
-use Rattle.std.proofs.Common.{◌≡◌, ℕ, ◌+◌, ◌*◌, ◌/◌, ◌%◌, ◌≤◌, cond, eqb, leb, ltb, Bool, true, false, refl, List, [], ◌∷◌, length, slice_index, take, Option, Some, None, Result, Ok, Err, subst, sym, suc, arith, length-take, length-take-le}
+use Rattle.std.proofs.Common.{◌≡◌, ℕ, ◌+◌, ◌*◌, ◌/◌, ◌%◌, ◌≤◌, cond, eqb, leb, ltb, Bool, true, false, refl, List, length, take, Option, Some, None, Result, Ok, Err, subst, sym, arith, length-take, length-take-le}
 use Rattle.std.specs.Prelude.{◌&&◌}
 use Rattle.std.specs.List.{AllByRecursion}
 use Rattle.std.proofs.lemmas.Bool.{leb-true, ltb-true, eqb-true, and_parts}

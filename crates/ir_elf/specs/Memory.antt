@@ -1,5 +1,5 @@
 -- What the segments put into the parts of a guest.
-use Rattle.std.specs.Prelude.{ℕ, ◌+◌, max, nat_lt, Bool, true, false, ◌&&◌, if◌then◌else◌, List, [], ◌∷◌, ◌++◌, length, take, drop, replicate, Option, Some, None}
+use Rattle.std.specs.Prelude.{ℕ, ◌+◌, ◌-◌, ◌^◌, max, min, nat_lt, Bool, true, false, ◌&&◌, if◌then◌else◌, List, [], ◌∷◌, ◌++◌, length, take, drop, replicate, Option, Some, None}
 use Rattle.byteorder.specs.Endian.{little_number}
 use Rattle.ir_elf.specs.declared.part.Part.{Part}
 use Rattle.ir_elf.specs.declared.part.Part.TheVariants.{Code, Memory, Table}
@@ -47,6 +47,15 @@ held_in part s = if is_same s.part part && nat_lt 0 (length s.bytes) then s.plac
 abbrev pub greatest : (Segment → ℕ) → List Segment → ℕ
 greatest number [] = 0
 greatest number (s ∷ ss) = max (number s) (greatest number ss)
+
+-- how many bytes of memory a segment of a part has
+abbrev pub bytes_in : Part → Segment → ℕ
+bytes_in part s = if is_same s.part part then s.size else 0
+
+-- how many bytes of memory the segments of a part have together, with `total` more, at most 2^32 - 1
+abbrev pub bytes_from : ℕ → Part → List Segment → ℕ
+bytes_from total part [] = total
+bytes_from total part (s ∷ ss) = bytes_from (min (total + bytes_in part s) (2 ^ 32 - 1)) part ss
 
 -- the bytes of the first segment of the table
 abbrev pub table_of : List Segment → Option (List ℕ)

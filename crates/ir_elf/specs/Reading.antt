@@ -7,7 +7,7 @@ use Rattle.ir_elf.specs.declared.refusal.Refusal.{Refusal}
 use Rattle.ir_elf.specs.declared.refusal.Refusal.TheVariants.{NoCode, NoTable}
 use Rattle.ir_elf.specs.Refusal.{unless}
 use Rattle.ir_elf.specs.Segments.{Segment, segments_at}
-use Rattle.ir_elf.specs.Memory.{memory_of, size_in, held_in, greatest, table_of, words_in}
+use Rattle.ir_elf.specs.Memory.{memory_of, size_in, held_in, greatest, bytes_from, table_of, words_in}
 use Rattle.ir_elf.specs.Table.{TableParts, table_at}
 
 -- the code's part of memory
@@ -40,3 +40,11 @@ guest_of segments = unless (nat_lt 0 (code_words segments)) NoCode (table_found 
 -- the guest of a file
 unfoldable pub elf_guest_at : List ℕ → Result Guest Refusal
 elf_guest_at file = segments_at file >>= λ segments. guest_of segments
+
+-- how many bytes of variables each thread of the guest of segments has for itself: those of private memory, without the stack, which no segment has
+abbrev pub own_bytes : List Segment → ℕ
+own_bytes segments = bytes_from 0 Memory segments
+
+-- the same of a file's guest
+unfoldable pub own_bytes_at : List ℕ → Result ℕ Refusal
+own_bytes_at file = segments_at file >>= λ segments. Ok (own_bytes segments)

@@ -16,5 +16,5 @@ pub use elf_err::ElfErr;
 pub use laws::{
     code_is_segments, elf_round_trip, memory_is_segments, refused_exactly, table_is_segment,
 };
-pub use reading::read_elf;
+pub use reading::{own_bytes, read_elf};
 pub use refusal::Refusal;

@@ -6,10 +6,10 @@ ghost use Rattle.ir_image.specs.Guest.{most_code_words, memory_size};
 ghost use Rattle.ir_image.specs.Bounds.{IsByte, IsWord};
 ghost use Rattle.ir_elf.specs.Refusal.{Gives};
 ghost use Rattle.ir_elf.specs.Segments.{seen};
-ghost use Rattle.ir_elf.specs.Reading.{code_memory, code_words, data_bytes, guest_of, elf_guest_at};
+ghost use Rattle.ir_elf.specs.Reading.{code_memory, code_words, data_bytes, guest_of, elf_guest_at, own_bytes, own_bytes_at};
 
 use crate::elf_err::ElfErr;
-use crate::memory::{held_of_part, memory_of, size_of_part, table_of, words_of};
+use crate::memory::{bytes_of_part, held_of_part, memory_of, size_of_part, table_of, words_of};
 use crate::part::Part;
 use crate::refusal::Refusal;
 use crate::segment::Segment;
@@ -103,4 +103,16 @@ pub fn read_elf(alloc: Global, file: &[u8]) -> Result<Image, ElfErr>
 {
     let segments = segments(alloc, file)?;
     image_of(alloc, segments.as_slice())
+}
+
+/// How many bytes of variables each thread of the guest of an ELF file has for itself, the stack apart.
+///
+/// # Errors
+/// As of `read_elf`, for the segments; or out of memory.
+#[tactic(auto, unfolding(crate::specs::Reading::own_bytes_at))]
+pub fn own_bytes(alloc: Global, file: &[u8]) -> Result<u32, ElfErr>
+    ensures { Gives (λ n. n) result (own_bytes_at file.now) }
+{
+    let segments = segments(alloc, file)?;
+    Ok(bytes_of_part(Part::Memory, segments.as_slice()))
 }

@@ -2,12 +2,25 @@
 
 ghost use Rattle.std.specs.Prelude.{◌≡◌, false};
 
-use crate::commands::{bytes_of, is_lost, put_in_place, shown_path};
+use crate::commands::{bytes_of, is_lost, put_in_place, say, shown_path};
 use ir_arguments::ElfArguments;
+use ir_elf::own_bytes;
 use ir_files::{ExitStatus, Folder, MOST_BYTES, WholeFile};
 use ir_image_run::elf_run;
 use ir_stream::Sink;
 use std::alloc::Global;
+
+// Reports how many bytes of variables each thread has for itself, if it has any.
+fn tell_own_bytes<E: Sink>(alloc: Global, elf: &str, file: &[u8], faults: &mut E) {
+    if let Ok(count) = own_bytes(alloc, file)
+        && count > 0
+        && let Ok(what) = format!(in alloc;
+            "{count} bytes of variables, and each thread has its own"
+        )
+    {
+        say(faults, elf, ": ", what.as_str());
+    }
+}
 
 // Makes an image of an ELF file, which is in its place only once it is whole.
 pub fn convert_file<D: Folder, E: Sink>(
@@ -36,5 +49,9 @@ pub fn convert_file<D: Folder, E: Sink>(
     };
     let explained = (explains || arguments.explain).then_some(shown_path(elf, "ELF"));
     let status = elf_run(alloc, bytes.as_slice(), explained, &mut file, faults);
-    put_in_place(&mut file, status, elf, faults)
+    let status = put_in_place(&mut file, status, elf, faults);
+    if status == ExitStatus::Done && explained.is_some() {
+        tell_own_bytes(alloc, elf, bytes.as_slice(), faults);
+    }
+    status
 }
