@@ -4,3 +4,4 @@ mod Hits
 mod Joined
 mod Sought
 mod Printed
+mod Recorded

@@ -5,3 +5,4 @@ pub mod Printed
 pub mod Faults
 pub mod Conditions
 pub mod Until
+pub mod Recorded

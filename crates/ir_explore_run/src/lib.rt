@@ -6,6 +6,7 @@ mod bytes;
 mod conditions;
 mod fault;
 mod known;
+mod laws;
 mod levels;
 mod lines;
 mod outcome;
@@ -19,6 +20,9 @@ mod until;
 
 pub use conditions::outcomes_decide;
 pub use fault::ExploreFault;
+pub use laws::{
+    hangs_never_complete, recordings_are_listed, recordings_have_outcomes, recordings_never_fulfil,
+};
 pub use plan::{ExplorePlan, UntilPlan};
 pub use run::explore_run;
 pub use until::explore_until;

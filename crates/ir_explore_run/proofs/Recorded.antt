@@ -1,0 +1,204 @@
+-- Recordings of a guest whose outcomes are listed.
+use Rattle.std.proofs.Common.{◌≡◌, ◌≢◌, ◌<◌, ◌≤◌, ℕ, Bool, true, false, Option, Some, None, Result, Ok, List, [], ◌∷◌, ◌++◌, length, map, get_or, refl, sym, ap, ◌∙◌, subst, arith, inl, inr}
+use Rattle.std.specs.Option.{is_some}
+use Rattle.std.specs.List.{AllByRecursion}
+use Rattle.std.proofs.lemmas.Bool.{cases_lt}
+use Rattle.std.proofs.lemmas.List.{get_or-replicate, get_or_past}
+use Rattle.std.proofs.lemmas.List.FromFn.{get_or-map-range_with_len}
+use Rattle.std.proofs.lemmas.Option.{get_or_from_slice_get}
+use Rattle.ir_flat.specs.Flat.{start_flat, tables, thread_of, idle}
+use Rattle.ir_flat.proofs.CallerLemmas.{length_of_start_threads, guest_start_is_idle}
+use Rattle.ir_graph.specs.Setup.{Setup, first_source, IsCountedOf}
+use Rattle.ir_graph.specs.Outcomes.{Outcome}
+use Rattle.ir_image.specs.Guest.{Guest, guest_at}
+use Rattle.ir_log.specs.Logging.{label_of}
+use Rattle.ir_log.specs.declared.event.Event.{Event}
+use Rattle.ir_log.specs.declared.event.Event.TheVariants as event
+use Rattle.ir_order.specs.Recording.{IsOfRun}
+use Rattle.ir_outcomes.specs.Explored.{IsOutcomeOf}
+use Rattle.ir_outcomes.specs.Shown.{outcome_by}
+use Rattle.ir_record.specs.Recording.{IsRecordingOf, AreAnswers}
+use Rattle.ir_record.specs.Recordings.{IsRecordingOfSome}
+use Rattle.ir_record.specs.Worlds.{Answered, answers_in}
+use Rattle.ir_record_run.specs.Plan.{Plan}
+use Rattle.ir_record_run.specs.Recording.{unasked, IsRecordedBy, IsRecordedOf}
+use Rattle.ir_runs.specs.Bounds.{IsIdle}
+use Rattle.ir_runs.specs.Machine.{Machine, Label, Quiet, Answer, In, Refused, Out}
+use Rattle.ir_runs.specs.Run.{State, Step, IsRun, IsWhole, after, end, trail, events, log}
+use Rattle.ir_runs.specs.declared.env_kind.EnvKind.TheVariants.{Clock, Random, Input}
+use Rattle.ir_runs.proofs.CallerLemmas.{step_below_idle_keeps_idle, thread_after_step_of_other, trail_of_cons_other_thread}
+use Rattle.ir_sources.specs.Sources.{Source, source, given, Gave, untimed, from_sources, IsAnswered, origin_of, seed_of}
+use Rattle.ir_states.specs.Sources.{Gives}
+use Rattle.ir_store.specs.Table.{no_source}
+use Rattle.ir_thread.specs.State.{ThreadState, thread_machine}
+use Rattle.ir_thread.specs.declared.profile.Profile.{Profile}
+use Rattle.ir_trace.specs.Recorded.{Recorded, recorded_thread, trace_of}
+use Rattle.ir_explore_run.specs.Recorded.{IsUntimed, AreUntimed, AreUncut, IsOfOutcome, RecordingsHaveOutcomes, RecordingsAreListed, RecordingsNeverFulfil}
+
+-- ---- threads that the guest doesn't have
+
+-- a thread from n on, all of which are done, takes no step
+no_step_of_thread_above : {T : Type 0} (m : Machine T) (s : State T) (n : ℕ) → IsIdle m s n → (run : List Step) → IsRun m s run → (t : ℕ) → n ≤ t
+    → (trail m s run t ≡ []) × ((end m s run).now t ≡ s.now t)
+no_step_of_thread_above m s n is_idle [] ok t l = (refl, refl)
+no_step_of_thread_above m s n is_idle (e ∷ run) ok t l =
+    let g = step_below_idle_keeps_idle m s n is_idle e ok.0 in
+    let rest = no_step_of_thread_above m (after m s e) n g.1 run ok.1 t l in
+    let other : t ≢ e.0 = λ q. absurd (omega (arith, q, l, g.0)) in
+    (trail_of_cons_other_thread m s e run t other ∙ rest.0, rest.1 ∙ thread_after_step_of_other m s e t other)
+
+-- ---- answers
+
+-- a log whose answers a source gave, in turn, is answered by the source
+log_is_answered_if_source_gave_it : (s : Source) (es : List Label) (left : Source) → Gave s (answers_in es) left → Gives given s es
+log_is_answered_if_source_gave_it s [] left h = tt
+log_is_answered_if_source_gave_it s (Quiet ∷ es) left h = log_is_answered_if_source_gave_it s es left h
+log_is_answered_if_source_gave_it s (Answer k v ∷ es) left h = (h.0, log_is_answered_if_source_gave_it (given k s).1 es left h.1)
+log_is_answered_if_source_gave_it s (In o a v l ∷ es) left h = log_is_answered_if_source_gave_it s es left h
+log_is_answered_if_source_gave_it s (Refused o ∷ es) left h = log_is_answered_if_source_gave_it s es left h
+log_is_answered_if_source_gave_it s (Out o a v ∷ es) left h = log_is_answered_if_source_gave_it s es left h
+
+-- where no call for the time was answered, all answers come from the source
+untimed_answers_are_all : (es : List Event) → AllByRecursion IsUntimed es → untimed (answers_in (map label_of es)) ≡ answers_in (map label_of es)
+untimed_answers_are_all [] h = refl
+untimed_answers_are_all (event.Answer Clock v ∷ es) h = absurd h.0
+untimed_answers_are_all (event.Answer Random v ∷ es) h = ap (λ z. (Random, v) ∷ z) (untimed_answers_are_all es h.1)
+untimed_answers_are_all (event.Answer Input v ∷ es) h = ap (λ z. (Input, v) ∷ z) (untimed_answers_are_all es h.1)
+untimed_answers_are_all (event.Read o v ∷ es) h = untimed_answers_are_all es h.1
+untimed_answers_are_all (event.Write o v r ∷ es) h = untimed_answers_are_all es h.1
+untimed_answers_are_all (event.Try o ∷ es) h = untimed_answers_are_all es h.1
+
+answers_from_sources_are_all : (counted : Bool) (es : List Event) → AllByRecursion IsUntimed es
+    → from_sources counted (answers_in (map label_of es)) ≡ answers_in (map label_of es)
+answers_from_sources_are_all true es h = refl
+answers_from_sources_are_all false es h = untimed_answers_are_all es h
+
+-- the answers that were kept of a thread are those in its log
+kept_answers_are_in_log : (guest : Guest) (budget : ℕ) (profile : Profile) (run : List Step) (answers : List (List Answered)) (t : ℕ) → t < length guest.entries
+    → AreAnswers guest budget profile run (unasked guest) answers
+    → get_or answers t [] ≡ answers_in (log (thread_machine guest.code) (tables (start_flat guest budget profile)) run t)
+kept_answers_are_in_log guest budget profile run answers t l h =
+    get_or_from_slice_get answers t _ [] (h.each t l)
+    ∙ ap (λ (z : List Answered). z ++ answers_in (log (thread_machine guest.code) (tables (start_flat guest budget profile)) run t))
+    (get_or-replicate (length guest.entries) t [] [] l)
+
+first_source_is_source : (setup : Setup) (t : ℕ) → t < length setup.guest.entries → first_source setup t ≡ source (seed_of setup.random t) setup.input
+first_source_is_source setup t l =
+    get_or-map-range_with_len (λ u. source (seed_of setup.random u) setup.input) 0 (length setup.guest.entries) t t no_source l (omega arith)
+
+-- ---- ends
+
+abbrev number_of : Option (ℕ × ℕ) → ℕ
+number_of None = 0
+number_of (Some e) = e.0
+
+thread_of_missing_number_is_idle : (guest : Guest) (budget : ℕ) (profile : Profile) (t : ℕ) → length guest.entries ≤ t
+    → thread_of (start_flat guest budget profile) t ≡ idle
+thread_of_missing_number_is_idle guest budget profile t l = get_or_past (start_flat guest budget profile).threads t idle
+    (let e = length_of_start_threads guest budget profile 0 (length guest.entries) in omega (arith, e, l))
+
+-- ---- a run that was recorded counts
+
+counted_if_recorded : (setup : Setup) (budget : ℕ) (counted : Bool) (run : List Step) (trace : Recorded) (outputs : List (List ℕ)) (answers : List (List Answered))
+    → IsRecordingOf setup.guest budget setup.profile run (unasked setup.guest) trace outputs answers
+    → ((t : ℕ) → t < length setup.guest.entries → IsAnswered (origin_of counted setup.random setup.input t) (get_or answers t []))
+    → AreUntimed (length setup.guest.entries) trace → AreUncut (length setup.guest.entries) trace → IsCountedOf setup budget run
+counted_if_recorded setup budget counted run trace outputs answers r answered no_clock uncut = record {
+  complete = (w.runs, w.done);
+  answered = λ t. elim (cases_lt t n) [
+    | inl l ↦ of_thread t l
+    | inr g ↦ subst (Gives given (first_source setup t)) (sym (ap events (still t g).0)) tt
+  ];
+  unspoilt = λ t spoilt. elim (cases_lt t n) [
+    | inl l ↦ elim spoilt [
+      | inl a ↦ (uncut t l).0 (ap number_of (sym (w.ends t l) ∙ a))
+      | inr a ↦ (uncut t l).1 (ap number_of (sym (w.ends t l) ∙ a))
+    ]
+    | inr g ↦ let ends : m.ended ((end m s run).now t) ≡ m.ended idle = ap m.ended ((still t g).1 ∙ thread_of_missing_number_is_idle setup.guest budget setup.profile t g) in
+        elim spoilt [
+          | inl a ↦ let e : 2 ≡ 13 = ap number_of (sym ends ∙ a) in absurd (omega (arith, e))
+          | inr a ↦ let e : 2 ≡ 14 = ap number_of (sym ends ∙ a) in absurd (omega (arith, e))
+        ]
+  ];
+}
+  where
+    n : ℕ
+    n = length setup.guest.entries
+
+    m : Machine ThreadState
+    m = thread_machine setup.guest.code
+
+    s : State ThreadState
+    s = tables (start_flat setup.guest budget setup.profile)
+
+    w : IsWhole m s n (trace_of trace) run
+    w = r.emitted.whole
+
+    still : (t : ℕ) → n ≤ t → (trail m s run t ≡ []) × ((end m s run).now t ≡ s.now t)
+    still t g = no_step_of_thread_above m s n (guest_start_is_idle setup.guest budget setup.profile) run w.runs t g
+
+    of_thread : (t : ℕ) → t < n → Gives given (first_source setup t) (log m s run t)
+    of_thread t l =
+        let es = (recorded_thread trace t).events in
+        let a = answered t l in
+        let kept : get_or answers t [] ≡ answers_in (map label_of es) =
+        kept_answers_are_in_log setup.guest budget setup.profile run answers t l r.answered ∙ ap answers_in (w.logs t l) in
+        let all : from_sources counted (get_or answers t []) ≡ answers_in (map label_of es) =
+        ap (from_sources counted) kept ∙ answers_from_sources_are_all counted es (no_clock t l) in
+        let gave : Gave (source (seed_of setup.random t) setup.input) (answers_in (map label_of es)) a.0 =
+        subst (λ z. Gave (source (seed_of setup.random t) setup.input) z a.0) all a.1 in
+        subst (λ z. Gives given z (log m s run t)) (sym (first_source_is_source setup t l))
+        (subst (Gives given (source (seed_of setup.random t) setup.input)) (sym (w.logs t l))
+        (log_is_answered_if_source_gave_it (source (seed_of setup.random t) setup.input) (map label_of es) a.0 gave))
+
+-- ---- the laws
+
+-- what was recorded, by a list or by threads, is of some run
+recording_is_of_some_run : (order : Option (List ℕ)) (guest : Guest) (budget : ℕ) (profile : Profile) (trace : Recorded) (outputs : List (List ℕ))
+    (answers : List (List Answered)) → IsRecordedBy order guest budget profile trace outputs answers
+    → IsRecordingOfSome guest budget profile (unasked guest) trace outputs answers
+recording_is_of_some_run (Some list) guest budget profile trace outputs answers r = (r.2.0, r.2.2)
+recording_is_of_some_run None guest budget profile trace outputs answers r = r
+
+-- the guest that was recorded, as it is explored
+abbrev recorded_setup : (image : List ℕ) (plan : Plan) (trace : Recorded) (outputs : List (List ℕ)) → IsRecordedOf image plan trace outputs → Setup
+recorded_setup image plan trace outputs r = record { guest = r.guest; profile = plan.profile; random = plan.random; input = plan.input }
+
+recorded_setup_has_outcome : (image : List ℕ) (plan : Plan) (trace : Recorded) (outputs : List (List ℕ)) (r : IsRecordedOf image plan trace outputs)
+    → AreUntimed (length r.guest.entries) trace → AreUncut (length r.guest.entries) trace
+    → (x : Outcome) × IsOfOutcome (recorded_setup image plan trace outputs r) plan.budget trace outputs x
+    × IsOutcomeOf (recorded_setup image plan trace outputs r) x
+recorded_setup_has_outcome image plan trace outputs r no_clock uncut =
+    let some : IsRecordingOfSome r.guest plan.budget plan.profile (unasked r.guest) trace outputs r.answers =
+    recording_is_of_some_run plan.order r.guest plan.budget plan.profile trace outputs r.answers r.recorded in
+    let setup = recorded_setup image plan trace outputs r in
+    let of_run : IsOfRun r.guest plan.budget plan.profile some.0 trace outputs = record { trace_of = some.1.emitted; printed = some.1.printed } in
+    let counts : IsCountedOf setup plan.budget some.0 =
+    counted_if_recorded setup plan.budget (is_some plan.order) some.0 trace outputs r.answers some.1 r.answered no_clock uncut in
+    (outcome_by setup plan.budget some.0, (some.0, of_run, refl), (plan.budget, some.0, counts, refl))
+
+same_guest : (image : List ℕ) (a b : Guest) → guest_at image ≡ Ok a → guest_at image ≡ Ok b → a ≡ b
+same_guest image a b x y = same (sym x ∙ y)
+  where
+    same : {A E : Type 0} {x y : A} → ◌≡◌ {A = Result A E} (Ok x) (Ok y) → x ≡ y
+    same e = cc e
+
+pub recordings_have_outcomes : RecordingsHaveOutcomes
+recordings_have_outcomes setup image plan trace outputs h =
+    let r = h.recorded in
+    let g : r.guest ≡ setup.guest = same_guest image r.guest setup.guest r.is h.guest in
+    let e : recorded_setup image plan trace outputs r ≡ setup = λ i. record { guest = g i; profile = h.profile i; random = h.random i; input = h.input i } in
+    subst (λ z. (x : Outcome) × IsOfOutcome z plan.budget trace outputs x × IsOutcomeOf z x) e
+    (recorded_setup_has_outcome image plan trace outputs r
+    (subst (λ (z : Guest). AreUntimed (length z.entries) trace) (sym g) h.untimed)
+    (subst (λ (z : Guest). AreUncut (length z.entries) trace) (sym g) h.uncut))
+
+pub recordings_are_listed : RecordingsAreListed
+recordings_are_listed guest explored k image plan trace outputs are finished h =
+    let r = recordings_have_outcomes _ image plan trace outputs h in
+    (r.0, r.1, (are.all finished r.0).0 r.2)
+
+pub recordings_never_fulfil : RecordingsNeverFulfil
+recordings_never_fulfil setup conditions image plan trace outputs never h =
+    let r = recordings_have_outcomes setup image plan trace outputs h in
+    (r.0, r.1, never r.0 r.2)
