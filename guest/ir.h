@@ -3,13 +3,16 @@
      riscv64-unknown-elf-gcc bank.c @guest/ir.opts -o bank.elf
      ir elf bank.elf bank.img
 
-   A variable is each thread's own, a static one too. Threads share objects only. A thread enters an object, gets and puts its words,
-   and leaves it. It enters objects by rising number.
+   Threads share objects only. A thread enters an object, gets and puts its words, and leaves it. It enters objects by rising number.
+   What they share is sequentially consistent. A variable is each thread's own, a static one too: IR_OWN says that this is meant.
+   ir_sync.h has atomic words, locks and condition variables.
 
    A misuse ends the thread. Each macro and call below has the numbers of the ends that it can lead to. What they mean is in
    docs/reference/calls-and-ends.md. The guide is docs/guide/c-guests.md. */
 #ifndef IR_H
 #define IR_H
+
+#include "ir_checks.h"
 
 #if !defined __riscv_xlen || __riscv_xlen != 32 || defined __riscv_32e || defined __riscv_compressed || defined __riscv_atomic \
     || defined __riscv_flen
@@ -41,6 +44,11 @@ __asm__(".pushsection .ir.small, \"\"\n\t.byte 1\n\t.popsection");
 
 /* A word of an object. */
 typedef unsigned int ir_word;
+
+/* IR_OWN static int count; defines a variable that keeps its value from call to call, and of which each thread has its own. The linker
+   refuses a variable that isn't marked so and that is neither constant nor on the stack, since a guest's threads can't share it. With
+   -fno-data-sections it takes all of them. */
+#define IR_OWN __attribute__((section(".ir.own")))
 
 /* What IR_THREAD defines. `ir_entry name;` declares a thread of another file. */
 typedef struct made_by_IR_THREAD *ir_entry(void);
@@ -80,107 +88,133 @@ typedef struct made_by_IR_THREAD *ir_entry(void);
 
 #define IR_TABLE_(part) __attribute__((section(part), used, aligned(4)))
 
-/* ---- How a call is made: its number in a7, its arguments in a0 to a2, its answer in a0. All other registers stay as they are.
-   "memory" keeps what you wrote between two calls between them. Calls are inlined at every level.
+/* ---- How a call is made: its number in a7, its arguments in a0 to a2, its answer in a0. "memory" keeps what you wrote between two calls
+   between them. Calls are inlined at every level, but ir_pause, ir_puts and ir_choose are functions of ir_mem.c.
 
-   Each call is a macro and a function. By the macro its instructions belong to the line of yours that makes it, so a debugger stops
-   there. The function is what a pointer to it points to. */
+   A call is a macro and a function. By the macro its instructions belong to the line of yours that makes it, so a debugger stops there,
+   once. The function is what a pointer to it points to.
 
-#define IR_CALL_ static inline __attribute__((always_inline, artificial))
-#define IR_SET_(register_, value) register ir_word register_##_ __asm__(#register_) = (value)
-#define IR_ECALL_(...) __asm__ volatile("ecall" : __VA_ARGS__ : "memory")
+   The macros have no variables, which a debugger would list among yours. So an answer is in register tp, which nothing else uses. Clang
+   can't do that, and takes a variable. */
 
-/* A call of this number that has an answer and no argument, and one that has an argument and no answer. */
-#define IR_ASK_(number) __extension__ \
-    ({ IR_SET_(a7, number); register ir_word a0_ __asm__("a0"); IR_ECALL_("=r"(a0_) : "r"(a7_)); a0_; })
-#define IR_TELL_(number, value) __extension__ \
-    ({ ir_word one_ = (value); IR_SET_(a7, number); IR_SET_(a0, one_); IR_ECALL_(: "r"(a7_), "r"(a0_)); })
+#define IR_CALL_ static inline
+
+#ifdef __clang__
+#define IR_ANSWER_ ir_word ir_answer_
+#else
+#define IR_ANSWER_ (void)0
+__extension__ register ir_word ir_answer_ __asm__("tp");
+#endif
+
+/* An operand by its name, a constant or a register. A pointer has a warning, as an argument has. */
+#define IR_IN_(name, value) [name] "rI"((ir_word)(1 ? (value) : 1))
+
+/* An instruction that sets a register to an operand, and those that make a call. */
+#define IR_SET_(register_, name) "add%i[" #name "] " #register_ ", zero, %[" #name "]\n\t"
+#define IR_ECALL_(number) "li a7, " #number "\n\tecall\n\t"
+
+/* Instructions that have an answer, and those that have none; then their operands. The answer comes last, since tp may be an operand. */
+#define IR_ANSWERED_ "mv %[answer], a0"
+#define IR_CHANGED_ "a0", "a1", "a2", "a3", "a7", "memory"
+#define IR_ASK_(code, ...) __extension__ \
+    ({ IR_ANSWER_; __asm__ volatile(code : [answer] "=r"(ir_answer_) : __VA_ARGS__ : IR_CHANGED_); ir_answer_; })
+#define IR_TELL_(code, ...) __extension__ ({ __asm__ volatile(code : : __VA_ARGS__ : IR_CHANGED_); })
+
+/* A call about an object. */
+#define IR_OBJECT_(number, object) IR_TELL_(IR_SET_(a0, one) IR_ECALL_(number), IR_IN_(one, object))
 
 /* ---- Calls about an object. Each can lead to end 9: there is no such object. */
 
 /* Enters an object for reading. Waits while another thread holds it for writing.
    End 10: its number isn't above those of all objects that the thread holds. End 14: the thread has 1,048,576 events. */
-#define ir_enter_read(object) IR_TELL_(7, object)
+#define ir_enter_read(object) IR_OBJECT_(7, object)
 IR_CALL_ void (ir_enter_read)(ir_word object) { ir_enter_read(object); }
 
 /* Enters an object for writing. Waits while another thread holds it. Ends 10 and 14, as above. */
-#define ir_enter_write(object) IR_TELL_(8, object)
+#define ir_enter_write(object) IR_OBJECT_(8, object)
 IR_CALL_ void (ir_enter_write)(ir_word object) { ir_enter_write(object); }
 
 /* Tries to enter an object for writing, and doesn't wait. Gives 1 if the thread now holds it, or 0 if nothing changed. It may give 0
    even if no thread holds the object. End 8: the recording is without --profile 2. Ends 10 and 14, as above. */
-#define ir_try_write(object) ir_used_(__extension__ \
-    ({ ir_word one_ = (object); IR_SET_(a7, 13); IR_SET_(a0, one_); IR_ECALL_("+r"(a0_) : "r"(a7_)); a0_; }))
-IR_CALL_ __attribute__((warn_unused_result)) int ir_used_(ir_word answer) { return (int)answer; }
+#define ir_try_write(object) ((int)IR_ASK_(IR_SET_(a0, one) IR_ECALL_(13) IR_ANSWERED_, IR_IN_(one, object)) != 0)
 IR_CALL_ __attribute__((warn_unused_result)) int (ir_try_write)(ir_word object) { return ir_try_write(object); }
 
 /* Leaves an object. End 11: the thread doesn't hold it. */
-#define ir_leave(object) IR_TELL_(9, object)
+#define ir_leave(object) IR_OBJECT_(9, object)
 IR_CALL_ void (ir_leave)(ir_word object) { ir_leave(object); }
 
 /* Gives a word of an object that the thread holds. The index is below IR_WORDS, or it is end 9. End 11: the thread doesn't hold it. */
-#define ir_get(object, index) __extension__ \
-    ({ ir_word one_ = (object), two_ = (index); IR_SET_(a7, 10); IR_SET_(a0, one_); IR_SET_(a1, two_); \
-       IR_ECALL_("+r"(a0_) : "r"(a7_), "r"(a1_)); a0_; })
+#define ir_get(object, index) \
+    IR_ASK_(IR_SET_(a0, one) IR_SET_(a1, two) IR_ECALL_(10) IR_ANSWERED_, IR_IN_(one, object), IR_IN_(two, index))
 IR_CALL_ ir_word (ir_get)(ir_word object, ir_word index) { return ir_get(object, index); }
 
 /* Puts a word into an object that the thread holds for writing. The index is below IR_WORDS, or it is end 9. End 11: the thread doesn't
    hold it, or holds it for reading. */
-#define ir_put(object, index, value) __extension__ \
-    ({ ir_word one_ = (object), two_ = (index), three_ = (value); IR_SET_(a7, 11); IR_SET_(a0, one_); IR_SET_(a1, two_); IR_SET_(a2, three_); \
-       IR_ECALL_(: "r"(a7_), "r"(a0_), "r"(a1_), "r"(a2_)); })
+#define ir_put(object, index, value) \
+    IR_TELL_(IR_SET_(a0, one) IR_SET_(a1, two) IR_SET_(a2, three) IR_ECALL_(11), IR_IN_(one, object), IR_IN_(two, index), \
+             IR_IN_(three, value))
 IR_CALL_ void (ir_put)(ir_word object, ir_word index, ir_word value) { ir_put(object, index, value); }
 
 /* ---- Calls about the thread itself */
 
 /* Gives the thread's number, from 0 on. */
-#define ir_self() IR_ASK_(12)
+#define ir_self() IR_ASK_(IR_ECALL_(12) IR_ANSWERED_, )
 IR_CALL_ ir_word (ir_self)(void) { return ir_self(); }
 
 /* Ends the thread with this code, end 1, from any of its functions. It releases what the thread holds. */
-#define ir_end(code) __extension__ ({ IR_TELL_(1, code); __builtin_unreachable(); })
+#define ir_end(code) __extension__ ({ IR_TELL_(IR_SET_(a0, one) IR_ECALL_(1), IR_IN_(one, code)); __builtin_unreachable(); })
 IR_CALL_ __attribute__((noreturn)) void (ir_end)(ir_word code) { ir_end(code); }
+
+/* Asserts a condition. If it doesn't hold, the thread ends here, end 2, and releases what it holds. `--until fault` finds that. */
+#define ir_assert(condition) \
+    ((condition) ? (void)0 : __extension__ ({ __asm__ volatile("ebreak" : : "i"(__LINE__) : "memory"); __builtin_unreachable(); }))
 
 /* Takes this number of turns of an empty loop. A thread that enters an object again and again, until a word of it changes, should pause
    between the entries: it logs fewer events. */
-IR_CALL_ void ir_pause(ir_word turns)
-{
-    while (turns--)
-        __asm__ volatile("");
-}
+void ir_pause(ir_word turns);
+
+/* Gives any number below `limit`, which is at least 1. `ir explore` shows what each of them leads to. On threads, and in a hunt, it is
+   nearly always 0. It is for what the guest can't know: whether a malloc fails, a wait times out, which byte comes in.
+   It tries to enter an object that no other call enters, limit - 1 times at most; its number is how many tries were refused. A guest
+   that calls ir_choose has this object behind its own, by itself. So it has room for one object less, and is recorded and explored
+   with --profile 2, or it is end 8. End 14, as above. */
+#define ir_choose(limit) ir_chosen_((ir_word)ir_choice_ + IR_CHOICE_, limit)
+
+/* The object of ir_choose: its words, once in each file that calls it, of which the linker takes those of one; and then its number. */
+#define IR_CHOICE_ __extension__ \
+    ({ __asm__(".pushsection .ir.objects.last, \"aG\", %%progbits, ir_choice_words_, comdat\n\t.ifndef ir_choice_words_\n\t" \
+               ".weak ir_choice_words_\nir_choice_words_:\n\t.zero %c0\n\t.endif\n\t.popsection" : : "i"(4 * IR_WORDS)); 0u; })
+extern const char ir_choice_[];
+ir_word ir_chosen_(ir_word object, ir_word limit);
 
 /* ---- Printing. `ir record --output PREFIX` writes what thread T prints to the file PREFIX.T. End 12: it would be over 65,536 bytes. */
 
 /* Prints the low byte of its argument. */
-#define ir_putc(byte) IR_TELL_(2, byte)
+#define ir_putc(byte) IR_TELL_(IR_SET_(a0, one) IR_ECALL_(2), IR_IN_(one, byte))
 IR_CALL_ void (ir_putc)(int byte) { ir_putc(byte); }
 
 /* Prints a number in decimal, with its sign, and a line feed. */
-#define ir_putn(number) IR_TELL_(3, number)
+#define ir_putn(number) IR_TELL_(IR_SET_(a0, one) IR_ECALL_(3), IR_IN_(one, number))
 IR_CALL_ void (ir_putn)(int number) { ir_putn(number); }
 
 /* Prints a text, and no line feed of its own. */
-IR_CALL_ void ir_puts(const char *text)
-{
-    while (*text)
-        ir_putc(*text++);
-}
+void ir_puts(const char *text);
 
 /* ---- Calls to the world. Their answers are logged, so a replay has them too. End 14: the thread has 1,048,576 events. */
 
 /* Gives the milliseconds since the recording began, or 0, 1, 2 and so on if the recording has an order. */
-#define ir_clock() IR_ASK_(4)
+#define ir_clock() IR_ASK_(IR_ECALL_(4) IR_ANSWERED_, )
 IR_CALL_ ir_word (ir_clock)(void) { return ir_clock(); }
 
 /* Gives a random word. `ir record --random S` says where the words start. */
-#define ir_random() IR_ASK_(5)
+#define ir_random() IR_ASK_(IR_ECALL_(5) IR_ANSWERED_, )
 IR_CALL_ ir_word (ir_random)(void) { return ir_random(); }
 
 /* Gives the next byte of `ir record --input FILE`, or -1 at its end. Each thread reads FILE from the start. */
-#define ir_input() ((int)IR_ASK_(6))
+#define ir_input() ((int)IR_ASK_(IR_ECALL_(6) IR_ANSWERED_, ))
 IR_CALL_ int (ir_input)(void) { return ir_input(); }
 
-/* ---- The functions of guest/ir_mem.c. There is no other library. */
+/* ---- More functions of guest/ir_mem.c. There is no other library. */
 
 void *memcpy(void *restrict to, const void *restrict from, __SIZE_TYPE__ size);
 void *memmove(void *to, const void *from, __SIZE_TYPE__ size);

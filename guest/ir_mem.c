@@ -1,6 +1,29 @@
-/* The four functions that compilers call of themselves, to copy a struct or to clear an array. */
+/* The functions of ir.h that aren't inlined, and the four that compilers call of themselves, to copy a struct or to clear an array. */
 #define IR_BOTH_FORMS_
 #include "ir.h"
+
+__attribute__((noinline)) void ir_pause(ir_word turns)
+{
+    while (turns--)
+        __asm__ volatile("");
+}
+
+__attribute__((noinline)) void ir_puts(const char *text)
+{
+    while (*text)
+        ir_putc(*text++);
+}
+
+/* Counts the tries that are refused, up to the first that isn't. */
+__attribute__((noinline)) ir_word ir_chosen_(ir_word object, ir_word limit)
+{
+    for (ir_word refused = 0; refused + 1 < limit; refused++)
+        if (ir_try_write(object)) {
+            ir_leave(object);
+            return refused;
+        }
+    return limit - 1;
+}
 
 /* Keeps a loop as it is: a compiler that knew it again would make a call of the function that it is in. */
 #define IR_LOOP_ __asm__ volatile("" ::: "memory")

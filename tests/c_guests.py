@@ -31,7 +31,8 @@ PAGE = TOP / "docs" / "guide" / "c-guests.md"
 PAGE_COMPILER = "12.2.0"
 
 # The examples, by name: the source, and what its recordings need.
-EXAMPLES = {"bank": ("bank.c", ()), "buffer": ("buffer.c", ()), "over": ("over.c", ()), "wide": ("wide.c", ("--profile", "2")), "gas": ("gas.S", ())}
+EXAMPLES = {"bank": ("bank.c", ()), "buffer": ("buffer.c", ()), "over": ("over.c", ()), "wide": ("wide.c", ("--profile", "2")), "gas": ("gas.S", ()),
+            "sync": ("sync.c", ())}
 
 # Each example without its fault: texts and what is in their place. A hunt through these seeds then finds nothing.
 MENDED = {
@@ -42,19 +43,23 @@ MENDED = {
     "wide": ("1+2", [("    if (!ir_try_write(pile))\n        return 0; ", "    while (!ir_try_write(pile))\n        ir_pause(20); ")]),
     "gas": ("1+100", [("counter ENTER_READ", "counter ENTER_WRITE"),
                       ("        counter LEAVE                   # from here on the other thread may write\n        counter ENTER_WRITE\n", "")]),
+    "sync": ("1+100", [("    if (ir_load(QUEUE, COUNT) == 0)  ", "    while (ir_load(QUEUE, COUNT) == 0)  ")]),
 }
+
+# The examples that `ir explore` finishes without their fault: how many outcomes there are, and in how many states at most.
+PROVED = {"bank": (3, 100), "sync": (2, 10000)}
 
 # What compilers make of many kinds of code, and how it prints. Threads share nothing, so each recording is the same.
 MIXED = r"""
 #include "ir.h"
 struct row { char name[12]; short number; };
 static const struct row rows[3] = {{"one", 1}, {"minus two", -2}, {"three", 3}};
-static struct row copies[3];
-static int counts[4] = {10, 20, 30, 40};
+IR_OWN static struct row copies[3];
+IR_OWN static int counts[4] = {10, 20, 30, 40};
 static const char *const words[] = {"zero", "one", "two"};
-static volatile unsigned long long large = 1000000000000000003ull;
-static volatile double half = 1.5;
-static volatile int minus = -17;
+IR_OWN static volatile unsigned long long large = 1000000000000000003ull;
+IR_OWN static volatile double half = 1.5;
+IR_OWN static volatile int minus = -17;
 static int chosen(int n)
 {
     switch (n) { case 0: return 7; case 1: return 5; case 2: return 11; case 3: return 13; case 4: return 17; case 5: return 19; }
@@ -92,13 +97,19 @@ LOW = (THIRD + 2**31) % 2**32 - 2**31
 PRINTED = f"minus two-17\ntwo200\n40\n144\n{THIRD >> 32}\n{LOW}\n-3\n-2\n184\naabcdf1\nxxxcdf".encode()
 
 # A source whose thread does this.
-HEAD = '#include "ir.h"\nint down(int n) {{ volatile char room[256]; room[n & 255] = n; return n ? down(n - 1) + room[0] : 0; }}\n'
+HEAD = '#include "ir_sync.h"\nint down(int n) {{ volatile char room[256]; room[n & 255] = n; return n ? down(n - 1) + room[0] : 0; }}\n'
 BODY = HEAD + "IR_THREAD(t) {{ {} return 0; }}\nIR_THREADS(t);\nIR_OBJECTS({{1}}, {{2}});\n"
 
 # Each row: what a thread does, and the number of its end.
 ENDS = [
     ("ir_end(0);", 1),
     ("__builtin_trap();", 2),
+    ("ir_assert(ir_self() == 0);", 1),
+    ("ir_assert(ir_self() == 1); ir_assert(1);", 2),
+    ("ir_lock(0, 1); ir_unlock(0, 1);", 1),
+    ("ir_lock(0, 1); ir_lock(0, 1);", 2),
+    ("ir_unlock(0, 1);", 2),
+    ("ir_wait(0, 1, 2);", 2),
     ("__asm__ volatile(\".word 0\");", 3),
     ("((void (*)(void))0x10002)();", 4),
     ("((void (*)(void))0x100000)();", 5),
@@ -108,6 +119,11 @@ ENDS = [
     ("return down(20);", 1),
     ("return down(10000);", 7),
     ("return ir_try_write(0);", 8),
+    ("return ir_choose(1);", 1),
+    ("return ir_choose(2);", 8),
+    ("ir_lock(2, 0);", 9),
+    ("return ir_load(0, 8);", 9),
+    ("ir_enter_write(0); ir_lock(0, 1);", 10),
     ("ir_enter_read(2);", 9),
     ("ir_enter_read(0); return ir_get(0, 8);", 9),
     ("ir_enter_write(1); ir_enter_read(0);", 10),
@@ -139,25 +155,90 @@ UNLIKE = [("large_one.c", "two.c"), ("one.c", "large_two.c"), ("two.c", "large_o
 ALIKE = [("one.c", "two.c", (), 8), ("large_one.c", "large_two.c", (), 16), ("large_one.c", "two.c", ("-DIR_LARGE=1",), 16)]
 DISAGREE = "ir.ld: some files define IR_LARGE 1 and others don't; -DIR_LARGE=1 defines it in all of them"
 
+ATOMIC = "threads share objects only, so an atomic variable would be each thread's own: use ir_load, ir_store, ir_add, ir_swap and ir_cas of ir_sync.h"
+
+# A lock from C11: loads and stores only.
+PETERSON = r"""
+#include "ir.h"
+#include <stdatomic.h>
+static _Atomic unsigned flag0, flag1, turn;
+IR_OWN static int count;
+static void lock(unsigned me)
+{
+    if (me) atomic_store(&flag1, 1); else atomic_store(&flag0, 1);
+    atomic_store(&turn, me ? 0 : 1);
+    while ((me ? atomic_load(&flag0) : atomic_load(&flag1)) && atomic_load(&turn) != me);
+}
+static void unlock(unsigned me) { if (me) atomic_store(&flag1, 0); else atomic_store(&flag0, 0); }
+IR_THREAD(w) { unsigned me = ir_self(); lock(me); count++; unlock(me); return count != 2; }
+IR_THREADS(w, w);
+"""
+
+# A count under a lock, of which each thread would have its own.
+COUNTED = r"""
+#include "ir.h"
+static int counter;
+IR_THREAD(t) { for (int i = 0; i < 3; i++) { ir_enter_write(0); counter++; ir_leave(0); } return counter; }
+IR_THREADS(t, t);
+IR_OBJECTS({0});
+"""
+
+# A file without ir.h, with a variable of each kind, and what is constant.
+VARIABLES = r"""
+int zero, set = 1, *pointer = &zero;
+static int hidden, hidden_set = 2;
+char large[3000], large_set[3000] = {1};
+__attribute__((weak)) int weak_zero;
+volatile const int device = 3;
+const int constant = 5;
+static const char *const names[] = {"one", "two"};
+static const double table[4] = {1.5, 2.25};
+const char *all(int n)
+{
+    static int local;
+    static int local_set = 1;
+    hidden += ++local * ++local_set + ++hidden_set + ((const int *)table)[n & 7];
+    switch (n) { case 0: return "a"; case 1: return "b"; case 2: return "c"; case 3: return "d"; case 4: return "e"; case 5: return "f"; }
+    return names[n & 1];
+}
+"""
+NAMED = ("zero", "set", "pointer", "hidden", "hidden_set", "large", "large_set", "weak_zero", "device", "local", "local_set")
+OWN = ("ir.ld: each thread would have its own copy of the variables that are named above: mark each with IR_OWN if that is meant, "
+       "or keep what threads share in an object; -fno-data-sections says of all variables that it is meant")
+
 # Each row: a name, a source that is refused, more options, and what is reported.
 THREAD = '#include "ir.h"\nIR_THREAD(t) { return 0; }\n'
 REFUSED = [
     ("code", '#include "ir.h"\nconst char large[65536] = {1};\nIR_THREAD(t) { return large[ir_self()]; }\nIR_THREADS(t);\n', [],
      "ir.ld: code and constants are over 65536 bytes"),
-    ("code-section", '#include "ir.h"\n__attribute__((section("mine"))) const char large[65536] = {1};\n'
+    ("code-section", '#include "ir.h"\n__attribute__((section(".rodata.mine"))) const char large[65536] = {1};\n'
      'IR_THREAD(t) { return large[ir_self()]; }\nIR_THREADS(t);\n', [], "ir.ld: code and constants are over 65536 bytes"),
-    ("variables-section", '#include "ir.h"\n__attribute__((section("mine"))) char large[49153] = {1};\n'
-     'IR_THREAD(t) { return large[ir_self()]; }\nIR_THREADS(t);\n', [], "ir.ld: stack and variables are over 65536 bytes"),
-    ("variables", '#include "ir.h"\nchar large[49153];\nIR_THREAD(t) { return large[ir_self()]; }\nIR_THREADS(t);\n', [],
+    ("constants-named", '#include "ir.h"\n__attribute__((section("mine"))) const char one = 1;\n'
+     'IR_THREAD(t) { return one; }\nIR_THREADS(t);\n', [], "ir.ld: a section of constants that is named above"),
+    ("functions-named", '#include "ir.h"\n__attribute__((section("mine"))) int f(void) { return 1; }\n'
+     'IR_THREAD(t) { return f(); }\nIR_THREADS(t);\n', [], "ir.ld: a section of code that is named above"),
+    ("variables-named", '#include "ir.h"\n__attribute__((section("mine"))) char one = 1;\n'
+     'IR_THREAD(t) { return one; }\nIR_THREADS(t);\n', [], OWN),
+    ("variables", '#include "ir.h"\nIR_OWN char large[49153];\nIR_THREAD(t) { return large[ir_self()]; }\nIR_THREADS(t);\n', [],
      "ir.ld: stack and variables are over 65536 bytes"),
     ("stack", f"{THREAD}IR_THREADS(t);\n", ["-Wl,--defsym=ir_stack=65537"], "ir.ld: stack and variables are over 65536 bytes"),
     ("no-threads", THREAD, [], "ir.ld: no IR_THREADS"),
     ("main", "int main(void) { return 0; }\n", [], "ir.ld: no IR_THREADS"),
-    ("constructor", f"{THREAD}IR_THREADS(t);\nint one;\n__attribute__((constructor)) void begin(void) {{ one = 1; }}\n", [], "ir.ld: a constructor"),
+    ("constructor", f"{THREAD}IR_THREADS(t);\n__attribute__((constructor)) void begin(void) {{ ir_putn(1); }}\n", [], "ir.ld: a constructor"),
     ("thread-local", f"{THREAD}IR_THREADS(t);\n_Thread_local int one = 1;\n", [], "ir.ld: a thread-local variable"),
     ("thread-local-zero", f"{THREAD}IR_THREADS(t);\n_Thread_local int zero;\n", [], "ir.ld: a thread-local variable"),
-    ("atomic", '#include <stdatomic.h>\n#include "ir.h"\n_Atomic int n;\nIR_THREAD(t) { return atomic_fetch_add(&n, 1); }\nIR_THREADS(t);\n', [],
-     "undefined reference to `__atomic_fetch_add_4'"),
+    ("atomic", '#include "ir.h"\nstatic _Atomic int n;\nIR_THREAD(t) { return n; }\nIR_THREADS(t);\n', [], ATOMIC),
+    ("atomic-type", '#include "ir.h"\nIR_THREAD(t) { _Atomic(int) n = 1; return n; }\nIR_THREADS(t);\n', [], ATOMIC),
+    ("atomic-header", f"#include <stdatomic.h>\n{THREAD}IR_THREADS(t);\n", [], ATOMIC),
+    ("atomic-load", '#include "ir.h"\nIR_THREAD(t) { int n = 1; return __atomic_load_n(&n, 5); }\nIR_THREADS(t);\n', [], ATOMIC),
+    ("atomic-store", '#include "ir.h"\nIR_THREAD(t) { int n; __atomic_store_n(&n, 1, 5); return 0; }\nIR_THREADS(t);\n', [], ATOMIC),
+    ("atomic-add", '#include "ir.h"\nIR_THREAD(t) { int n = 1; return __sync_fetch_and_add(&n, 1); }\nIR_THREADS(t);\n', [], ATOMIC),
+    ("peterson", PETERSON, [], ATOMIC),
+    ("common", f"{THREAD}IR_THREADS(t);\nint n;\n", ["-fcommon"], "ir.ld: -fcommon hides which variables there are"),
+    ("pointer", f"{THREAD}IR_THREADS(t);\nvoid f(int *p) {{ ir_put(0, 0, p); }}\n", ["-Werror"], "pointer/integer type mismatch"),
+    ("unused", f"{THREAD}IR_THREADS(t);\nvoid f(void) {{ ir_try_write(0); }}\n", ["-Werror"], "value computed is not used"),
+    ("no-room", f"{THREAD}IR_THREADS(t);\nIR_OBJECTS([15] = {{1}});\nint f(void) {{ return ir_choose(2); }}\n", [],
+     "ir.ld: there are at most 16 objects, or 64 with IR_LARGE, and ir_choose takes one of them"),
     ("nine", f"{THREAD}IR_THREADS(t, t, t, t, t, t, t, t, t);\n", [], "IR_THREADS takes 1 to 8 threads, or 1 to 16 with IR_LARGE"),
     ("none", f"{THREAD}IR_THREADS();\n", [], "IR_THREADS takes 1 to 8 threads, or 1 to 16 with IR_LARGE"),
     ("twice", f"{THREAD}IR_THREADS(t);\nIR_THREADS(t);\n", [], "in expansion of macro 'IR_THREADS'"),
@@ -285,7 +366,18 @@ def of_mixed(recording):
     return [line.split()[2:] for line in recording.lines]
 
 
-JUDGES = {"bank": of_bank, "buffer": of_buffer, "over": of_over, "wide": of_wide, "gas": of_gas, "mixed": of_mixed}
+def of_sync(recording):
+    """A consumer prints the number that it took, or finds none. No number is taken twice. On threads a wait may spend a budget."""
+    ends, printed = recording.ends(), recording.printed
+    if (13, 0) in ends:
+        return
+    wants("the producer", (ends[0], printed[0]), ((1, 0), b""))
+    taken = [text for end, text in zip(ends, printed) if end == (1, 0) and text]
+    wants("the consumers", all(end == (1, 0) and text in (b"1\n", b"2\n") or (end, text) == ((2, 0), b"") for end, text in zip(ends[1:], printed[1:])), True)
+    wants("the numbers", (len(set(taken)), recording.objects[1][0]), (len(taken), 2 - len(taken)))
+
+
+JUDGES = {"bank": of_bank, "buffer": of_buffer, "over": of_over, "wide": of_wide, "gas": of_gas, "sync": of_sync, "mixed": of_mixed}
 
 
 def test_map(folder):
@@ -370,16 +462,246 @@ def test_forms(folder):
 
 
 def test_files(folder):
-    """A guest of two files, with a stack of another size, and with variables and constants in sections of their own; stripped it is the same."""
+    """A guest of two files, with a stack of another size, and with constants and code in sections of their own; stripped it is the same."""
     (folder / "one.c").write_text('#include "ir.h"\nir_entry second;\nIR_THREAD(first) { return 1; }\nIR_THREADS(first, second, first);\n')
-    (folder / "two.c").write_text('#include "ir.h"\n#define IN(x) __attribute__((section(x)))\nIN("constants") const int c = 2; IN("variables") int v = 3;\n'
-                                  "IN(\"functions\") int f(int n) { return n + 1; }\nIR_THREAD(second) { v += c; return f(v); }\nIR_OBJECTS([2] = {7});\n")
+    (folder / "two.c").write_text('#include "ir.h"\n#define IN(x) __attribute__((section(x)))\nIN(".rodata.mine") const int c = 2; IR_OWN int v = 3;\n'
+                                  "IN(\".text.mine\") int f(int n) { return n + 1; }\nIR_THREAD(second) { v += c; return f(v); }\nIR_OBJECTS([2] = {7});\n")
     converted(folder, "one.c", "files", "two.c", "-Wl,--defsym=ir_stack=100")
     recording = recorded(folder, "files", "--order", "0")
     wants("the ends", (recording.ends(), recording.objects[2][0]), ([(1, 1), (1, 6), (1, 1)], 7))
     wants("the stack", re.search(r"(\w+) \w ir_stack_top", tool("nm", folder, "files.elf"))[1], "00100070")
     converted(folder, "one.c", "stripped", "two.c", "-Wl,--defsym=ir_stack=100", "-s", "-Wl,-n")
     wants("stripped", (folder / "stripped.img").read_bytes(), (folder / "files.img").read_bytes())
+
+
+# What each function of ir_sync.h does in a thread that is alone: the bits of what it does wrong.
+WORDS = r"""
+#include "ir_sync.h"
+IR_THREAD(words)
+{
+    ir_word (*loaded)(ir_word, ir_word) = ir_load, bad = 0, self = 0;
+    ir_store(1, 7, 40);
+    bad |= (ir_load(1, 7) != 40) << 0;
+    bad |= (ir_add(1, 7, 2) != 40 || ir_load(1, 7) != 42) << 1;
+    bad |= (ir_add(1, 7, -3u) != 42 || loaded(1, 7) != 39) << 2;
+    bad |= (ir_swap(1, 7, 100000) != 39 || ir_load(1, 7) != 100000) << 3;
+    bad |= (ir_cas(1, 7, 5, 6) != 100000 || ir_load(1, 7) != 100000) << 4;
+    bad |= (ir_cas(1, 7, 100000, self) != 100000 || ir_load(1, 7) != 0) << 5;
+    bad |= (ir_load(1, 7) + ir_add(1, 7, ir_add(0, 0, 4)) - ir_load(1, 7) != -1u) << 6;
+    bad |= (!ir_try_lock(0, 1) || ir_try_lock(0, 1)) << 7;
+    ir_unlock(0, 1);
+    ir_signal(0, 2);
+    ir_signal_any(0, 2);
+    ir_broadcast(0, 2);
+    ir_acquire(0, 3);
+    ir_release(0, 3);
+    ir_acquire(0, 3);
+    bad |= (ir_load(0, 3) != 1 || !ir_barrier(0, 4, 1) || !ir_barrier(0, 4, 1) || ir_load(0, 4) != 2 << 16) << 8;
+    return bad;
+}
+IR_THREADS(words);
+IR_OBJECTS({1, 0, 0, 2}, {0});
+"""
+# Threads that lock, meet at a barrier, and pass a semaphore. Each finds that all have come.
+MEETING = r"""
+#include "ir_sync.h"
+enum { LOCK, BARRIER, SEMAPHORE };
+IR_THREAD(coming)
+{
+    ir_lock(0, LOCK);
+    ir_store(1, 0, ir_load(1, 0) + 1);
+    ir_unlock(0, LOCK);
+    ir_barrier(0, BARRIER, 3);
+    ir_acquire(0, SEMAPHORE);
+    ir_release(0, SEMAPHORE);
+    return ir_load(1, 0);
+}
+IR_THREADS(coming, coming, coming);
+IR_OBJECTS({[SEMAPHORE] = 1}, {0});
+"""
+
+# Two threads that wait, and are woken one after the other or both. Each gives how many were awake before it.
+WAKING = r"""
+#include "ir_sync.h"
+enum { LOCK, CONDITION, COME, AWAKE };
+IR_THREAD(waker)
+{
+    for (int come = 0; come < 2;) {
+        ir_pause(IR_TURNS);
+        ir_lock(0, LOCK);
+        come = ir_load(0, COME);
+        if (come == 2)
+            WAKE(0, CONDITION);
+        ir_unlock(0, LOCK);
+    }
+    return 0;
+}
+IR_THREAD(waiter)
+{
+    ir_lock(0, LOCK);
+    ir_add(0, COME, 1);
+    ir_wait(0, LOCK, CONDITION);
+    ir_word awake = ir_add(0, AWAKE, 1);
+    ir_signal(0, CONDITION);
+    ir_unlock(0, LOCK);
+    return awake;
+}
+IR_THREADS(waker, waiter, waiter);
+IR_OBJECTS({0});
+"""
+
+# Two threads that choose. Each gives its choices.
+CHOOSING = r"""
+#include "ir_sync.h"
+IR_THREAD(choosing)
+{
+    ir_enter_write(0);
+    ir_word one = ir_choose(3);
+    ir_leave(0);
+    return 10 * one + ir_choose(2) + 100 * (ir_choose(1) + ir_load(LAST, 0));
+}
+IR_THREADS(choosing, choosing);
+IR_OBJECTS([LAST] = {1});
+"""
+CHOICES = [100 + 10 * one + two for one in range(3) for two in range(2)]
+
+# Assertions in a function that is called, in one that isn't left, and in a loop.
+ASSERTED = r"""
+#include "ir.h"
+static void checked(ir_word word)
+{
+    ir_assert(word != 3);
+    ir_assert(word != 4);
+}
+IR_THREAD(asserting)
+{
+    for (ir_word i = ir_random(); i > 2; i /= 2)
+        ir_assert(i != 77);
+    ir_assert(ir_self() == 0 && ir_random() != 5);
+    checked(ir_random());
+    return 0;
+}
+IR_THREADS(asserting);
+"""
+
+# Guests that are explored: a source, options, and the codes of each outcome.
+EXPLORED = {
+    "words": (WORDS, (), [(0,)]),
+    "meeting": (MEETING, (), [(3, 3, 3)]),
+    "signal": (WAKING, ("-DWAKE=ir_signal",), [(0, 0, 1)]),
+    "signal-any": (WAKING, ("-DWAKE=ir_signal_any",), [(0, 0, 1), (0, 1, 0)]),
+    "broadcast": (WAKING, ("-DWAKE=ir_broadcast",), [(0, 0, 1), (0, 1, 0)]),
+    "choosing": (CHOOSING, ("-DLAST=0",), [(one, two) for one in CHOICES for two in CHOICES]),
+    "choosing-all": (CHOOSING, ("-DLAST=14",), [(one, two) for one in CHOICES for two in CHOICES]),
+    "choosing-large": (CHOOSING, ("-DLAST=62", "-DIR_LARGE=1"), [(one, two) for one in CHOICES for two in CHOICES]),
+}
+
+
+def explored(folder, name):
+    """The last line of an exploration, and the ends and codes of each outcome."""
+    ended = run(f"explore {name}.img --profile 2", folder, timeout=600)
+    wants(f"exploring {name}", (ended.returncode, ended.stderr), (0, b""))
+    lines = ended.stdout.decode().splitlines()
+    ends = [tuple(int(word) for word in line.split()[3:6:2]) for line in lines if line.startswith("thread ")]
+    threads = (folder / f"{name}.img").read_bytes()[4]
+    return lines[-1], [tuple(ends[k:k + threads]) for k in range(0, len(ends), threads)]
+
+
+def test_explored(folder, source, more, codes):
+    """All outcomes of a guest, at each level: none is missing, no run hangs, and a recording has one of them."""
+    (folder / "guest.c").write_text(source)
+    for level in (*LEVELS, "-O2 -flto"):
+        converted(folder, "guest.c", "guest", *level.split(), *more)
+        last, found_ends = explored(folder, "guest")
+        wants(f"at {level}: how it ended", (last.split()[0], last.split()[-2:]), ("finished", ["hangs", "0"]))
+        wants(f"at {level}: the outcomes", sorted(set(found_ends)), sorted(tuple((1, code) for code in each) for each in codes))
+        wants(f"at {level}: a recording", tuple(recorded(folder, "guest", "--profile", "2", "--chaos", "1", "--by", "walk").ends()) in found_ends, True)
+
+
+def test_proved(folder, name):
+    """Without its fault all outcomes of an example are known, and none has it, at each level."""
+    mended(folder, name)
+    outcomes, states = PROVED[name]
+    until = re.search(r"--until .*", hunt_of(name))[0]
+    for level in LEVELS:
+        converted(folder, EXAMPLES[name][0], name, level)
+        ended = run(f"explore {name}.img {name}.trc {until}", folder, timeout=600)
+        last = ended.stdout.decode().splitlines()[-1]
+        wants(f"{name}{level}: the proof", (ended.returncode, re.sub(r"states \d+", "states", last)), (5, f"finished outcomes {outcomes} states hangs 0"))
+        wants(f"{name}{level}: few states", int(last.split()[4]) <= states, True)
+
+
+# What is each thread's own.
+
+
+def test_own(folder):
+    """Each variable that isn't marked is named, at each level, in a file of any name, with or without ir.h. The constants aren't."""
+    (folder / "one.c").write_text('#include "ir.h"\nconst char *all(int n);\nIR_THREAD(t) { return *all(ir_self()); }\nIR_THREADS(t);\n')
+    (folder / "two.c").write_text(VARIABLES)
+    for level in LEVELS:
+        ended = gcc(folder, "one.c", "bad.elf", "two.c", level)
+        names = re.findall(r"unplaced orphan section `\.s?(?:data|bss)\.(\w+)(?:\.\d)?' from", ended.stderr)
+        wants(f"at {level}: what is named", (ended.returncode, sorted(names), OWN in ended.stderr), (1, sorted(NAMED), True))
+        wants(f"at {level}: all are meant", gcc(folder, "one.c", "good.elf", "two.c", level, "-fno-data-sections").stderr, "")
+    (folder / "two.c").write_text(re.sub(r"^( *)(static int|int|char|__attribute__|volatile)", r"\1IR_OWN \2", '#include "ir.h"\n' + VARIABLES, flags=re.M))
+    for level in (*LEVELS, "-O2 -flto"):
+        wants(f"at {level}: all are marked", gcc(folder, "one.c", "good.elf", "two.c", *level.split(), "-Wextra").stderr, "")
+
+
+def test_counted(folder):
+    """A count under a lock is refused by name. If it is meant, it links, and each thread has its own."""
+    (folder / "counted.c").write_text(COUNTED)
+    for level in (*LEVELS, "-O2 -flto"):
+        ended = gcc(folder, "counted.c", "bad.elf", *level.split())
+        is_named = re.search(r"unplaced orphan section `\.sbss\.counter(\.lto_priv\.0)?' from", ended.stderr) is not None
+        wants(f"at {level}", (ended.returncode, is_named, OWN in ended.stderr), (1, True, True))
+        converted(folder, "counted.c", "counted", *level.split(), "-fno-data-sections")
+        wants(f"at {level}: each has its own", recorded(folder, "counted").ends(), [(1, 3), (1, 3)])
+    (folder / "counted.c").write_text(COUNTED.replace("static", "IR_OWN static"))
+    converted(folder, "counted.c", "counted")
+    wants("marked: each has its own", recorded(folder, "counted").ends(), [(1, 3), (1, 3)])
+
+
+def test_cplusplus(folder):
+    """A source in C++ is refused with a text, if a compiler for it is installed."""
+    (folder / "bad.cc").write_text(f"{THREAD}IR_THREADS(t);\n")
+    ended = gcc(folder, "bad.cc", "bad.elf")
+    wants("the status", ended.returncode, 1)
+    wants("what is reported", "a guest is in C: there is no C++ for guests" in ended.stderr or "cc1plus" in ended.stderr, True)
+
+
+def test_assertions(folder):
+    """Each assertion is an EBREAK of its own line, at each level."""
+    (folder / "asserted.c").write_text(ASSERTED)
+    lines = [f"asserted.c:{number}" for number, line in enumerate(ASSERTED.splitlines(), 1) if "ir_assert" in line]
+    for level in LEVELS:
+        converted(folder, "asserted.c", "asserted", level)
+        code = tool("objdump", folder, "-d", "asserted.elf")
+        places = tool("addr2line", folder, "-s", "-e", "asserted.elf", *re.findall(r"(\w+):.*\tebreak", code))
+        found_lines = re.findall(r"asserted.c:\d+", places)
+        wants(f"at {level}", sorted(found_lines), sorted(lines))
+
+
+def test_archive(folder):
+    """The variables of an archive are each thread's own: it is a library, and not of the guest's threads."""
+    (folder / "lib.c").write_text("static int calls; int words[4] = {7, 8, 9}; int called(void) { return words[2] + ++calls; }\n")
+    (folder / "one.c").write_text('#include "ir.h"\nint called(void);\nIR_THREAD(t) { called(); return called(); }\nIR_THREADS(t, t);\n')
+    subprocess.run([TOOLS + "gcc", "-march=rv32im", "-mabi=ilp32", "-Og", "-fdata-sections", "-c", "lib.c"], cwd=folder, check=True)
+    tool("ar", folder, "rc", "lib.a", "lib.o")
+    converted(folder, "one.c", "archive", "lib.a")
+    wants("the codes", recorded(folder, "archive").ends(), [(1, 11), (1, 11)])
+
+
+def test_gas_large(folder):
+    """A source for GNU as in the large form has up to 64 objects of 16 words."""
+    text = (TOP / "examples" / "c" / "gas.S").read_text()
+    text = text.replace("        .word   1\n", "        .word   2\n").replace("        .word   5, 0, 0, 0, 0, 0, 0, 0\n", "        .word   5\n        .zero   60 + 63 * 64\n")
+    (folder / "large.S").write_text(text)
+    converted(folder, "large.S", "large")
+    objects = recorded(folder, "large", "--order", "0", "--profile", "2").objects
+    wants("the objects", (len(objects), len(objects[63]), objects[0][0] > 5), (64, 16, True))
+    (folder / "large.S").write_text(text.replace("63 * 64", "64 * 64"))
+    wants("one more", "ir.ld: there are at most 16 objects, or 64 with IR_LARGE" in gcc(folder, "large.S", "large.elf").stderr, True)
 
 
 def test_clang(folder):
@@ -433,9 +755,9 @@ def story_of_bank(folder):
 
 
 def story_of_buffer(folder):
-    """The buffer is full, and the consumer waits."""
+    """There are numbers in the buffer, and the consumer waits."""
     count, waits = words_of(folder, "buffer")[0][:2]
-    wants("the buffer", (count, waits), (4, 1))
+    wants("the buffer", (count > 0, waits), (True, 1))
     answers = session(folder, "buffer", "owatch 0", "end", "rcont 1", "regs 1")
     wants("the last that the consumer wrote", text_of(folder, "buffer", answers[3].split()[1])[0], "wait_until_woken")
 
@@ -463,7 +785,17 @@ def story_of_gas(folder):
     wants("who wrote over what it had not read", sum(stale_writes(folder, "gas", thread) for thread in (0, 1)) > 0, True)
 
 
-STORIES = {"bank": story_of_bank, "buffer": story_of_buffer, "over": story_of_over, "wide": story_of_wide, "gas": story_of_gas}
+def story_of_sync(folder):
+    """The assertion of a consumer that found no number is where it ended."""
+    wants("what is left", words_of(folder, "sync")[1][0], 1)
+    failed = [thread for thread in (1, 2) if f"thread {thread} end 2 " in run("trace sync.trc", folder).stdout.decode()]
+    wants("who failed", len(failed), 1)
+    answers = session(folder, "sync", "end", f"back {failed[0]} 1", f"regs {failed[0]}", f"next {failed[0]}")
+    wants("the step", answers[-1].split()[2], "ebreak")
+    wants("the line", text_of(folder, "sync", answers[2].split()[1]), ("take", "ir_assert(count > 0);"))
+
+
+STORIES = {"bank": story_of_bank, "buffer": story_of_buffer, "over": story_of_over, "wide": story_of_wide, "gas": story_of_gas, "sync": story_of_sync}
 
 
 def test_story(folder, name):
@@ -475,8 +807,8 @@ def test_story(folder, name):
     STORIES[name](folder)
 
 
-def test_mended(folder, name):
-    """Without the fault the same hunt finds nothing."""
+def mended(folder, name):
+    """Writes the source of an example without its fault, and says which seeds are hunted through then."""
     source, _ = EXAMPLES[name]
     text = (TOP / "examples" / "c" / source).read_text()
     seeds, changes = MENDED[name]
@@ -484,6 +816,13 @@ def test_mended(folder, name):
         wants(f"{name}: {old!r}", text.count(old), 1)
         text = text.replace(old, new)
     (folder / source).write_text(text)
+    return seeds
+
+
+def test_mended(folder, name):
+    """Without the fault the same hunt finds nothing."""
+    source, _ = EXAMPLES[name]
+    seeds = mended(folder, name)
     converted(folder, source, name)
     ended = run(hunt_of(name).replace("--seeds 1+1000", f"--seeds {seeds}"), folder, timeout=300)
     wants(f"{name}: a hunt", (ended.returncode, ended.stdout[:5]), (5, b"none "))
@@ -506,8 +845,12 @@ def tests():
     all_ = {f"{name}{level}": partial(test_level, name=name, level=level) for name in JUDGES for level in LEVELS}
     all_ |= {f"refused-{name}": partial(test_refused, source=source, more=more, message=why) for name, source, more, why in REFUSED}
     all_ |= {f"filled-{name}": partial(test_filled, body=body) for name, body in LOGGED.items()}
-    all_ |= {"refused-unasked": test_unasked, "ends": test_ends, "forms": test_forms, "map": test_map, "files": test_files, "clang": test_clang}
-    all_ |= {"page": test_page}
+    all_ |= {"refused-unasked": test_unasked, "ends": test_ends, "forms": test_forms, "map": test_map, "files": test_files, "clang": test_clang,
+             "gas-large": test_gas_large}
+    all_ |= {"own": test_own, "counted": test_counted, "archive": test_archive, "assertions": test_assertions,
+             "c++": test_cplusplus, "page": test_page}
+    all_ |= {f"explored-{name}": partial(test_explored, source=source, more=more, codes=codes) for name, (source, more, codes) in EXPLORED.items()}
+    all_ |= {f"proved-{name}": partial(test_proved, name=name) for name in PROVED}
     all_ |= {f"story-{name}": partial(test_story, name=name) for name in STORIES}
     return all_ | {f"mended-{name}": partial(test_mended, name=name) for name in MENDED}
 

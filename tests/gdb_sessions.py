@@ -30,7 +30,7 @@ GUESTS = TOP / "tests" / "gdb_guests"
 RECORDED = {
     "over": (),
     "lost": ("--order", "0x41,1x400,2x34"),
-    "objs": ("--order", "0x9,1x200"),
+    "objs": ("--order", "0x5,1x200"),
     "busy": ("--budget", "10000000"),
 }
 
@@ -343,6 +343,31 @@ def check_machine_interface(folder):
         at = found.end()
 
 
+# The lines of calls.c that make a call.
+CALLS = range(7, 14)
+
+
+def check_calls(folder):
+    """A line that makes calls has a single place and no variables but the user's. A step over it is a single one, and quick, both ways."""
+    for level in ("-O0", "-Og", "-O2"):
+        command = [GCC, str(GUESTS / "calls.c"), "@guest/ir.opts", level, "-o", "calls.elf"]
+        subprocess.run(command, cwd=folder, check=True)
+        for words in ("elf calls.elf calls.img", "record calls.img calls.trc --order 0 --budget 10000000"):
+            ended = run(words, folder)
+            if ended.returncode:
+                raise Wrong(f"{words} at {level}: {ended!r}")
+        lines = [*(f"break calls.c:{line}" for line in CALLS), *(text for _ in CALLS for text in ("continue", "info locals")), "continue"]
+        wanted = [*(rf"^Breakpoint \d at 0x\w+: file .*calls.c, line {line}\.$" for line in CALLS),
+                  *(rf"hit Breakpoint \d, caller_body \(\) at .*calls.c:{line}\n.*\n\(gdb\) info locals\n(local = .*|No locals\.)\n\(gdb\)"
+                    for line in CALLS), OVER]
+        check_session(Session("calls", lines, wanted), folder)
+        if level == "-O2":  # there the instructions of lines are mixed
+            continue
+        steps = ["tbreak calls.c:7", "continue", *["next"] * 2, *["step"] * 3, *["reverse-step"] * 2, *["reverse-next"] * 3]
+        stops = [f"^{line}\t" for line in (8, 9, 10, 11, 12, 11, 10, 9, 8, 7)]
+        check_session(Session("calls", steps, [r"caller_body \(\) at .*calls.c:7$", *stops]), folder)
+
+
 def check_forged(folder):
     """What can't be opened is named on standard error, and nothing is read."""
     (folder / "none.trc").write_bytes(b"nothing")
@@ -477,6 +502,7 @@ CHECKS = {
     "17-ctrl-c": check_ctrl_c,
     "18-forged": check_forged,
     "18-slow-opening": check_slow_opening,
+    "19-calls": check_calls,
     "19-machine-interface": check_machine_interface,
     "20-by-hand": check_by_hand,
     "21-full": check_full,

@@ -11,7 +11,7 @@
 enum { BANK };       /* the objects */
 enum { FROM, TO };   /* the words of BANK */
 
-static int moved;    /* each thread has its own */
+IR_OWN static int moved;    /* each thread has its own */
 
 static int transfer(int amount)
 {

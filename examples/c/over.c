@@ -10,8 +10,8 @@
 enum { LIST };                      /* the object */
 enum { COUNT, FIRST };              /* its words: how many numbers there are, and then the numbers */
 
-static ir_word sum;
-static struct {
+IR_OWN static ir_word sum;
+IR_OWN static struct {
     ir_word copy[4];
     ir_word *sum;
 } mine = {{0}, &sum};

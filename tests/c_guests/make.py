@@ -4,6 +4,7 @@
 python3 tests/c_guests/make.py [GUEST [EXAMPLES]] > crates/ir_elf_tests/src/files.rt
 
 GUEST has ir.h, ir.ld, ir_mem.c and ir.opts, EXAMPLES the sources in C. Wants riscv64-unknown-elf-gcc and riscv64-unknown-elf-readelf.
+The variables are taken unmarked, so that some are in the file and others aren't: IR_OWN writes those that are 0 to the file too.
 The images don't come from `ir elf`: `readelf -lW` names the segments, and each address has the byte that the file holds there, or 0.
 """
 import os, re, struct, subprocess, sys, tempfile
@@ -14,7 +15,7 @@ CODE, MEMORY, TABLE, SIZE = 0x10000, 0x100000, 0x200000, 0x10000
 def compiled(guest, source, target):
     with open(os.path.join(guest, "ir.opts")) as options:
         words = options.read().replace("guest/", guest + "/").replace("-Iguest", "-I" + guest).split()
-    subprocess.run(["riscv64-unknown-elf-gcc", source, *words, "-s", "-Wl,-n", "-o", target], check=True)
+    subprocess.run(["riscv64-unknown-elf-gcc", source, *words, "-fno-data-sections", "-s", "-Wl,-n", "-o", target], check=True)
 
 def segments(path):
     """address, bytes in the file and bytes in memory of each loaded segment, as readelf names them"""
@@ -52,8 +53,10 @@ def main():
     parts = []
     with tempfile.TemporaryDirectory() as folder:
         for name in NAMES:
-            path = os.path.join(folder, name + ".elf")
-            compiled(guest, os.path.join(examples, name + ".c"), path)
+            source, path = os.path.join(folder, name + ".c"), os.path.join(folder, name + ".elf")
+            with open(os.path.join(examples, name + ".c")) as marked, open(source, "w") as unmarked:
+                unmarked.write(marked.read().replace("IR_OWN ", ""))
+            compiled(guest, source, path)
             with open(path, "rb") as file:
                 parts.append(constant(name.upper() + "_ELF", "`%s.c` as gcc and its linker made it." % name, file.read().hex()))
             if name != "over":

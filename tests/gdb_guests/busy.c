@@ -1,6 +1,6 @@
 /* Long private loops. */
 #include "ir.h"
-static ir_word made[64];
+IR_OWN static ir_word made[64];
 
 static ir_word mixed(ir_word x)
 {

@@ -1,6 +1,6 @@
 /* Lost update: the count is read in one entry and written in another. */
 #include "ir.h"
-static ir_word rounds;
+IR_OWN static ir_word rounds;
 
 static ir_word read_count(void)
 {

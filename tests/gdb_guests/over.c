@@ -1,9 +1,9 @@
 /* An array is filled one too far, and the word behind it is overwritten. Two threads, each with its own copy. */
 #include "ir.h"
 struct table { int scores[4]; int limit; };
-static struct table table = { { 0, 0, 0, 0 }, 100 };
-static char label[8] = "abcdefg";
-static unsigned long long wide = 1;
+IR_OWN static struct table table = { { 0, 0, 0, 0 }, 100 };
+IR_OWN static char label[8] = "abcdefg";
+IR_OWN static unsigned long long wide = 1;
 
 static int square(int x)
 {
