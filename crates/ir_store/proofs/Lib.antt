@@ -5,3 +5,4 @@ mod Looks
 mod Stored
 mod Placed
 pub mod CallerLemmas
+mod Found
