@@ -6,3 +6,4 @@ mod Stored
 mod Placed
 pub mod CallerLemmas
 mod Found
+mod Alike

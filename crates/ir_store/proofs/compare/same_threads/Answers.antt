@@ -19,7 +19,7 @@ loop-t-preserved c = λ u less.
     let m = get_or first t 0 in
     let n = get_or second t 0 in
     let here : LookSame (get_or items m idle_beside) (get_or items n idle_beside) =
-    c.same_look.ensures c.if-not-same_look.false (get_or items m idle_beside) (get_or items n idle_beside)
+    c.same_look.ensures.same c.if-not-same_look.false (get_or items m idle_beside) (get_or items n idle_beside)
     (slice_get-get_or items m idle_beside (get_or_element_satisfies_all_by_recursion (λ k. k < length items) first t 0 c.requires.first lt))
     (slice_get-get_or items n idle_beside (get_or_element_satisfies_all_by_recursion (λ k. k < length items) second t 0 c.requires.second lt')) in
     let there : LookSame (beside_at items first t) (beside_at items second t) =
