@@ -7,3 +7,4 @@ mod Placed
 pub mod CallerLemmas
 mod Found
 mod Alike
+mod Numbered

@@ -127,3 +127,8 @@ node_hash looks node = after_numbers (after_numbers empty_hash (looks_in looks n
 -- each state is found by it
 abbrev pub AreNodesFound : List (ℕ × ℕ) → List ℕ → List Node → Type 0
 AreNodesFound places looks nodes = (v : ℕ) (node : Node) → slice_get nodes v ≡ Some node → IsFoundBy places (node_hash looks node) v
+
+-- two states have the same numbers
+pub record AreSameNumbers (looks : List ℕ) (a b : Node) : Type 0 where
+  pub threads : looks_in looks a.threads ≡ looks_in looks b.threads
+  pub objects : words_in a.objects ≡ words_in b.objects

@@ -346,7 +346,7 @@ impl<'a> Table<'a> {
         requires first { m < length self.now.items }
         requires second { n < length self.now.items }
         ensures same { result ≡ true → (x y : ThreadState × Source) → slice_get self.now.items m ≡ Some x → slice_get self.now.items n ≡ Some y → LookSame x y }
-        ensures other { result ≡ false → slice_get self.now.looks m ≢ slice_get self.now.looks n }
+        ensures other { result ≡ false → slice_index_or self.now.looks m 0 ≢ slice_index_or self.now.looks n 0 }
     {
         tells_apart();
         self.rows.each();
