@@ -283,6 +283,7 @@ impl<'a> Store<'a> {
         requires { IsWithin self.now.shared node.now }
         ensures within { IfSome result (λ v. v < length self.now.items) }
         ensures alike { IfSome result (λ v. (s : SourcedFlat) → slice_get self.now.items v ≡ Some s → AreSameLooks (sourced_in self.now.shared node.now) s) }
+        ensures sourced { (v : ℕ) (s : SourcedFlat) → slice_get self.now.items v ≡ Some s → IsSourced s }
         ensures none { result ≡ None → (v : ℕ) (s : SourcedFlat) → slice_get self.now.items v ≡ Some s → AreMoments (sourced_in self.now.shared node.now) s → AreSameLooks (sourced_in self.now.shared node.now) s → ⊥ }
     {
         tells_apart();

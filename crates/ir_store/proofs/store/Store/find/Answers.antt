@@ -2,7 +2,7 @@ use Rattle.std.proofs.Common.{◌≡◌, ◌∙◌, ◌<◌, sym, ap, subst, ref
 use Rattle.std.specs.Prelude.{slice_get}
 use Rattle.std.proofs.lemmas.Option.{slice_get_within}
 use Rattle.ir_store.specs.declared.spot.Spot.{Spot}
-use Rattle.ir_store.specs.Nodes.{SourcedFlat, Shared, Stored, Node, IsNode, IsWithin, AreMoments, AreSameLooks, sourced_in}
+use Rattle.ir_store.specs.Nodes.{SourcedFlat, Shared, Stored, Node, IsNode, IsWithin, IsSourced, AreMoments, AreSameLooks, sourced_in}
 use Rattle.ir_store.specs.Places.{no_node}
 use Rattle.ir_store.proofs.Numbered.{same_numbers_if_same_looks}
 use Rattle.ir_store.proofs.Stored.{node_less, node_is, state_is}
@@ -26,3 +26,12 @@ returns-clause-none c = λ none v s at moments same.
     c.find_node.ensures.none none v (node_less shared nodes c.self.invariant.0 v b less refl s there)
     (same_numbers_if_same_looks c.tells_apart.ensures c.each.ensures.one.0 c.self.inside.table c.self.inside.words c.each.ensures.size c.each.ensures.bounded
     c.each.ensures.one.1 c.each_once.ensures a b in_a in_b moments' same')
+
+pub returns-clause-sourced : goal.returns-clause-sourced
+returns-clause-sourced c = λ v s at.
+    let shared : Shared = record { threads = c.self.inside.table.items; words = c.self.inside.words } in
+    let nodes = c.self.inside.nodes in
+    let b : Node = get_or nodes v no_node in
+    let there = subst (λ (z : Stored). slice_get z.items v ≡ Some s) (sym c.self.view_is) at in
+    let less = slice_get_within (map (sourced_in shared) nodes) v s there in
+    subst IsSourced (state_is shared nodes c.self.invariant.0 v b less refl s there) (node_is shared nodes c.self.invariant.0 v b less refl s there).sourced
