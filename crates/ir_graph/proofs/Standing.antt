@@ -64,25 +64,25 @@ within_found_if_covered x flats noted threads g origins first few c covered budg
 -- no run that counts ends at a state with fewer switches than its level, if the levels below are gone over
 pub needs_as_many_switches_as_its_level : (x : Setup) (flats : List SourcedFlat) (origins : List Origin) (levels : ℕ) → AreSearched x flats origins levels
     → (v : ℕ) (s : SourcedFlat) (n : Origin) → slice_get flats v ≡ Some s → slice_get origins v ≡ Some n → n.level ≤ levels → NeedsSwitches x s n.level
-needs_as_many_switches_as_its_level x flats origins levels searched v s n at stands low budget steps counting ends = elim (cases_lt (switches_in x budget steps) n.level) [
+needs_as_many_switches_as_its_level x flats origins levels searched v s n here stands low budget steps counting ends = elim (cases_lt (switches_in x budget steps) n.level) [
   | inr enough ↦ enough
   | inl less ↦
       let tells = tells_nothing_of_alike_seen_threads x.guest.code in
-      let code : s.flat.code ≡ x.guest.code = (searched.reached v s at).like.code in
+      let code : s.flat.code ≡ x.guest.code = (searched.reached v s here).like.code in
       let rests : IsAtRest (seen_by x.guest.code) (seen_end x steps) =
       λ t. ap is_own (tells.asks (seen_end x steps) (seen_of s) ends t)
-      ∙ subst (λ z. IsAtRest (seen_by z) (seen_of s)) code (seen_state_is_at_rest_if_all_rest s (searched.states.rest v s at)) t in
+      ∙ subst (λ z. IsAtRest (seen_by z) (seen_of s)) code (seen_state_is_at_rest_if_all_rest s (searched.states.rest v s here)) t in
       let r = searched.found (switches_in x budget steps) (omega (arith, less, low)) budget steps (record { counts = counting; rests = rests }) (omega arith) in
       let w = r.0 in
       let u : SourcedFlat = r.1 in
-      let k : Origin = r.2.0 in
-      let there : slice_get flats w ≡ Some u = r.2.1 in
-      let its : slice_get origins w ≡ Some k = r.2.2.0 in
-      let level : k.level ≤ switches_in x budget steps = r.2.2.1 in
-      let also : EndsAt x steps u = r.2.2.2 in
+      let k : Origin = r.2 in
+      let there : slice_get flats w ≡ Some u = r.3 in
+      let its : slice_get origins w ≡ Some k = r.4 in
+      let level : k.level ≤ switches_in x budget steps = r.5 in
+      let also : EndsAt x steps u = r.6 in
       let alike : Alike x.guest.code (seen_of u) (seen_of s) =
       tells.onwards (seen_of u) (seen_end x steps) (seen_of s) (tells.backwards (seen_end x steps) (seen_of u) also) ends in
-      let same : w ≡ v = searched.states.apart w v u s there at
+      let same : w ≡ v = searched.states.apart w v u s there here
       (subst (λ z. Alike z (seen_of u) (seen_of s)) (sym (searched.reached w u there).like.code) alike) in
       let one : k ≡ n = same_Some k n (sym its ∙ ap (slice_get origins) same ∙ stands) in
       absurd (let e = ap (λ (z : Origin). z.level) one in omega (arith, e, level, less))

@@ -152,11 +152,11 @@ pub like_if_look_same : TellsApart → (start : List ℕ) → length start ≡ m
     → IsBounded x.0 → IsBounded y.0 → LookSame x y → AreLike start x y
 like_if_look_same tells start size x y twins bx by same = elim (same twins []) [
   | inl e ↦ record {
-      bytes = (tells [] start size x.0 y.0 twins bx by [] [] refl).1 (inl (ap (λ (p : ThreadState × Source). (p.0, [])) e));
-      source = λ going. ap (λ (p : ThreadState × Source). p.1) e;
-    }
+    bytes = (tells [] start size x.0 y.0 twins bx by [] [] refl).1 (inl (ap (λ (p : ThreadState × Source). (p.0, [])) e));
+    source = λ going. ap (λ (p : ThreadState × Source). p.1) e;
+  }
   | inr done ↦ record {
-      bytes = (tells [] start size x.0 y.0 twins bx by [] [] refl).1 (inr done);
-      source = λ going. absurd (let over : is_over y.0 ≡ true = over_if_shared_ask_done [] (view y.0) done.1 in cc (over, going));
-    }
+    bytes = (tells [] start size x.0 y.0 twins bx by [] [] refl).1 (inr done);
+    source = λ going. absurd (let over : is_over y.0 ≡ true = over_if_shared_ask_done [] (view y.0) done.1 in cc (over, going));
+  }
 ]

@@ -50,12 +50,7 @@ impl<'a> Model for Store<'a> {
 }
 
 // The number of a state that looks the same as one by numbers.
-fn find_node(
-    table: &Table<'_>,
-    nodes: &Kept<'_>,
-    index: &Index,
-    node: &Node<'_>,
-) -> Option<usize>
+fn find_node(table: &Table<'_>, nodes: &Kept<'_>, index: &Index, node: &Node<'_>) -> Option<usize>
     requires node { AreIn table.now.items node.now.threads }
     requires nodes { (v : ℕ) → v < length nodes.now → AreIn table.now.items (slice_index_or nodes.now v no_node).threads }
     requires found { AreNodesFound index.now table.now.looks nodes.now }
