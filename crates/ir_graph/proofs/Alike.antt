@@ -61,11 +61,11 @@ same_by_any_code : (code other : List ℕ) (x y : ThreadState × Source) → Sam
 same_by_any_code code other x y same = elim same [
   | inl e ↦ inl e
   | inr done ↦ inr (
-      shared_ask_done_if_over other (view x.0) (over_if_shared_ask_done code (view x.0) done.0),
-      shared_ask_done_if_over other (view y.0) (over_if_shared_ask_done code (view y.0) done.1),
-      done.2,
-      done.3,
-    )
+    shared_ask_done_if_over other (view x.0) (over_if_shared_ask_done code (view x.0) done.0),
+    shared_ask_done_if_over other (view y.0) (over_if_shared_ask_done code (view y.0) done.1),
+    done.2,
+    done.3,
+  )
 ]
 
 lists_equal_if_same_at_each_index : (xs ys : List ℕ) → length xs ≡ length ys → slice_index xs ≡ slice_index ys → xs ≡ ys

@@ -274,7 +274,6 @@ start_is_graph x h noted threads goes rest sourced many number free tries past =
       apart = λ v w s u a b same. place v s a ∙ sym (place w u b);
     }
 
-
     each : AllReached x (h ∷ [])
     each v s is = subst (IsReached x) (only v s is) (plain_start_is_reached x h goes)
 

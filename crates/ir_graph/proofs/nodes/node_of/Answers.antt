@@ -20,9 +20,9 @@ returns-clause-nodes c =
     let h = sourced_in c.args.flats.now.shared c.args.new in
     subst AreNodes (sym c.in_ok-push.ensures.ok) (are_nodes_after_node_added c.args.flats.now.items h c.requires.nodes c.requires.is.sourced.each c.requires.like c.requires.rest
     (λ v f at like.
-        let moment = c.requires.like v f at in
-        c.find.ensures.none c.in_default.is v f at (record { threads = moment.threads; objects = moment.objects; twins = moment.twins })
-        (same_looks_if_look_alike h f c.requires.is.sourced.flat (c.find.ensures.sourced v f at).flat moment.objects like)))
+    let moment = c.requires.like v f at in
+    c.find.ensures.none c.in_default.is v f at (record { threads = moment.threads; objects = moment.objects; twins = moment.twins })
+    (same_looks_if_look_alike h f c.requires.is.sourced.flat (c.find.ensures.sourced v f at).flat moment.objects like)))
 
 pub returns-clause-stay : goal.returns-clause-stay
 returns-clause-stay c = λ v f is.
