@@ -16,7 +16,7 @@ use Rattle.ir_store.specs.Hashes.{empty_hash, after_number, after_numbers, IsFou
 use Rattle.ir_store.specs.Nodes.{SourcedFlat, Shared, Node, LookSame, cell_in, cells_at, sourced_in, sourced_thread, IsWithin, IsNode, AreKept, AreSameLooks, AreSameNumbers, AreMoments, looks_in, words_in, node_hash, AreNodesFound}
 use Rattle.ir_store.specs.Places.{no_node}
 use Rattle.ir_store.specs.Table.{Table, idle_beside, beside_at, AreLike, HaveOneLook, Keeps}
-use Rattle.ir_store.specs.Words.{AreOnce}
+use Rattle.ir_store.specs.Words.{EachOnce}
 use Rattle.ir_store.proofs.Alike.{like_if_look_same}
 use Rattle.ir_store.proofs.Found.{nothing_found_if_all_passed_over}
 use Rattle.ir_store.proofs.Lists.{drop_begins_with_element, kept_element_is_equal, map_equal_if_functions_equal_on_property_of_all}
@@ -43,7 +43,7 @@ maps_equal_if_elements_equal f (x ∷ xs) (y ∷ ys) d size each = λ i.
 
 -- states that look the same, of one guest, have the same numbers
 module _ (tells : TellsApart) (seen : List (ℕ × ℕ)) (t : Table) (words : List (List ℕ)) (size : length t.start ≡ memory_size)
-    (bounded : AllByRecursion (λ (x : ThreadState × Source). IsBounded x.0) t.items) (have : HaveOneLook seen t) (once : AreOnce words)
+    (bounded : AllByRecursion (λ (x : ThreadState × Source). IsBounded x.0) t.items) (have : HaveOneLook seen t) (once : EachOnce words)
     (a b : Node) (in_a : IsWithin (record { threads = t.items; words = words }) a) (in_b : IsWithin (record { threads = t.items; words = words }) b)
     (moments : AreMoments (sourced_in (record { threads = t.items; words = words }) a) (sourced_in (record { threads = t.items; words = words }) b))
     (same : AreSameLooks (sourced_in (record { threads = t.items; words = words }) a) (sourced_in (record { threads = t.items; words = words }) b)) where

@@ -79,7 +79,7 @@ fn same_spots(first: &[Spot], second: &[Spot]) -> bool
     true
 }
 
-/// Whether a state looks the same as the one of these numbers, as far as that is known.
+/// Whether a state has the same numbers as the one of these: they look the same.
 pub fn same_looks(table: &Table<'_>, first: &Node<'_>, threads: &[u32], objects: &[Spot]) -> bool
     requires first { AreIn table.now.items first.now.threads }
     requires second { AreIn table.now.items threads.now }

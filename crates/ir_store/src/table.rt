@@ -341,7 +341,7 @@ impl<'a> Table<'a> {
         self.rows.each();
     }
 
-    /// Whether two threads look the same, as far as that is known.
+    /// Whether one number stands for two threads: they look the same.
     pub fn same_look(&self, m: usize, n: usize) -> bool
         requires first { m < length self.now.items }
         requires second { n < length self.now.items }

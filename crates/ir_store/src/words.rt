@@ -4,7 +4,7 @@ ghost use Rattle.std.specs.Prelude.{◌≡◌, ◌<◌, ℕ, List, [], length, t
 ghost use Rattle.ir_image.specs.Guest.{most_object_words};
 ghost use Rattle.ir_store.specs.Hashes as hashes;
 ghost use Rattle.ir_store.specs.Table.{Keeps};
-ghost use Rattle.ir_store.specs.Words.{AreOnce, AreFound};
+ghost use Rattle.ir_store.specs.Words.{EachOnce, EachFound};
 
 use crate::hash::{after_words, empty_hash};
 use crate::index::{Index, MOST_STEPS};
@@ -25,7 +25,7 @@ impl Model for Words {
 
     ghost view = { λ w. w.items.items };
 
-    ghost invariant = { λ w. AreOnce w.items.items × AreFound w.index w.items.items };
+    ghost invariant = { λ w. EachOnce w.items.items × EachFound w.index w.items.items };
 }
 
 fn array_of(words: &[u32]) -> [u32; MOST_OBJECT_WORDS]
@@ -55,7 +55,7 @@ fn find(
     hash: u64,
     words: &[u32],
 ) -> Option<usize>
-    requires found { AreFound index.now items.now }
+    requires found { EachFound index.now items.now }
     requires hash { hash ≡ hashes.after_numbers hashes.empty_hash words.now }
     ensures found { IfSome result (λ n. slice_get items.now n ≡ Some words.now) }
     ensures none { result ≡ None → (n : ℕ) → slice_get items.now n ≡ Some words.now → ⊥ }
@@ -97,7 +97,7 @@ impl Words {
 
     /// No two numbers have the same contents.
     pub fn each_once(&self)
-        ensures { AreOnce self.now }
+        ensures { EachOnce self.now }
     {
         let _ = &self.items;
     }
