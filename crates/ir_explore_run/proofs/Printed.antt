@@ -86,10 +86,13 @@ pub explored_is_known : (guest : Guest) (plan : ExplorePlan) (e : Explored) → 
 explored_is_known guest plan e is = record {
   explored = is.explored;
   all = is.all;
+  nodes = is.nodes;
   reached = is.reached;
+  found = is.found;
   hanging = is.hangs;
   unknown = is.unknown;
   covered = is.covered;
+  left = is.left;
   stopped = is.stopped;
 }
 

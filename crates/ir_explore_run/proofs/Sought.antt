@@ -1,8 +1,9 @@
 -- Searches by growing numbers of switches.
-use Rattle.std.proofs.Common.{◌≡◌, ℕ, suc, Option, None, List, refl, ap, ◌∙◌}
+use Rattle.std.proofs.Common.{◌≡◌, ℕ, suc, Option, None, List, refl, ap, ◌∙◌, subst}
 use Rattle.ir_chaos.specs.Conditions.{Condition}
 use Rattle.ir_explore.specs.declared.search.Ended.TheVariants.{Covered}
 use Rattle.ir_files.specs.declared.exit_status.ExitStatus.{ExitStatus}
+use Rattle.ir_graph.specs.Standing.{NeedsSwitches}
 use Rattle.ir_image.specs.Guest.{Guest}
 use Rattle.ir_explore_run.specs.Conditions.{IsFirst}
 use Rattle.ir_explore_run.specs.Texts.{Known, AreKnown, IsKnownText}
@@ -16,10 +17,13 @@ are_known_of_plan_if_known_at_n_switches : (guest : Guest) (plan : ExplorePlan) 
 are_known_of_plan_if_known_at_n_switches guest plan n k a last = record {
   explored = a.explored;
   all = a.all;
+  nodes = a.nodes;
   reached = a.reached;
+  found = a.found;
   hanging = a.hanging;
   unknown = a.unknown;
   covered = λ e. a.covered e ∙ ap suc (last e);
+  left = λ e. let l = a.left e in (l.0, l.1, l.2, subst (NeedsSwitches (setup_of guest plan) l.1) (last e) l.3);
   stopped = a.stopped;
 }
 

@@ -10,8 +10,10 @@ use Rattle.ir_files.specs.declared.exit_status.ExitStatus.{ExitStatus}
 use Rattle.ir_files.specs.declared.exit_status.ExitStatus.TheVariants as status
 use Rattle.ir_flat.specs.Flat.{Flat, idle, start_cells}
 use Rattle.ir_flat.specs.Room.{empty}
+use Rattle.ir_graph.specs.Nodes.{AreNodes}
 use Rattle.ir_graph.specs.Reached.{AllReached}
 use Rattle.ir_graph.specs.Setup.{Setup}
+use Rattle.ir_graph.specs.Standing.{AllFound, NeedsSwitches}
 use Rattle.ir_graph.specs.Stops.{IsStop, MayStop}
 use Rattle.ir_image.specs.Guest.{Guest, object_count, object_words}
 use Rattle.ir_object.specs.Cell.{Cell}
@@ -122,16 +124,20 @@ known_of e = record {
   hang = e.hang;
 }
 
--- It is so. Once the search is finished, the outcomes are all, and so many states can't be brought to an end: where there are any, a run that
--- hangs is known too, and only there. The search stopped early only for what the plan says, or where an order that was found led to its state no
--- second time.
+-- It is so. The states are different ones of the guest at rest, to each of which a run leads. Once the search is finished, they and the outcomes are
+-- all, and so many states can't be brought to an end: where there are any, a run that hangs is known too, and only there. Where the switches that
+-- were wanted are covered, some state needs as many. The search stopped early only for what the plan says, or where an order that was found led to
+-- its state no second time.
 pub record AreKnown (guest : Guest) (plan : ExplorePlan) (k : Known) : Type 0 where
   pub explored : AreExplored (setup_of guest plan) k.flats k.levels k.outcomes
   pub all : k.ended ≡ Finished → AreAll (setup_of guest plan) k.flats k.outcomes
+  pub nodes : AreNodes k.flats
   pub reached : AllReached (setup_of guest plan) k.flats
+  pub found : k.ended ≡ Finished → AllFound (setup_of guest plan) k.flats
   pub hanging : k.ended ≡ Finished → AreHangs (setup_of guest plan) k.flats k.hangs k.hang
   pub unknown : (k.ended ≡ Finished → ⊥) → k.hang ≡ None
   pub covered : k.ended ≡ Covered → k.levels ≡ suc plan.switches
+  pub left : k.ended ≡ Covered → (v : ℕ) × (s : SourcedFlat) × (slice_get k.flats v ≡ Some s) × NeedsSwitches (setup_of guest plan) s plan.switches
   pub stopped : (why : Stop) → k.ended ≡ Stopped why → MayStop (setup_of guest plan) k.flats plan.bounds.nodes plan.bounds.private why ⊎ IsOrder why
 
 -- a hang is printed if one is known, and then how the search ended

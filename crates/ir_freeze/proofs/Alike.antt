@@ -214,3 +214,16 @@ frozen_bytes_equal_iff_same_looks code start size x y twins bx by m n lm = (
         ∙ sym (frozen_bytes_of_over_thread_are_end_and_output start y n (over_if_shared_ask_done code (view y) d.1))
   ],
 )
+
+flags_equal_if_flagged_bytes_equal : (a b : Bool) (x y v w : List ℕ) → cond a (1 ∷ x) (0 ∷ v) ≡ cond b (1 ∷ y) (0 ∷ w) → a ≡ b
+flags_equal_if_flagged_bytes_equal true true x y v w e = refl
+flags_equal_if_flagged_bytes_equal true false x y v w e = absurd (let h = same_head 1 0 x w e in omega (arith, h))
+flags_equal_if_flagged_bytes_equal false true x y v w e = absurd (let h = same_head 0 1 v y e in omega (arith, h))
+flags_equal_if_flagged_bytes_equal false false x y v w e = refl
+
+-- threads with equal bytes are over together
+pub over_together_if_frozen_bytes_equal : (start : List ℕ) (x y : ThreadState) (m n : List ℕ) → frozen start x m ≡ frozen start y n → is_over x ≡ is_over y
+over_together_if_frozen_bytes_equal start x y m n e =
+    let s = append_parts_equal_if_first_lengths_equal (end_bytes x.ended) (end_bytes y.ended) (cond (is_over x) (1 ∷ x.output) (0 ∷ going_bytes start x m))
+    (cond (is_over y) (1 ∷ y.output) (0 ∷ going_bytes start y n)) (length_of_end_bytes_is_five x.ended ∙ sym (length_of_end_bytes_is_five y.ended)) e in
+    flags_equal_if_flagged_bytes_equal (is_over x) (is_over y) x.output y.output (going_bytes start x m) (going_bytes start y n) s.1

@@ -11,3 +11,5 @@ pub use Rattle.ir_graph.proofs.Turn.{ways_taken-append, threads_of_ways_taken_ar
 pub use Rattle.ir_graph.proofs.Reached.{answered_run_is_run, done_answered_run_is_counted, tables_of_reached_state_are_end_of_its_run}
 -- hangs
 pub use Rattle.ir_graph.proofs.Hangs.{answered_run_is_counting, hang_never_completes, can_end_if_answered_run_can}
+-- how many switches a state needs
+pub use Rattle.ir_graph.proofs.Standing.{needs_as_many_switches_as_its_level}

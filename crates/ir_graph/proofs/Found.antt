@@ -11,12 +11,14 @@ use Rattle.ir_flat.specs.Flat.{tables, machine, thread_of}
 use Rattle.ir_store.specs.Nodes.{SourcedFlat}
 use Rattle.ir_graph.specs.Nodes.{Alike, seen_by, answered_by, seen_of, LookAlike, AllRest, AreNodes, Stay, LeadsFrom, IsStepBy, HasStepBy}
 use Rattle.ir_graph.specs.Plain.{GoesPlain, IsLike, MayGo, OthersStay, Rests, result_by}
+use Rattle.ir_graph.proofs.Alike.{look_alike_symmetric}
 use Rattle.ir_graph.proofs.Leads.{look_alike_reflexive, no_seen_step_if_no_step, no_seen_refusal_unless_try, way_leads_to_alike_node}
 use Rattle.ir_graph.proofs.Plain.{TakesStep, like_reflexive, like_transitive, like_symmetric, flat_after_plain_steps_is_like_flat_before, flat_after_step_is_like_flat_before, others_stay_after_step}
 
 pub are_nodes_after_node_added : (states : List SourcedFlat) (new : SourcedFlat) → AreNodes states → length new.sources ≡ length new.flat.threads
-    → ((v : ℕ) (s : SourcedFlat) → slice_get states v ≡ Some s → IsLike new.flat s.flat) → AllRest new.flat → AreNodes (states ++ new ∷ [])
-are_nodes_after_node_added states new nodes each like rest = record {
+    → ((v : ℕ) (s : SourcedFlat) → slice_get states v ≡ Some s → IsLike new.flat s.flat) → AllRest new.flat
+    → ((v : ℕ) (s : SourcedFlat) → slice_get states v ≡ Some s → LookAlike new s → ⊥) → AreNodes (states ++ new ∷ [])
+are_nodes_after_node_added states new nodes each like rest unlike = record {
   each = λ v s is. elim (slice_get_after_push_cases states new v s is) [
     | inl old ↦ nodes.each v s old
     | inr p ↦ subst (λ (z : SourcedFlat). length z.sources ≡ length z.flat.threads) p.1 each
@@ -34,6 +36,16 @@ are_nodes_after_node_added states new nodes each like rest = record {
       | inl too ↦ subst (λ (z : SourcedFlat). IsLike z.flat u.flat) q.1 (like w u too)
       | inr p ↦ subst (λ (z : SourcedFlat). IsLike z.flat u.flat) q.1
           (subst (λ (z : SourcedFlat). IsLike new.flat z.flat) p.1 (like_reflexive new.flat))
+    ]
+  ];
+  apart = λ v w s u a b same. elim (slice_get_after_push_cases states new v s a) [
+    | inl old ↦ elim (slice_get_after_push_cases states new w u b) [
+      | inl too ↦ nodes.apart v w s u old too same
+      | inr p ↦ absurd (unlike v s old (look_alike_symmetric s new (like v s old).code (subst (LookAlike s) (sym p.1) same)))
+    ]
+    | inr q ↦ elim (slice_get_after_push_cases states new w u b) [
+      | inl too ↦ absurd (unlike w u too (subst (λ (z : SourcedFlat). LookAlike z u) (sym q.1) same))
+      | inr p ↦ q.0 ∙ sym p.0
     ]
   ];
 }

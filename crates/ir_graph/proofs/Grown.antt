@@ -261,12 +261,17 @@ start_is_graph x h noted threads goes rest sourced many number free tries past =
     only zero s is = same_Some h s is
     only (suc v) s is = absurd (cc is)
 
+    place : (v : ℕ) (s : SourcedFlat) → slice_get (h ∷ []) v ≡ Some s → v ≡ 0
+    place zero s is = refl
+    place (suc v) s is = absurd (cc is)
+
     nodes : AreNodes (h ∷ [])
     nodes = record {
       each = λ v s is. subst (λ (z : SourcedFlat). length z.sources ≡ length z.flat.threads) (only v s is) sourced;
       rest = λ v s is. subst (λ (z : SourcedFlat). AllRest z.flat) (only v s is) rest;
       like = λ v w s u a b. subst (λ (z : SourcedFlat). IsLike z.flat u.flat) (only v s a)
           (subst (λ (z : SourcedFlat). IsLike h.flat z.flat) (only w u b) (like_reflexive h.flat));
+      apart = λ v w s u a b same. place v s a ∙ sym (place w u b);
     }
 
     each : AllReached x (h ∷ [])

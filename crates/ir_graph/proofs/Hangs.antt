@@ -14,11 +14,11 @@ use Rattle.ir_runs.specs.Machine.{Machine}
 use Rattle.ir_runs.specs.Lawful.{IsLawful}
 use Rattle.ir_runs.specs.Run.{State, Step, asked, after, end, IsDone}
 use Rattle.ir_runs.proofs.CallerLemmas.{StateInvariant, end_append}
-use Rattle.ir_states.specs.Counting.{Answers, IsAnswered, Counts, entering}
+use Rattle.ir_states.specs.Counting.{Answers, IsAnswered, IsAtRest, Counts, entering}
 use Rattle.ir_states.specs.Nodes.{TellsNothing, Path}
 use Rattle.ir_states.specs.Outcomes.{switches, IsFinished, HasWay}
 use Rattle.ir_states.specs.Views.{beside}
-use Rattle.ir_states.proofs.CallerLemmas.{Completes, back, finds, found, is_done_from_alike_state, run_is_live_if_its_end_is_unspoilt, state_stays_unspoilt_after_live_run, looks_alike, real_seen, seen_good, sourced_counts, sourced_entering, sourced_machine_is_lawful, sourced_live}
+use Rattle.ir_states.proofs.CallerLemmas.{Completes, back, finds, found, nothing_goes_ahead_if_at_rest, is_done_from_alike_state, run_is_live_if_its_end_is_unspoilt, state_stays_unspoilt_after_live_run, looks_alike, real_seen, seen_good, sourced_counts, sourced_entering, sourced_machine_is_lawful, sourced_live}
 use Rattle.ir_thread.specs.State.{most_budget, thread_machine}
 use Rattle.ir_thread.specs.State as thread
 use Rattle.ir_sources.specs.Sources.{Source, given}
@@ -32,6 +32,7 @@ use Rattle.ir_graph.specs.Hangs.{IsCounting, CanEndFrom, CanEnd, IsHangOf, AreMa
 use Rattle.ir_graph.specs.Nodes.{seen_by, answered_by, Alike, seen_of, LookAlike}
 use Rattle.ir_graph.specs.Plain.{full_by, full_of, IsAnsweredRun}
 use Rattle.ir_graph.specs.Reached.{beginning}
+use Rattle.ir_graph.specs.Standing.{AllFound}
 use Rattle.ir_graph.proofs.Full.{seen_state, end_of_live_run_seen, counts_of_live_run_seen, entering_of_live_run_seen, live_run_of_threads}
 use Rattle.ir_graph.proofs.Levels.{node_level}
 use Rattle.ir_graph.proofs.Listed.{flat_of, state_of, at, code_at, seen_done, really_done, graph_means}
@@ -75,7 +76,7 @@ answered_run_is_counting x steps a = record {
 }
 
 -- a run that counts is one of the guest as a search sees it, with the same entries
-counting_run_counts_as_seen : (x : Setup) (budget : ℕ) (steps : List Step) → IsCounting x budget steps
+pub counting_run_counts_as_seen : (x : Setup) (budget : ℕ) (steps : List Step) → IsCounting x budget steps
     → Counts (seen_by x.guest.code) (answered_by x.guest.code) (seen_start x.guest x.profile (first_source x)) steps
     × (entering (seen_by x.guest.code) (seen_start x.guest x.profile (first_source x)) steps
     ≡ entering (thread_machine x.guest.code) (tables (start_flat x.guest budget x.profile)) steps)
@@ -115,7 +116,7 @@ hang_never_completes x budget steps h most more c =
       subst (IsDone (seen_by x.guest.code)) (end_append m start steps more) done,
     )
 
-tells_nothing_of_alike_seen_threads : (code : List ℕ) → TellsNothing (seen_by code) (answered_by code) (Alike code)
+pub tells_nothing_of_alike_seen_threads : (code : List ℕ) → TellsNothing (seen_by code) (answered_by code) (Alike code)
 tells_nothing_of_alike_seen_threads code = looks_alike (seen_by code) (answered_by code) (Same code) (look_same code given)
 
 -- where an answered run stands at what looks the same as a state, it can be brought to an end only where the state can
@@ -187,6 +188,23 @@ module _ (x : Setup) (flats : List SourcedFlat) (noted : ℕ → BothWays) (thre
       let w = state_way a.node a.is in
       (a.node, a.is, a.path, (λ c. w.1 (b.0 c), λ c. b.1 (w.0 c)))
 
+  -- a run that counts and ends where all threads rest ends at a node
+  run_found : (steps : List Step) → Counts m answers_here start steps → IsAtRest m (end m start steps)
+      → (v : ℕ) × (v < length flats) × Alike x.guest.code (end m start steps) (state v)
+  run_found steps ok rests =
+      let a = finds m lawful answers_here (Alike x.guest.code) (tells_nothing_of_alike_seen_threads x.guest.code) start good state Node (Steps m state noted (length flats)) 0
+      finished steps ok in (
+        a.node,
+        a.is,
+        subst (λ z. Alike x.guest.code (end m (end m start steps) z) (state a.node))
+            (nothing_goes_ahead_if_at_rest m answers_here (end m start steps) rests a.left a.goes) a.alike,
+      )
+
+  pub resting_run_is_found : AllFound x flats
+  resting_run_is_found budget steps r =
+      let f = run_found steps (counting_run_counts_as_seen x budget steps r.counts).0 r.rests in
+      (f.0, flat_of x flats noted threads g f.0, at x flats noted threads g f.0 f.1, f.2)
+
   -- a node is marked exactly where its state can be brought to an end
   node_marked : (marks : List Bool) → AreWays noted threads flats marks → (v : ℕ) → v < length flats
       → IsOpen marks v ↔ Completes m answers_here (state v)
@@ -256,6 +274,9 @@ module _ (x : Setup) (flats : List SourcedFlat) (noted : ℕ → BothWays) (thre
       → AllStand x flats origins
   all_stand levels gone most first budget steps c =
       counting_stands x flats noted threads g origins refusals reached all asked_all levels gone most first budget steps c
+
+  pub all_found : AllFound x flats
+  all_found = resting_run_is_found x flats noted threads g origins refusals reached all asked_all
 
   pub are_marked : (marks : List Bool) → AreWays noted threads flats marks → AreMarked flats marks
   are_marked marks w = record {

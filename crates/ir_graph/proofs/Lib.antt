@@ -16,6 +16,7 @@ mod Levels
 mod Hangs
 mod Listing
 mod Searched
+mod Standing
 pub mod CallerLemmas
 mod Forms
 mod LoneSteps

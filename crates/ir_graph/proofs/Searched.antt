@@ -14,8 +14,10 @@ use Rattle.ir_graph.specs.Hangs.{AllStand, AreWays, AreMarked}
 use Rattle.ir_graph.specs.Notes.{noted_by}
 use Rattle.ir_graph.specs.Outcomes.{AllListed}
 use Rattle.ir_graph.specs.Searched.{AreSearched}
-use Rattle.ir_graph.proofs.Hangs.{are_marked, all_stand}
+use Rattle.ir_graph.specs.Standing.{AllFound}
+use Rattle.ir_graph.proofs.Hangs.{are_marked, all_found, all_stand}
 use Rattle.ir_graph.proofs.Listed.{all_listed_if_all_asked, within_listed_if_covered}
+use Rattle.ir_graph.proofs.Standing.{within_found_if_covered}
 
 module _ (x : Setup) (flats : List SourcedFlat) (rows tries : List (Vec (Option (Option ℕ)))) (origins : List Origin)
     (refusals : List Refusal) (threads levels : ℕ) (graph : IsGraph x flats (noted_by rows tries) (length rows))
@@ -30,6 +32,9 @@ module _ (x : Setup) (flats : List SourcedFlat) (rows tries : List (Vec (Option 
     within = λ c less.
         within_listed_if_covered x flats (noted_by rows tries) (length rows) graph origins has.first has.few c
         (subst (λ z. Covered (noted_by rows tries) z origins c) same (covered_below_gone_over_level (noted_by rows tries) threads origins levels c less has.gone));
+    found = λ c less.
+        within_found_if_covered x flats (noted_by rows tries) (length rows) graph origins has.first has.few c
+        (subst (λ z. Covered (noted_by rows tries) z origins c) same (covered_below_gone_over_level (noted_by rows tries) threads origins levels c less has.gone));
   }
 
   module _ (all : length origins ≡ length flats) (asked : AreAsked (noted_by rows tries) threads (length flats)) where
@@ -38,6 +43,9 @@ module _ (x : Setup) (flats : List SourcedFlat) (rows tries : List (Vec (Option 
 
     pub listed_by : AllListed x flats
     listed_by = all_listed_if_all_asked x flats (noted_by rows tries) (length rows) graph origins refusals has.reached all asked_each
+
+    pub found_by : AllFound x flats
+    found_by = all_found x flats (noted_by rows tries) (length rows) graph origins refusals has.reached all asked_each
 
     pub stand_by : AllStand x flats origins
     stand_by =

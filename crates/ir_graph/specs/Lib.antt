@@ -12,3 +12,4 @@ pub mod Listing
 pub mod Searched
 pub mod Hangs
 pub mod Stops
+pub mod Standing

@@ -39,11 +39,16 @@ LookAlike s u = Alike s.flat.code (seen_of s) (seen_of u)
 abbrev pub AllRest : Flat → Type 0
 AllRest f = (t : ℕ) → t < length f.threads → Rests (ask_of f.code (thread_of f t))
 
--- states of one guest, at each of which all threads rest and each has a source
+-- no two of these states look the same to every thread
+abbrev pub AreApart : List SourcedFlat → Type 0
+AreApart states = (v w : ℕ) (s u : SourcedFlat) → slice_get states v ≡ Some s → slice_get states w ≡ Some u → LookAlike s u → v ≡ w
+
+-- states of one guest, at each of which all threads rest and each has a source, and no two of which look the same to every thread
 pub record AreNodes (states : List SourcedFlat) : Type 0 where
   pub each : (v : ℕ) (s : SourcedFlat) → slice_get states v ≡ Some s → length s.sources ≡ length s.flat.threads
   pub rest : (v : ℕ) (s : SourcedFlat) → slice_get states v ≡ Some s → AllRest s.flat
   pub like : (v w : ℕ) (s u : SourcedFlat) → slice_get states v ≡ Some s → slice_get states w ≡ Some u → IsLike s.flat u.flat
+  pub apart : AreApart states
 
 -- no more than nodes were added
 abbrev pub Stay : List SourcedFlat → List SourcedFlat → Type 0

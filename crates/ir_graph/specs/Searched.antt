@@ -13,6 +13,7 @@ use Rattle.ir_graph.specs.Nodes.{AreNodes}
 use Rattle.ir_graph.specs.Notes.{noted_by}
 use Rattle.ir_graph.specs.Outcomes.{AllListed, WithinListed}
 use Rattle.ir_graph.specs.Reached.{AllReached}
+use Rattle.ir_graph.specs.Standing.{AllFound, WithinFound}
 use Rattle.ir_graph.specs.declared.states.States.{States}
 
 -- The states are those of this guest at rest, to each of which a run leads. Origins are known of the first of them, by rising levels, and so
@@ -24,6 +25,7 @@ pub record AreSearched (x : Setup) (flats : List SourcedFlat) (origins : List Or
   pub rising : AreRising origins
   pub most : (v : ℕ) (n : Origin) → slice_get origins v ≡ Some n → n.level ≤ levels
   pub within : (c : ℕ) → c < levels → WithinListed x flats origins c
+  pub found : (c : ℕ) → c < levels → WithinFound x flats origins c
 
 -- a search over the graph of a guest
 pub record IsSearch (s : States) : Type 0 where
@@ -40,8 +42,9 @@ StandsBetween s = IsBetween (noted_by s.graph.rows.items s.graph.refused_rows.it
 abbrev pub HasLevels : States → ℕ → Type 0
 HasLevels s n = HasGone (noted_by s.graph.rows.items s.graph.refused_rows.items) (length (rows s.search.opened.items)) (length s.graph.flats.items) s.search.found.nodes.items s.search.found.refusals.items n
 
--- each outcome of the guest is that of a listed state; its runs that count stand at listed states
+-- each outcome of the guest is that of a listed state; its runs that count stand at listed states, and end there where all threads rest
 pub record IsWhole (s : States) : Type 0 where
   pub all : AllListed s.graph.setup s.graph.flats.items
   pub nodes : length s.search.found.nodes.items ≡ length s.graph.flats.items
+  pub found : AllFound s.graph.setup s.graph.flats.items
   pub stand : AllStand s.graph.setup s.graph.flats.items s.search.found.nodes.items

@@ -236,3 +236,67 @@ pub fn explored<'a>(alloc: Global, image: &'a Image, switches: usize) -> Result<
         Err(_) => Err(Fail::from("no search")),
     }
 }
+
+/// A thread that polls until another writes. Its two states between the entries have one FNV-1a hash, of 64 bits.
+pub const COLLIDES: &str = "
+        .objects 1
+        .thread main
+        .thread other
+main:
+        lui     s8, 463139
+        addi    s8, s8, 15
+        lui     s9, 281828
+        addi    s9, s9, -403
+        lui     s10, 779921
+        addi    s10, s10, -1922
+        lui     s11, 54641
+        addi    s11, s11, -1257
+        addi    a0, zero, 0
+        addi    a7, zero, 8
+        ecall
+        addi    a0, zero, 0
+        addi    a1, zero, 0
+        addi    a7, zero, 10
+        ecall
+        bne     a0, zero, done
+        addi    a0, zero, 0
+        addi    a7, zero, 9
+        ecall
+        lui     s8, 50149
+        addi    s8, s8, 751
+        lui     s9, 326892
+        addi    s9, s9, 1746
+        lui     s10, 737937
+        addi    s10, s10, 441
+        lui     s11, 54592
+        addi    s11, s11, 1303
+        addi    a0, zero, 0
+        addi    a7, zero, 8
+        ecall
+        addi    a0, zero, 0
+        addi    a1, zero, 0
+        addi    a7, zero, 10
+        ecall
+        bne     a0, zero, done
+        addi    a0, zero, 0
+        addi    a7, zero, 9
+        ecall
+        jal     zero, main
+done:   addi    a0, zero, 0
+        addi    a7, zero, 1
+        ecall
+other:  addi    a0, zero, 0
+        addi    a7, zero, 8
+        ecall
+        addi    a0, zero, 0
+        addi    a1, zero, 0
+        addi    a2, zero, 1
+        addi    a7, zero, 11
+        ecall
+        addi    a0, zero, 0
+        addi    a7, zero, 9
+        ecall
+        addi    a0, zero, 0
+        addi    a7, zero, 1
+        ecall
+";

@@ -9,7 +9,9 @@ use Rattle.ir_runs.specs.Run.{Step}
 use Rattle.ir_flat.specs.Flat.{tables}
 use Rattle.ir_store.specs.Nodes.{SourcedFlat}
 use Rattle.ir_graph.specs.Hangs.{IsHangOf, AreMarked}
+use Rattle.ir_graph.specs.Nodes.{AreNodes}
 use Rattle.ir_graph.specs.Reached.{AllReached}
+use Rattle.ir_graph.specs.Standing.{AllFound, NeedsSwitches}
 use Rattle.ir_graph.specs.Setup.{Setup, IsCountedOf}
 use Rattle.ir_graph.specs.Stops.{MayStop}
 use Rattle.ir_graph.specs.declared.nodes.Bounds.{Bounds}
@@ -78,16 +80,19 @@ pub record AreHangs (setup : Setup) (flats : List SourcedFlat) (hangs : ℕ) (ha
 pub record IsExplored (setup : Setup) (bounds : Bounds) (most : ℕ) (e : Explored) : Type 0 where
   -- however it ended, what is listed is right, and complete up to a number of switches
   pub explored : AreExplored setup e.states.graph.flats.items e.levels e.outcomes.items
+  -- its states are different ones of the guest at rest, to each of which a run leads
+  pub nodes : AreNodes e.states.graph.flats.items
   pub reached : AllReached setup e.states.graph.flats.items
+  -- once it is finished, they are all: each run that counts and ends where all threads rest ends at one of them
+  pub found : e.ended ≡ Finished → AllFound setup e.states.graph.flats.items
   -- once it is finished, an outcome is listed exactly where some complete run of the guest has it
   pub all : e.ended ≡ Finished → AreAll setup e.states.graph.flats.items e.outcomes.items
   -- so are its hangs: one is shown exactly where some run of the guest can't be brought to an end
   pub hangs : e.ended ≡ Finished → AreHangs setup e.states.graph.flats.items e.hangs e.hang
   pub unknown : (e.ended ≡ Finished → ⊥) → e.hang ≡ None
-  -- it ended so only where all levels that are wanted are gone over, and some state was found in the last of them
+  -- it ended so only where all levels that are wanted are gone over, and some state needs as many switches as there may be
   pub covered : e.ended ≡ Covered → e.levels ≡ suc most
-  pub left : e.ended ≡ Covered
-      → (v : ℕ) × (n : Origin) × (slice_get e.states.search.found.nodes.items v ≡ Some n) × (n.level ≡ most)
+  pub left : e.ended ≡ Covered → (v : ℕ) × (s : SourcedFlat) × (slice_get e.states.graph.flats.items v ≡ Some s) × NeedsSwitches setup s most
   -- It stopped only where the states are as many as may be, memory ends, a run leads to a thread that is not followed, or an order that was
   -- found doesn't lead to its state once more.
   pub stopped : (why : Stop) → e.ended ≡ Stopped why

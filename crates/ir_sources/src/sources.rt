@@ -1,6 +1,6 @@
 //! What answers a thread that is recorded in a given order.
 
-ghost use Rattle.std.specs.Prelude.{◌≡◌, ◌<◌, ◌≤◌, ◌+◌, ◌^◌, true, false, IfOk, IfSome, None};
+ghost use Rattle.std.specs.Prelude.{◌≡◌, ◌<◌, ◌≤◌, ◌+◌, ◌^◌, [], ◌∷◌, true, false, length, IfOk, IfSome, None};
 ghost use Rattle.ir_sources.specs.Sources.{Source, source, given};
 ghost use Rattle.ir_thread.specs.State.{is_result};
 ghost use Rattle.ir_runs.specs.declared.env_kind.EnvKind.TheVariants.{Clock, Random, Input};
@@ -118,7 +118,8 @@ impl<'a> Sources<'a> {
 
     /// Whether all that is still to come is the same.
     pub fn same(&self, other: &Sources<'_>) -> bool
-        ensures { result ≡ true → self.now ≡ other.now }
+        ensures same { result ≡ true → self.now ≡ other.now }
+        ensures other { result ≡ false → self.now ≡ other.now → ⊥ }
     {
         self.ticks == other.ticks
             && self.random == other.random
@@ -127,7 +128,9 @@ impl<'a> Sources<'a> {
     }
 
     /// Three numbers that are the same where all that is still to come is.
-    pub fn mark(&self) -> [u64; 3] {
+    pub fn mark(&self) -> [u64; 3]
+        ensures { result ≡ self.now.ticks ∷ self.now.random.state ∷ length self.now.input ∷ [] }
+    {
         [
             self.ticks as u64,
             self.random.state(),

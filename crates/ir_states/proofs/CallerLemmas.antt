@@ -2,13 +2,13 @@
 -- what threads do between their entries may come first
 pub use Rattle.ir_states.proofs.First.{own_step_may_come_first}
 -- runs that count
-pub use Rattle.ir_states.proofs.Rest.{counting_run_is_run, run_that_goes_ahead_counts, counts_append, goes_ahead_append, entering_append, run_that_goes_ahead_enters_nothing, state_invariant_after_counting_run, steps_ahead_may_come_first, nothing_goes_ahead_if_done, BroughtWhole, steps_ahead_may_come_first_in_complete_run, AnswersFit, ComesToRest, state_comes_to_rest_if_a_run_completes}
+pub use Rattle.ir_states.proofs.Rest.{counting_run_is_run, run_that_goes_ahead_counts, counts_append, goes_ahead_append, entering_append, run_that_goes_ahead_enters_nothing, state_invariant_after_counting_run, steps_ahead_may_come_first, nothing_goes_ahead_if_done, nothing_goes_ahead_if_at_rest, BroughtWhole, steps_ahead_may_come_first_in_complete_run, AnswersFit, ComesToRest, state_comes_to_rest_if_a_run_completes}
 -- runs lead over nodes
 pub use Rattle.ir_states.proofs.Closed.{goes_ahead_from_alike_state_to_alike_end, counting_run_arrives_along_chain, RunByEntries, walk, shows}
 -- a finished search has the outcomes, all and no others
 pub use Rattle.ir_states.proofs.Finished.{counting_run_arrives_along_chain_of_its_entries, done_end_is_alike_to_arrived_node, is_done_from_alike_state, finds, found, exact}
 -- what a search has met by levels
-pub use Rattle.ir_states.proofs.Within.{outcome_within_switches_is_of_done_node, Levels, OpenBy, levels_with_one_added, IsFollowed, covers_after_first_level, covers_after_next_level, path_append, last_thread_of, changes_of_append_one_adds_one_unless_last_thread}
+pub use Rattle.ir_states.proofs.Within.{OpenedForTurn, run_within_switches_arrives_at_open_node, outcome_within_switches_is_of_done_node, Levels, OpenBy, levels_with_one_added, IsFollowed, covers_after_first_level, covers_after_next_level, path_append, last_thread_of, changes_of_append_one_adds_one_unless_last_thread}
 -- hangs
 pub use Rattle.ir_states.proofs.Hangs.{Completes, back, hangs, lost_node_has_no_way, done_node_has_way, node_has_way_if_next_has}
 -- states that look the same are alike

@@ -100,6 +100,12 @@ pub nothing_goes_ahead_if_done : {T : Type 0} (m : Machine T) (answers : Answers
 nothing_goes_ahead_if_done m answers s done [] goes = refl
 nothing_goes_ahead_if_done m answers s done (e ∷ left) goes = absurd (subst (λ q. is_own q ≡ true → ⊥) (sym (done e.0)) (λ h. cc h) goes.0)
 
+-- where all are at rest nothing goes on
+pub nothing_goes_ahead_if_at_rest : {T : Type 0} (m : Machine T) (answers : Answers T) (s : State T) → IsAtRest m s → (left : List Step)
+    → GoesAhead m answers s left → left ≡ []
+nothing_goes_ahead_if_at_rest m answers s rest [] goes = refl
+nothing_goes_ahead_if_at_rest m answers s rest (e ∷ left) goes = absurd (let h = rest e.0 in let k = goes.0 in cc (h, k))
+
 -- the run with the steps `ahead` first, of a complete run
 pub record BroughtWhole {T : Type 0} (m : Machine T) (answers : Answers T) (s : State T) (ahead run : List Step) : Type 0 where
   pub rest : List Step

@@ -5,3 +5,6 @@ mod Looks
 mod Stored
 mod Placed
 pub mod CallerLemmas
+mod Found
+mod Alike
+mod Numbered

@@ -2,3 +2,5 @@ pub mod Rows
 pub mod Table
 pub mod Nodes
 pub mod Places
+pub mod Hashes
+pub mod Words

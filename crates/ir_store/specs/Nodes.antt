@@ -1,5 +1,5 @@
 -- States whose threads, beside what answers them, and words are kept in tables.
-use Rattle.std.specs.Prelude.{◌≡◌, ◌<◌, ◌+◌, ◌*◌, ◌^◌, ℕ, List, [], length, map, slice_set}
+use Rattle.std.specs.Prelude.{◌≡◌, ◌<◌, ◌+◌, ◌*◌, ◌^◌, ℕ, List, [], length, map, Some, slice_get, slice_set}
 use Rattle.std.specs.List.{AllByRecursion, slice_index_or}
 use Rattle.ir_image.specs.declared.form.ImageForm.{ImageForm}
 use Rattle.ir_thread.specs.State.{ThreadState}
@@ -11,6 +11,7 @@ use Rattle.ir_flat.specs.Next.{with_thread, with_object}
 use Rattle.ir_freeze.specs.Twins.{AreTwins}
 use Rattle.ir_seen.specs.Seen.{Same, view}
 use Rattle.ir_store.specs.declared.spot.Spot.{Spot}
+use Rattle.ir_store.specs.Hashes.{empty_hash, after_numbers, IsFoundBy}
 use Rattle.ir_store.specs.Table.{no_source, threads_at, sources_at, AreIn, Keeps}
 
 -- a guest's state, and what answers each of its threads
@@ -104,3 +105,30 @@ LookSame x y = AreTwins x.0 y.0 → (code : List ℕ) → Same {S = Source} code
 pub record AreSameLooks (s u : SourcedFlat) : Type 0 where
   pub threads : (t : ℕ) → t < length s.flat.threads → LookSame (sourced_thread s t) (sourced_thread u t)
   pub words : (o : ℕ) → (cell_of s.flat o).words ≡ (cell_of u.flat o).words
+
+-- two moments of one guest: the same threads and objects
+pub record AreMoments (s u : SourcedFlat) : Type 0 where
+  pub threads : length u.flat.threads ≡ length s.flat.threads
+  pub objects : length u.flat.objects ≡ length s.flat.objects
+  pub twins : (t : ℕ) → AreTwins (thread_of s.flat t) (thread_of u.flat t)
+
+-- the numbers that stand for threads of these numbers
+abbrev pub looks_in : List ℕ → List ℕ → List ℕ
+looks_in looks numbers = map (λ n. slice_index_or looks n 0) numbers
+
+-- the numbers of the words that objects have
+abbrev pub words_in : List Spot → List ℕ
+words_in objects = map (λ s. s.words) objects
+
+-- the hash of what the threads see of a state
+abbrev pub node_hash : List ℕ → Node → ℕ
+node_hash looks node = after_numbers (after_numbers empty_hash (looks_in looks node.threads)) (words_in node.objects)
+
+-- each state is found by it
+abbrev pub AreNodesFound : List (ℕ × ℕ) → List ℕ → List Node → Type 0
+AreNodesFound places looks nodes = (v : ℕ) (node : Node) → slice_get nodes v ≡ Some node → IsFoundBy places (node_hash looks node) v
+
+-- two states have the same numbers
+pub record AreSameNumbers (looks : List ℕ) (a b : Node) : Type 0 where
+  pub threads : looks_in looks a.threads ≡ looks_in looks b.threads
+  pub objects : words_in a.objects ≡ words_in b.objects

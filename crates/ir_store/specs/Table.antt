@@ -1,11 +1,12 @@
 -- Threads beside what answers them, by their numbers.
-use Rattle.std.specs.Prelude.{◌≡◌, ◌<◌, ◌&&◌, ℕ, Bool, true, false, List, [], ◌∷◌, length, map, Some, slice_get}
+use Rattle.std.specs.Prelude.{◌≡◌, ◌<◌, ◌&&◌, ℕ, Bool, true, false, List, [], ◌∷◌, length, map, Some, slice_get, if◌then◌else◌}
 use Rattle.std.specs.List.{slice_index_or, AllByRecursion}
 use Rattle.ir_image.specs.declared.form.ImageForm.{ImageForm}
 use Rattle.ir_thread.specs.State.{ThreadState}
 use Rattle.ir_sources.specs.Sources.{Source, source}
 use Rattle.ir_flat.specs.Flat.{idle}
 use Rattle.ir_freeze.specs.Frozen.{frozen, is_over}
+use Rattle.ir_store.specs.Hashes.{empty_hash, after_numbers, IsFoundBy}
 
 -- what answers a number that is no thread's
 abbrev pub no_source : Source
@@ -63,3 +64,39 @@ pub record LooksLike (start : List ℕ) (items : List (ThreadState × Source)) (
 abbrev pub AreLooks : List ℕ → List (ThreadState × Source) → List ℕ → Type 0
 AreLooks start items looks = (n k : ℕ) (x : ThreadState × Source) → slice_get looks n ≡ Some k → slice_get items n ≡ Some x
     → LooksLike start items k x
+
+-- two threads look the same beside what answers them: they have the same bytes, and are answered by the same source unless they are over
+pub record AreLike (start : List ℕ) (x y : ThreadState × Source) : Type 0 where
+  pub bytes : frozen start x.0 [] ≡ frozen start y.0 []
+  pub source : is_over y.0 ≡ false → x.1 ≡ y.1
+
+-- what is hashed of a source
+abbrev pub mark_of : Source → List ℕ
+mark_of source = source.ticks ∷ source.random.state ∷ length source.input ∷ []
+
+-- the hash of what is seen of a thread beside what answers it
+abbrev pub seen_hash : List ℕ → ThreadState × Source → ℕ
+seen_hash start x =
+    if is_over x.0 then after_numbers empty_hash (frozen start x.0 [])
+    else after_numbers (after_numbers empty_hash (frozen start x.0 [])) (mark_of x.1)
+
+-- the hash of all of it
+abbrev pub whole_hash : List ℕ → ThreadState × Source → ℕ
+whole_hash start x = after_numbers (after_numbers (seen_hash start x) (x.0.number ∷ x.0.steps ∷ x.0.events ∷ [])) (mark_of x.1)
+
+-- each thread beside what answers it is found by the hash of all of it, and no two numbers have equal ones
+pub record AreOnce (whole : List (ℕ × ℕ)) (t : Table) : Type 0 where
+  pub found : (n : ℕ) (x : ThreadState × Source) → slice_get t.items n ≡ Some x → IsFoundBy whole (whole_hash t.start x) n
+  pub once : (m n : ℕ) (x : ThreadState × Source) → slice_get t.items m ≡ Some x → slice_get t.items n ≡ Some x → m ≡ n
+
+-- the number that stands for a thread is found by the hash of what is seen of it, and stands for all threads that look the same
+pub record HaveOneLook (seen : List (ℕ × ℕ)) (t : Table) : Type 0 where
+  pub each : length t.looks ≡ length t.items
+  pub found : (n k : ℕ) (x : ThreadState × Source) → slice_get t.items n ≡ Some x → slice_get t.looks n ≡ Some k
+      → IsFoundBy seen (seen_hash t.start x) k
+  pub one : (m n j k : ℕ) (x y : ThreadState × Source) → slice_get t.items m ≡ Some x → slice_get t.items n ≡ Some y
+      → slice_get t.looks m ≡ Some j → slice_get t.looks n ≡ Some k → AreLike t.start x y → j ≡ k
+
+-- the threads that look like this one have this number in common
+abbrev pub StandsFor : Table → ThreadState × Source → ℕ → Type 0
+StandsFor t x k = (n j : ℕ) (y : ThreadState × Source) → slice_get t.items n ≡ Some y → slice_get t.looks n ≡ Some j → AreLike t.start y x → j ≡ k

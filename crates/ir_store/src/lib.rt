@@ -6,6 +6,7 @@ mod bounds;
 mod compare;
 mod hash;
 mod hints;
+mod index;
 mod kept;
 mod node;
 mod number;

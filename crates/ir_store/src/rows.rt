@@ -49,7 +49,8 @@ impl<'a> Model for Rows<'a> {
 
 // Whether what answers a thread is the same, unless it is over.
 fn same_unless_over(thread: &Thread, first: &Sources<'_>, second: &Sources<'_>) -> bool
-    ensures { result ≡ true → is_over thread.now ≡ false → first.now ≡ second.now }
+    ensures same { result ≡ true → is_over thread.now ≡ false → first.now ≡ second.now }
+    ensures other { result ≡ false → (is_over thread.now ≡ false → first.now ≡ second.now) → ⊥ }
 {
     over(thread) || first.same(second)
 }
@@ -129,7 +130,8 @@ impl<'a> Rows<'a> {
     ) -> Result<bool, AllocError>
         requires within { n < length self.now.items }
         requires bytes { bytes.now ≡ frozen self.now.start thread.now [] }
-        ensures { IfOk result (λ like. like ≡ true → LooksLike self.now.start self.now.items n (thread.now, source.now)) }
+        ensures like { IfOk result (λ like. like ≡ true → LooksLike self.now.start self.now.items n (thread.now, source.now)) }
+        ensures other { IfOk result (λ like. like ≡ false → LooksLike self.now.start self.now.items n (thread.now, source.now) → ⊥) }
     {
         let kept = self.source(n)?;
         if !same_unless_over(thread, &kept, source) {
@@ -152,12 +154,18 @@ impl<'a> Rows<'a> {
     /// The number of a thread that looks the same.
     pub fn look(&self, n: usize) -> usize
         requires { n < length self.now.items }
-        ensures number { slice_get self.now.looks n ≡ Some result }
+        ensures { slice_get self.now.looks n ≡ Some result }
+    {
+        self.rows[n].look()
+    }
+
+    /// What is so of each thread.
+    pub fn each(&self)
         ensures looks { AreLooks self.now.start self.now.items self.now.looks }
         ensures size { length self.now.start ≡ memory_size }
         ensures bounded { AllByRecursion (λ (x : ThreadState × Source). IsBounded x.0) self.now.items }
     {
-        self.rows[n].look()
+        let _ = &self.rows;
     }
 
     /// Adds a thread beside what answers it, and the number of one that looks the same.

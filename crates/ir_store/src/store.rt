@@ -1,15 +1,16 @@
 //! States by their numbers.
 
-ghost use Rattle.std.specs.Prelude.{◌≡◌, ◌<◌, ◌++◌, [], ◌∷◌, ℕ, length, map, Some, slice_get, IfOk, IfSome, OnOk, OnErr};
+ghost use Rattle.std.specs.Prelude.{◌≡◌, ◌<◌, ◌++◌, [], ◌∷◌, ℕ, List, length, map, true, false, Some, None, slice_get, IfOk, IfSome, OnOk, OnErr};
 ghost use Rattle.std.specs.List.{slice_index_or};
 ghost use Rattle.ir_flat.specs.Flat.{cell_of};
 ghost use Rattle.ir_freeze.specs.Frozen.{is_over};
 ghost use Rattle.ir_mach.specs.Core.{memory_size};
-ghost use Rattle.ir_store.specs.Nodes.{SourcedFlat, sourced_thread, with_turn, IsSourced, cell_in, sourced_in, AreKept, AreSameLooks, Grows, IsNode, IsWithin, Stored};
-ghost use Rattle.ir_store.specs.Table.{HaveForm, all_over, idle_beside};
+ghost use Rattle.ir_store.specs.Nodes.{SourcedFlat, sourced_thread, with_turn, IsSourced, cell_in, sourced_in, AreKept, AreSameLooks, AreSameNumbers, AreMoments, AreNodesFound, Grows, IsNode, IsWithin, Stored};
+ghost use Rattle.ir_store.specs.Places.{no_node};
+ghost use Rattle.ir_store.specs.Table.{HaveForm, all_over, idle_beside, AreIn};
 
 use crate::compare::{hash_of, same_looks};
-use crate::hints::Hints;
+use crate::index::{Index, MOST_STEPS};
 use crate::kept::Kept;
 use crate::node::Node;
 use crate::number::short;
@@ -19,6 +20,7 @@ use crate::spot::Spot;
 use crate::table::Table;
 use crate::words::Words;
 use ir_flat::Flat;
+use ir_freeze::tells_apart;
 use ir_image::ImageForm;
 use ir_object::Object;
 use std::alloc::{AllocError, Global};
@@ -31,7 +33,7 @@ pub struct Store<'a> {
     table: Table<'a>,
     words: Words,
     nodes: Kept<'a>,
-    hints: Hints,
+    index: Index,
 }
 
 impl<'a> Model for Store<'a> {
@@ -44,7 +46,37 @@ impl<'a> Model for Store<'a> {
       nodes = s.nodes;
     } };
 
-    ghost invariant = { λ s. AreKept (record { threads = s.table.items; words = s.words }) s.nodes };
+    ghost invariant = { λ s. AreKept (record { threads = s.table.items; words = s.words }) s.nodes × AreNodesFound s.index s.table.looks s.nodes };
+}
+
+// The number of a state that looks the same as one by numbers.
+fn find_node(table: &Table<'_>, nodes: &Kept<'_>, index: &Index, node: &Node<'_>) -> Option<usize>
+    requires node { AreIn table.now.items node.now.threads }
+    requires nodes { (v : ℕ) → v < length nodes.now → AreIn table.now.items (slice_index_or nodes.now v no_node).threads }
+    requires found { AreNodesFound index.now table.now.looks nodes.now }
+    ensures within { IfSome result (λ v. v < length nodes.now) }
+    ensures alike { IfSome result (λ v. (words : List (List ℕ)) → AreSameLooks (sourced_in (record { threads = table.now.items; words = words }) node.now) (sourced_in (record { threads = table.now.items; words = words }) (slice_index_or nodes.now v no_node))) }
+    ensures none { result ≡ None → (v : ℕ) → v < length nodes.now → AreSameNumbers table.now.looks node.now (slice_index_or nodes.now v no_node) → ⊥ }
+{
+    let hash = hash_of(table, node);
+    for steps in 0..MOST_STEPS {
+        let v = index.at(hash, steps)?;
+        if is_alike(table, nodes, v, node) {
+            return Some(v);
+        }
+    }
+    None
+}
+
+// Whether the state of a number looks the same as one by numbers.
+fn is_alike(table: &Table<'_>, nodes: &Kept<'_>, v: usize, node: &Node<'_>) -> bool
+    requires node { AreIn table.now.items node.now.threads }
+    requires nodes { (v : ℕ) → v < length nodes.now → AreIn table.now.items (slice_index_or nodes.now v no_node).threads }
+    ensures within { result ≡ true → v < length nodes.now }
+    ensures same { result ≡ true → (words : List (List ℕ)) → AreSameLooks (sourced_in (record { threads = table.now.items; words = words }) node.now) (sourced_in (record { threads = table.now.items; words = words }) (slice_index_or nodes.now v no_node)) }
+    ensures other { result ≡ false → v < length nodes.now → AreSameNumbers table.now.looks node.now (slice_index_or nodes.now v no_node) → ⊥ }
+{
+    v < nodes.len() && same_looks(table, node, nodes.threads(v), nodes.objects(v))
 }
 
 impl<'a> Store<'a> {
@@ -62,7 +94,7 @@ impl<'a> Store<'a> {
             table: Table::new(alloc, form, start)?,
             words: Words::new(alloc),
             nodes: Kept::new(alloc),
-            hints: Hints::new(alloc),
+            index: Index::new(alloc),
         })
     }
 
@@ -158,6 +190,7 @@ impl<'a> Store<'a> {
         ensures within { IfOk result (λ n. n < length self.new.shared.threads) }
         ensures found { IfOk result (λ n. slice_index_or self.new.shared.threads n idle_beside ≡ thread.now) }
     {
+        self.table.each();
         self.table.add(&thread.thread, &thread.source)
     }
 
@@ -228,6 +261,7 @@ impl<'a> Store<'a> {
         ensures state { IfOk result (λ node. sourced_in self.new.shared node ≡ state.now) }
     {
         let flat = &state.flat;
+        self.table.each();
         let threads = self
             .table
             .add_all(flat.threads(), state.sources.as_slice())?;
@@ -239,20 +273,18 @@ impl<'a> Store<'a> {
         })
     }
 
-    /// A state that looks the same as one by numbers, if the hint for its hash leads to one.
+    /// A state that looks the same as one by numbers.
     pub fn find(&self, node: &Node<'_>) -> Option<usize>
         requires { IsWithin self.now.shared node.now }
         ensures within { IfSome result (λ v. v < length self.now.items) }
         ensures alike { IfSome result (λ v. (s : SourcedFlat) → slice_get self.now.items v ≡ Some s → AreSameLooks (sourced_in self.now.shared node.now) s) }
+        ensures sourced { (v : ℕ) (s : SourcedFlat) → slice_get self.now.items v ≡ Some s → IsSourced s }
+        ensures none { result ≡ None → (v : ℕ) (s : SourcedFlat) → slice_get self.now.items v ≡ Some s → AreMoments (sourced_in self.now.shared node.now) s → AreSameLooks (sourced_in self.now.shared node.now) s → ⊥ }
     {
-        let hash = hash_of(&self.table, node);
-        let v = self.hints.number(hash, self.nodes.len())?;
-        let threads = self.nodes.threads(v);
-        if same_looks(&self.table, node, threads, self.nodes.objects(v)) {
-            Some(v)
-        } else {
-            None
-        }
+        tells_apart();
+        self.table.each();
+        self.words.each_once();
+        find_node(&self.table, &self.nodes, &self.index, node)
     }
 
     /// Adds a state by numbers.
@@ -267,7 +299,8 @@ impl<'a> Store<'a> {
         ensures shared { self.new.shared ≡ self.old.shared }
     {
         let hash = hash_of(&self.table, &node);
-        self.hints.note(hash, self.nodes.len())?;
-        self.nodes.push(node)
+        self.index.note(hash, self.nodes.len())?;
+        self.nodes.push(node)?;
+        Ok(())
     }
 }

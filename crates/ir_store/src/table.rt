@@ -1,17 +1,20 @@
 //! Threads beside what answers them, by their numbers, each of which is kept once.
 
-ghost use Rattle.std.specs.Prelude.{◌≡◌, ◌⊎◌, ◌<◌, [], length, true, Some, slice_get, IfOk, IfSome};
-ghost use Rattle.std.specs.List.{slice_index_or};
+ghost use Rattle.std.specs.Prelude.{◌≡◌, ◌≢◌, ◌⊎◌, ◌<◌, ℕ, List, [], ◌∷◌, length, true, false, Some, None, slice_get, IfOk, IfSome};
+ghost use Rattle.std.specs.List.{slice_index_or, AllByRecursion};
 ghost use Rattle.ir_freeze.specs.Frozen.{frozen, is_over};
+ghost use Rattle.ir_freeze.specs.Twins.{IsBounded};
 ghost use Rattle.ir_mach.specs.Core.{memory_size};
 ghost use Rattle.ir_store.specs.Nodes.{LookSame};
-ghost use Rattle.ir_store.specs.Table.{HaveForm, idle_beside, threads_at, sources_at, all_over, AreIn, Keeps, LooksLike};
+ghost use Rattle.ir_store.specs.Hashes.{IsFoundBy, KeepsFound};
+ghost use Rattle.ir_store.specs.Hashes as hashes;
+ghost use Rattle.ir_store.specs.Table.{HaveForm, idle_beside, threads_at, sources_at, all_over, AreIn, Keeps, LooksLike, AreLike, AreOnce, HaveOneLook, StandsFor};
 ghost use Rattle.ir_store.specs.Table as table;
 ghost use Rattle.ir_sources.specs.Sources.{Source};
 ghost use Rattle.ir_thread.specs.State.{ThreadState};
 
 use crate::hash::{after_bytes, after_number, empty_hash};
-use crate::hints::Hints;
+use crate::index::{Index, MOST_STEPS};
 use crate::number::short;
 use crate::rows::Rows;
 use crate::sourced::SourcedThread;
@@ -28,24 +31,29 @@ use std::marker::Model;
 pub struct Table<'a> {
     alloc: Global,
     rows: Rows<'a>,
-    hints: Hints,
-    looks: Hints,
+    index: Index,
+    seen: Index,
 }
 
 impl<'a> Model for Table<'a> {
     ghost Value = { table.Table };
 
     ghost view = { λ t. t.rows };
+
+    ghost invariant = { λ t. AreOnce t.index t.rows × HaveOneLook t.seen t.rows };
 }
 
 fn same_number(first: usize, second: usize) -> bool
-    ensures { result ≡ true → first ≡ second }
+    ensures same { result ≡ true → first ≡ second }
+    ensures other { result ≡ false → first ≢ second }
 {
     first == second
 }
 
 // The hash, after what answers a thread too.
-fn after_source(hash: u64, source: &Sources<'_>) -> u64 {
+fn after_source(hash: u64, source: &Sources<'_>) -> u64
+    ensures { result ≡ hashes.after_numbers hash (table.mark_of source.now) }
+{
     let [ticks, random, rest] = source.mark();
     let hash = after_number(hash, ticks);
     let hash = after_number(hash, random);
@@ -53,7 +61,9 @@ fn after_source(hash: u64, source: &Sources<'_>) -> u64 {
 }
 
 // The hash of what can be seen of a thread: of its bytes, and of what answers it, unless it is over.
-fn seen_hash(bytes: &[u8], thread: &Thread, source: &Sources<'_>) -> u64 {
+fn seen_hash(bytes: &[u8], thread: &Thread, source: &Sources<'_>) -> u64
+    ensures { (start : List ℕ) → bytes.now ≡ frozen start thread.now [] → result ≡ table.seen_hash start (thread.now, source.now) }
+{
     let hash = after_bytes(empty_hash(), bytes);
     if over(thread) {
         hash
@@ -63,11 +73,128 @@ fn seen_hash(bytes: &[u8], thread: &Thread, source: &Sources<'_>) -> u64 {
 }
 
 // The hash of a thread beside what answers it, where what can be seen of it has this one.
-fn whole_hash(seen: u64, thread: &Thread, source: &Sources<'_>) -> u64 {
+fn whole_hash(seen: u64, thread: &Thread, source: &Sources<'_>) -> u64
+    ensures { (start : List ℕ) → seen ≡ table.seen_hash start (thread.now, source.now) → result ≡ table.whole_hash start (thread.now, source.now) }
+{
     let hash = after_number(seen, thread.number() as u64);
     let hash = after_number(hash, thread.steps());
     let hash = after_number(hash, thread.events() as u64);
     after_source(hash, source)
+}
+
+// Whether the thread of a number is this one, and is answered so.
+fn is_at(
+    rows: &Rows<'_>,
+    n: usize,
+    thread: &Thread,
+    source: &Sources<'_>,
+) -> Result<bool, AllocError>
+    requires { thread.now.form ≡ rows.now.form }
+    ensures same { IfOk result (λ is. is ≡ true → slice_get rows.now.items n ≡ Some (thread.now, source.now)) }
+    ensures other { IfOk result (λ is. is ≡ false → slice_get rows.now.items n ≡ Some (thread.now, source.now) → ⊥) }
+{
+    if n >= rows.len() {
+        return Ok(false);
+    }
+    let answers = rows.source(n)?;
+    let kept = rows.thread(n)?;
+    Ok(answers.same(source) && same_thread(&kept, thread))
+}
+
+// Whether the thread of a number looks like this one.
+fn is_like(
+    rows: &Rows<'_>,
+    n: usize,
+    bytes: &[u8],
+    thread: &Thread,
+    source: &Sources<'_>,
+) -> Result<bool, AllocError>
+    requires { bytes.now ≡ frozen rows.now.start thread.now [] }
+    ensures like { IfOk result (λ like. like ≡ true → LooksLike rows.now.start rows.now.items n (thread.now, source.now)) }
+    ensures other { IfOk result (λ like. like ≡ false → LooksLike rows.now.start rows.now.items n (thread.now, source.now) → ⊥) }
+{
+    if n >= rows.len() {
+        return Ok(false);
+    }
+    let like = rows.looks_like(n, bytes, thread, source)?;
+    Ok(like)
+}
+
+// The number of a thread beside what answers it, which have this hash.
+fn find(
+    rows: &Rows<'_>,
+    index: &Index,
+    hash: u64,
+    thread: &Thread,
+    source: &Sources<'_>,
+) -> Result<Option<usize>, AllocError>
+    requires form { thread.now.form ≡ rows.now.form }
+    requires found { (n : ℕ) → slice_get rows.now.items n ≡ Some (thread.now, source.now) → IsFoundBy index.now hash n }
+    ensures found { IfOk result (λ found. IfSome found (λ n. slice_get rows.now.items n ≡ Some (thread.now, source.now))) }
+    ensures none { IfOk result (λ found. found ≡ None → (n : ℕ) → slice_get rows.now.items n ≡ Some (thread.now, source.now) → ⊥) }
+{
+    for steps in 0..MOST_STEPS {
+        let Some(n) = index.at(hash, steps) else {
+            return Ok(None);
+        };
+        if is_at(rows, n, thread, source)? {
+            return Ok(Some(n));
+        }
+    }
+    Ok(None)
+}
+
+// The number of a thread that looks like this one, where this is the hash of what is seen of it.
+fn look_for(
+    rows: &Rows<'_>,
+    seen: &Index,
+    hash: u64,
+    bytes: &[u8],
+    thread: &Thread,
+    source: &Sources<'_>,
+) -> Result<Option<usize>, AllocError>
+    requires bytes { bytes.now ≡ frozen rows.now.start thread.now [] }
+    requires look { HaveOneLook seen.now rows.now }
+    requires hash { hash ≡ table.seen_hash rows.now.start (thread.now, source.now) }
+    ensures like { IfOk result (λ like. IfSome like (λ m. LooksLike rows.now.start rows.now.items m (thread.now, source.now))) }
+    ensures none { IfOk result (λ like. like ≡ None → (n : ℕ) (x : ThreadState × Source) → slice_get rows.now.items n ≡ Some x → AreLike rows.now.start x (thread.now, source.now) → ⊥) }
+{
+    rows.each();
+    for steps in 0..MOST_STEPS {
+        let Some(m) = seen.at(hash, steps) else {
+            return Ok(None);
+        };
+        if is_like(rows, m, bytes, thread, source)? {
+            return Ok(Some(m));
+        }
+    }
+    Ok(None)
+}
+
+// The number that stands for a thread: that of a thread that looks the same, or else of the next one, which is noted.
+fn look_of(
+    rows: &Rows<'_>,
+    seen: &mut Index,
+    hash: u64,
+    bytes: &[u8],
+    thread: &Thread,
+    source: &Sources<'_>,
+) -> Result<usize, AllocError>
+    requires bytes { bytes.now ≡ frozen rows.now.start thread.now [] }
+    requires look { HaveOneLook seen.old rows.now }
+    requires hash { hash ≡ table.seen_hash rows.now.start (thread.now, source.now) }
+    ensures keeps { KeepsFound seen.old seen.new }
+    ensures found { IfOk result (λ k. IsFoundBy seen.new hash k) }
+    ensures like { IfOk result (λ k. (k ≡ length rows.now.items) ⊎ LooksLike rows.now.start rows.now.items k (thread.now, source.now)) }
+    ensures one { IfOk result (λ k. StandsFor rows.now (thread.now, source.now) k) }
+{
+    rows.each();
+    if let Some(m) = look_for(rows, seen, hash, bytes, thread, source)? {
+        return Ok(rows.look(m));
+    }
+    let n = rows.len();
+    seen.note(hash, n)?;
+    Ok(n)
 }
 
 impl<'a> Table<'a> {
@@ -82,61 +209,15 @@ impl<'a> Table<'a> {
         Ok(Table {
             alloc,
             rows: Rows::new(alloc, form, start)?,
-            hints: Hints::new(alloc),
-            looks: Hints::new(alloc),
+            index: Index::new(alloc),
+            seen: Index::new(alloc),
         })
-    }
-
-    // Whether the thread of a number is this one, and is answered so.
-    fn is(&self, n: usize, thread: &Thread, source: &Sources<'_>) -> Result<bool, AllocError>
-        requires within { n < length self.now.items }
-        requires form { thread.now.form ≡ self.now.form }
-        ensures { IfOk result (λ is. is ≡ true → slice_get self.now.items n ≡ Some (thread.now, source.now)) }
-    {
-        let answers = self.rows.source(n)?;
-        let kept = self.rows.thread(n)?;
-        Ok(answers.same(source) && same_thread(&kept, thread))
-    }
-
-    // The number of a thread beside what answers it, if the hint for its hash leads to it.
-    fn find(
-        &self,
-        hash: u64,
-        thread: &Thread,
-        source: &Sources<'_>,
-    ) -> Result<Option<usize>, AllocError>
-        requires { thread.now.form ≡ self.now.form }
-        ensures { IfOk result (λ found. IfSome found (λ n. slice_get self.now.items n ≡ Some (thread.now, source.now))) }
-    {
-        let Some(n) = self.hints.number(hash, self.rows.len()) else {
-            return Ok(None);
-        };
-        let is = self.is(n, thread, source)?;
-        if is { Ok(Some(n)) } else { Ok(None) }
-    }
-
-    // The number of a thread that looks like this one, if the hint for their hash leads to one, else that of the next thread.
-    fn look_for(
-        &self,
-        hash: u64,
-        bytes: &[u8],
-        thread: &Thread,
-        source: &Sources<'_>,
-    ) -> Result<usize, AllocError>
-        requires { bytes.now ≡ frozen self.now.start thread.now [] }
-        ensures { IfOk result (λ look. (look ≡ length self.now.items) ⊎ LooksLike self.now.start self.now.items look (thread.now, source.now)) }
-    {
-        let count = self.rows.len();
-        let Some(n) = self.looks.number(hash, count) else {
-            return Ok(count);
-        };
-        let like = self.rows.looks_like(n, bytes, thread, source)?;
-        if like { Ok(n) } else { Ok(count) }
     }
 
     // Adds a new thread with these bytes beside what answers it, and says its number.
     fn put(
         &mut self,
+        whole: u64,
         seen: u64,
         bytes: &[u8],
         thread: &Thread,
@@ -144,15 +225,18 @@ impl<'a> Table<'a> {
     ) -> Result<usize, AllocError>
         requires form { thread.now.form ≡ self.old.form }
         requires bytes { bytes.now ≡ frozen self.old.start thread.now [] }
+        requires whole { whole ≡ table.whole_hash self.old.start (thread.now, source.now) }
+        requires seen { seen ≡ table.seen_hash self.old.start (thread.now, source.now) }
+        requires new { (n : ℕ) → slice_get self.old.items n ≡ Some (thread.now, source.now) → ⊥ }
         ensures keeps { Keeps self.old.items self.new.items }
+        ensures looks { Keeps self.old.looks self.new.looks }
         ensures form { self.new.form ≡ self.old.form }
         ensures found { IfOk result (λ n. slice_get self.new.items n ≡ Some (thread.now, source.now)) }
+        ensures one { IfOk result (λ n. (m : ℕ) → slice_get self.new.items m ≡ Some (thread.now, source.now) → m ≡ n) }
     {
         let n = self.rows.len();
-        let look = self.look_for(seen, bytes, thread, source)?;
-        if look == n {
-            self.looks.note(seen, n)?;
-        }
+        let look = look_of(&self.rows, &mut self.seen, seen, bytes, thread, source)?;
+        self.index.note(whole, n)?;
         self.rows.push(thread, source, look)?;
         Ok(n)
     }
@@ -164,18 +248,18 @@ impl<'a> Table<'a> {
     pub fn add(&mut self, thread: &Thread, source: &Sources<'a>) -> Result<usize, AllocError>
         requires { thread.now.form ≡ self.old.form }
         ensures keeps { Keeps self.old.items self.new.items }
+        ensures looks { Keeps self.old.looks self.new.looks }
         ensures form { self.new.form ≡ self.old.form }
         ensures found { IfOk result (λ n. slice_get self.new.items n ≡ Some (thread.now, source.now)) }
+        ensures one { IfOk result (λ n. (m : ℕ) → slice_get self.new.items m ≡ Some (thread.now, source.now) → m ≡ n) }
     {
         let bytes = self.rows.bytes(thread)?;
         let seen = seen_hash(bytes.as_slice(), thread, source);
-        let hash = whole_hash(seen, thread, source);
-        if let Some(n) = self.find(hash, thread, source)? {
+        let whole = whole_hash(seen, thread, source);
+        if let Some(n) = find(&self.rows, &self.index, whole, thread, source)? {
             return Ok(n);
         }
-        self.hints.note(hash, self.rows.len())?;
-        let n = self.put(seen, bytes.as_slice(), thread, source)?;
-        Ok(n)
+        self.put(whole, seen, bytes.as_slice(), thread, source)
     }
 
     /// The numbers of these threads beside what answers them, of which the new ones are added.
@@ -190,6 +274,7 @@ impl<'a> Table<'a> {
         requires form { HaveForm self.old.form threads.now }
         requires each { length sources.now ≡ length threads.now }
         ensures keeps { Keeps self.old.items self.new.items }
+        ensures looks { Keeps self.old.looks self.new.looks }
         ensures form { self.new.form ≡ self.old.form }
         ensures within { IfOk result (λ numbers. AreIn self.new.items numbers.items) }
         ensures threads { IfOk result (λ numbers. threads_at self.new.items numbers.items ≡ threads.now) }
@@ -239,20 +324,32 @@ impl<'a> Table<'a> {
         true
     }
 
-    /// A number that threads have in common only if they look the same.
+    /// The number that stands for a thread and for those that look the same.
     pub fn look(&self, n: usize) -> usize
         requires { n < length self.now.items }
+        ensures { slice_get self.now.looks n ≡ Some result }
     {
         self.rows.look(n)
     }
 
-    /// Whether two threads look the same, as far as that is known.
+    /// What is so of each thread.
+    pub fn each(&self)
+        ensures one { (seen : List (ℕ × ℕ)) × HaveOneLook seen self.now }
+        ensures size { length self.now.start ≡ memory_size }
+        ensures bounded { AllByRecursion (λ (x : ThreadState × Source). IsBounded x.0) self.now.items }
+    {
+        self.rows.each();
+    }
+
+    /// Whether one number stands for two threads: they look the same.
     pub fn same_look(&self, m: usize, n: usize) -> bool
         requires first { m < length self.now.items }
         requires second { n < length self.now.items }
-        ensures { result ≡ true → (x y : ThreadState × Source) → slice_get self.now.items m ≡ Some x → slice_get self.now.items n ≡ Some y → LookSame x y }
+        ensures same { result ≡ true → (x y : ThreadState × Source) → slice_get self.now.items m ≡ Some x → slice_get self.now.items n ≡ Some y → LookSame x y }
+        ensures other { result ≡ false → slice_index_or self.now.looks m 0 ≢ slice_index_or self.now.looks n 0 }
     {
         tells_apart();
+        self.rows.each();
         same_number(self.rows.look(m), self.rows.look(n))
     }
 

@@ -1,6 +1,6 @@
 //! Threads that are equal.
 
-ghost use Rattle.std.specs.Prelude.{◌≡◌, true};
+ghost use Rattle.std.specs.Prelude.{◌≡◌, true, false};
 
 use ir_mach::Mach;
 use ir_runs::Access;
@@ -12,6 +12,7 @@ const REGISTERS: u8 = 32;
 fn same_registers(first: &Mach, second: &Mach) -> bool
     ensures pc { result ≡ true → first.now.pc ≡ second.now.pc }
     ensures registers { result ≡ true → first.now.registers ≡ second.now.registers }
+    ensures other { result ≡ false → first.now ≡ second.now → ⊥ }
 {
     if first.pc() != second.pc() {
         return false;
@@ -25,14 +26,16 @@ fn same_registers(first: &Mach, second: &Mach) -> bool
 }
 
 fn same_machine(first: &Mach, second: &Mach) -> bool
-    ensures { result ≡ true → first.now ≡ second.now }
+    ensures same { result ≡ true → first.now ≡ second.now }
+    ensures other { result ≡ false → first.now ≡ second.now → ⊥ }
 {
     same_registers(first, second) && first.memory() == second.memory()
 }
 
 // Whether the same is held.
 fn same_held(first: &[Option<Access>], second: &[Option<Access>]) -> bool
-    ensures { result ≡ true → first.now ≡ second.now }
+    ensures same { result ≡ true → first.now ≡ second.now }
+    ensures other { result ≡ false → first.now ≡ second.now → ⊥ }
 {
     if first.len() != second.len() {
         return false;
@@ -55,6 +58,7 @@ fn same_frame(first: &Thread, second: &Thread) -> bool
     ensures events { result ≡ true → first.now.events ≡ second.now.events }
     ensures output { result ≡ true → first.now.output ≡ second.now.output }
     ensures ended { result ≡ true → first.now.ended ≡ second.now.ended }
+    ensures other { result ≡ false → first.now ≡ second.now → ⊥ }
 {
     first.number() == second.number()
         && first.steps() == second.steps()
@@ -69,7 +73,8 @@ fn same_frame(first: &Thread, second: &Thread) -> bool
 /// Whether two threads of one form are equal.
 pub fn same_thread(first: &Thread, second: &Thread) -> bool
     requires { first.now.form ≡ second.now.form }
-    ensures { result ≡ true → first.now ≡ second.now }
+    ensures same { result ≡ true → first.now ≡ second.now }
+    ensures other { result ≡ false → first.now ≡ second.now → ⊥ }
 {
     same_frame(first, second) && same_machine(first.mach(), second.mach())
 }

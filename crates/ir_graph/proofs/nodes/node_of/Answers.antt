@@ -4,6 +4,7 @@ use Rattle.ir_explore.proofs.CallerLemmas.{slice_get_kept_by_append}
 use Rattle.ir_store.specs.Nodes.{sourced_in}
 use Rattle.ir_graph.specs.Nodes.{AreNodes}
 use Rattle.ir_graph.specs.Reached.{AllReached}
+use Rattle.ir_graph.proofs.Alike.{same_looks_if_look_alike}
 use Rattle.ir_graph.proofs.Both.{look_alike_if_same_looks}
 use Rattle.ir_graph.proofs.Found.{are_nodes_after_node_added, state_looks_alike_to_node_pushed_for_it}
 use Rattle.ir_graph.proofs.Reached.{all_reached_after_state_added}
@@ -17,7 +18,11 @@ returns-in-Some-clause-alike c = λ f is.
 pub returns-clause-nodes : goal.returns-clause-nodes
 returns-clause-nodes c =
     let h = sourced_in c.args.flats.now.shared c.args.new in
-    subst AreNodes (sym c.in_ok-push.ensures.ok) (are_nodes_after_node_added c.args.flats.now.items h c.requires.nodes c.requires.is.sourced.each c.requires.like c.requires.rest)
+    subst AreNodes (sym c.in_ok-push.ensures.ok) (are_nodes_after_node_added c.args.flats.now.items h c.requires.nodes c.requires.is.sourced.each c.requires.like c.requires.rest
+    (λ v f at like.
+    let moment = c.requires.like v f at in
+    c.find.ensures.none c.in_default.is v f at (record { threads = moment.threads; objects = moment.objects; twins = moment.twins })
+    (same_looks_if_look_alike h f c.requires.is.sourced.flat (c.find.ensures.sourced v f at).flat moment.objects like)))
 
 pub returns-clause-stay : goal.returns-clause-stay
 returns-clause-stay c = λ v f is.

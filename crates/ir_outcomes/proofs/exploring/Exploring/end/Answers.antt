@@ -1,6 +1,13 @@
-use Rattle.std.proofs.Common.{◌≡◌, ◌<◌, suc, inl, inr, ◌∙◌, subst, arith}
+use Rattle.std.proofs.Common.{◌≡◌, ◌<◌, ◌≤◌, suc, length, Some, inl, inr, ◌∙◌, subst, arith}
+use Rattle.std.specs.Prelude.{slice_get}
+use Rattle.std.specs.List.{slice_index_or}
+use Rattle.std.proofs.lemmas.Option.{slice_get-get_or}
 use Rattle.ir_explore.specs.Origins.{first_origin, BeginsAt}
 use Rattle.ir_explore.proofs.CallerLemmas.{index_of_element_is_below_length}
+use Rattle.ir_store.specs.Nodes.{SourcedFlat}
+use Rattle.ir_graph.specs.Setup.{start_of}
+use Rattle.ir_graph.specs.Standing.{NeedsSwitches}
+use Rattle.ir_graph.proofs.CallerLemmas.{needs_as_many_switches_as_its_level}
 use Rattle.ir_outcomes.proofs.Listed.{all_outcomes}
 use Rattle.ir_outcomes.proofs.exploring.Exploring.end.Goals as goal
 
@@ -12,7 +19,9 @@ returns-clause-explored c =
     let level = s.search.level in
     record {
       explored = is.explored;
+      nodes = is.search.graph.nodes;
       reached = is.search.graph.reached;
+      found = λ done. (c.ending-ended.ensures.finished done).2.found;
       all = λ done.
           let f = c.ending-ended.ensures.finished done in
           let going = is.going f.0 in
@@ -40,8 +49,21 @@ returns-clause-explored c =
             | inl over ↦ absurd (omega (arith, over, more))
             | inr all ↦
                 let number : level.number ≡ suc e.most = omega (arith, all, most) in
-                let n = subst (λ k. BeginsAt s.search.found.nodes.items k level.first) number ((is.going f.0).between.stands level.first (omega arith) more) in
-                (level.first, n.0, n.1, n.2)
+                let going = is.going f.0 in
+                let v = level.first in
+                let flats = s.graph.flats.items in
+                let n = subst (λ k. BeginsAt s.search.found.nodes.items k v) number (going.between.stands v (omega arith) more) in
+                let low : n.0.level ≤ level.number = (let a = n.2 in omega (arith, a, number)) in
+                let later : 0 < v = (let a = going.between.number in omega (arith, a, number)) in
+                let less : v < length flats = (let a = going.between.until in let b = going.between.all in omega (arith, more, a, b)) in
+                let u : SourcedFlat = slice_index_or flats v (start_of s.graph.setup) in
+                let at : slice_get flats v ≡ Some u = slice_get-get_or flats v (start_of s.graph.setup) less in (
+                  v,
+                  u,
+                  at,
+                  subst (NeedsSwitches s.graph.setup u) n.2
+                      (needs_as_many_switches_as_its_level s.graph.setup flats s.search.found.nodes.items level.number (going.searched later) v u n.0 at n.1 low),
+                )
           ];
       stopped = c.ending-ended.ensures.stopped;
     }

@@ -6,20 +6,24 @@ use Rattle.ir_sources.specs.Sources.{Source}
 use Rattle.ir_thread.specs.State.{ThreadState}
 use Rattle.ir_store.specs.Nodes.{Shared, Stored}
 use Rattle.ir_store.specs.Table.{idle_beside}
+use Rattle.ir_store.proofs.Numbered.{nodes_found_kept}
 use Rattle.ir_store.proofs.Shared.{nodes_grown, states_grown}
 use Rattle.ir_store.proofs.store.Store.add_thread.Goals as goal
 
 pub invariant_of-self : goal.invariant_of-self
 invariant_of-self c =
     let old : Shared = record { threads = c.self.inside.table.items; words = c.self.inside.words } in
-    let new : Shared = record { threads = c.add.new.self.items; words = c.self.inside.words } in
-    nodes_grown old new (record { threads = c.add.ensures.keeps; words = λ n s e. e }) c.self.inside.nodes c.self.invariant
+    let new : Shared = record { threads = c.add.new.self.items; words = c.self.inside.words } in (
+      nodes_grown old new (record { threads = c.add.ensures.keeps; words = λ n s e. e }) c.self.inside.nodes c.self.invariant.0,
+      nodes_found_kept c.self.inside.index old c.self.inside.table.looks c.add.new.self.looks c.self.inside.nodes c.each.ensures.one.1.each c.add.ensures.looks
+          c.self.invariant.0 c.self.invariant.1,
+    )
 
 pub returns-clause-items : goal.returns-clause-items
 returns-clause-items c =
     let old : Shared = record { threads = c.self.inside.table.items; words = c.self.inside.words } in
     let new : Shared = record { threads = c.add.new.self.items; words = c.self.inside.words } in
-    states_grown old new (record { threads = c.add.ensures.keeps; words = λ n s e. e }) c.self.inside.nodes c.self.invariant
+    states_grown old new (record { threads = c.add.ensures.keeps; words = λ n s e. e }) c.self.inside.nodes c.self.invariant.0
     ∙ ap (λ (z : Stored). z.items) c.self.view_is
 
 pub returns-clause-within : goal.returns-clause-within

@@ -29,7 +29,7 @@ returns-clause-within c =
     let there = subst (λ (z : Stored). slice_get z.items c.args.v ≡ Some (sourced_in shared node)) c.self.view_is here in
     let few = c.requires.thread (sourced_in shared node) there in
     let many = length_of_map (λ n. (get_or shared.threads n idle_beside).0) node.threads in
-    let is = node_is shared nodes c.self.invariant c.args.v node less refl (sourced_in shared node) here in
+    let is = node_is shared nodes c.self.invariant.0 c.args.v node less refl (sourced_in shared node) here in
     let one = c.thread.ensures in
     let in_here : c.thread.result < length shared.threads =
     subst (λ n. n < length shared.threads) (sym one)
@@ -44,11 +44,11 @@ returns-clause-thread c = λ f at.
     let less = subst (λ (z : Stored). c.args.v < length z.items) (sym c.self.view_is) c.requires.node in
     let there = subst (λ (z : Stored). slice_get z.items c.args.v ≡ Some f) (sym c.self.view_is) at in
     let few = c.requires.thread f at in
-    let state = state_is shared nodes c.self.invariant c.args.v node less refl f there in
+    let state = state_is shared nodes c.self.invariant.0 c.args.v node less refl f there in
     let many = sym (length_of_map (λ n. (get_or shared.threads n idle_beside).0) node.threads) ∙ ap (λ (z : SourcedFlat). length z.flat.threads) state in
     let one = c.thread.ensures in
     subst (λ (z : Stored). get_or z.shared.threads c.thread.result idle_beside ≡ sourced_thread f c.args.t) c.self.view_is
-    (thread_is shared nodes c.self.invariant c.args.v node less refl f there c.args.t c.thread.result 0
+    (thread_is shared nodes c.self.invariant.0 c.args.v node less refl f there c.args.t c.thread.result 0
     (omega (arith, few, many)) one)
 
 pub returns-clause-sourced : goal.returns-clause-sourced
@@ -58,5 +58,5 @@ returns-clause-sourced c = λ f at.
     let node : Node = get_or nodes c.args.v no_node in
     let less = subst (λ (z : Stored). c.args.v < length z.items) (sym c.self.view_is) c.requires.node in
     let there = subst (λ (z : Stored). slice_get z.items c.args.v ≡ Some f) (sym c.self.view_is) at in
-    subst IsSourced (state_is shared nodes c.self.invariant c.args.v node less refl f there)
-    (node_is shared nodes c.self.invariant c.args.v node less refl f there).sourced
+    subst IsSourced (state_is shared nodes c.self.invariant.0 c.args.v node less refl f there)
+    (node_is shared nodes c.self.invariant.0 c.args.v node less refl f there).sourced

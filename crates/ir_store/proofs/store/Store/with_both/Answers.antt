@@ -42,7 +42,7 @@ returns-clause-state c = λ f at.
     let there = subst (λ (z : Stored). slice_get z.items c.args.v ≡ Some f) (sym c.self.view_is) at in
     let threads = c.in_ok-threads.ensures.items ∙ c.threads.ensures in
     let objects = c.in_ok-objects.ensures.items ∙ c.objects.ensures in
-    let both = both_is shared nodes c.self.invariant c.args.v node less refl f there c.args.t c.args.thread c.args.o c.args.spot in
+    let both = both_is shared nodes c.self.invariant.0 c.args.v node less refl f there c.args.t c.args.thread c.args.o c.args.spot in
     subst (λ (z : Stored). sourced_in z.shared (record {
       code = c.code.result.now;
       threads = set c.in_ok-threads.threads.items c.args.t c.in_ok-number.number;

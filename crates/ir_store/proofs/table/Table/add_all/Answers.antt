@@ -30,6 +30,7 @@ loop-t-preserved c =
     (λ k less j. (kept_element_is_equal old new idle_beside keeps k less j).1) before.within in
     record {
       keeps = λ k s e. keeps k s (before.keeps k s e);
+      looks = λ k s e. c.add.ensures.looks k s (before.looks k s e);
       form = c.add.ensures.form ∙ before.form;
       within = subst (AreIn new) (sym c.in_ok-push.ensures.items)
           (all_by_recursion_after_push (λ k. k < length new) numbers n

@@ -5,6 +5,7 @@ use Rattle.ir_store.proofs.table.Table.add_all.Given as goal
 abbrev pub invariant-loop-t : goal.invariant-loop-t
 invariant-loop-t l = record {
   keeps : Keeps l.fn.self.items l.self.items;
+  looks : Keeps l.fn.self.looks l.self.looks;
   form : l.self.form ≡ l.fn.self.form;
   within : AreIn l.self.items l.numbers.items;
   threads : threads_at l.self.items l.numbers.items ≡ take l.t l.threads;

@@ -7,11 +7,11 @@ use Rattle.ir_store.specs.Table as table
 use Rattle.ir_store.proofs.Looks.{look_same_if_look_numbers_equal}
 use Rattle.ir_store.proofs.table.Table.same_look.Goals as goal
 
-pub returns : goal.returns
-returns c = λ is.
+pub returns-clause-same : goal.returns-clause-same
+returns-clause-same c = λ is.
     let t : table.Table = c.self.inside.rows in
-    let same : c.look-2.result ≡ c.look.result = sym (c.same_number.ensures is) in
+    let same : c.look-2.result ≡ c.look.result = sym (c.same_number.ensures.same is) in
     subst (λ (z : table.Table). (x y : ThreadState × Source) → slice_get z.items c.args.m ≡ Some x → slice_get z.items c.args.n ≡ Some y → LookSame x y)
     c.self.view_is
-    (look_same_if_look_numbers_equal c.tells_apart.ensures t.start t.items t.looks c.look.ensures.size c.look.ensures.bounded c.look.ensures.looks c.args.m c.args.n
-    c.look.result c.look.ensures.number (c.look-2.ensures.number ∙ ap Some same))
+    (look_same_if_look_numbers_equal c.tells_apart.ensures t.start t.items t.looks c.each.ensures.size c.each.ensures.bounded c.each.ensures.looks c.args.m c.args.n
+    c.look.result c.look.ensures (c.look-2.ensures ∙ ap Some same))
