@@ -125,7 +125,11 @@ fn a_thread_that_waits_for_what_never_comes_hangs(rt: HostRuntime) -> Result<(),
 #[test]
 fn different_states_of_one_hash_are_both_found_again(rt: HostRuntime) -> Result<(), Fail> {
     let (status, out, _) = printed(&rt, COLLIDES, &within(100, 100, Profile::One))?;
-    assert!(rt; out.bytes.as_slice().ends_with(b"finished outcomes 1 states 5 hangs 0\n"));
+    assert!(rt;
+        out.bytes
+            .as_slice()
+            .ends_with(b"finished outcomes 1 states 5 hangs 0\n")
+    );
     assert_eq!(rt; status, 0);
     Ok(())
 }
