@@ -26,6 +26,11 @@ IR_CALL int is_in_frame(word instruction)
     return base == SP || (NUMBER(ir_frames) && base == S0);
 }
 
+IR_CALL int opcode_is_store(word instruction)
+{
+    return (instruction & OPCODE) == STORE;
+}
+
 /* How many bytes a store stores. */
 IR_CALL word width_of(word store)
 {
@@ -40,18 +45,38 @@ static int has_store(word from, word to)
     return 0;
 }
 
+/* The bytes that a write was announced of, and the stack pointer of the function that writes. */
+struct target {
+    word address, size, stack;
+};
+
+/* How far from its base a load or store is. */
+IR_CALL word offset_in(word instruction)
+{
+    word upper = (word)((int)instruction >> 25) << 5;
+    return opcode_is_store(instruction) ? upper | (instruction >> 7 & 31) : (word)((int)instruction >> 20);
+}
+
+/* Whether a load or store may be of the target. One in the frame is if the target is there, too: the others save and restore registers. */
+static int may_be_of(word instruction, const struct target *target)
+{
+    word base = instruction >> 15 & 31, at = target->stack + offset_in(instruction);
+    if (base == SP)
+        return at - target->address < target->size;
+    return !is_in_frame(instruction) || target->address - ir_own_low < NUMBER(ir_slice);
+}
+
 /* Whether the write may be of a bit-field, if the program has some: it is announced as a write of the whole number that the bit-field is in,
-   but the code that follows stores less, or loads before it stores. `is_own` says that the number is in this function's frame. */
-static int may_be_bit_field(word after, word size, int is_own)
+   but the code that follows stores less, or loads before it stores. */
+static int may_be_bit_field(word after, const struct target *target)
 {
     int loads = 0;
     for (word at = after; at - after <= 128; at += 4) {
         word instruction = *(word *)at, kind = instruction & OPCODE;
-        int counts = is_own || !is_in_frame(instruction);
-        if (kind == LOAD && counts)
+        if (kind == LOAD && may_be_of(instruction, target))
             loads = 1;
-        if (kind == STORE && counts)
-            return loads || width_of(instruction) < size;
+        if (kind == STORE && may_be_of(instruction, target))
+            return loads || width_of(instruction) < target->size;
         if (kind == BRANCH || kind == JUMP_REGISTER || kind == JUMP)
             return 0;
     }
@@ -230,14 +255,15 @@ IR_CALL void note_written(word address, word size, word after)
 }
 
 /* A write after a read of more than a word, or in a program with bit-fields. */
-static __attribute__((noinline)) void write_slowly(word address, word size, word after)
+static __attribute__((noinline)) void write_slowly(word address, word size, word after, word stack)
 {
+    struct target target = {address, size, stack};
     if (ir_seen.more)
         clear_more();
     clear_seen();
     ir_drain_some();
     note_written(address, size, after);
-    if (NUMBER(ir_bits) && may_be_bit_field(after, size, address - ir_own_low < NUMBER(ir_slice))) {
+    if (NUMBER(ir_bits) && may_be_bit_field(after, &target)) {
         ir_fetch(address, size);
         ir_written.after = 0;
     }
@@ -266,7 +292,7 @@ IR_CALL void announce_read(word address, word size, word now)
         read_slowly(address, size, now);
 }
 
-IR_CALL void announce_write(word address, word size, word after)
+IR_CALL void announce_write(word address, word size, word after, word stack)
 {
     if (ir_written.size)
         put_written();
@@ -276,15 +302,16 @@ IR_CALL void announce_write(word address, word size, word after)
         clear_seen();
         note_written(address, size, after);
     } else
-        write_slowly(address, size, after);
+        write_slowly(address, size, after, stack);
 }
 
 /* ---- The calls */
 
 #define AFTER (word) __builtin_return_address(0)
+#define STACK (word) __builtin_dwarf_cfa()
 #define ACCESS(kind, bytes) \
     void __tsan_##kind##read##bytes(void *pointer) { announce_read((word)pointer, bytes, AFTER); } \
-    void __tsan_##kind##write##bytes(void *pointer) { announce_write((word)pointer, bytes, AFTER); }
+    void __tsan_##kind##write##bytes(void *pointer) { announce_write((word)pointer, bytes, AFTER, STACK); }
 ACCESS(, 1)
 ACCESS(, 2)
 ACCESS(, 4)
@@ -298,17 +325,17 @@ static __attribute__((noinline)) void read_any(word address, word size, word now
         read_slowly(address, size, now);
 }
 
-static __attribute__((noinline)) void write_any(word address, word size, word after)
+static __attribute__((noinline)) void write_any(word address, word size, word after, word stack)
 {
     if (ir_written.size)
         put_written();
     if (!is_private(address, size, 1))
-        write_slowly(address, size, after);
+        write_slowly(address, size, after, stack);
 }
 
 #define RARE(kind, bytes) \
     void __tsan_##kind##read##bytes(void *pointer) { read_any((word)pointer, bytes, AFTER); } \
-    void __tsan_##kind##write##bytes(void *pointer) { write_any((word)pointer, bytes, AFTER); }
+    void __tsan_##kind##write##bytes(void *pointer) { write_any((word)pointer, bytes, AFTER, STACK); }
 RARE(, 8)
 RARE(, 16)
 RARE(unaligned_, 2)
@@ -317,7 +344,7 @@ RARE(unaligned_, 8)
 RARE(unaligned_, 16)
 
 void __tsan_read_range(void *pointer, word size) { read_any((word)pointer, size, AFTER); }
-void __tsan_write_range(void *pointer, word size) { write_any((word)pointer, size, AFTER); }
+void __tsan_write_range(void *pointer, word size) { write_any((word)pointer, size, AFTER, STACK); }
 void __tsan_func_entry(void *pointer) { (void)pointer; }
 void __tsan_func_exit(void) { }
 void __tsan_init(void) { }
