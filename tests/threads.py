@@ -20,10 +20,12 @@ from dataclasses import dataclass
 from functools import partial
 from pathlib import Path
 
-from lib import TOP, Wrong, finish, run, use, wants
+from lib import TOP, Wrong, finish, program, run, shell, use, wants
+from pages import commands_of, matches
 
 sys.path.append(str(TOP / "tests" / "threads"))
 
+import generated  # noqa: E402
 import texts  # noqa: E402
 
 COMPILER = TOP / "guest" / "ir-cc"
@@ -36,6 +38,13 @@ VARIANTS = {"philosophers_4": ("philosophers", "-DCOUNT=4"), "reorder_4": ("reor
 
 # A few of each kind, for --few.
 FEW = ("accesses", "atomics", "mutexes", "account", "deadlock", "treiber", "pool_c11")
+
+# The programs that are made of a seed.
+GENERATED = range(12)
+
+# The page, and the compiler whose steps it has.
+PAGE = TOP / "docs" / "guide" / "threads.md"
+PAGE_COMPILER = "12.2.0"
 
 # The seeds of a hunt, and the budget of a run that may wait forever.
 SEEDS = "0+200000"
@@ -108,6 +117,13 @@ def test_construct(folder, name, level):
     ended = native(folder, "native", source)
     wanted = by_thread(ended.stdout), ended.returncode
     wants(f"{name} {level}", printed(folder, guest(folder, "g", source, level)), wanted)
+
+
+def test_generated(folder, seed, level):
+    """A program that is made of a seed prints the same natively and as a guest."""
+    (folder / "g.c").write_text(generated.source(seed))
+    ended = native(folder, "native", "g.c", "-w", "-Wno-packed-bitfield-compat", "-O0", "-funsigned-char")
+    wants(f"seed {seed} {level}", printed(folder, guest(folder, "g", "g.c", "-w", "-Wno-packed-bitfield-compat", level))[0][0], ended.stdout.splitlines())
 
 
 # ---- Programs with a fault
@@ -252,6 +268,22 @@ def test_buffered(folder, case):
         wants(f"{options}: what it prints", (lines[-1].split()[0], outputs), ("finished", wanted))
 
 
+def test_page(folder):
+    """Each command of the page writes what follows it there, if the compiler is the one of the page."""
+    version = subprocess.run(["riscv64-unknown-elf-gcc", "-dumpfullversion"], check=True, capture_output=True, text=True).stdout.strip()
+    if version != PAGE_COMPILER:
+        print(f"  the steps of the page are those of gcc {PAGE_COMPILER}, so its commands aren't run")
+        return
+    for linked in ("guest", "tests", "examples"):
+        (folder / linked).symlink_to(TOP / linked)
+    (folder / "ir").symlink_to(program())
+    for command, _, wanted in commands_of(PAGE.read_text()):
+        ended = shell(command, folder)
+        if not matches(ended.stdout.decode().splitlines(), wanted):
+            raise Wrong(f"{command}: wrote {ended.stdout.decode()!r}")
+        wants(f"{command}: standard error", ended.stderr, b"")
+
+
 # ---- The table
 
 
@@ -296,12 +328,13 @@ def tests(few):
     same = [name for name in constructs() if not chosen or name in chosen]
     wrong = [name for name in programs() if not chosen or name in chosen]
     all_ = {f"same-{name}{level}": partial(test_construct, name=name, level=level) for name in same for level in levels}
+    all_ |= {f"generated-{seed}{level}": partial(test_generated, seed=seed, level=level) for seed in GENERATED[:2 if few else None] for level in levels}
     all_ |= {f"fault-{name}{level}": partial(test_faulty, name=name, level=level) for name in wrong for level in levels}
     all_ |= {f"repaired-{name}": partial(test_repaired, name=name) for name in wrong}
     all_ |= {f"refused-{case.name}": partial(test_refused, case=case) for case in texts.REFUSED}
     all_ |= {f"text-{case.name}": partial(test_printed, case=case) for case in texts.PRINTED}
     all_ |= {f"tso-{case.name}": partial(test_buffered, case=case) for case in texts.BUFFERED}
-    return all_ | {"no-compiler": test_no_compiler, "installed": test_installed, "on-ir-h": test_on_ir_h, "several": test_several}
+    return all_ | {"no-compiler": test_no_compiler, "installed": test_installed, "page": test_page, "on-ir-h": test_on_ir_h, "several": test_several}
 
 
 def passes(name, test):
