@@ -29,6 +29,8 @@ import generated  # noqa: E402
 import texts  # noqa: E402
 
 COMPILER = TOP / "guest" / "ir-cc"
+WHERE = TOP / "guest" / "ir-where"
+README = TOP / "README.md"
 SOURCES = TOP / "tests" / "threads"
 PROGRAMS = SOURCES / "programs"
 LEVELS = ("-O0", "-Og", "-O2")
@@ -268,6 +270,42 @@ def test_buffered(folder, case):
         wants(f"{options}: what it prints", (lines[-1].split()[0], outputs), ("finished", wanted))
 
 
+def where(folder, *arguments):
+    """What ir-where prints of the recording of account, by lines."""
+    words = [sys.executable, WHERE, "account.elf", "account.img", "account.trc", "--ir", program(), *arguments]
+    return subprocess.run(words, cwd=folder, check=False, capture_output=True, text=True, timeout=100)
+
+
+def test_where(folder):
+    """ir-where names the variable and the line of each entry that the program makes, also in the page of `ir view`, and refuses what isn't a recording."""
+    status, _ = guest(folder, "account", PROGRAMS / "account.c").run("hunt", "account.trc", "--seeds", "0+1000", "--until", "fault")
+    wants("a hunt", status, 0)
+    lines = where(folder, "--variable", "balance").stdout.splitlines()
+    places = {tuple(line.split()[-3:]) for line in lines}
+    asked = {("balance", f"account.c:{line}", function) for line, function in ((13, "deposit"), (22, "withdraw"), (36, "check"))}
+    wants("the reads of balance", asked - places, set())
+    wants("all about it", {place[0] for place in places}, {"balance"})
+    wants("thread 2", {line.split()[1] for line in where(folder, "--thread", "2").stdout.splitlines()}, {"2"})
+    wants("at most", (where(folder, "--most", "3").stdout.count("\n"), "events more: --most N" in where(folder, "--most", "3").stderr), (3, True))
+    wants("the page", "balance at account.c:13 in deposit" in where(folder, "--page").stdout, True)
+    (folder / "account.trc").write_bytes(b"IRT1")
+    wants("no recording", where(folder).returncode != 0, True)
+
+
+def test_readme(folder):
+    """The commands of the README's part on ordinary programs, but gdb's, write what follows them there."""
+    for linked in ("guest", "tests", "examples"):
+        (folder / linked).symlink_to(TOP / linked)
+    (folder / "ir").symlink_to(program())
+    part = README.read_text().partition("## Ordinary C programs\n")[2].partition("```\n")[2].partition("```")[0].splitlines()
+    commands = [line[2:] for line in part if line.startswith("$ ")]
+    wants("how many", len(commands), 5)
+    ended = [shell(command, folder) for command in commands if not command.startswith("gdb-")]
+    wants("what fails", [it.stderr for it in ended if it.returncode or it.stderr], [])
+    wants("the hunt", ended[1].stdout.startswith(b"found seed "), True)
+    wants("the last line", ended[-1].stdout.decode().splitlines(), [part[-1]])
+
+
 def test_page(folder):
     """Each command of the page writes what follows it there, if the compiler is the one of the page."""
     version = subprocess.run(["riscv64-unknown-elf-gcc", "-dumpfullversion"], check=True, capture_output=True, text=True).stdout.strip()
@@ -334,7 +372,7 @@ def tests(few):
     all_ |= {f"refused-{case.name}": partial(test_refused, case=case) for case in texts.REFUSED}
     all_ |= {f"text-{case.name}": partial(test_printed, case=case) for case in texts.PRINTED}
     all_ |= {f"tso-{case.name}": partial(test_buffered, case=case) for case in texts.BUFFERED}
-    return all_ | {"no-compiler": test_no_compiler, "installed": test_installed, "page": test_page, "on-ir-h": test_on_ir_h, "several": test_several}
+    return all_ | {"no-compiler": test_no_compiler, "installed": test_installed, "page": test_page, "readme": test_readme, "where": test_where, "on-ir-h": test_on_ir_h, "several": test_several}
 
 
 def passes(name, test):
