@@ -660,6 +660,9 @@ def test_counted(folder):
     (folder / "counted.c").write_text(COUNTED.replace("static", "IR_OWN static"))
     converted(folder, "counted.c", "counted")
     wants("marked: each has its own", recorded(folder, "counted").ends(), [(1, 3), (1, 3)])
+    ended = run("elf counted.elf counted.img --explain", folder)
+    wants("what is told", (ended.returncode, ended.stdout, ended.stderr), (0, b"", b"ir: counted.elf: 4 bytes of variables, and each thread has its own\n"))
+    wants("told only if asked for", run("elf counted.elf counted.img", folder).stderr, b"")
 
 
 def test_cplusplus(folder):
