@@ -5,6 +5,9 @@ from pathlib import Path
 # Where the linker puts the table.
 TABLE = 0x200000
 
+# Where each thread's memory is.
+MEMORY, MEMORY_END = 0x100000, 0x110000
+
 # The sections that threads.ld makes.
 MADE = {".text", ".rodata", ".tdata", ".data", ".bss", ".own", ".ir.table"}
 
@@ -74,7 +77,17 @@ class Elf:
             at = (symbols["ir_objects"] + place // 8 % spread) * 64 + (place // 8 // spread * 2 + place // 4 % 2) * 4
             self.put(table + at, self.word(address))
             self.put(address, 0)
+        self.empty_memory()
         Path(self.path).write_bytes(self.bytes)
+
+    def empty_memory(self):
+        """Leaves no bytes in the segments of private memory: all are 0 now, as memory is without them. So `ir elf` counts no variable as a thread's own."""
+        places, = struct.unpack_from("<I", self.bytes, 28)
+        for i, segment in enumerate(self.segments):
+            if MEMORY <= segment[2] < MEMORY_END:
+                if any(self.bytes[segment[1]:segment[1] + segment[4]]):
+                    raise ValueError("private memory isn't empty")
+                struct.pack_into("<II", self.bytes, places + i * 32 + 16, 0, 0)
 
     def needs(self, tries):
         """What recordings of the guest need, in words, or nothing. It may try to enter objects, or it doesn't."""
