@@ -104,9 +104,13 @@ def by_thread(text):
     return [line for line in lines if not line.startswith("thread")], [line for line in lines if line.startswith("thread")]
 
 
-def printed(folder, made):
+BY_SEED = ("--chaos", "1", "--by", "walk", "--budget", "10000000")
+BY_REAL_THREADS = ("--budget", "1000000000")
+
+
+def printed(folder, made, way=BY_SEED):
     """What a recording of a guest prints, and the code of main."""
-    _, lines = made.run("record", "g.trc", "--chaos", "1", "--by", "walk", "--budget", "10000000", "--output", "out")
+    _, lines = made.run("record", "g.trc", *way, "--output", "out")
     wants(f"{made.name}: the ends", [line for line in lines if " end 1 " not in line], [])
     files = sorted(folder.glob("out.*"), key=lambda path: int(path.suffix[1:]))
     code = re.match(r"thread 0 end 1 code (\d+)", lines[0])
@@ -114,11 +118,13 @@ def printed(folder, made):
 
 
 def test_construct(folder, name, level):
-    """A program prints the same natively and as a guest, and ends by the same code."""
+    """A program prints the same natively and as a guest, by a seed and by real threads, and ends by the same code."""
     source = SOURCES / f"{name}.c"
     ended = native(folder, "native", source)
     wanted = by_thread(ended.stdout), ended.returncode
-    wants(f"{name} {level}", printed(folder, guest(folder, "g", source, level)), wanted)
+    made = guest(folder, "g", source, level)
+    for way in (BY_SEED, BY_REAL_THREADS):
+        wants(f"{name} {level} {way[0]}", printed(folder, made, way), wanted)
 
 
 def test_generated(folder, seed, level):
