@@ -138,3 +138,4 @@ bench: ir
 	python3 bench/hunting.py ./ir
 	python3 bench/traces.py ./ir
 	python3 bench/exploring.py ./ir --large
+	python3 bench/spin.py ./ir

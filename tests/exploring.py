@@ -4,8 +4,9 @@
 python3 tests/exploring.py IR [--guests N] [--seed S]
 
 The judge is written anew here, for guests of a few operations: from each state it takes the next operation of each thread, and merges nothing
-but equal states. It answers CLOCK, RANDOM and INPUT too. It says which outcomes there are, and by how many switches at least. Each order that
-`ir explore` prints is recorded, with the same --random and --input, and a session says what that run comes to. With conditions the first outcome
+but equal states. It answers CLOCK, RANDOM and INPUT too. It says which outcomes there are, and by how many switches at least. Of the states in
+which all threads rest it counts those that differ in more than registers which nothing reads any more: these are the states and hangs of the
+last line. Each order that `ir explore` prints is recorded, with the same --random and --input, and a session says what that run comes to. With conditions the first outcome
 that fulfils them is recorded, or nothing. The last line is `N passed, M failed`.
 """
 import random
@@ -243,19 +244,82 @@ def outcome_of(state):
     return tuple((*thread.ended, thread.printed) for thread in threads), words
 
 
-def hang_of(least, before, done):
-    """The fewest switches to a state from which no run comes to an end, or none if there is no such state."""
+def flow(operation, at):
+    """The registers that an operation reads and that it writes, and the operations that may come next."""
+    match operation:
+        case ("set" | "clock" | "random" | "input", register, *_):
+            return set(), {register}, [at + 1]
+        case ("get", _, _, register) | ("try", _, register):
+            return set(), {register}, [at + 1]
+        case ("add" | "mask" | "print", register, *_) | ("put", _, _, register):
+            return {register}, set(), [at + 1]
+        case ("skip", register, _, to):
+            return {register}, set(), [at + 1, to]
+        case ("end", register):
+            return {register}, set(), []
+    return set(), set(), [at + 1]
+
+
+def live_registers(operations):
+    """For each operation of a thread, and for its end, the registers that may still be read from there on."""
+    live, is_changed = [set() for _ in range(len(operations) + 1)], True
+    while is_changed:
+        is_changed = False
+        for at in reversed(range(len(operations))):
+            read, written, following = flow(operations[at], at)
+            seen = read | set().union(*(live[to] for to in following)) - written
+            is_changed |= seen != live[at]
+            live[at] = seen
+    return live
+
+
+def rests(operations, thread):
+    """Whether a thread is done, or enters or tries next, in order."""
+    if thread.ended or thread.at >= len(operations):
+        return bool(thread.ended) and not thread.held
+    call = operations[thread.at]
+    return (call[0].startswith("enter") or call[0] == "try") and all(held < call[1] for held, _ in thread.held)
+
+
+def looks_of(guest, live, state):
+    """What is counted of a state in which all threads rest: of a thread that is done what it came to, of any other all but registers that aren't live."""
+    threads = tuple((thread.ended, thread.printed) if thread.ended
+                    else thread._replace(registers=tuple(word if place in live[t][thread.at] else 0 for place, word in enumerate(thread.registers)))
+                    for t, thread in enumerate(state[0]))
+    return threads, state[1]
+
+
+def ended_ways(before, done):
+    """The states from which some run comes to an end."""
     ways, queue = set(done), deque(done)
     while queue:
         for state in before.get(queue.popleft(), ()):
             if state not in ways:
                 ways.add(state)
                 queue.append(state)
-    return min((switches for (state, _), switches in least.items() if state not in ways), default=None)
+    return ways
+
+
+class Judged(NamedTuple):
+    """Each outcome with the fewest switches that lead to it, the fewest switches to a hang or none, and how many states and hangs are counted."""
+
+    outcomes: dict
+    hang: int | None
+    states: int
+    hangs: int
+
+
+def counted(guest, least, before, done, found):
+    """What a judge found, with its counts."""
+    live, ways = [live_registers(operations) for operations in guest], ended_ways(before, done)
+    at_rest = {state for state, _ in least if all(rests(operations, thread) for operations, thread in zip(guest, state[0]))}
+    hang = min((switches for (state, _), switches in least.items() if state not in ways), default=None)
+    return Judged(found, hang, len({looks_of(guest, live, state) for state in at_rest}),
+                  len({looks_of(guest, live, state) for state in at_rest - ways}))
 
 
 def judged(guest, objects, world):
-    """Each outcome, with the fewest switches that lead to it; and the fewest switches to a hang, or none."""
+    """What the judge says of a guest."""
     start = (tuple(started(t, world) for t in range(len(guest))), (0,) * (WORDS * objects))
     least, found, queue = {(start, None): 0}, {}, deque([(start, None)])
     before, done = {}, set()
@@ -275,7 +339,7 @@ def judged(guest, objects, world):
             done.add(state)
             outcome = outcome_of(state)
             found[outcome] = min(found.get(outcome, switches), switches)
-    return found, hang_of(least, before, done)
+    return counted(guest, least, before, done, found)
 
 
 # What the program says.
@@ -340,16 +404,16 @@ def check_guest(folder, guest, objects, world=SILENT):
     if ended.returncode:
         raise Wrong(f"{guest} in {world}: {ended!r}")
     found, last = listed(lines, objects)
-    wanted, hang = judged(guest, objects, world)
+    wanted = judged(guest, objects, world)
     told = {(row.threads, row.words): row.switches for row in found}
-    if told != wanted or len(told) != len(found):
-        raise Wrong(f"{guest} in {world}: the program lists {told}, the judge {wanted}")
+    if told != wanted.outcomes or len(told) != len(found):
+        raise Wrong(f"{guest} in {world}: the program lists {told}, the judge {wanted.outcomes}")
     if [row.switches for row in found] != sorted(row.switches for row in found):
         raise Wrong(f"{guest}: switches don't rise")
     hangs = [int(line.split()[2]) for line in lines if line.startswith("hang ")]
-    many = "0" if hang is None else r"[1-9]\d*"
-    if hangs != ([] if hang is None else [hang]) or not re.fullmatch(rf"finished outcomes {len(found)} states \d+ hangs {many}", last):
-        raise Wrong(f"{guest}: hangs after {hangs} switches, wanted {hang}, and the last line is {last!r}")
+    whole = f"finished outcomes {len(found)} states {wanted.states} hangs {wanted.hangs}"
+    if hangs != ([] if wanted.hang is None else [wanted.hang]) or last != whole:
+        raise Wrong(f"{guest} in {world}: hangs after {hangs} switches, wanted {wanted.hang}, and the last line is {last!r}, wanted {whole!r}")
     for row in found:
         check_order(folder, "guest", row, len(guest), objects, more)
 
@@ -486,6 +550,71 @@ def check_examples(folder):
         assembled(folder, name, examples()[name])
         lines, _ = explored(folder, name)
         wants(name, lines[-1], f"finished outcomes {outcomes} states {states} hangs 0")
+
+
+# A writer puts 1 into a word. A reader takes the word, enters object 1 as its last entry, and goes on as each row says. If a register that holds
+# the word is live at that entry, the reader's state there behind the writer's end counts twice: 7 states in place of 6.
+READ_ONCE = """        .objects 2
+        .thread reader
+        .thread writer
+writer: addi a0, zero, 0
+        addi a7, zero, 8
+        ecall
+        addi a1, zero, 0
+        addi a2, zero, 1
+        addi a7, zero, 11
+        ecall
+        addi a7, zero, 9
+        ecall
+        addi a0, zero, 0
+        addi a7, zero, 1
+        ecall
+reader: addi s2, zero, 12
+        addi a0, zero, 0
+        addi a7, zero, 7
+        ecall
+        addi a1, zero, 0
+        addi a7, zero, 10
+        ecall
+        addi {register}, a0, 0
+        addi a0, zero, 0
+        addi a7, zero, 9
+        ecall
+        addi a0, zero, 1
+        addi a7, zero, 7
+        ecall
+        addi a7, zero, 9
+        ecall
+{rest}
+ends:   addi a0, zero, 0
+        addi a7, zero, 1
+        ecall
+other:  addi a0, s1, 0
+        addi a7, zero, 1
+        ecall
+"""
+# What is tried, the register, how the reader goes on, and how many states there are.
+LIVE = (
+    ("a register that nothing reads", "s1", "", 6),
+    ("a register that is written before it is read", "s1", "        addi s1, zero, 3\n        add s3, s1, s1", 6),
+    ("a register that is read, and the sum lost in x0", "s1", "        add zero, s1, s1", 7),
+    ("a register that only code reads which is never reached", "s1", "        jal zero, ends", 6),
+    ("the same, behind a jump to an address in a register", "s1", "        auipc t1, 0\n        jalr zero, 8(t1)", 7),
+    ("the same, behind a branch that is never taken", "s1", "        bne zero, zero, other", 7),
+    ("an argument that the next call doesn't have", "a1", "        addi a7, zero, 12\n        ecall", 6),
+    ("an argument of a call that isn't known", "a1", "        addi a7, s2, 0\n        ecall", 7),
+    ("an argument that an illegal call doesn't have", "a1", "        addi a7, zero, 99\n        ecall", 6),
+    ("the value of a store", "s1", "        lui t0, 0x100\n        sw s1, 0(t0)", 7),
+    ("the address of a store", "s1", "        lui t0, 0x100\n        add t0, t0, s1\n        sb zero, 0(t0)", 7),
+)
+
+
+def check_live(folder, row):
+    """A register that is live tells states apart, and another one doesn't."""
+    name, register, rest, states = row
+    assembled(folder, "live", READ_ONCE.format(register=register, rest=rest))
+    lines, ended = explored(folder, "live")
+    wants(name, (lines[-1].split()[3:], ended.returncode), (["states", str(states), "hangs", "0"], 0))
 
 
 # Two threads that try once. Each ends with code 1 if it entered, else with code 2.
@@ -634,6 +763,7 @@ def main():
                   *(lambda row=row: check_until(folder, row) for row in UNTIL),
                   *(lambda row=row: check_no_until(folder, row) for row in NO_UNTIL), lambda: check_until_failures(folder), lambda: check_as_found(folder),
                   *(lambda row=row: check_on_paper(folder, row) for row in ON_PAPER),
+                  *(lambda row=row: check_live(folder, row) for row in LIVE),
                   *(lambda: check_guest(folder, *random_guest(chance)) for _ in range(asked.guests)),
                   *(lambda: check_guest(folder, *random_guest(chance, 0.6)) for _ in range(asked.tries)),
                   lambda: check_endless(folder), *(lambda row=row: check_guest(folder, *row) for row in ASKING),

@@ -25,7 +25,7 @@ try. A try may be refused, which is `T!` in LIST, or enter if no thread is in th
   object O words W0 W1 ..                        each object whose words aren't its first words
   hang switches C order LIST                     LIST leads to where no schedule reaches an end any more, if there is such a place
 The last line says how the search ended, with K outcomes and N states in which each thread is before an entry or a try, or
-done:
+done. States that differ only in registers that the code doesn't read any more count once:
   finished outcomes K states N hangs H           all outcomes are printed: each complete run of the guest has one of them. From H
                                                  states no run reaches an end any more
   covered C outcomes K states N                  all outcomes of runs of at most C switches are printed, as --switches C wants

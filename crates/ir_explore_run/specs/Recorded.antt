@@ -50,17 +50,17 @@ pub record IsRecordingOfSetup (setup : Setup) (image : List ℕ) (plan : Plan) (
   pub untimed : AreUntimed (length setup.guest.entries) trace
   pub uncut : AreUncut (length setup.guest.entries) trace
 
--- they are of a complete run of the guest that comes to x
+-- they are of a complete run of the guest with the outcome x
 abbrev pub IsOfOutcome : Setup → ℕ → Recorded → List (List ℕ) → Outcome → Type 0
 IsOfOutcome setup budget trace outputs x = (run : List Step) × IsOfRun setup.guest budget setup.profile run trace outputs × (outcome_by setup budget run ≡ x)
 
--- what is recorded so is of a run that comes to an outcome of the guest
+-- what is recorded so is of a run with an outcome of the guest
 abbrev pub RecordingsHaveOutcomes : Type 0
 RecordingsHaveOutcomes = (setup : Setup) (image : List ℕ) (plan : Plan) (trace : Recorded) (outputs : List (List ℕ))
     → IsRecordingOfSetup setup image plan trace outputs
     → (x : Outcome) × IsOfOutcome setup plan.budget trace outputs x × IsOutcomeOf setup x
 
--- once a search is finished, what is recorded so is of a run that comes to one of the outcomes that it lists
+-- once a search is finished, what is recorded so is of a run with one of the outcomes that it lists
 abbrev pub RecordingsAreListed : Type 0
 RecordingsAreListed = (guest : Guest) (explored : ExplorePlan) (k : Known) (image : List ℕ) (plan : Plan) (trace : Recorded) (outputs : List (List ℕ))
     → AreKnown guest explored k → k.ended ≡ Finished → IsRecordingOfSetup (setup_of guest explored) image plan trace outputs

@@ -2,12 +2,12 @@
 
 ghost use Rattle.ir_explore_run.specs.Recorded.{HangsNeverComplete, RecordingsAreListed, RecordingsHaveOutcomes, RecordingsNeverFulfil};
 
-/// A recording of the explored guest, by threads too, comes to one of its outcomes, unless it answered CLOCK, spent a budget or filled a log.
+/// A recording of the explored guest, by threads too, has one of its outcomes, unless it answered CLOCK, spent a budget or filled a log.
 pub fn recordings_have_outcomes()
     ensures { RecordingsHaveOutcomes }
 {}
 
-/// If a search is finished, such a recording comes to one of the listed outcomes.
+/// If a search is finished, such a recording has one of the listed outcomes.
 pub fn recordings_are_listed()
     ensures { RecordingsAreListed }
 {}

@@ -1,10 +1,11 @@
 -- Threads look the same exactly where their bytes are equal.
-use Rattle.std.proofs.Common.{◌≡◌, ◌↔◌, ◌<◌, ◌^◌, ℕ, Bool, true, false, List, ◌∷◌, ◌++◌, length, drop, ◌==◌, map, flat_map, refl, sym, ap, ◌∙◌, subst, arith, cond, Option, Some, None, eq-eqb, inl, inr, ◌&&◌}
+use Rattle.std.proofs.Common.{◌≡◌, ◌<◌, ◌^◌, ℕ, Bool, true, false, List, ◌∷◌, ◌++◌, length, drop, ◌==◌, map, flat_map, refl, sym, ap, ◌∙◌, subst, arith, cond, Option, Some, None, eq-eqb, inl, inr, ◌&&◌}
 use Rattle.std.specs.Prelude.{is_some, is_none, MatchOption, ⊤, find}
 use Rattle.std.proofs.lemmas.List.{append_assoc, length-append}
 use Rattle.ir_lemmas.proofs.CallerLemmas.{same_head, same_tail}
 use Rattle.ir_image.specs.Bounds.{IsWord}
-use Rattle.ir_mach.specs.Core.{memory_size}
+use Rattle.ir_live.specs.Agreement.{DifferInDead}
+use Rattle.ir_live.specs.Table.{kept_registers}
 use Rattle.ir_runs.specs.Machine as machine
 use Rattle.ir_runs.specs.declared.access.Access.{Access}
 use Rattle.ir_thread.specs.Permitted.{Permits, ends_with}
@@ -15,8 +16,10 @@ use Rattle.ir_thread.specs.State.{end_number, end_code, end_of, ThreadState, hig
 use Rattle.ir_thread.specs.declared.end.End.{End}
 use Rattle.ir_thread.specs.declared.end.End.TheVariants as end
 use Rattle.ir_seen.specs.Seen.{Same, view}
+use Rattle.ir_freeze.specs.Basis.{Basis, IsBasis}
 use Rattle.ir_freeze.specs.Frozen.{word, held_byte, end_bytes, changes, is_over, fixed_bytes, going_bytes, frozen}
-use Rattle.ir_freeze.specs.Twins.{AreTwins, IsBounded}
+use Rattle.ir_freeze.specs.Twins.{AreTwins, IsBounded, TellsApart}
+use Rattle.ir_freeze.proofs.Kept.{kept_registers_fit, kept_registers_count, kept_registers_equal_if_agree, agree_if_kept_registers_equal}
 use Rattle.ir_freeze.proofs.Apart.{append_parts_equal_if_first_lengths_equal, word_bytes_injective, flat_map_word_is_injective_on_equal_lengths, flat_map_word_lengths_equal_if_lengths_equal, held_bytes_injective, changes_injective}
 use Rattle.ir_freeze.proofs.Back.{length_of_end_bytes_is_five, length_of_held_bytes, length_of_fixed_bytes_is_132_plus_held_and_mark}
 
@@ -108,33 +111,33 @@ shared_ask_done_if_over code s over = shared_ask_done_if_end_is_some_and_nothing
 append_of_four_nested : (a l o c : List ℕ) → ((a ++ l) ++ o) ++ c ≡ a ++ (l ++ (o ++ c))
 append_of_four_nested a l o c = append_assoc (a ++ l) o c ∙ append_assoc a l (o ++ c)
 
-record EqualParts (x y : ThreadState) (m n : List ℕ) : Type 0 where
+record EqualParts (basis : Basis) (x y : ThreadState) (m n : List ℕ) : Type 0 where
   pc : x.core.pc ≡ y.core.pc
-  registers : x.core.registers ≡ y.core.registers
+  registers : kept_registers basis.live x.core ≡ kept_registers basis.live y.core
   held : x.held ≡ y.held
   mark : m ≡ n
 
-parts_equal_if_fixed_bytes_equal : (x y : ThreadState) → AreTwins x y → IsBounded x → IsBounded y → (m n : List ℕ) → length m ≡ length n
-    → fixed_bytes x m ≡ fixed_bytes y n → EqualParts x y m n
-parts_equal_if_fixed_bytes_equal x y twins bx by m n lm e =
-    let rx : length (flat_map word x.core.registers) ≡ length (flat_map word y.core.registers) =
-    flat_map_word_lengths_equal_if_lengths_equal x.core.registers y.core.registers (bx.core.register_count ∙ sym by.core.register_count) in
+parts_equal_if_fixed_bytes_equal : (basis : Basis) (x y : ThreadState) → AreTwins x y → IsBounded x → IsBounded y → (m n : List ℕ) → length m ≡ length n
+    → fixed_bytes basis x m ≡ fixed_bytes basis y n → EqualParts basis x y m n
+parts_equal_if_fixed_bytes_equal basis x y twins bx by m n lm e =
+    let kx : List ℕ = kept_registers basis.live x.core in
+    let ky : List ℕ = kept_registers basis.live y.core in
+    let count : length kx ≡ length ky = kept_registers_count basis.live x.core ∙ sym (kept_registers_count basis.live y.core) in
+    let rx : length (flat_map word kx) ≡ length (flat_map word ky) = flat_map_word_lengths_equal_if_lengths_equal kx ky count in
     let hx : length (map held_byte x.held) ≡ length (map held_byte y.held) = length_of_held_bytes x.held ∙ twins.objects ∙ sym (length_of_held_bytes y.held) in
-    let l3 : length ((word x.core.pc ++ flat_map word x.core.registers) ++ map held_byte x.held)
-    ≡ length ((word y.core.pc ++ flat_map word y.core.registers) ++ map held_byte y.held) =
-    three (word x.core.pc) (flat_map word x.core.registers) (map held_byte x.held) (word y.core.pc) (flat_map word y.core.registers)
-    (map held_byte y.held) refl rx hx in
-    let s1 = append_parts_equal_if_first_lengths_equal ((word x.core.pc ++ flat_map word x.core.registers) ++ map held_byte x.held)
-    ((word y.core.pc ++ flat_map word y.core.registers) ++ map held_byte y.held) m n l3 e in
-    let l2 : length (word x.core.pc ++ flat_map word x.core.registers) ≡ length (word y.core.pc ++ flat_map word y.core.registers) =
-    two (word x.core.pc) (flat_map word x.core.registers) (word y.core.pc) (flat_map word y.core.registers) refl rx in
-    let s2 = append_parts_equal_if_first_lengths_equal (word x.core.pc ++ flat_map word x.core.registers) (word y.core.pc ++ flat_map word y.core.registers)
+    let l3 : length ((word x.core.pc ++ flat_map word kx) ++ map held_byte x.held) ≡ length ((word y.core.pc ++ flat_map word ky) ++ map held_byte y.held) =
+    three (word x.core.pc) (flat_map word kx) (map held_byte x.held) (word y.core.pc) (flat_map word ky) (map held_byte y.held) refl rx hx in
+    let s1 = append_parts_equal_if_first_lengths_equal ((word x.core.pc ++ flat_map word kx) ++ map held_byte x.held)
+    ((word y.core.pc ++ flat_map word ky) ++ map held_byte y.held) m n l3 e in
+    let l2 : length (word x.core.pc ++ flat_map word kx) ≡ length (word y.core.pc ++ flat_map word ky) =
+    two (word x.core.pc) (flat_map word kx) (word y.core.pc) (flat_map word ky) refl rx in
+    let s2 = append_parts_equal_if_first_lengths_equal (word x.core.pc ++ flat_map word kx) (word y.core.pc ++ flat_map word ky)
     (map held_byte x.held) (map held_byte y.held) l2 s1.0 in
-    let s3 = append_parts_equal_if_first_lengths_equal (word x.core.pc) (word y.core.pc) (flat_map word x.core.registers) (flat_map word y.core.registers) refl s2.0 in
+    let s3 = append_parts_equal_if_first_lengths_equal (word x.core.pc) (word y.core.pc) (flat_map word kx) (flat_map word ky) refl s2.0 in
     record {
       pc = word_bytes_injective x.core.pc y.core.pc bx.core.pc_fits by.core.pc_fits s3.0;
-      registers = flat_map_word_is_injective_on_equal_lengths x.core.registers y.core.registers (bx.core.register_count ∙ sym by.core.register_count)
-          bx.core.registers_fit by.core.registers_fit s3.1;
+      registers = flat_map_word_is_injective_on_equal_lengths kx ky count (kept_registers_fit basis.live x.core bx.core)
+          (kept_registers_fit basis.live y.core by.core) s3.1;
       held = held_bytes_injective x.held y.held s2.1;
       mark = s1.1;
     }
@@ -146,72 +149,86 @@ parts_equal_if_fixed_bytes_equal x y twins bx by m n lm e =
         → length ((a ++ b) ++ c) ≡ length ((d ++ e) ++ f)
     three a b c d e f p q r = two (a ++ b) c (d ++ e) f (two a b d e p q) r
 
-views_and_marks_equal_if_going_bytes_equal : (start : List ℕ) → length start ≡ memory_size → (x y : ThreadState) → AreTwins x y → IsBounded x → IsBounded y
-    → (m n : List ℕ) → length m ≡ length n → x.ended ≡ y.ended → going_bytes start x m ≡ going_bytes start y n
-    → ◌≡◌ {A = ThreadState × List ℕ} (view x, m) (view y, n)
-views_and_marks_equal_if_going_bytes_equal start size x y twins bx by m n lm ends e =
-    let cx : List ℕ = changes 0 start x.core.memory in
-    let cy : List ℕ = changes 0 start y.core.memory in
-    let apart : fixed_bytes x m ++ (word (length x.output) ++ (x.output ++ cx)) ≡ fixed_bytes y n ++ (word (length y.output) ++ (y.output ++ cy)) =
-    sym (append_of_four_nested (fixed_bytes x m) (word (length x.output)) x.output cx) ∙ e ∙ append_of_four_nested (fixed_bytes y n) (word (length y.output)) y.output cy in
+dead_differ_if_going_bytes_equal : (basis : Basis) → IsBasis basis → (x y : ThreadState) → AreTwins x y → IsBounded x → IsBounded y → (m n : List ℕ) → length m ≡ length n → x.ended ≡ y.ended
+    → going_bytes basis x m ≡ going_bytes basis y n → DifferInDead basis.code (view x) (view y) × (m ≡ n)
+dead_differ_if_going_bytes_equal basis is x y twins bx by m n lm ends e =
+    let cx : List ℕ = changes 0 basis.memory x.core.memory in
+    let cy : List ℕ = changes 0 basis.memory y.core.memory in
+    let apart : fixed_bytes basis x m ++ (word (length x.output) ++ (x.output ++ cx)) ≡ fixed_bytes basis y n ++ (word (length y.output) ++ (y.output ++ cy)) =
+    sym (append_of_four_nested (fixed_bytes basis x m) (word (length x.output)) x.output cx) ∙ e
+    ∙ append_of_four_nested (fixed_bytes basis y n) (word (length y.output)) y.output cy in
     let objects = twins.objects in
-    let lf : length (fixed_bytes x m) ≡ length (fixed_bytes y n) =
-    length_of_fixed_bytes_is_132_plus_held_and_mark x m bx.core.register_count ∙ omega (arith, objects, lm) ∙ sym (length_of_fixed_bytes_is_132_plus_held_and_mark y n by.core.register_count) in
-    let s1 = append_parts_equal_if_first_lengths_equal (fixed_bytes x m) (fixed_bytes y n) (word (length x.output) ++ (x.output ++ cx)) (word (length y.output) ++ (y.output ++ cy))
-    lf apart in
-    let p = parts_equal_if_fixed_bytes_equal x y twins bx by m n lm s1.0 in
+    let lf : length (fixed_bytes basis x m) ≡ length (fixed_bytes basis y n) =
+    length_of_fixed_bytes_is_132_plus_held_and_mark basis x m ∙ omega (arith, objects, lm) ∙ sym (length_of_fixed_bytes_is_132_plus_held_and_mark basis y n) in
+    let s1 = append_parts_equal_if_first_lengths_equal (fixed_bytes basis x m) (fixed_bytes basis y n) (word (length x.output) ++ (x.output ++ cx))
+    (word (length y.output) ++ (y.output ++ cy)) lf apart in
+    let p = parts_equal_if_fixed_bytes_equal basis x y twins bx by m n lm s1.0 in
     let s2 = append_parts_equal_if_first_lengths_equal (word (length x.output)) (word (length y.output)) (x.output ++ cx) (y.output ++ cy) refl s1.1 in
     let ox = bx.output in
     let oy = by.output in
     let lo = word_bytes_injective (length x.output) (length y.output) (omega (arith, ox)) (omega (arith, oy)) s2.0 in
     let s3 = append_parts_equal_if_first_lengths_equal x.output y.output cx cy lo s2.1 in
-    let memory = changes_injective 0 start x.core.memory y.core.memory (bx.core.memory_length ∙ sym size) (by.core.memory_length ∙ sym size)
-    (omega (arith, size)) s3.1 in
-    λ i. (
+    let memory = changes_injective 0 basis.memory x.core.memory y.core.memory (bx.core.memory_length ∙ sym is.size) (by.core.memory_length ∙ sym is.size)
+    (let size = is.size in omega (arith, size)) s3.1 in (
       record {
-        core = record { pc = p.pc i; registers = p.registers i; memory = memory i };
-        number = twins.number i;
-        held = p.held i;
-        budget = 1;
-        profile = twins.profile i;
-        form = twins.form i;
-        steps = 0;
-        events = 0;
-        output = s3.0 i;
-        ended = ends i;
+        rest = λ i. record {
+          core = y.core;
+          number = twins.number i;
+          held = p.held i;
+          budget = 1;
+          profile = twins.profile i;
+          form = twins.form i;
+          steps = 0;
+          events = 0;
+          output = s3.0 i;
+          ended = ends i;
+        };
+        cores = agree_if_kept_registers_equal basis.code basis.live is.live x.core y.core bx.core by.core p.pc memory p.registers;
       },
-      p.mark i,
+      p.mark,
     )
 
-same_looks_if_flagged_bytes_equal : (code start : List ℕ) → length start ≡ memory_size → (x y : ThreadState) → AreTwins x y → IsBounded x → IsBounded y
-    → (m n : List ℕ) → length m ≡ length n → x.ended ≡ y.ended → (a b : Bool) → is_over x ≡ a → is_over y ≡ b
-    → cond a (1 ∷ x.output) (0 ∷ going_bytes start x m) ≡ cond b (1 ∷ y.output) (0 ∷ going_bytes start y n)
-    → Same code (view x, m) (view y, n)
-same_looks_if_flagged_bytes_equal code start size x y twins bx by m n lm ends true true ox oy e =
-    inr (shared_ask_done_if_over code (view x) ox, shared_ask_done_if_over code (view y) oy, ends, same_tail 1 1 x.output y.output e)
-same_looks_if_flagged_bytes_equal code start size x y twins bx by m n lm ends true false ox oy e =
-    absurd (let h = same_head 1 0 x.output (going_bytes start y n) e in omega (arith, h))
-same_looks_if_flagged_bytes_equal code start size x y twins bx by m n lm ends false true ox oy e =
-    absurd (let h = same_head 0 1 (going_bytes start x m) y.output e in omega (arith, h))
-same_looks_if_flagged_bytes_equal code start size x y twins bx by m n lm ends false false ox oy e =
-    inl (views_and_marks_equal_if_going_bytes_equal start size x y twins bx by m n lm ends (same_tail 0 0 (going_bytes start x m) (going_bytes start y n) e))
+same_looks_if_flagged_bytes_equal : (basis : Basis) → IsBasis basis → (x y : ThreadState) → AreTwins x y → IsBounded x → IsBounded y → (m n : List ℕ) → length m ≡ length n → x.ended ≡ y.ended
+    → (a b : Bool) → is_over x ≡ a → is_over y ≡ b
+    → cond a (1 ∷ x.output) (0 ∷ going_bytes basis x m) ≡ cond b (1 ∷ y.output) (0 ∷ going_bytes basis y n)
+    → Same basis.code (view x, m) (view y, n)
+same_looks_if_flagged_bytes_equal basis is x y twins bx by m n lm ends true true ox oy e =
+    inr (inr (shared_ask_done_if_over basis.code (view x) ox, shared_ask_done_if_over basis.code (view y) oy, ends, same_tail 1 1 x.output y.output e))
+same_looks_if_flagged_bytes_equal basis is x y twins bx by m n lm ends true false ox oy e =
+    absurd (let h = same_head 1 0 x.output (going_bytes basis y n) e in omega (arith, h))
+same_looks_if_flagged_bytes_equal basis is x y twins bx by m n lm ends false true ox oy e =
+    absurd (let h = same_head 0 1 (going_bytes basis x m) y.output e in omega (arith, h))
+same_looks_if_flagged_bytes_equal basis is x y twins bx by m n lm ends false false ox oy e =
+    inr (inl (dead_differ_if_going_bytes_equal basis is x y twins bx by m n lm ends
+    (same_tail 0 0 (going_bytes basis x m) (going_bytes basis y n) e)))
 
-frozen_bytes_of_over_thread_are_end_and_output : (start : List ℕ) (s : ThreadState) (m : List ℕ) → is_over s ≡ true → frozen start s m ≡ end_bytes s.ended ++ 1 ∷ s.output
-frozen_bytes_of_over_thread_are_end_and_output start s m over = ap (λ b. end_bytes s.ended ++ cond b (1 ∷ s.output) (0 ∷ going_bytes start s m)) over
+frozen_bytes_of_over_thread_are_end_and_output : (basis : Basis) (s : ThreadState) (m : List ℕ) → is_over s ≡ true
+    → frozen basis s m ≡ end_bytes s.ended ++ 1 ∷ s.output
+frozen_bytes_of_over_thread_are_end_and_output basis s m over =
+    ap (λ b. end_bytes s.ended ++ cond b (1 ∷ s.output) (0 ∷ going_bytes basis s m)) over
 
-pub frozen_bytes_equal_iff_same_looks : (code start : List ℕ) → length start ≡ memory_size → (x y : ThreadState) → AreTwins x y → IsBounded x → IsBounded y
-    → (m n : List ℕ) → length m ≡ length n
-    → (frozen start x m ≡ frozen start y n) ↔ Same code (view x, m) (view y, n)
-frozen_bytes_equal_iff_same_looks code start size x y twins bx by m n lm = (
+-- threads that differ only in dead registers have the same bytes
+frozen_bytes_equal_if_dead_differ : (basis : Basis) → IsBasis basis → (x y : ThreadState) (m n : List ℕ)
+    → DifferInDead basis.code (view x) (view y) → m ≡ n → frozen basis x m ≡ frozen basis y n
+frozen_bytes_equal_if_dead_differ basis is x y m n d marks =
+    let kept = kept_registers_equal_if_agree basis.code basis.live is.live x.core y.core d.cores in
+    λ i. end_bytes (d.rest i).ended ++ cond (is_over (d.rest i)) (1 ∷ (d.rest i).output)
+    (0 ∷ ((word (d.cores.pc i) ++ flat_map word (kept i) ++ map held_byte (d.rest i).held ++ marks i) ++ word (length (d.rest i).output)
+    ++ (d.rest i).output ++ changes 0 basis.memory (d.cores.memory i)))
+
+pub frozen_bytes_equal_iff_same_looks : TellsApart
+frozen_bytes_equal_iff_same_looks basis is x y twins bx by m n lm = (
   λ e.
-      let s = append_parts_equal_if_first_lengths_equal (end_bytes x.ended) (end_bytes y.ended) (cond (is_over x) (1 ∷ x.output) (0 ∷ going_bytes start x m))
-      (cond (is_over y) (1 ∷ y.output) (0 ∷ going_bytes start y n)) (length_of_end_bytes_is_five x.ended ∙ sym (length_of_end_bytes_is_five y.ended)) e in
-      same_looks_if_flagged_bytes_equal code start size x y twins bx by m n lm (end_bytes_injective x.ended y.ended bx.code by.code s.0) (is_over x) (is_over y) refl refl s.1,
+      let s = append_parts_equal_if_first_lengths_equal (end_bytes x.ended) (end_bytes y.ended) (cond (is_over x) (1 ∷ x.output) (0 ∷ going_bytes basis x m))
+      (cond (is_over y) (1 ∷ y.output) (0 ∷ going_bytes basis y n)) (length_of_end_bytes_is_five x.ended ∙ sym (length_of_end_bytes_is_five y.ended)) e in
+      same_looks_if_flagged_bytes_equal basis is x y twins bx by m n lm (end_bytes_injective x.ended y.ended bx.code by.code s.0)
+      (is_over x) (is_over y) refl refl s.1,
   λ h. elim h [
-    | inl e ↦ ap (λ z. frozen start z.0 z.1) e
-    | inr d ↦
-        frozen_bytes_of_over_thread_are_end_and_output start x m (over_if_shared_ask_done code (view x) d.0) ∙ (λ i. end_bytes (d.2 i) ++ 1 ∷ d.3 i)
-        ∙ sym (frozen_bytes_of_over_thread_are_end_and_output start y n (over_if_shared_ask_done code (view y) d.1))
+    | inl e ↦ ap (λ z. frozen basis z.0 z.1) e
+    | inr (inl d) ↦ frozen_bytes_equal_if_dead_differ basis is x y m n d.0 d.1
+    | inr (inr d) ↦
+        frozen_bytes_of_over_thread_are_end_and_output basis x m (over_if_shared_ask_done basis.code (view x) d.0) ∙ (λ i. end_bytes (d.2 i) ++ 1 ∷ d.3 i)
+        ∙ sym (frozen_bytes_of_over_thread_are_end_and_output basis y n (over_if_shared_ask_done basis.code (view y) d.1))
   ],
 )
 
@@ -222,8 +239,9 @@ flags_equal_if_flagged_bytes_equal false true x y v w e = absurd (let h = same_h
 flags_equal_if_flagged_bytes_equal false false x y v w e = refl
 
 -- threads with equal bytes are over together
-pub over_together_if_frozen_bytes_equal : (start : List ℕ) (x y : ThreadState) (m n : List ℕ) → frozen start x m ≡ frozen start y n → is_over x ≡ is_over y
-over_together_if_frozen_bytes_equal start x y m n e =
-    let s = append_parts_equal_if_first_lengths_equal (end_bytes x.ended) (end_bytes y.ended) (cond (is_over x) (1 ∷ x.output) (0 ∷ going_bytes start x m))
-    (cond (is_over y) (1 ∷ y.output) (0 ∷ going_bytes start y n)) (length_of_end_bytes_is_five x.ended ∙ sym (length_of_end_bytes_is_five y.ended)) e in
-    flags_equal_if_flagged_bytes_equal (is_over x) (is_over y) x.output y.output (going_bytes start x m) (going_bytes start y n) s.1
+pub over_together_if_frozen_bytes_equal : (basis : Basis) (x y : ThreadState) (m n : List ℕ) → frozen basis x m ≡ frozen basis y n
+    → is_over x ≡ is_over y
+over_together_if_frozen_bytes_equal basis x y m n e =
+    let s = append_parts_equal_if_first_lengths_equal (end_bytes x.ended) (end_bytes y.ended) (cond (is_over x) (1 ∷ x.output) (0 ∷ going_bytes basis x m))
+    (cond (is_over y) (1 ∷ y.output) (0 ∷ going_bytes basis y n)) (length_of_end_bytes_is_five x.ended ∙ sym (length_of_end_bytes_is_five y.ended)) e in
+    flags_equal_if_flagged_bytes_equal (is_over x) (is_over y) x.output y.output (going_bytes basis x m) (going_bytes basis y n) s.1

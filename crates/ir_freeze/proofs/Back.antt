@@ -3,6 +3,7 @@ use Rattle.std.proofs.Common.{false, cond, Option, Some, None, flat_map, ◌≡�
 use Rattle.std.proofs.lemmas.List.{append_assoc, length-append, drop_at, drop_more, length-drop, length-set, take_more, take_more_set, take_all, map_push}
 use Rattle.std.proofs.lemmas.Nat.{from_le_bytes-to_le_bytes_2}
 use Rattle.std.specs.Int.{w16, from_le_bytes}
+use Rattle.ir_live.specs.Table.{kept_registers}
 use Rattle.ir_mach.specs.Core.{memory_size}
 use Rattle.ir_mach.specs.Pages.{page_of, pages_of, memory_pages}
 use Rattle.ir_mach.proofs.CallerLemmas.{page_at_place_of_pages_from, core_of_own_pages}
@@ -10,9 +11,11 @@ use Rattle.ir_runs.specs.declared.access.Access.{Access}
 use Rattle.ir_thread.specs.Frames.{frame_of, thread_of}
 use Rattle.ir_thread.specs.State.{ThreadState}
 use Rattle.ir_thread.specs.declared.end.End.{End}
+use Rattle.ir_freeze.specs.Basis.{Basis, IsBasis}
 use Rattle.ir_freeze.specs.Frozen.{changes, word, held_byte, end_bytes, is_over, fixed_bytes, going_bytes, frozen}
 use Rattle.ir_freeze.specs.Twins.{IsBounded}
 use Rattle.ir_freeze.proofs.Apart.{change_is_empty_or_written}
+use Rattle.ir_freeze.proofs.Kept.{kept_registers_count}
 use Rattle.ir_freeze.specs.Thawed.{changed, before_changes, thawed}
 
 -- fewer than three bytes are no change
@@ -114,12 +117,12 @@ pub length_of_end_bytes_is_five : (e : Option End) → length (end_bytes e) ≡ 
 length_of_end_bytes_is_five None = refl
 length_of_end_bytes_is_five (Some e) = refl
 
-frozen_bytes_of_going_thread_are_end_fixed_output_changes : (start : List ℕ) (s : ThreadState) (mark : List ℕ) → is_over s ≡ false
-    → frozen start s mark ≡ (end_bytes s.ended ++ 0 ∷ ((fixed_bytes s mark ++ word (length s.output)) ++ s.output)) ++ changes 0 start s.core.memory
-frozen_bytes_of_going_thread_are_end_fixed_output_changes start s mark goes =
-    let front : List ℕ = (fixed_bytes s mark ++ word (length s.output)) ++ s.output in
-    let rest : List ℕ = changes 0 start s.core.memory in
-    ap (λ b. end_bytes s.ended ++ cond b (1 ∷ s.output) (0 ∷ going_bytes start s mark)) goes
+frozen_bytes_of_going_thread_are_end_fixed_output_changes : (basis : Basis) (s : ThreadState) (mark : List ℕ) → is_over s ≡ false
+    → frozen basis s mark ≡ (end_bytes s.ended ++ 0 ∷ ((fixed_bytes basis s mark ++ word (length s.output)) ++ s.output)) ++ changes 0 basis.memory s.core.memory
+frozen_bytes_of_going_thread_are_end_fixed_output_changes basis s mark goes =
+    let front : List ℕ = (fixed_bytes basis s mark ++ word (length s.output)) ++ s.output in
+    let rest : List ℕ = changes 0 basis.memory s.core.memory in
+    ap (λ b. end_bytes s.ended ++ cond b (1 ∷ s.output) (0 ∷ going_bytes basis s mark)) goes
     ∙ sym (append_assoc (end_bytes s.ended) (0 ∷ front) rest)
 
 pub length_of_append_of_four_is_sum : (a b c d : List ℕ) → length (((a ++ b) ++ c) ++ d) ≡ length a + length b + length c + length d
@@ -130,28 +133,30 @@ length_of_append_with_flag_is_sum_plus_one : (e a b c : List ℕ) → length (e 
 length_of_append_with_flag_is_sum_plus_one e a b c =
     let p = length-append e (0 ∷ ((a ++ b) ++ c)) in let q = length-append (a ++ b) c in let r = length-append a b in omega (arith, p, q, r)
 
-pub length_of_fixed_bytes_is_132_plus_held_and_mark : (s : ThreadState) (mark : List ℕ) → length s.core.registers ≡ 32 → length (fixed_bytes s mark) ≡ 132 + length s.held + length mark
-length_of_fixed_bytes_is_132_plus_held_and_mark s mark many =
-    length_of_append_of_four_is_sum (word s.core.pc) (flat_map word s.core.registers) (map held_byte s.held) mark
-    ∙ (let r = length_of_flat_words_is_four_times_length s.core.registers in let h = length_of_held_bytes s.held in omega (arith, r, h, many))
+pub length_of_fixed_bytes_is_132_plus_held_and_mark : (basis : Basis) (s : ThreadState) (mark : List ℕ) → length (fixed_bytes basis s mark) ≡ 132 + length s.held + length mark
+length_of_fixed_bytes_is_132_plus_held_and_mark basis s mark =
+    length_of_append_of_four_is_sum (word s.core.pc) (flat_map word (kept_registers basis.live s.core)) (map held_byte s.held) mark
+    ∙ (let r = length_of_flat_words_is_four_times_length (kept_registers basis.live s.core) in let h = length_of_held_bytes s.held in
+    let many = kept_registers_count basis.live s.core in omega (arith, r, h, many))
 
-length_of_bytes_before_changes : (s : ThreadState) (mark : List ℕ) → length s.core.registers ≡ 32
-    → length (end_bytes s.ended ++ 0 ∷ ((fixed_bytes s mark ++ word (length s.output)) ++ s.output)) ≡ before_changes s (length mark)
-length_of_bytes_before_changes s mark many =
-    length_of_append_with_flag_is_sum_plus_one (end_bytes s.ended) (fixed_bytes s mark) (word (length s.output)) s.output
-    ∙ (let e = length_of_end_bytes_is_five s.ended in let f = length_of_fixed_bytes_is_132_plus_held_and_mark s mark many in omega (arith, e, f))
+length_of_bytes_before_changes : (basis : Basis) (s : ThreadState) (mark : List ℕ)
+    → length (end_bytes s.ended ++ 0 ∷ ((fixed_bytes basis s mark ++ word (length s.output)) ++ s.output)) ≡ before_changes s (length mark)
+length_of_bytes_before_changes basis s mark =
+    length_of_append_with_flag_is_sum_plus_one (end_bytes s.ended) (fixed_bytes basis s mark) (word (length s.output)) s.output
+    ∙ (let e = length_of_end_bytes_is_five s.ended in let f = length_of_fixed_bytes_is_132_plus_held_and_mark basis s mark in omega (arith, e, f))
 
-pub thawed_of_frozen_is_thread_unless_over : (start : List ℕ) → length start ≡ memory_size → (s : ThreadState) → IsBounded s → (mark : List ℕ) → is_over s ≡ false
-    → thawed start (frame_of s) (before_changes s (length mark)) (frozen start s mark) ≡ s
-thawed_of_frozen_is_thread_unless_over start size s bounded mark goes =
-    let front : List ℕ = end_bytes s.ended ++ 0 ∷ ((fixed_bytes s mark ++ word (length s.output)) ++ s.output) in
-    let rest : List ℕ = changes 0 start s.core.memory in
-    let tail : drop (before_changes s (length mark)) (frozen start s mark) ≡ rest =
-    ap (drop (before_changes s (length mark))) (frozen_bytes_of_going_thread_are_end_fixed_output_changes start s mark goes)
-    ∙ drop_at front rest (before_changes s (length mark)) (length_of_bytes_before_changes s mark bounded.core.register_count) in
-    ap (λ l. thread_of (frame_of s) (pages_of (changed start l))) tail
+pub thawed_of_frozen_is_thread_unless_over : (basis : Basis) → IsBasis basis → (s : ThreadState) → IsBounded s → (mark : List ℕ) → is_over s ≡ false
+    → thawed basis.memory (frame_of s) (before_changes s (length mark)) (frozen basis s mark) ≡ s
+thawed_of_frozen_is_thread_unless_over basis is s bounded mark goes =
+    let front : List ℕ = end_bytes s.ended ++ 0 ∷ ((fixed_bytes basis s mark ++ word (length s.output)) ++ s.output) in
+    let rest : List ℕ = changes 0 basis.memory s.core.memory in
+    let size = is.size in
+    let tail : drop (before_changes s (length mark)) (frozen basis s mark) ≡ rest =
+    ap (drop (before_changes s (length mark))) (frozen_bytes_of_going_thread_are_end_fixed_output_changes basis s mark goes)
+    ∙ drop_at front rest (before_changes s (length mark)) (length_of_bytes_before_changes basis s mark) in
+    ap (λ l. thread_of (frame_of s) (pages_of (changed basis.memory l))) tail
     ∙ ap (λ l. thread_of (frame_of s) (pages_of l))
-    (changed_by_changes_gives_memory [] start s.core.memory (bounded.core.memory_length ∙ sym size) (omega (arith, size)))
+    (changed_by_changes_gives_memory [] basis.memory s.core.memory (bounded.core.memory_length ∙ sym size) (omega (arith, size)))
     ∙ ap (λ c. record s { core = c }) (core_of_own_pages s.core bounded.core.memory_length)
 
 pub thawed_of_changes_is_thread : (start : List ℕ) → length start ≡ memory_size → (s : ThreadState) → length s.core.memory ≡ memory_size

@@ -1,12 +1,12 @@
 -- Bytes that are written one after the other.
-use Rattle.std.proofs.Common.{◌≡◌, ◌+◌, ◌*◌, ◌<◌, ℕ, suc, true, false, List, [], ◌∷◌, ◌++◌, length, drop, get_or, refl, sym, ap, ◌∙◌, arith, cond, Option, Some, None, eq-eqb}
+use Rattle.std.proofs.Common.{◌≡◌, ◌+◌, ◌*◌, ◌<◌, ◌≤◌, ℕ, suc, true, false, List, [], ◌∷◌, ◌++◌, length, drop, flat_map, get_or, refl, sym, ap, ◌∙◌, arith, cond, Option, Some, None, eq-eqb}
 use Rattle.std.specs.Prelude.{is_none, is_some}
 use Rattle.std.specs.Int.{w16, to_le_bytes}
-use Rattle.std.proofs.lemmas.List.{append_assoc, append-nil, drop_more, drop-drop, take-append-drop}
+use Rattle.std.proofs.lemmas.List.{append_assoc, append-nil, drop_all, drop_more, drop-drop, take-append-drop}
 use Rattle.ir_runs.specs.declared.access.Access.{Access}
 use Rattle.ir_mach.specs.Pages.{page_of, page_size}
 use Rattle.ir_thread.specs.State.{higher_of}
-use Rattle.ir_freeze.specs.Frozen.{change, changes}
+use Rattle.ir_freeze.specs.Frozen.{word, change, changes}
 
 -- what is the same is no change
 pub change_of_equal_byte_is_empty : (place old : ℕ) → change place old old ≡ []
@@ -81,3 +81,16 @@ written_and_remaining_changes_step_by_page i start memory out more old new whole
     (ap (λ l. l ++ drop (4096 * (i + 1)) start) is ∙ page_append_rest_is_drop_at_page start i)
     ∙ ap (λ l. out ++ changes (4096 * i) (drop (4096 * i) start) l) (ap (λ l. l ++ drop (4096 * (i + 1)) memory) is' ∙ page_append_rest_is_drop_at_page memory i)
     ∙ before
+
+-- one word more
+pub written_and_remaining_words_step_by_word : (words out more whole : List ℕ) (n value : ℕ) → n < length words → value ≡ get_or words n 0
+    → more ≡ out ++ word value → out ++ flat_map word (drop n words) ≡ whole → more ++ flat_map word (drop (n + 1) words) ≡ whole
+written_and_remaining_words_step_by_word words out more whole n value less is e before =
+    let rest : List ℕ = flat_map word (drop (n + 1) words) in
+    ap (λ l. l ++ rest) e ∙ append_assoc out (word value) rest ∙ ap (λ v. out ++ (word v ++ rest)) is
+    ∙ ap (λ l. out ++ flat_map word l) (sym (drop_more words n 0 less)) ∙ before
+
+-- none is left
+pub written_words_are_whole_after_last : (words out whole : List ℕ) (n : ℕ) → length words ≤ n → out ++ flat_map word (drop n words) ≡ whole → out ≡ whole
+written_words_are_whole_after_last words out whole n past before =
+    sym (append-nil out) ∙ ap (λ l. out ++ flat_map word l) (sym (drop_all n words past)) ∙ before

@@ -1,10 +1,12 @@
 -- A thread as bytes.
 use Rattle.std.specs.Prelude.{◌==◌, ◌&&◌, ℕ, suc, Bool, List, [], ◌∷◌, ◌++◌, length, map, flat_map, if◌then◌else◌, Option, Some, None, is_some, is_none}
 use Rattle.std.specs.Int.{w16, w32, to_le_bytes}
+use Rattle.ir_live.specs.Table.{kept_registers}
 use Rattle.ir_runs.specs.declared.access.Access.{Access}
 use Rattle.ir_runs.specs.declared.access.Access.TheVariants.{Reading, Writing}
 use Rattle.ir_thread.specs.State.{end_number, end_code, ThreadState, highest}
 use Rattle.ir_thread.specs.declared.end.End.{End}
+use Rattle.ir_freeze.specs.Basis.{Basis}
 
 -- the four bytes of a word, the lowest first
 abbrev pub word : ℕ → List ℕ
@@ -35,15 +37,15 @@ changes place (old ∷ start) (new ∷ memory) = change place old new ++ changes
 abbrev pub is_over : ThreadState → Bool
 is_over s = is_some s.ended && is_none (highest s.held)
 
--- pc, x0 to x31, what is held of each object, and a mark that says where the thread's source is
-abbrev pub fixed_bytes : ThreadState → List ℕ → List ℕ
-fixed_bytes s mark = word s.core.pc ++ flat_map word s.core.registers ++ map held_byte s.held ++ mark
+-- pc, x0 to x31, of which those that aren't live are 0, what is held of each object, and a mark that says where the thread's source is
+abbrev pub fixed_bytes : Basis → ThreadState → List ℕ → List ℕ
+fixed_bytes basis s mark = word s.core.pc ++ flat_map word (kept_registers basis.live s.core) ++ map held_byte s.held ++ mark
 
 -- these, the output after its length, and what private memory has that it hadn't at the start
-abbrev pub going_bytes : List ℕ → ThreadState → List ℕ → List ℕ
-going_bytes start s mark = fixed_bytes s mark ++ word (length s.output) ++ s.output ++ changes 0 start s.core.memory
+abbrev pub going_bytes : Basis → ThreadState → List ℕ → List ℕ
+going_bytes basis s mark = fixed_bytes basis s mark ++ word (length s.output) ++ s.output ++ changes 0 basis.memory s.core.memory
 
--- The bytes of a thread whose private memory was `start` at first. Its end comes first. Of a thread that is over there is
--- its output beside that, of any other all that it can see of itself.
-abbrev pub frozen : List ℕ → ThreadState → List ℕ → List ℕ
-frozen start s mark = end_bytes s.ended ++ (if is_over s then 1 ∷ s.output else 0 ∷ going_bytes start s mark)
+-- The bytes of a thread. Its end comes first. Of a thread that is over there is its output beside that, of any other all that it may still
+-- see of itself.
+abbrev pub frozen : Basis → ThreadState → List ℕ → List ℕ
+frozen basis s mark = end_bytes s.ended ++ (if is_over s then 1 ∷ s.output else 0 ∷ going_bytes basis s mark)

@@ -1,3 +1,4 @@
+pub mod Basis
 pub mod Frozen
 pub mod Thawed
 pub mod Twins

@@ -6,6 +6,7 @@ use Rattle.ir_mach.specs.Within.{IsCore}
 use Rattle.ir_thread.specs.State.{end_code, ThreadState, most_output}
 use Rattle.ir_thread.specs.Frames.{frame_of}
 use Rattle.ir_seen.specs.Seen.{Same, view}
+use Rattle.ir_freeze.specs.Basis.{Basis, IsBasis}
 use Rattle.ir_freeze.specs.Frozen.{changes, frozen, is_over}
 use Rattle.ir_freeze.specs.Thawed.{before_changes, thawed}
 
@@ -24,14 +25,13 @@ pub record IsBounded (s : ThreadState) : Type 0 where
 
 -- two moments of a thread, beside marks of one length, have equal bytes exactly where they look the same
 abbrev pub TellsApart : Type 0
-TellsApart = (code start : List ℕ) → length start ≡ memory_size → (x y : ThreadState) → AreTwins x y → IsBounded x → IsBounded y
-    → (m n : List ℕ) → length m ≡ length n
-    → (frozen start x m ≡ frozen start y n) ↔ Same code (view x, m) (view y, n)
+TellsApart = (basis : Basis) → IsBasis basis → (x y : ThreadState) → AreTwins x y → IsBounded x → IsBounded y → (m n : List ℕ) → length m ≡ length n
+    → (frozen basis x m ≡ frozen basis y n) ↔ Same basis.code (view x, m) (view y, n)
 
 -- a thread that isn't over comes back from its bytes and its frame as it was
 abbrev pub ComesBack : Type 0
-ComesBack = (start : List ℕ) → length start ≡ memory_size → (s : ThreadState) → IsBounded s → (mark : List ℕ) → is_over s ≡ false
-    → thawed start (frame_of s) (before_changes s (length mark)) (frozen start s mark) ≡ s
+ComesBack = (basis : Basis) → IsBasis basis → (s : ThreadState) → IsBounded s → (mark : List ℕ) → is_over s ≡ false
+    → thawed basis.memory (frame_of s) (before_changes s (length mark)) (frozen basis s mark) ≡ s
 
 -- a thread comes back from its frame and what is changed in its private memory, whether it is over or not
 abbrev pub ChangesComeBack : Type 0

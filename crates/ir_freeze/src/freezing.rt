@@ -1,11 +1,14 @@
 //! A thread as bytes.
 
 ghost use Rattle.std.specs.Prelude.{◌≡◌, ◌+◌, ◌≤◌, ◌^◌, ◌++◌, map, flat_map, length, is_none, IfOk, OnOk};
+ghost use Rattle.ir_live.specs.Table.{kept_registers};
 ghost use Rattle.ir_mach.specs.Core.{memory_size};
 ghost use Rattle.ir_thread.specs.State.{highest};
 ghost use Rattle.ir_freeze.specs.Frozen.{word, held_byte, end_bytes, change, changes, is_over, fixed_bytes, going_bytes, frozen};
 
+use crate::basis::Basis;
 use crate::pages::page_in;
+use ir_live::Live;
 use ir_mach::{MEMORY_PAGES, Mach, PAGE_SIZE};
 use ir_runs::Access;
 use ir_thread::{End, Thread};
@@ -38,13 +41,13 @@ fn put_end(out: &mut Vec<u8>, ended: Option<End>) -> Result<(), AllocError>
     }
 }
 
-// The words of pc and x0 to x31.
-fn put_registers(out: &mut Vec<u8>, mach: &Mach) -> Result<(), AllocError>
-    ensures { OnOk result (out.new.items ≡ out.old.items ++ word mach.now.pc ++ flat_map word mach.now.registers) }
+// The words of pc and x0 to x31, of which those that aren't live are 0.
+fn put_registers(out: &mut Vec<u8>, live: &Live, mach: &Mach) -> Result<(), AllocError>
+    ensures { OnOk result (out.new.items ≡ out.old.items ++ word mach.now.pc ++ flat_map word (kept_registers live.now mach.now)) }
 {
     put_word(out, mach.pc())?;
     for n in 0..REGISTERS {
-        put_word(out, mach.reg(n))?;
+        put_word(out, live.kept(mach, n))?;
     }
     Ok(())
 }
@@ -137,41 +140,45 @@ pub fn over(thread: &Thread) -> bool
     thread.ended().is_some() && holds_none(thread.held())
 }
 
-fn put_fixed(out: &mut Vec<u8>, thread: &Thread, mark: &[u8]) -> Result<(), AllocError>
-    ensures { OnOk result (out.new.items ≡ out.old.items ++ fixed_bytes thread.now mark.now) }
+fn put_fixed(
+    out: &mut Vec<u8>,
+    basis: &Basis<'_>,
+    thread: &Thread,
+    mark: &[u8],
+) -> Result<(), AllocError>
+    ensures { OnOk result (out.new.items ≡ out.old.items ++ fixed_bytes basis.now thread.now mark.now) }
 {
-    put_registers(out, thread.mach())?;
+    put_registers(out, basis.live(), thread.mach())?;
     put_held(out, thread.held())?;
     out.extend_from_slice(mark)
 }
 
 fn put_going(
     out: &mut Vec<u8>,
-    start: &[u8],
+    basis: &Basis<'_>,
     thread: &Thread,
     mark: &[u8],
 ) -> Result<(), AllocError>
-    requires { length start.now ≡ memory_size }
-    ensures { OnOk result (out.new.items ≡ out.old.items ++ going_bytes start.now thread.now mark.now) }
+    ensures { OnOk result (out.new.items ≡ out.old.items ++ going_bytes basis.now thread.now mark.now) }
 {
-    put_fixed(out, thread, mark)?;
+    put_fixed(out, basis, thread, mark)?;
     put_word(out, thread.output().len() as u32)?;
     out.extend_from_slice(thread.output())?;
-    put_changes(out, start, thread)
+    put_changes(out, basis.memory(), thread)
 }
 
-/// The bytes of a thread whose private memory was `start` at first, beside a mark that says where its source is.
+/// The bytes of a thread, beside a mark that says where its source is. Of a thread that goes on they have the live registers, 0 for the others, and
+/// what its private memory has that it hadn't at first.
 ///
 /// # Errors
 /// Out of memory.
 pub fn freeze(
     alloc: Global,
-    start: &[u8],
+    basis: &Basis<'_>,
     thread: &Thread,
     mark: &[u8],
 ) -> Result<Vec<u8>, AllocError>
-    requires { length start.now ≡ memory_size }
-    ensures { IfOk result (λ bytes. bytes.items ≡ frozen start.now thread.now mark.now) }
+    ensures { IfOk result (λ bytes. bytes.items ≡ frozen basis.now thread.now mark.now) }
 {
     let mut out = Vec::new(alloc);
     put_end(&mut out, thread.ended())?;
@@ -180,7 +187,7 @@ pub fn freeze(
         out.extend_from_slice(thread.output())?;
     } else {
         out.push(GOES_ON)?;
-        put_going(&mut out, start, thread, mark)?;
+        put_going(&mut out, basis, thread, mark)?;
     }
     Ok(out)
 }

@@ -5,11 +5,9 @@ use Rattle.std.specs.List.{slice_index_or}
 use Rattle.std.proofs.lemmas.Bool.{cases_lt}
 use Rattle.ir_object.specs.Cell.{Cell}
 use Rattle.ir_flat.specs.Flat.{IsFlat, thread_of, cell_of, idle}
-use Rattle.ir_freeze.proofs.CallerLemmas.{over_if_shared_ask_done, shared_ask_done_if_over}
 use Rattle.ir_flat.specs.Room.{empty}
-use Rattle.ir_sources.specs.Sources.{Source, given}
+use Rattle.ir_sources.specs.Sources.{given}
 use Rattle.ir_states.specs.Looks.{Looks}
-use Rattle.ir_thread.specs.State.{ThreadState}
 use Rattle.ir_seen.specs.Seen.{view, Same}
 use Rattle.ir_seen.proofs.CallerLemmas.{look_same}
 use Rattle.ir_store.specs.Nodes.{SourcedFlat, source_of, AreSameLooks}
@@ -56,18 +54,6 @@ look_alike_symmetric s u code like = subst (λ c. Looks (Same c) (seen_of u) (se
   words = λ o. sym (like.words o);
 })
 
--- threads that look the same where one code runs do so where any does
-same_by_any_code : (code other : List ℕ) (x y : ThreadState × Source) → Same code (view x.0, x.1) (view y.0, y.1) → Same other (view x.0, x.1) (view y.0, y.1)
-same_by_any_code code other x y same = elim same [
-  | inl e ↦ inl e
-  | inr done ↦ inr (
-    shared_ask_done_if_over other (view x.0) (over_if_shared_ask_done code (view x.0) done.0),
-    shared_ask_done_if_over other (view y.0) (over_if_shared_ask_done code (view y.0) done.1),
-    done.2,
-    done.3,
-  )
-]
-
 lists_equal_if_same_at_each_index : (xs ys : List ℕ) → length xs ≡ length ys → slice_index xs ≡ slice_index ys → xs ≡ ys
 lists_equal_if_same_at_each_index [] [] size each = refl
 lists_equal_if_same_at_each_index [] (y ∷ ys) size each = absurd (omega (arith, size))
@@ -77,9 +63,9 @@ lists_equal_if_same_at_each_index (x ∷ xs) (y ∷ ys) size each = λ i.
 
 -- what no thread can tell apart has the same looks
 pub same_looks_if_look_alike : (s u : SourcedFlat) → IsFlat s.flat → IsFlat u.flat → length u.flat.objects ≡ length s.flat.objects → LookAlike s u
-    → AreSameLooks s u
+    → AreSameLooks s.flat.code s u
 same_looks_if_look_alike s u is also many like = record {
-  threads = λ t less twins code. same_by_any_code s.flat.code code (thread_of s.flat t, source_of s t) (thread_of u.flat t, source_of u t) (like.threads t);
+  threads = λ t less twins. like.threads t;
   words = λ o. elim (cases_lt o (length s.flat.objects)) [
     | inl l ↦ lists_equal_if_same_at_each_index (cell_of s.flat o).words (cell_of u.flat o).words
         ((is.objects o l).words ∙ sym (also.objects o (omega (arith, l, many))).words) (like.words o)

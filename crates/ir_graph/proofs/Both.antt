@@ -23,9 +23,9 @@ use Rattle.ir_graph.proofs.Plain.{TakesStep}
 use Rattle.ir_graph.proofs.Reached.{step_of_reached_is_reached}
 
 pub look_alike_if_same_looks : (s u : SourcedFlat) → IsLike s.flat u.flat → length s.sources ≡ length s.flat.threads
-    → length u.sources ≡ length u.flat.threads → AreSameLooks s u → LookAlike s u
+    → length u.sources ≡ length u.flat.threads → AreSameLooks s.flat.code s u → LookAlike s u
 look_alike_if_same_looks s u like many many' same =
-    look_alike_by_threads_and_words s u like many many' (λ t l. same.threads t l (like.twins t) s.flat.code) same.words
+    look_alike_by_threads_and_words s u like many many' (λ t l. same.threads t l (like.twins t)) same.words
 
 -- a thread that is over has no step
 pub over_thread_leads_nowhere : (states : List SourcedFlat) (t : ℕ) (refused : Bool) (v : ℕ)

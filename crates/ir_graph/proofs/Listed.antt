@@ -44,10 +44,18 @@ outcomes_of_alike_states_are_equal code u v alike = λ i. record {
 }
   where
     end_at : (t : ℕ) → (u.now t).0.ended ≡ (v.now t).0.ended
-    end_at t = elim (alike.threads t) [ inl e ↦ ap (λ z. z.0.ended) e | inr d ↦ d.2 ]
+    end_at t = elim (alike.threads t) [
+      | inl e ↦ ap (λ z. z.0.ended) e
+      | inr (inl d) ↦ ap (λ z. z.ended) d.0.rest
+      | inr (inr d) ↦ d.2
+    ]
 
     output_at : (t : ℕ) → (u.now t).0.output ≡ (v.now t).0.output
-    output_at t = elim (alike.threads t) [ inl e ↦ ap (λ z. z.0.output) e | inr d ↦ d.3 ]
+    output_at t = elim (alike.threads t) [
+      | inl e ↦ ap (λ z. z.0.output) e
+      | inr (inl d) ↦ ap (λ z. z.output) d.0.rest
+      | inr (inr d) ↦ d.3
+    ]
 
 module _ (x : Setup) (flats : List SourcedFlat) (noted : ℕ → BothWays) (threads : ℕ)
     (g : IsGraph x flats noted threads) where

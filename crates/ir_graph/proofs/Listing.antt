@@ -2,14 +2,15 @@
 use Rattle.std.proofs.Common.{◌≡◌, ℕ, suc, ◌<◌, List, [], ◌∷◌, ◌++◌, ◌⊎◌, inl, inr, Some, length, refl, sym, ap, ◌∙◌, subst, arith}
 use Rattle.std.specs.Prelude.{slice_get}
 use Rattle.std.proofs.lemmas.Bool.{cases_lt}
-use Rattle.std.specs.List.{slice_index_or}
-use Rattle.std.proofs.lemmas.Option.{same_Some, slice_get-get_or}
+use Rattle.std.proofs.lemmas.Option.{same_Some}
 use Rattle.ir_explore.proofs.CallerLemmas.{slice_get_after_push_cases, slice_get_kept_by_append, index_of_element_is_below_length}
 use Rattle.ir_runs.specs.Run.{IsDone}
 use Rattle.ir_flat.specs.Flat.{machine, tables}
 use Rattle.ir_store.specs.Nodes.{SourcedFlat}
 use Rattle.ir_graph.specs.Listing.{HasOutcome, AreOutcomes}
+use Rattle.ir_graph.specs.Nodes.{AreNodes}
 use Rattle.ir_graph.specs.Outcomes.{outcome_of}
+use Rattle.ir_graph.proofs.OneOutcome.{look_alike_if_done_with_one_outcome}
 
 pub are_outcomes_below_zero : (flats : List SourcedFlat) → AreOutcomes flats 0 []
 are_outcomes_below_zero flats = record {
@@ -38,31 +39,14 @@ module _ (flats : List SourcedFlat) (until : ℕ) (listed : List ℕ) (f : Sourc
     rising = o.rising;
   }
 
-  -- a node whose outcome is listed
-  pub same_skipped : HasOutcome flats listed f.flat → AreOutcomes flats (suc until) listed
-  same_skipped h = record {
-    done = λ i v is. let d = o.done i v is in (let a = d.0 in omega (arith, a), d.1);
-    all = λ v g less here done. elim (below_successor_is_below_or_equal v until less) [
-      | inl old ↦ o.all v g old here done
-      | inr same ↦
-          let one : f ≡ g = same_Some f g (sym at ∙ subst (λ z. slice_get flats z ≡ Some g) (sym same) here) in (
-            moved h g one,
-            let a = (o.done h.place h.node h.stands).0 in omega (arith, a, same),
-          )
-    ];
-    different = o.different;
-    rising = o.rising;
-  }
-    where
-      moved : HasOutcome flats listed f.flat → (g : SourcedFlat) → f ≡ g → HasOutcome flats listed g.flat
-      moved h g one = record {
-        place = h.place;
-        node = h.node;
-        state = h.state;
-        stands = h.stands;
-        at = h.at;
-        same = h.same ∙ ap (λ (z : SourcedFlat). outcome_of (tables z.flat)) one;
-      }
+  -- a node has no outcome of one before it, which would look the same
+  pub no_node_before_has_outcome : AreNodes flats → IsDone (machine f.flat) (tables f.flat) → HasOutcome flats listed f.flat → ⊥
+  no_node_before_has_outcome nodes done h =
+      let before = o.done h.place h.node h.stands in
+      let low = before.0 in
+      let same = nodes.apart h.node until h.state f h.at at
+      (look_alike_if_done_with_one_outcome h.state f (nodes.like h.node until h.state f h.at at) (before.1 h.state h.at) done h.same) in
+      omega (arith, low, same)
 
   -- a node with an outcome that isn't listed yet
   pub new_listed : IsDone (machine f.flat) (tables f.flat) → (HasOutcome flats listed f.flat → ⊥) → AreOutcomes flats (suc until) (listed ++ until ∷ [])
@@ -142,15 +126,3 @@ module _ (flats : List SourcedFlat) (until : ℕ) (listed : List ℕ) (f : Sourc
         at = at;
         same = ap (λ (z : SourcedFlat). outcome_of (tables z.flat)) one;
       }
-
--- the state of a listed node, as it is read
-pub looked_up_state_is_state_of_listed_node : (flats : List SourcedFlat) (listed : List ℕ) (i d : ℕ) (e : SourcedFlat)
-    → ((i v : ℕ) → slice_get listed i ≡ Some v → v < length flats) → i < length listed
-    → e ≡ slice_index_or flats (slice_index_or listed i d) e
-    → (v : ℕ) × (slice_get listed i ≡ Some v) × (slice_get flats v ≡ Some e)
-looked_up_state_is_state_of_listed_node flats listed i d e within less is =
-    let at : slice_get listed i ≡ Some (slice_index_or listed i d) = slice_get-get_or listed i d less in (
-      slice_index_or listed i d,
-      at,
-      slice_get-get_or flats (slice_index_or listed i d) e (within i (slice_index_or listed i d) at) ∙ ap Some (sym is),
-    )

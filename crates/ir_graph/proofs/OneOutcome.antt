@@ -1,9 +1,17 @@
 -- States with one outcome.
-use Rattle.std.proofs.Common.{◌≡◌, ℕ, suc, ◌<◌, List, [], ◌∷◌, inl, inr, length, refl, sym, ap, ◌∙◌, arith}
+use Rattle.std.proofs.Common.{◌≡◌, ℕ, suc, ◌<◌, List, [], ◌∷◌, inl, inr, length, refl, sym, ap, ◌∙◌, subst, arith}
 use Rattle.std.specs.Prelude.{slice_index}
 use Rattle.std.proofs.lemmas.Bool.{cases_lt}
-use Rattle.ir_flat.specs.Flat.{Flat, IsFlat, tables, thread_of, cell_of}
+use Rattle.ir_runs.specs.Machine.{Done}
+use Rattle.ir_runs.specs.Run.{IsDone}
+use Rattle.ir_flat.specs.Flat.{Flat, IsFlat, machine, tables, thread_of, cell_of}
 use Rattle.ir_flat.specs.Room.{empty}
+use Rattle.ir_seen.specs.Seen.{Same, view}
+use Rattle.ir_seen.proofs.CallerLemmas.{look_same, seen_machine_is_view}
+use Rattle.ir_sources.specs.Sources.{given}
+use Rattle.ir_store.specs.Nodes.{SourcedFlat, source_of}
+use Rattle.ir_thread.specs.State.{ask_of, shared_ask}
+use Rattle.ir_graph.specs.Nodes.{LookAlike}
 use Rattle.ir_graph.specs.Outcomes.{EndAlike, outcome_of}
 use Rattle.ir_graph.specs.Plain.{IsLike}
 use Rattle.ir_graph.proofs.Alike.{slice_index_or_past_length_is_default}
@@ -39,3 +47,23 @@ outcomes_equal_if_ends_and_words_equal f g ends words = λ i. record {
   outputs = λ t. (ends t).1 i;
   words = λ o. slice_index (words o i);
 }
+
+-- states with one outcome, in both of which all threads are done, look the same
+pub look_alike_if_done_with_one_outcome : (s u : SourcedFlat) → IsLike s.flat u.flat → IsDone (machine s.flat) (tables s.flat)
+    → IsDone (machine u.flat) (tables u.flat) → outcome_of (tables s.flat) ≡ outcome_of (tables u.flat) → LookAlike s u
+look_alike_if_done_with_one_outcome s u like done also same = record {
+  threads = threads;
+  inside = λ o t. (look_same s.flat.code given).holds (view (thread_of s.flat t), source_of s t) (view (thread_of u.flat t), source_of u t) (threads t) o;
+  words = λ o. ap (λ z. z.words o) same;
+}
+  where
+    view_done : (f : Flat) → IsDone (machine f) (tables f) → (t : ℕ) → shared_ask (ask_of f.code (view (thread_of f t))) ≡ Done
+    view_done f all t = ((seen_machine_is_view f.code).done (thread_of f t)).0 (all t)
+
+    threads : (t : ℕ) → Same s.flat.code (view (thread_of s.flat t), source_of s t) (view (thread_of u.flat t), source_of u t)
+    threads t = inr (inr (
+      view_done s.flat done t,
+      subst (λ c. shared_ask (ask_of c (view (thread_of u.flat t))) ≡ Done) like.code (view_done u.flat also t),
+      ap (λ z. z.ends t) same,
+      ap (λ z. z.outputs t) same,
+    ))

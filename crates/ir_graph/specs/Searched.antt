@@ -33,6 +33,7 @@ pub record IsSearch (s : States) : Type 0 where
   pub turns : AreTurns s.graph.setup.guest.code s.graph.flats.shared s.graph.ahead
   pub room : length s.graph.flats.items ≤ s.graph.bounds.nodes
   pub threads : length (rows s.search.opened.items) ≡ length s.graph.rows.items
+  pub code : s.graph.flats.code ≡ s.graph.setup.guest.code
 
 -- it stands between two levels
 abbrev pub StandsBetween : States → Type 0

@@ -1,6 +1,6 @@
 //! The graph of a guest, as it grows.
 
-ghost use Rattle.std.specs.Prelude.{ℕ, length};
+ghost use Rattle.std.specs.Prelude.{◌≡◌, ℕ, length};
 ghost use Rattle.ir_graph.specs.Ahead.{AreTurns};
 ghost use Rattle.ir_graph.specs.Graph.{IsGraph};
 ghost use Rattle.ir_graph.specs.Notes.{noted_by};
@@ -47,7 +47,8 @@ impl<'a> Successors for Graph<'a> {
 
     ghost noted = { λ g. noted_by g.rows.items g.refused_rows.items };
 
-    ghost is_sound = { λ g. IsGraph g.setup g.flats.items (noted_by g.rows.items g.refused_rows.items) (length g.rows.items) × AreTurns g.setup.guest.code g.flats.shared g.ahead };
+    ghost is_sound = { λ g. IsGraph g.setup g.flats.items (noted_by g.rows.items g.refused_rows.items) (length g.rows.items)
+        × AreTurns g.setup.guest.code g.flats.shared g.ahead × (g.flats.code ≡ g.setup.guest.code) };
 
     fn known(&self, thread: usize, refused: bool, node: usize) -> Option<Option<usize>> {
         if refused {

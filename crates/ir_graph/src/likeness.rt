@@ -8,24 +8,25 @@ ghost use Rattle.ir_graph.specs.Plain.{IsLike};
 ghost use Rattle.ir_graph.specs.Nodes.{LookAlike};
 ghost use Rattle.ir_seen.specs.Seen.{Same, view};
 
-use ir_freeze::{freeze, over, tells_apart};
+use ir_freeze::{Basis, freeze, over, tells_apart};
 use ir_object::Object;
 use ir_sources::Sources;
 use ir_store::{SourcedFlat, bounded};
 use ir_thread::Thread;
 use std::alloc::{AllocError, Global};
 
-// Whether two moments of a thread look the same, beside what answers it: as bytes, beside the private memory of the first, and what is left of
-// the sources is the same, unless the thread is over.
+// Whether two moments of a thread look the same, beside what answers it: as bytes, and what is left of the sources is the same, unless the
+// thread is over.
 fn same_thread(
     alloc: Global,
+    basis: &Basis<'_>,
     first: &Thread,
     second: &Thread,
     one: &Sources<'_>,
     other: &Sources<'_>,
 ) -> Result<bool, AllocError>
     requires { AreTwins first.now second.now }
-    ensures { IfOk result (λ same. same ≡ true → (code : List ℕ) → Same code (view first.now, one.now) (view second.now, other.now)) }
+    ensures { IfOk result (λ same. same ≡ true → Same basis.now.code (view first.now, one.now) (view second.now, other.now)) }
 {
     if !over(first) && !one.same(other) {
         return Ok(false);
@@ -33,9 +34,9 @@ fn same_thread(
     bounded(first);
     bounded(second);
     tells_apart();
-    let start = first.mach().memory();
-    let bytes = freeze(alloc, start, first, &[])?;
-    let others = freeze(alloc, start, second, &[])?;
+    basis.is_whole();
+    let bytes = freeze(alloc, basis, first, &[])?;
+    let others = freeze(alloc, basis, second, &[])?;
     Ok(bytes.as_slice() == others.as_slice())
 }
 
@@ -53,15 +54,17 @@ pub fn same_words(first: &[Object], second: &[Object]) -> bool
     true
 }
 
-/// Whether two moments of a guest look the same to every thread.
+/// Whether two moments of a guest look the same to every thread; the basis is of their code.
 ///
 /// # Errors
 /// Out of memory.
 pub fn same_state(
     alloc: Global,
+    basis: &Basis<'_>,
     first: &SourcedFlat<'_>,
     second: &SourcedFlat<'_>,
 ) -> Result<bool, AllocError>
+    requires code { first.now.flat.code ≡ basis.now.code }
     requires like { IsLike first.now.flat second.now.flat }
     requires sources { length first.now.sources ≡ length first.now.flat.threads }
     requires others { length second.now.sources ≡ length second.now.flat.threads }
@@ -73,7 +76,14 @@ pub fn same_state(
     for t in 0..first.flat.threads().len() {
         let one = &first.flat.threads()[t];
         let other = &second.flat.threads()[t];
-        if !same_thread(alloc, one, other, &first.sources[t], &second.sources[t])? {
+        if !same_thread(
+            alloc,
+            basis,
+            one,
+            other,
+            &first.sources[t],
+            &second.sources[t],
+        )? {
             return Ok(false);
         }
     }

@@ -32,12 +32,14 @@ pub struct Bounds {
 fn node_of<'a>(flats: &mut Store<'a>, new: Node<'a>, most: usize) -> Result<usize, Stop>
     requires nodes { AreNodes flats.old.items }
     requires is { IsNode flats.old.shared new }
+    requires code { flats.old.code ≡ new.code }
     requires like { (v : ℕ) (s : SourcedFlat) → slice_get flats.old.items v ≡ Some s → IsLike (sourced_in flats.old.shared new).flat s.flat }
     requires rest { AllRest (sourced_in flats.old.shared new).flat }
     requires room { length flats.old.items ≤ most }
     ensures nodes { AreNodes flats.new.items }
     ensures stay { Stay flats.old.items flats.new.items }
     ensures shared { flats.new.shared ≡ flats.old.shared }
+    ensures code { flats.new.code ≡ flats.old.code }
     ensures reached { (x : Setup) → AllReached x flats.old.items → IsReached x (sourced_in flats.old.shared new.entry) → AllReached x flats.new.items }
     ensures within { IfOk result (λ w. w < length flats.new.items) }
     ensures added { IfOk result (λ w. (length flats.new.items ≡ length flats.old.items) ⊎ ((w ≡ length flats.old.items) × (length flats.new.items ≡ suc (length flats.old.items)))) }
@@ -64,10 +66,12 @@ fn node_by<'a>(flats: &mut Store<'a>, way: Way, turn: Turn, most: usize) -> Resu
     requires node { way.node < length flats.old.items }
     requires thread { (s : SourcedFlat) → slice_get flats.old.items way.node ≡ Some s → way.thread < length s.flat.threads }
     requires turn { (s : SourcedFlat) → slice_get flats.old.items way.node ≡ Some s → IsTurnOf s.flat.code flats.old.shared s way.thread way.refused turn }
+    requires code { (s : SourcedFlat) → slice_get flats.old.items way.node ≡ Some s → flats.old.code ≡ s.flat.code }
     requires room { length flats.old.items ≤ most }
     ensures nodes { AreNodes flats.new.items }
     ensures stay { Stay flats.old.items flats.new.items }
     ensures shared { flats.new.shared ≡ flats.old.shared }
+    ensures code { flats.new.code ≡ flats.old.code }
     ensures reached { (x : Setup) → AllReached x flats.old.items → AllReached x flats.new.items }
     ensures within { IfOk result (λ w. w < length flats.new.items) }
     ensures added { IfOk result (λ w. (length flats.new.items ≡ length flats.old.items) ⊎ ((w ≡ length flats.old.items) × (length flats.new.items ≡ suc (length flats.old.items)))) }
@@ -87,10 +91,12 @@ fn node_by_steps<'a>(flats: &mut Store<'a>, way: Way, bounds: Bounds) -> Result<
     requires nodes { AreNodes flats.old.items }
     requires node { way.node < length flats.old.items }
     requires thread { (s : SourcedFlat) → slice_get flats.old.items way.node ≡ Some s → way.thread < length s.flat.threads }
+    requires code { (s : SourcedFlat) → slice_get flats.old.items way.node ≡ Some s → flats.old.code ≡ s.flat.code }
     requires room { length flats.old.items ≤ bounds.nodes }
     ensures nodes { AreNodes flats.new.items }
     ensures stay { Stay flats.old.items flats.new.items }
     ensures grows { Grows flats.old.shared flats.new.shared }
+    ensures code { flats.new.code ≡ flats.old.code }
     ensures reached { (x : Setup) → AllReached x flats.old.items → AllReached x flats.new.items }
     ensures within { IfOk result (λ next. (w : ℕ) → next ≡ Some w → w < length flats.new.items) }
     ensures added { IfOk result (λ next. (length flats.new.items ≡ length flats.old.items) ⊎ ((next ≡ Some (length flats.old.items)) × (length flats.new.items ≡ suc (length flats.old.items)))) }
@@ -133,11 +139,13 @@ pub fn successor<'a>(
     requires node { way.node < length flats.old.items }
     requires thread { (s : SourcedFlat) → slice_get flats.old.items way.node ≡ Some s → way.thread < length s.flat.threads }
     requires code { (s : SourcedFlat) → slice_get flats.old.items way.node ≡ Some s → s.flat.code ≡ code.now }
+    requires store { flats.old.code ≡ code.now }
     requires turns { AreTurns code.now flats.old.shared ahead.old }
     requires room { length flats.old.items ≤ bounds.nodes }
     ensures nodes { AreNodes flats.new.items }
     ensures stay { Stay flats.old.items flats.new.items }
     ensures turns { AreTurns code.now flats.new.shared ahead.new }
+    ensures store { flats.new.code ≡ flats.old.code }
     ensures reached { (x : Setup) → AllReached x flats.old.items → AllReached x flats.new.items }
     ensures within { IfOk result (λ next. (w : ℕ) → next ≡ Some w → w < length flats.new.items) }
     ensures added { IfOk result (λ next. (length flats.new.items ≡ length flats.old.items) ⊎ ((next ≡ Some (length flats.old.items)) × (length flats.new.items ≡ suc (length flats.old.items)))) }

@@ -1,6 +1,6 @@
 //! The graph at first: the node where a guest comes to rest.
 
-ghost use Rattle.std.specs.Prelude.{◌≡◌, ◌⊎◌, ℕ, ◌<◌, ◌≤◌, [], ◌∷◌, None, length, IfOk, IfErr, OnOk};
+ghost use Rattle.std.specs.Prelude.{◌≡◌, ◌⊎◌, ℕ, ◌<◌, ◌≤◌, [], ◌∷◌, None, length, vec_len, IfOk, IfErr, OnOk};
 ghost use Rattle.ir_explore.specs.declared.stop.Stop.TheVariants.{Memory};
 ghost use Rattle.ir_flat.specs.Flat.{IsFlat};
 ghost use Rattle.ir_graph.specs.Graph.{IsGraph};
@@ -20,6 +20,7 @@ use crate::notes::Row;
 use crate::rest::run_to_rest;
 use crate::setup::Setup;
 use ir_explore::Stop;
+use ir_freeze::Basis;
 use ir_image::Image;
 use ir_store::{SourcedFlat, Store};
 use ir_thread::Profile;
@@ -70,7 +71,7 @@ fn no_refused_rows(alloc: Global, threads: usize, profile: Profile) -> Result<Ve
 
 // The private memory of each thread at first.
 fn first_memory(alloc: Global, image: &Image) -> Result<Vec<u8>, AllocError>
-    ensures { IfOk result (λ memory. length memory.items ≡ memory_size) }
+    ensures { IfOk result (λ memory. vec_len memory ≡ memory_size) }
 {
     let mut memory = Vec::from_slice(alloc, image.bytes())?;
     memory.resize(MEMORY_SIZE, 0)?;
@@ -90,6 +91,7 @@ pub fn start_graph<'a>(alloc: Global, setup: &Setup<'a>, bounds: Bounds) -> Resu
     ensures threads { IfOk result (λ graph. length graph.rows.items ≡ length setup.now.guest.entries) }
     ensures sound { IfOk result (λ graph. IsGraph setup.now graph.flats.items (noted_by graph.rows.items graph.refused_rows.items) (length graph.rows.items)) }
     ensures none { IfOk result (λ graph. graph.ahead ≡ []) }
+    ensures code { IfOk result (λ graph. graph.flats.code ≡ setup.now.guest.code) }
 {
     let mut state = setup.start(alloc)?;
     rest_all(&mut state, bounds.private)?;
@@ -98,7 +100,8 @@ pub fn start_graph<'a>(alloc: Global, setup: &Setup<'a>, bounds: Bounds) -> Resu
     let refused_rows = no_refused_rows(alloc, threads, setup.profile())?;
     let image = setup.image();
     let start = first_memory(alloc, image)?;
-    let mut flats = Store::new(alloc, image.form(), start.as_slice())?;
+    let basis = Basis::new(alloc, setup.code(), start)?;
+    let mut flats = Store::new(alloc, image.form(), basis);
     let first = flats.by_numbers(&state)?;
     flats.push(first)?;
     Ok(Graph {

@@ -57,6 +57,7 @@ fn new_turn(
     requires code { (s : SourcedFlat) → slice_get flats.old.items way.node ≡ Some s → s.flat.code ≡ code.now }
     ensures items { flats.new.items ≡ flats.old.items }
     ensures grows { Grows flats.old.shared flats.new.shared }
+    ensures store { flats.new.code ≡ flats.old.code }
     ensures turn { IfOk result (λ found. IfSome found (λ turn. (s : SourcedFlat) → slice_get flats.new.items way.node ≡ Some s → IsTurnOf code.now flats.new.shared s way.thread way.refused turn)) }
 {
     let from = flats.thread_number(way.node, way.thread);
@@ -102,6 +103,7 @@ pub fn turn_of(
     requires turns { AreTurns code.now flats.old.shared ahead.old }
     ensures items { flats.new.items ≡ flats.old.items }
     ensures grows { Grows flats.old.shared flats.new.shared }
+    ensures store { flats.new.code ≡ flats.old.code }
     ensures turns { AreTurns code.now flats.new.shared ahead.new }
     ensures turn { IfOk result (λ found. IfSome found (λ turn. (s : SourcedFlat) → slice_get flats.new.items way.node ≡ Some s → IsTurnOf code.now flats.new.shared s way.thread way.refused turn)) }
 {

@@ -2,7 +2,7 @@
 
 ghost use Rattle.std.specs.Prelude.{◌≤◌};
 
-use crate::guests::{COLLIDES, ENDLESS_LOOP, LOST_UPDATE, POLLS, PRINTS};
+use crate::guests::{ENDLESS_LOOP, LOST_UPDATE, POLLS, PRINTS};
 use crate::page::{ENDLESS, Page, empty_page};
 use ir_asm::assemble;
 use ir_explore::Unobserved;
@@ -118,18 +118,6 @@ fn what_is_printed_by_threads_is_shown(rt: HostRuntime) -> Result<(), Fail> {
 fn a_thread_that_waits_for_what_never_comes_hangs(rt: HostRuntime) -> Result<(), Fail> {
     let (status, out, _) = printed(&rt, POLLS, &within(100, 100, Profile::One))?;
     assert_eq!(rt; out.bytes.as_slice(), HANGING);
-    assert_eq!(rt; status, 0);
-    Ok(())
-}
-
-#[test]
-fn different_states_of_one_hash_are_both_found_again(rt: HostRuntime) -> Result<(), Fail> {
-    let (status, out, _) = printed(&rt, COLLIDES, &within(100, 100, Profile::One))?;
-    assert!(rt;
-        out.bytes
-            .as_slice()
-            .ends_with(b"finished outcomes 1 states 5 hangs 0\n")
-    );
     assert_eq!(rt; status, 0);
     Ok(())
 }

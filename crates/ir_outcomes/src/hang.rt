@@ -50,6 +50,7 @@ fn first_lost(marks: &[bool]) -> Option<usize>
 fn lead(alloc: Global, states: &States<'_>, node: usize) -> Result<Shown, Stop>
     requires allowed { IsAllowed states.now.graph.setup.profile states.now.graph.setup.guest }
     requires reached { AllReached states.now.graph.setup states.now.graph.flats.items }
+    requires code { states.now.graph.flats.code ≡ states.now.graph.setup.guest.code }
     requires node { node < length states.now.graph.flats.items }
     requires origin { node < length states.now.search.found.nodes.items }
     ensures refused { IfErr result (λ stop. (stop ≡ Memory) ⊎ (stop ≡ Order node)) }
@@ -61,7 +62,7 @@ fn lead(alloc: Global, states: &States<'_>, node: usize) -> Result<Shown, Stop>
     let path = path_to(alloc, origins, node)?;
     let (state, turns) = run_to_node(alloc, states, path.as_slice(), node)?;
     let kept = states.graph.flats.get(node)?;
-    if !same_state(alloc, &state, &kept)? {
+    if !same_state(alloc, states.graph.flats.basis(), &state, &kept)? {
         return Err(Stop::Order(node));
     }
     Ok(Shown {
@@ -78,6 +79,7 @@ fn lead(alloc: Global, states: &States<'_>, node: usize) -> Result<Shown, Stop>
 pub fn find_hang(alloc: Global, states: &States<'_>, marks: &[bool]) -> Result<Option<Shown>, Stop>
     requires allowed { IsAllowed states.now.graph.setup.profile states.now.graph.setup.guest }
     requires reached { AllReached states.now.graph.setup states.now.graph.flats.items }
+    requires code { states.now.graph.flats.code ≡ states.now.graph.setup.guest.code }
     requires few { length states.now.search.found.nodes.items ≤ length states.now.graph.flats.items }
     requires marks { length marks.now ≤ length states.now.search.found.nodes.items }
     ensures refused { IfErr result (λ stop. (stop ≡ Memory) ⊎ IsOrder stop) }

@@ -39,8 +39,7 @@ fn add_node(alloc: Global, states: &States<'_>, list: &mut Listing, node: usize)
     ensures refused { IfErr result (λ why. (why ≡ Memory) ⊎ IsOrder why) }
 {
     let flats = &states.graph.flats;
-    let new = has_new_outcome(flats, list.listed.as_slice(), node)?;
-    if !new {
+    if !has_new_outcome(flats, list.listed.as_slice(), node) {
         return Ok(());
     }
     let shown = show(alloc, states, node)?;

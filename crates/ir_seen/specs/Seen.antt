@@ -5,6 +5,7 @@ use Rattle.ir_thread.specs.State.{end_number, end_code, ThreadState, held_at, as
 use Rattle.ir_thread.specs.Permitted.{held_count}
 use Rattle.ir_thread.specs.declared.profile.Profile.{Profile}
 use Rattle.ir_image.specs.Guest.{Guest}
+use Rattle.ir_live.specs.Agreement.{DifferInDead}
 use Rattle.ir_runs.specs.Run as run
 use Rattle.ir_runs.specs.Bounds as bounds
 use Rattle.ir_flat.specs.Flat.{start_flat, tables}
@@ -34,10 +35,13 @@ IsLive code s = ask_of code (view s) ≡ ask_of code s
 abbrev pub IsSpoilt : List ℕ → ThreadState → Type 0
 IsSpoilt code s = ((thread_machine code).ended s ≡ Some (13, 0)) ⊎ ((thread_machine code).ended s ≡ Some (14, 0))
 
--- threads that look the same beside their sources: all is equal, or both are done, with one end and one output
+-- both threads are done, with one end and one output
+abbrev pub AreDoneAlike : List ℕ → ThreadState → ThreadState → Type 0
+AreDoneAlike code x y = (shared_ask (ask_of code x) ≡ Done) × (shared_ask (ask_of code y) ≡ Done) × (x.ended ≡ y.ended) × (x.output ≡ y.output)
+
+-- threads that look the same beside their sources: all is equal but registers that aren't live, or both are done, with one end and one output
 abbrev pub Same : {S : Type 0} → List ℕ → ThreadState × S → ThreadState × S → Type 0
-Same code x y = (x ≡ y) ⊎ ((shared_ask (ask_of code x.0) ≡ Done) × (shared_ask (ask_of code y.0) ≡ Done) × (x.0.ended ≡ y.0.ended)
-    × (x.0.output ≡ y.0.output))
+Same code x y = (x ≡ y) ⊎ ((DifferInDead code x.0 y.0 × (x.1 ≡ y.1)) ⊎ AreDoneAlike code x.0 y.0)
 
 -- a guest's start seen so, beside the sources of its threads, whatever its budget
 abbrev pub seen_start : {S : Type 0} → Guest → Profile → (ℕ → S) → run.State (ThreadState × S)

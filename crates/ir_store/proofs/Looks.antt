@@ -4,9 +4,10 @@ use Rattle.std.specs.Prelude.{slice_get, ◌&&◌, drop}
 use Rattle.std.specs.List.{AllByRecursion, slice_index_or}
 use Rattle.std.proofs.lemmas.Option.{same_Some, slice_get-get_or}
 use Rattle.ir_lemmas.proofs.CallerLemmas.{slice_get_element_satisfies_all_by_recursion}
-use Rattle.ir_mach.specs.Core.{memory_size}
+use Rattle.ir_freeze.specs.Basis.{Basis, IsBasis}
 use Rattle.ir_freeze.specs.Frozen.{end_bytes, going_bytes, frozen, is_over}
 use Rattle.ir_freeze.specs.Twins.{AreTwins, TellsApart, IsBounded}
+use Rattle.ir_freeze.proofs.CallerLemmas.{over_together_if_frozen_bytes_equal}
 use Rattle.ir_seen.specs.Seen.{Same, view}
 use Rattle.ir_sources.specs.Sources.{Source}
 use Rattle.ir_thread.specs.State.{ThreadState}
@@ -17,45 +18,47 @@ use Rattle.ir_store.specs.Table.{idle_beside, LooksLike, AreLooks, all_over, thr
 use Rattle.ir_store.proofs.Lists.{drop_begins_with_element}
 
 -- the mark is no part of the bytes of a thread that is over
-frozen_bytes_of_over_thread_ignore_mark : (start : List ℕ) (x : ThreadState) (m n : List ℕ) → is_over x ≡ true → frozen start x m ≡ frozen start x n
-frozen_bytes_of_over_thread_ignore_mark start x m n over =
-    ap (λ b. end_bytes x.ended ++ cond b (1 ∷ x.output) (0 ∷ going_bytes start x m)) over
-    ∙ sym (ap (λ b. end_bytes x.ended ++ cond b (1 ∷ x.output) (0 ∷ going_bytes start x n)) over)
+frozen_bytes_of_over_thread_ignore_mark : (basis : Basis) (x : ThreadState) (m n : List ℕ) → is_over x ≡ true → frozen basis x m ≡ frozen basis x n
+frozen_bytes_of_over_thread_ignore_mark basis x m n over =
+    ap (λ b. end_bytes x.ended ++ cond b (1 ∷ x.output) (0 ∷ going_bytes basis x m)) over
+    ∙ sym (ap (λ b. end_bytes x.ended ++ cond b (1 ∷ x.output) (0 ∷ going_bytes basis x n)) over)
 
 -- threads with equal bytes, one of which is over or whose sources are the same, look the same beside these
-same_beside_sources_if_bytes_equal : TellsApart → (code start : List ℕ) → length start ≡ memory_size → (x y : ThreadState × Source) → AreTwins x.0 y.0 → IsBounded x.0
-    → IsBounded y.0 → frozen start x.0 [] ≡ frozen start y.0 [] → (b : Bool) → is_over x.0 ≡ b
-    → (view x.0 ≡ view y.0 → is_over x.0 ≡ false → x.1 ≡ y.1)
-    → Same {S = List ℕ} code (view x.0, []) (view y.0, []) → Same {S = Source} code (view x.0, x.1) (view y.0, y.1)
-same_beside_sources_if_bytes_equal tells code start size x y twins bx by bytes b over sources (inr done) = inr done
-same_beside_sources_if_bytes_equal tells code start size x y twins bx by bytes false over sources (inl e) =
+same_beside_sources_if_bytes_equal : TellsApart → (basis : Basis) → IsBasis basis → (x y : ThreadState × Source) → AreTwins x.0 y.0 → IsBounded x.0
+    → IsBounded y.0 → frozen basis x.0 [] ≡ frozen basis y.0 [] → (b : Bool) → is_over x.0 ≡ b → (is_over x.0 ≡ false → x.1 ≡ y.1)
+    → Same {S = List ℕ} basis.code (view x.0, []) (view y.0, []) → Same {S = Source} basis.code (view x.0, x.1) (view y.0, y.1)
+same_beside_sources_if_bytes_equal tells basis whole x y twins bx by bytes b over sources (inr (inr done)) = inr (inr done)
+same_beside_sources_if_bytes_equal tells basis whole x y twins bx by bytes false over sources (inl e) =
     let views : view x.0 ≡ view y.0 = ap (λ (p : ThreadState × List ℕ). p.0) e in
-    let answers : x.1 ≡ y.1 = sources views over in
+    let answers : x.1 ≡ y.1 = sources over in
     inl (λ i. (views i, answers i))
-same_beside_sources_if_bytes_equal tells code start size x y twins bx by bytes true over sources (inl e) =
-    let over_y : is_over y.0 ≡ true = sym (ap (λ (p : ThreadState × List ℕ). is_over p.0) e) ∙ over in
-    let marked : frozen start x.0 (0 ∷ []) ≡ frozen start y.0 (1 ∷ []) =
-    frozen_bytes_of_over_thread_ignore_mark start x.0 (0 ∷ []) [] over ∙ bytes ∙ frozen_bytes_of_over_thread_ignore_mark start y.0 [] (1 ∷ []) over_y in
-    elim ((tells code start size x.0 y.0 twins bx by (0 ∷ []) (1 ∷ []) refl).0 marked) [
+same_beside_sources_if_bytes_equal tells basis whole x y twins bx by bytes false over sources (inr (inl d)) = inr (inl (d.0, sources over))
+same_beside_sources_if_bytes_equal tells basis whole x y twins bx by bytes true over sources seen =
+    let over_y : is_over y.0 ≡ true = sym (over_together_if_frozen_bytes_equal basis x.0 y.0 [] [] bytes) ∙ over in
+    let marked : frozen basis x.0 (0 ∷ []) ≡ frozen basis y.0 (1 ∷ []) =
+    frozen_bytes_of_over_thread_ignore_mark basis x.0 (0 ∷ []) [] over ∙ bytes ∙ frozen_bytes_of_over_thread_ignore_mark basis y.0 [] (1 ∷ []) over_y in
+    elim ((tells basis whole x.0 y.0 twins bx by (0 ∷ []) (1 ∷ []) refl).0 marked) [
       | inl p ↦ absurd (let h : 0 ≡ 1 = ap (λ (q : ThreadState × List ℕ). get_or q.1 0 0) p in omega (arith, h))
-      | inr done ↦ inr done
+      | inr (inl d) ↦ absurd (let h : 0 ≡ 1 = ap (λ (q : List ℕ). get_or q 0 0) d.1 in omega (arith, h))
+      | inr (inr done) ↦ inr (inr done)
     ]
 
 -- threads that one number stands for look the same
-pub look_same_if_look_numbers_equal : TellsApart → (start : List ℕ) (items : List (ThreadState × Source)) (looks : List ℕ) → length start ≡ memory_size
+pub look_same_if_look_numbers_equal : TellsApart → (basis : Basis) (items : List (ThreadState × Source)) (looks : List ℕ) → IsBasis basis
     → AllByRecursion (λ (x : ThreadState × Source). IsBounded x.0) items
-    → AreLooks start items looks → (m n k : ℕ) → slice_get looks m ≡ Some k → slice_get looks n ≡ Some k → (x y : ThreadState × Source)
-    → slice_get items m ≡ Some x → slice_get items n ≡ Some y → LookSame x y
-look_same_if_look_numbers_equal tells start items looks size bounded all m n k one other x y here there twins code =
+    → AreLooks basis items looks → (m n k : ℕ) → slice_get looks m ≡ Some k → slice_get looks n ≡ Some k → (x y : ThreadState × Source)
+    → slice_get items m ≡ Some x → slice_get items n ≡ Some y → LookSame basis.code x y
+look_same_if_look_numbers_equal tells basis items looks whole bounded all m n k one other x y here there twins =
     let a = all m k x one here in
     let b = all n k y other there in
     let same : a.kept ≡ b.kept = same_Some a.kept b.kept (sym a.at ∙ b.at) in
     let bx : IsBounded x.0 = slice_get_element_satisfies_all_by_recursion (λ (z : ThreadState × Source). IsBounded z.0) items m x bounded here in
     let by : IsBounded y.0 = slice_get_element_satisfies_all_by_recursion (λ (z : ThreadState × Source). IsBounded z.0) items n y bounded there in
-    let bytes : frozen start x.0 [] ≡ frozen start y.0 [] = sym a.bytes ∙ ap (λ (z : ThreadState × Source). frozen start z.0 []) same ∙ b.bytes in
-    let seen : Same {S = List ℕ} code (view x.0, []) (view y.0, []) = (tells code start size x.0 y.0 twins bx by [] [] refl).0 bytes in
-    same_beside_sources_if_bytes_equal tells code start size x y twins bx by bytes (is_over x.0) refl
-    (λ views going. sym (a.source going) ∙ ap (λ (z : ThreadState × Source). z.1) same ∙ b.source (sym (ap is_over views) ∙ going)) seen
+    let bytes : frozen basis x.0 [] ≡ frozen basis y.0 [] = sym a.bytes ∙ ap (λ (z : ThreadState × Source). frozen basis z.0 []) same ∙ b.bytes in
+    let over : is_over x.0 ≡ is_over y.0 = over_together_if_frozen_bytes_equal basis x.0 y.0 [] [] bytes in
+    same_beside_sources_if_bytes_equal tells basis whole x y twins bx by bytes (is_over x.0) refl
+    (λ going. sym (a.source going) ∙ ap (λ (z : ThreadState × Source). z.1) same ∙ b.source (sym over ∙ going))
+    ((tells basis whole x.0 y.0 twins bx by [] [] refl).0 bytes)
 
 -- one thread more of which it is known whether it is over
 pub all_over_threads_step : (items : List (ThreadState × Source)) (numbers : List ℕ) (i : ℕ) (b : Bool) → i < length numbers
@@ -80,13 +83,13 @@ object_words_equal_if_numbers_equal words (s ∷ first) (z ∷ second) size each
     object_words_equal_if_numbers_equal words first second (omega (arith, size)) (λ p lt d e. each (suc p) (omega (arith, lt)) d e) o
 
 -- a thread whose bytes are compared, and its source unless the other is over
-pub looks_like_if_bytes_and_source_equal : (start : List ℕ) (items : List (ThreadState × Source)) (n : ℕ) (x : ThreadState × Source) (own : ThreadState) (kept : Source)
+pub looks_like_if_bytes_and_source_equal : (basis : Basis) (items : List (ThreadState × Source)) (n : ℕ) (x : ThreadState × Source) (own : ThreadState) (kept : Source)
     (bytes own_bytes : List ℕ) → n < length items → own ≡ (get_or items n idle_beside).0 → kept ≡ (get_or items n idle_beside).1
-    → bytes ≡ frozen start x.0 [] → own_bytes ≡ frozen start own [] → own_bytes ≡ bytes → (is_over x.0 ≡ false → kept ≡ x.1)
-    → LooksLike start items n x
-looks_like_if_bytes_and_source_equal start items n x own kept bytes own_bytes lt is from of own_of same source = record {
+    → bytes ≡ frozen basis x.0 [] → own_bytes ≡ frozen basis own [] → own_bytes ≡ bytes → (is_over x.0 ≡ false → kept ≡ x.1)
+    → LooksLike basis items n x
+looks_like_if_bytes_and_source_equal basis items n x own kept bytes own_bytes lt is from of own_of same source = record {
   kept = get_or items n idle_beside;
   at = slice_get-get_or items n idle_beside lt;
-  bytes = ap (λ z. frozen start z []) (sym is) ∙ sym own_of ∙ same ∙ of;
+  bytes = ap (λ z. frozen basis z []) (sym is) ∙ sym own_of ∙ same ∙ of;
   source = λ going. sym from ∙ source going;
 }

@@ -4,9 +4,9 @@ use Rattle.std.specs.Prelude.{slice_get}
 use Rattle.std.specs.List.{AllByRecursion, slice_index_or}
 use Rattle.std.proofs.lemmas.Option.{same_Some, slice_get-get_or, get_or_from_slice_get, slice_get_within}
 use Rattle.ir_lemmas.proofs.CallerLemmas.{slice_get_element_satisfies_all_by_recursion, get_or_element_satisfies_all_by_recursion, length_of_map}
-use Rattle.ir_mach.specs.Core.{memory_size}
 use Rattle.ir_flat.specs.Room.{empty}
 use Rattle.ir_flat.specs.Flat.{thread_of, idle}
+use Rattle.ir_freeze.specs.Basis.{IsBasis}
 use Rattle.ir_freeze.specs.Twins.{AreTwins, TellsApart, IsBounded}
 use Rattle.ir_sources.specs.Sources.{Source}
 use Rattle.ir_thread.specs.State.{ThreadState}
@@ -42,11 +42,11 @@ maps_equal_if_elements_equal f (x ∷ xs) (y ∷ ys) d size each = λ i.
     each zero (omega arith) i ∷ maps_equal_if_elements_equal f xs ys d (omega (arith, size)) (λ k lt. each (suc k) (omega (arith, lt))) i
 
 -- states that look the same, of one guest, have the same numbers
-module _ (tells : TellsApart) (seen : List (ℕ × ℕ)) (t : Table) (words : List (List ℕ)) (size : length t.start ≡ memory_size)
+module _ (tells : TellsApart) (seen : List (ℕ × ℕ)) (t : Table) (words : List (List ℕ)) (whole : IsBasis t.basis)
     (bounded : AllByRecursion (λ (x : ThreadState × Source). IsBounded x.0) t.items) (have : HaveOneLook seen t) (once : EachOnce words)
     (a b : Node) (in_a : IsWithin (record { threads = t.items; words = words }) a) (in_b : IsWithin (record { threads = t.items; words = words }) b)
     (moments : AreMoments (sourced_in (record { threads = t.items; words = words }) a) (sourced_in (record { threads = t.items; words = words }) b))
-    (same : AreSameLooks (sourced_in (record { threads = t.items; words = words }) a) (sourced_in (record { threads = t.items; words = words }) b)) where
+    (same : AreSameLooks t.basis.code (sourced_in (record { threads = t.items; words = words }) a) (sourced_in (record { threads = t.items; words = words }) b)) where
   threads_each : length a.threads ≡ length b.threads
   threads_each =
       sym (length_of_map (λ n. (get_or t.items n idle_beside).0) a.threads) ∙ sym moments.threads ∙ length_of_map (λ n. (get_or t.items n idle_beside).0) b.threads
@@ -69,10 +69,10 @@ module _ (tells : TellsApart) (seen : List (ℕ × ℕ)) (t : Table) (words : Li
       let also : beside_at t.items b.threads i ≡ y = beside_at_is_element t.items b.threads i 0 lt' in
       let twins : AreTwins x.0 y.0 = subst (λ (z : ThreadState × Source). AreTwins x.0 z.0) also
       (subst (λ (z : ThreadState × Source). AreTwins z.0 (beside_at t.items b.threads i).0) is (moments.twins i)) in
-      let looks : LookSame x y = subst (LookSame x) also
-      (subst (λ z. LookSame z (beside_at t.items b.threads i)) is
+      let looks : LookSame t.basis.code x y = subst (LookSame t.basis.code x) also
+      (subst (λ z. LookSame t.basis.code z (beside_at t.items b.threads i)) is
       (same.threads i (let e = length_of_map (λ n. (get_or t.items n idle_beside).0) a.threads in omega (arith, lt, e)))) in
-      let like : AreLike t.start x y = like_if_look_same tells t.start size x y twins
+      let like : AreLike t.basis x y = like_if_look_same tells t.basis whole x y twins
       (slice_get_element_satisfies_all_by_recursion (λ (z : ThreadState × Source). IsBounded z.0) t.items m x bounded at)
       (slice_get_element_satisfies_all_by_recursion (λ (z : ThreadState × Source). IsBounded z.0) t.items n y bounded there) looks in
       have.one m n (get_or t.looks m 0) (get_or t.looks n 0) x y at there

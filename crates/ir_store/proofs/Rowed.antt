@@ -6,6 +6,7 @@ use Rattle.std.specs.List.{AllByRecursion}
 use Rattle.std.proofs.lemmas.List.{map_push}
 use Rattle.std.proofs.lemmas.Option.{slice_get-map, slice_get_read, slice_get_within, get_or_from_slice_get}
 use Rattle.ir_lemmas.proofs.CallerLemmas.{all_by_recursion_after_push, slice_get_after_push_cases, added_element_is_last, length_of_map}
+use Rattle.ir_freeze.specs.Basis.{Basis}
 use Rattle.ir_sources.specs.Sources.{Source}
 use Rattle.ir_thread.specs.State.{ThreadState}
 use Rattle.ir_store.specs.Table.{Keeps, LooksLike, AreLooks}
@@ -27,44 +28,44 @@ all_by_recursion_of_map_if_rows_unchanged_or_pushed f P rows new row all is eith
       (subst (AllByRecursion P) (sym (map_push f rows row)) (all_by_recursion_after_push P (map f rows) (f row) all is))
 ]
 
-looks_like_if_kept : (start : List ℕ) (old new : List (ThreadState × Source)) (n : ℕ) (x : ThreadState × Source) → Keeps old new → LooksLike start old n x
-    → LooksLike start new n x
-looks_like_if_kept start old new n x keeps like = record { kept = like.kept; at = keeps n like.kept like.at; bytes = like.bytes; source = like.source }
+looks_like_if_kept : (basis : Basis) (old new : List (ThreadState × Source)) (n : ℕ) (x : ThreadState × Source) → Keeps old new → LooksLike basis old n x
+    → LooksLike basis new n x
+looks_like_if_kept basis old new n x keeps like = record { kept = like.kept; at = keeps n like.kept like.at; bytes = like.bytes; source = like.source }
 
 -- one thread more, with the number of one that it looks like, or its own
-pub looks_after_thread_pushed : (start : List ℕ) (items : List (ThreadState × Source)) (looks : List ℕ) (x : ThreadState × Source) (k : ℕ)
+pub looks_after_thread_pushed : (basis : Basis) (items : List (ThreadState × Source)) (looks : List ℕ) (x : ThreadState × Source) (k : ℕ)
     → length looks ≡ length items
-    → AreLooks start items looks → (k ≡ length items) ⊎ LooksLike start items k x
-    → AreLooks start (items ++ x ∷ []) (looks ++ k ∷ [])
-looks_after_thread_pushed start items looks x k size all is n j y stands at = elim (slice_get_after_push_cases looks k n j stands) [
+    → AreLooks basis items looks → (k ≡ length items) ⊎ LooksLike basis items k x
+    → AreLooks basis (items ++ x ∷ []) (looks ++ k ∷ [])
+looks_after_thread_pushed basis items looks x k size all is n j y stands at = elim (slice_get_after_push_cases looks k n j stands) [
   | inl old ↦ elim (slice_get_after_push_cases items x n y at) [
-    | inl here ↦ looks_like_if_kept start items (items ++ x ∷ []) j y (push_keeps_old_elements items x) (all n j y old here)
+    | inl here ↦ looks_like_if_kept basis items (items ++ x ∷ []) j y (push_keeps_old_elements items x) (all n j y old here)
     | inr last ↦ absurd (old_less looks n j old (last.0 ∙ sym size))
   ]
   | inr last ↦ elim (slice_get_after_push_cases items x n y at) [
     | inl here ↦ absurd (old_less items n y here (last.0 ∙ size))
-    | inr too ↦ subst (λ z. LooksLike start (items ++ x ∷ []) z y) last.1
-        (subst (λ z. LooksLike start (items ++ x ∷ []) k z) too.1 (new_one is))
+    | inr too ↦ subst (λ z. LooksLike basis (items ++ x ∷ []) z y) last.1
+        (subst (λ z. LooksLike basis (items ++ x ∷ []) k z) too.1 (new_one is))
   ]
 ]
   where
     old_less : {X : Type 0} (xs : List X) (n : ℕ) (z : X) → slice_get xs n ≡ Some z → n ≡ length xs → ⊥
     old_less xs n z e same = let l = slice_get_within xs n z e in omega (arith, l, same)
 
-    new_one : (k ≡ length items) ⊎ LooksLike start items k x → LooksLike start (items ++ x ∷ []) k x
+    new_one : (k ≡ length items) ⊎ LooksLike basis items k x → LooksLike basis (items ++ x ∷ []) k x
     new_one (inl e) = record { kept = x; at = ap (slice_get (items ++ x ∷ [])) e ∙ added_element_is_last items x; bytes = refl; source = λ going. refl }
-    new_one (inr like) = looks_like_if_kept start items (items ++ x ∷ []) k x (push_keeps_old_elements items x) like
+    new_one (inr like) = looks_like_if_kept basis items (items ++ x ∷ []) k x (push_keeps_old_elements items x) like
 
-pub are_looks_kept_if_rows_unchanged_or_pushed : {R : Type 0} (f : R → ThreadState × Source) (g : R → ℕ) (start : List ℕ) (rows new : List R) (row : R)
-    → AreLooks start (map f rows) (map g rows)
-    → (g row ≡ length (map f rows)) ⊎ LooksLike start (map f rows) (g row) (f row)
-    → (new ≡ rows) ⊎ (new ≡ rows ++ row ∷ []) → AreLooks start (map f new) (map g new)
-are_looks_kept_if_rows_unchanged_or_pushed f g start rows new row all is either = elim either [
-  | inl e ↦ subst (λ l. AreLooks start (map f l) (map g l)) (sym e) all
-  | inr e ↦ subst (λ l. AreLooks start (map f l) (map g l)) (sym e)
-      (subst (λ l. AreLooks start l (map g (rows ++ row ∷ []))) (sym (map_push f rows row))
-      (subst (AreLooks start (map f rows ++ f row ∷ [])) (sym (map_push g rows row))
-      (looks_after_thread_pushed start (map f rows) (map g rows) (f row) (g row) (length_of_map g rows ∙ sym (length_of_map f rows)) all is)))
+pub are_looks_kept_if_rows_unchanged_or_pushed : {R : Type 0} (f : R → ThreadState × Source) (g : R → ℕ) (basis : Basis) (rows new : List R) (row : R)
+    → AreLooks basis (map f rows) (map g rows)
+    → (g row ≡ length (map f rows)) ⊎ LooksLike basis (map f rows) (g row) (f row)
+    → (new ≡ rows) ⊎ (new ≡ rows ++ row ∷ []) → AreLooks basis (map f new) (map g new)
+are_looks_kept_if_rows_unchanged_or_pushed f g basis rows new row all is either = elim either [
+  | inl e ↦ subst (λ l. AreLooks basis (map f l) (map g l)) (sym e) all
+  | inr e ↦ subst (λ l. AreLooks basis (map f l) (map g l)) (sym e)
+      (subst (λ l. AreLooks basis l (map g (rows ++ row ∷ []))) (sym (map_push f rows row))
+      (subst (AreLooks basis (map f rows ++ f row ∷ [])) (sym (map_push g rows row))
+      (looks_after_thread_pushed basis (map f rows) (map g rows) (f row) (g row) (length_of_map g rows ∙ sym (length_of_map f rows)) all is)))
 ]
 
 -- the element of the row that is read

@@ -90,20 +90,21 @@ pub record Grows (old new : Shared) : Type 0 where
   pub threads : Keeps old.threads new.threads
   pub words : Keeps old.words new.words
 
--- states of a guest, and the form of its image; beside them what they are made of
+-- states of a guest, the form of its image, and its code; beside them what they are made of
 pub record Stored : Type 0 where
   pub items : List SourcedFlat
   pub form : ImageForm
+  pub code : List ℕ
   pub shared : Shared
   pub nodes : List Node
 
--- two moments of a thread beside what answers it look the same to it
-abbrev pub LookSame : ThreadState × Source → ThreadState × Source → Type 0
-LookSame x y = AreTwins x.0 y.0 → (code : List ℕ) → Same {S = Source} code (view x.0, x.1) (view y.0, y.1)
+-- two moments of a thread that runs this code look the same to it, beside what answers it
+abbrev pub LookSame : List ℕ → ThreadState × Source → ThreadState × Source → Type 0
+LookSame code x y = AreTwins x.0 y.0 → Same {S = Source} code (view x.0, x.1) (view y.0, y.1)
 
--- two moments of a guest look the same to its threads
-pub record AreSameLooks (s u : SourcedFlat) : Type 0 where
-  pub threads : (t : ℕ) → t < length s.flat.threads → LookSame (sourced_thread s t) (sourced_thread u t)
+-- two moments of a guest with this code look the same to its threads
+pub record AreSameLooks (code : List ℕ) (s u : SourcedFlat) : Type 0 where
+  pub threads : (t : ℕ) → t < length s.flat.threads → LookSame code (sourced_thread s t) (sourced_thread u t)
   pub words : (o : ℕ) → (cell_of s.flat o).words ≡ (cell_of u.flat o).words
 
 -- two moments of one guest: the same threads and objects

@@ -5,6 +5,7 @@ use Rattle.ir_image.specs.declared.form.ImageForm.{ImageForm}
 use Rattle.ir_thread.specs.State.{ThreadState}
 use Rattle.ir_sources.specs.Sources.{Source, source}
 use Rattle.ir_flat.specs.Flat.{idle}
+use Rattle.ir_freeze.specs.Basis.{Basis}
 use Rattle.ir_freeze.specs.Frozen.{frozen, is_over}
 use Rattle.ir_store.specs.Hashes.{empty_hash, after_numbers, IsFoundBy}
 
@@ -16,12 +17,12 @@ no_source = source 0 []
 abbrev pub idle_beside : ThreadState × Source
 idle_beside = (idle, no_source)
 
--- Threads beside what answers them, the form of the image that they are of, their private memory at first, and for each of them the number of
--- one that looks the same.
+-- Threads beside what answers them, the form of the image that they are of, what they are frozen against, and for each of them the number of one
+-- that looks the same.
 pub record Table : Type 0 where
   pub items : List (ThreadState × Source)
   pub form : ImageForm
-  pub start : List ℕ
+  pub basis : Basis
   pub looks : List ℕ
 
 -- threads of images of this form
@@ -54,20 +55,20 @@ abbrev pub Keeps : {X : Type 0} → List X → List X → Type 0
 Keeps {X} old new = (n : ℕ) (s : X) → slice_get old n ≡ Some s → slice_get new n ≡ Some s
 
 -- the thread of number n has the bytes of this one, and is answered by the same source, unless this one is over
-pub record LooksLike (start : List ℕ) (items : List (ThreadState × Source)) (n : ℕ) (x : ThreadState × Source) : Type 0 where
+pub record LooksLike (basis : Basis) (items : List (ThreadState × Source)) (n : ℕ) (x : ThreadState × Source) : Type 0 where
   pub kept : ThreadState × Source
   pub at : slice_get items n ≡ Some kept
-  pub bytes : frozen start kept.0 [] ≡ frozen start x.0 []
+  pub bytes : frozen basis kept.0 [] ≡ frozen basis x.0 []
   pub source : is_over x.0 ≡ false → kept.1 ≡ x.1
 
 -- each thread looks like the one whose number stands for it
-abbrev pub AreLooks : List ℕ → List (ThreadState × Source) → List ℕ → Type 0
-AreLooks start items looks = (n k : ℕ) (x : ThreadState × Source) → slice_get looks n ≡ Some k → slice_get items n ≡ Some x
-    → LooksLike start items k x
+abbrev pub AreLooks : Basis → List (ThreadState × Source) → List ℕ → Type 0
+AreLooks basis items looks = (n k : ℕ) (x : ThreadState × Source) → slice_get looks n ≡ Some k → slice_get items n ≡ Some x
+    → LooksLike basis items k x
 
 -- two threads look the same beside what answers them: they have the same bytes, and are answered by the same source unless they are over
-pub record AreLike (start : List ℕ) (x y : ThreadState × Source) : Type 0 where
-  pub bytes : frozen start x.0 [] ≡ frozen start y.0 []
+pub record AreLike (basis : Basis) (x y : ThreadState × Source) : Type 0 where
+  pub bytes : frozen basis x.0 [] ≡ frozen basis y.0 []
   pub source : is_over y.0 ≡ false → x.1 ≡ y.1
 
 -- what is hashed of a source
@@ -75,28 +76,28 @@ abbrev pub mark_of : Source → List ℕ
 mark_of source = source.ticks ∷ source.random.state ∷ length source.input ∷ []
 
 -- the hash of what is seen of a thread beside what answers it
-abbrev pub seen_hash : List ℕ → ThreadState × Source → ℕ
-seen_hash start x =
-    if is_over x.0 then after_numbers empty_hash (frozen start x.0 [])
-    else after_numbers (after_numbers empty_hash (frozen start x.0 [])) (mark_of x.1)
+abbrev pub seen_hash : Basis → ThreadState × Source → ℕ
+seen_hash basis x =
+    if is_over x.0 then after_numbers empty_hash (frozen basis x.0 [])
+    else after_numbers (after_numbers empty_hash (frozen basis x.0 [])) (mark_of x.1)
 
 -- the hash of all of it
-abbrev pub whole_hash : List ℕ → ThreadState × Source → ℕ
-whole_hash start x = after_numbers (after_numbers (seen_hash start x) (x.0.number ∷ x.0.steps ∷ x.0.events ∷ [])) (mark_of x.1)
+abbrev pub whole_hash : Basis → ThreadState × Source → ℕ
+whole_hash basis x = after_numbers (after_numbers (seen_hash basis x) (x.0.number ∷ x.0.steps ∷ x.0.events ∷ [])) (mark_of x.1)
 
 -- each thread beside what answers it is found by the hash of all of it, and no two numbers have equal ones
 pub record AreOnce (whole : List (ℕ × ℕ)) (t : Table) : Type 0 where
-  pub found : (n : ℕ) (x : ThreadState × Source) → slice_get t.items n ≡ Some x → IsFoundBy whole (whole_hash t.start x) n
+  pub found : (n : ℕ) (x : ThreadState × Source) → slice_get t.items n ≡ Some x → IsFoundBy whole (whole_hash t.basis x) n
   pub once : (m n : ℕ) (x : ThreadState × Source) → slice_get t.items m ≡ Some x → slice_get t.items n ≡ Some x → m ≡ n
 
 -- the number that stands for a thread is found by the hash of what is seen of it, and stands for all threads that look the same
 pub record HaveOneLook (seen : List (ℕ × ℕ)) (t : Table) : Type 0 where
   pub each : length t.looks ≡ length t.items
   pub found : (n k : ℕ) (x : ThreadState × Source) → slice_get t.items n ≡ Some x → slice_get t.looks n ≡ Some k
-      → IsFoundBy seen (seen_hash t.start x) k
+      → IsFoundBy seen (seen_hash t.basis x) k
   pub one : (m n j k : ℕ) (x y : ThreadState × Source) → slice_get t.items m ≡ Some x → slice_get t.items n ≡ Some y
-      → slice_get t.looks m ≡ Some j → slice_get t.looks n ≡ Some k → AreLike t.start x y → j ≡ k
+      → slice_get t.looks m ≡ Some j → slice_get t.looks n ≡ Some k → AreLike t.basis x y → j ≡ k
 
 -- the threads that look like this one have this number in common
 abbrev pub StandsFor : Table → ThreadState × Source → ℕ → Type 0
-StandsFor t x k = (n j : ℕ) (y : ThreadState × Source) → slice_get t.items n ≡ Some y → slice_get t.looks n ≡ Some j → AreLike t.start y x → j ≡ k
+StandsFor t x k = (n j : ℕ) (y : ThreadState × Source) → slice_get t.items n ≡ Some y → slice_get t.looks n ≡ Some j → AreLike t.basis y x → j ≡ k

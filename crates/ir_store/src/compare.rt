@@ -49,7 +49,7 @@ pub fn hash_of(table: &Table<'_>, node: &Node<'_>) -> u64
 fn same_threads(table: &Table<'_>, first: &[u32], second: &[u32]) -> bool
     requires first { AreIn table.now.items first.now }
     requires second { AreIn table.now.items second.now }
-    ensures same { result ≡ true → (t : ℕ) → t < length first.now → LookSame (beside_at table.now.items first.now t) (beside_at table.now.items second.now t) }
+    ensures same { result ≡ true → (t : ℕ) → t < length first.now → LookSame table.now.basis.code (beside_at table.now.items first.now t) (beside_at table.now.items second.now t) }
     ensures other { result ≡ false → looks_in table.now.looks first.now ≢ looks_in table.now.looks second.now }
 {
     if first.len() != second.len() {
@@ -83,7 +83,7 @@ fn same_spots(first: &[Spot], second: &[Spot]) -> bool
 pub fn same_looks(table: &Table<'_>, first: &Node<'_>, threads: &[u32], objects: &[Spot]) -> bool
     requires first { AreIn table.now.items first.now.threads }
     requires second { AreIn table.now.items threads.now }
-    ensures same { result ≡ true → (words : List (List ℕ)) (code : List ℕ) → AreSameLooks (sourced_in (record { threads = table.now.items; words = words }) first.now)
+    ensures same { result ≡ true → (words : List (List ℕ)) (code : List ℕ) → AreSameLooks table.now.basis.code (sourced_in (record { threads = table.now.items; words = words }) first.now)
         (sourced_in (record { threads = table.now.items; words = words }) (record { code = code; threads = threads.now; objects = objects.now })) }
     ensures other { result ≡ false → looks_in table.now.looks first.now.threads ≡ looks_in table.now.looks threads.now → words_in first.now.objects ≢ words_in objects.now }
 {

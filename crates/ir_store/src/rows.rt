@@ -2,9 +2,9 @@
 
 ghost use Rattle.std.specs.Prelude.{◌≡◌, ◌⊎◌, ◌<◌, ◌++◌, [], ◌∷◌, ℕ, length, map, true, false, Some, slice_get, IfOk, OnOk, OnErr};
 ghost use Rattle.std.specs.List.{slice_index_or, AllByRecursion};
+ghost use Rattle.ir_freeze.specs.Basis.{IsBasis};
 ghost use Rattle.ir_freeze.specs.Frozen.{frozen, is_over};
 ghost use Rattle.ir_freeze.specs.Twins.{IsBounded};
-ghost use Rattle.ir_mach.specs.Core.{memory_size};
 ghost use Rattle.ir_store.specs.Rows.{beside_in, look_of, KnowsOver};
 ghost use Rattle.ir_store.specs.Table.{idle_beside, LooksLike, AreLooks};
 ghost use Rattle.ir_store.specs.Table as table;
@@ -14,7 +14,7 @@ ghost use Rattle.ir_thread.specs.State.{ThreadState};
 use crate::bounds::bounded;
 use crate::put::put;
 use crate::row::Row;
-use ir_freeze::{freeze, over};
+use ir_freeze::{Basis, freeze, over};
 use ir_image::ImageForm;
 use ir_sources::Sources;
 use ir_thread::Thread;
@@ -25,7 +25,7 @@ use std::marker::Model;
 #[derive(Drop)]
 pub struct Rows<'a> {
     alloc: Global,
-    start: Vec<u8>,
+    basis: Basis<'a>,
     form: ImageForm,
     rows: Vec<Row<'a>>,
 }
@@ -34,17 +34,16 @@ impl<'a> Model for Rows<'a> {
     ghost Value = { table.Table };
 
     ghost view = { λ t. record {
-      items = map (beside_in t.start.items) t.rows.items;
+      items = map (beside_in t.basis.memory) t.rows.items;
       form = t.form;
-      start = t.start.items;
+      basis = t.basis;
       looks = map look_of t.rows.items;
     } };
 
-    ghost invariant = { λ t. (length t.start.items ≡ memory_size)
-        × AllByRecursion (λ (x : ThreadState × Source). x.0.form ≡ t.form) (map (beside_in t.start.items) t.rows.items)
-        × AllByRecursion (λ (x : ThreadState × Source). IsBounded x.0) (map (beside_in t.start.items) t.rows.items)
-        × AllByRecursion (KnowsOver t.start.items) t.rows.items
-        × AreLooks t.start.items (map (beside_in t.start.items) t.rows.items) (map look_of t.rows.items) };
+    ghost invariant = { λ t. AllByRecursion (λ (x : ThreadState × Source). x.0.form ≡ t.form) (map (beside_in t.basis.memory) t.rows.items)
+        × AllByRecursion (λ (x : ThreadState × Source). IsBounded x.0) (map (beside_in t.basis.memory) t.rows.items)
+        × AllByRecursion (KnowsOver t.basis.memory) t.rows.items
+        × AreLooks t.basis (map (beside_in t.basis.memory) t.rows.items) (map look_of t.rows.items) };
 }
 
 // Whether what answers a thread is the same, unless it is over.
@@ -56,20 +55,16 @@ fn same_unless_over(thread: &Thread, first: &Sources<'_>, second: &Sources<'_>) 
 }
 
 impl<'a> Rows<'a> {
-    /// No threads, of an image of this form, and with this private memory at first.
-    ///
-    /// # Errors
-    /// Out of memory.
-    pub fn new(alloc: Global, form: ImageForm, start: &[u8]) -> Result<Rows<'a>, AllocError>
-        requires { length start.now ≡ memory_size }
-        ensures { IfOk result (λ t. t ≡ record { items = []; form = form; start = start.now; looks = [] }) }
+    /// No threads, of an image of this form, to be frozen against this basis.
+    pub fn new(alloc: Global, form: ImageForm, basis: Basis<'a>) -> Rows<'a>
+        ensures { result ≡ record { items = []; form = form; basis = basis.entry; looks = [] } }
     {
-        Ok(Rows {
+        Rows {
             alloc,
-            start: Vec::from_slice(alloc, start)?,
+            basis,
             form,
             rows: Vec::new(alloc),
-        })
+        }
     }
 
     /// How many threads there are.
@@ -84,9 +79,9 @@ impl<'a> Rows<'a> {
     /// # Errors
     /// Out of memory.
     pub fn bytes(&self, thread: &Thread) -> Result<Vec<u8>, AllocError>
-        ensures { IfOk result (λ bytes. bytes.items ≡ frozen self.now.start thread.now []) }
+        ensures { IfOk result (λ bytes. bytes.items ≡ frozen self.now.basis thread.now []) }
     {
-        let bytes = freeze(self.alloc, self.start.as_slice(), thread, &[])?;
+        let bytes = freeze(self.alloc, &self.basis, thread, &[])?;
         Ok(bytes)
     }
 
@@ -100,7 +95,7 @@ impl<'a> Rows<'a> {
         ensures form { IfOk result (λ thread. thread.form ≡ self.now.form) }
     {
         let row = &self.rows[n];
-        let thread = row.thread(self.alloc, self.start.as_slice())?;
+        let thread = row.thread(self.alloc, self.basis.memory())?;
         Ok(thread)
     }
 
@@ -129,9 +124,9 @@ impl<'a> Rows<'a> {
         source: &Sources<'_>,
     ) -> Result<bool, AllocError>
         requires within { n < length self.now.items }
-        requires bytes { bytes.now ≡ frozen self.now.start thread.now [] }
-        ensures like { IfOk result (λ like. like ≡ true → LooksLike self.now.start self.now.items n (thread.now, source.now)) }
-        ensures other { IfOk result (λ like. like ≡ false → LooksLike self.now.start self.now.items n (thread.now, source.now) → ⊥) }
+        requires bytes { bytes.now ≡ frozen self.now.basis thread.now [] }
+        ensures like { IfOk result (λ like. like ≡ true → LooksLike self.now.basis self.now.items n (thread.now, source.now)) }
+        ensures other { IfOk result (λ like. like ≡ false → LooksLike self.now.basis self.now.items n (thread.now, source.now) → ⊥) }
     {
         let kept = self.source(n)?;
         if !same_unless_over(thread, &kept, source) {
@@ -159,13 +154,21 @@ impl<'a> Rows<'a> {
         self.rows[n].look()
     }
 
+    /// What threads are frozen against.
+    pub fn basis(&self) -> &Basis<'a>
+        ensures { result.now ≡ self.now.basis }
+    {
+        &self.basis
+    }
+
     /// What is so of each thread.
     pub fn each(&self)
-        ensures looks { AreLooks self.now.start self.now.items self.now.looks }
-        ensures size { length self.now.start ≡ memory_size }
+        ensures looks { AreLooks self.now.basis self.now.items self.now.looks }
+        ensures basis { IsBasis self.now.basis }
         ensures bounded { AllByRecursion (λ (x : ThreadState × Source). IsBounded x.0) self.now.items }
     {
         let _ = &self.rows;
+        self.basis.is_whole();
     }
 
     /// Adds a thread beside what answers it, and the number of one that looks the same.
@@ -179,12 +182,12 @@ impl<'a> Rows<'a> {
         look: usize,
     ) -> Result<(), AllocError>
         requires form { thread.now.form ≡ self.old.form }
-        requires look { (look ≡ length self.old.items) ⊎ LooksLike self.old.start self.old.items look (thread.now, source.now) }
+        requires look { (look ≡ length self.old.items) ⊎ LooksLike self.old.basis self.old.items look (thread.now, source.now) }
         ensures ok { OnOk result (self.new ≡ record self.old { items = self.old.items ++ (thread.now, source.now) ∷ []; looks = self.old.looks ++ look ∷ [] }) }
         ensures err { OnErr result (self.new ≡ self.old) }
     {
         bounded(thread);
-        let row = Row::of(self.alloc, self.start.as_slice(), thread, source, look)?;
+        let row = Row::of(self.alloc, self.basis.memory(), thread, source, look)?;
         put(&mut self.rows, row)
     }
 }

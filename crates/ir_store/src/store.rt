@@ -4,7 +4,6 @@ ghost use Rattle.std.specs.Prelude.{◌≡◌, ◌<◌, ◌++◌, [], ◌∷◌,
 ghost use Rattle.std.specs.List.{slice_index_or};
 ghost use Rattle.ir_flat.specs.Flat.{cell_of};
 ghost use Rattle.ir_freeze.specs.Frozen.{is_over};
-ghost use Rattle.ir_mach.specs.Core.{memory_size};
 ghost use Rattle.ir_store.specs.Nodes.{SourcedFlat, sourced_thread, with_turn, IsSourced, cell_in, sourced_in, AreKept, AreSameLooks, AreSameNumbers, AreMoments, AreNodesFound, Grows, IsNode, IsWithin, Stored};
 ghost use Rattle.ir_store.specs.Places.{no_node};
 ghost use Rattle.ir_store.specs.Table.{HaveForm, all_over, idle_beside, AreIn};
@@ -20,7 +19,7 @@ use crate::spot::Spot;
 use crate::table::Table;
 use crate::words::Words;
 use ir_flat::Flat;
-use ir_freeze::tells_apart;
+use ir_freeze::{Basis, tells_apart};
 use ir_image::ImageForm;
 use ir_object::Object;
 use std::alloc::{AllocError, Global};
@@ -42,6 +41,7 @@ impl<'a> Model for Store<'a> {
     ghost view = { λ s. record {
       items = map (sourced_in (record { threads = s.table.items; words = s.words })) s.nodes;
       form = s.table.form;
+      code = s.table.basis.code;
       shared = record { threads = s.table.items; words = s.words };
       nodes = s.nodes;
     } };
@@ -55,7 +55,7 @@ fn find_node(table: &Table<'_>, nodes: &Kept<'_>, index: &Index, node: &Node<'_>
     requires nodes { (v : ℕ) → v < length nodes.now → AreIn table.now.items (slice_index_or nodes.now v no_node).threads }
     requires found { AreNodesFound index.now table.now.looks nodes.now }
     ensures within { IfSome result (λ v. v < length nodes.now) }
-    ensures alike { IfSome result (λ v. (words : List (List ℕ)) → AreSameLooks (sourced_in (record { threads = table.now.items; words = words }) node.now) (sourced_in (record { threads = table.now.items; words = words }) (slice_index_or nodes.now v no_node))) }
+    ensures alike { IfSome result (λ v. (words : List (List ℕ)) → AreSameLooks table.now.basis.code (sourced_in (record { threads = table.now.items; words = words }) node.now) (sourced_in (record { threads = table.now.items; words = words }) (slice_index_or nodes.now v no_node))) }
     ensures none { result ≡ None → (v : ℕ) → v < length nodes.now → AreSameNumbers table.now.looks node.now (slice_index_or nodes.now v no_node) → ⊥ }
 {
     let hash = hash_of(table, node);
@@ -73,29 +73,33 @@ fn is_alike(table: &Table<'_>, nodes: &Kept<'_>, v: usize, node: &Node<'_>) -> b
     requires node { AreIn table.now.items node.now.threads }
     requires nodes { (v : ℕ) → v < length nodes.now → AreIn table.now.items (slice_index_or nodes.now v no_node).threads }
     ensures within { result ≡ true → v < length nodes.now }
-    ensures same { result ≡ true → (words : List (List ℕ)) → AreSameLooks (sourced_in (record { threads = table.now.items; words = words }) node.now) (sourced_in (record { threads = table.now.items; words = words }) (slice_index_or nodes.now v no_node)) }
+    ensures same { result ≡ true → (words : List (List ℕ)) → AreSameLooks table.now.basis.code (sourced_in (record { threads = table.now.items; words = words }) node.now) (sourced_in (record { threads = table.now.items; words = words }) (slice_index_or nodes.now v no_node)) }
     ensures other { result ≡ false → v < length nodes.now → AreSameNumbers table.now.looks node.now (slice_index_or nodes.now v no_node) → ⊥ }
 {
     v < nodes.len() && same_looks(table, node, nodes.threads(v), nodes.objects(v))
 }
 
 impl<'a> Store<'a> {
-    /// No states, of an image of this form, and with this private memory at first.
-    ///
-    /// # Errors
-    /// Out of memory.
-    pub fn new(alloc: Global, form: ImageForm, start: &[u8]) -> Result<Store<'a>, AllocError>
-        requires { length start.now ≡ memory_size }
-        ensures items { IfOk result (λ s. s.items ≡ []) }
-        ensures form { IfOk result (λ s. s.form ≡ form) }
+    /// No states, of an image of this form, whose threads are frozen against this basis.
+    pub fn new(alloc: Global, form: ImageForm, basis: Basis<'a>) -> Store<'a>
+        ensures items { result.items ≡ [] }
+        ensures form { result.form ≡ form }
+        ensures code { result.code ≡ basis.entry.code }
     {
-        Ok(Store {
+        Store {
             alloc,
-            table: Table::new(alloc, form, start)?,
+            table: Table::new(alloc, form, basis),
             words: Words::new(alloc),
             nodes: Kept::new(alloc),
             index: Index::new(alloc),
-        })
+        }
+    }
+
+    /// What the threads are frozen against.
+    pub fn basis(&self) -> &Basis<'a>
+        ensures { result.now.code ≡ self.now.code }
+    {
+        self.table.basis()
     }
 
     /// How many states there are.
@@ -186,6 +190,7 @@ impl<'a> Store<'a> {
         requires { thread.now.0.form ≡ self.old.form }
         ensures items { self.new.items ≡ self.old.items }
         ensures form { self.new.form ≡ self.old.form }
+        ensures code { self.new.code ≡ self.old.code }
         ensures grows { Grows self.old.shared self.new.shared }
         ensures within { IfOk result (λ n. n < length self.new.shared.threads) }
         ensures found { IfOk result (λ n. slice_index_or self.new.shared.threads n idle_beside ≡ thread.now) }
@@ -201,6 +206,7 @@ impl<'a> Store<'a> {
     pub fn add_object(&mut self, object: &Object) -> Result<Spot, AllocError>
         ensures items { self.new.items ≡ self.old.items }
         ensures form { self.new.form ≡ self.old.form }
+        ensures code { self.new.code ≡ self.old.code }
         ensures grows { Grows self.old.shared self.new.shared }
         ensures within { IfOk result (λ spot. spot.words < length self.new.shared.words) }
         ensures found { IfOk result (λ spot. cell_in self.new.shared.words spot ≡ object.now) }
@@ -256,6 +262,7 @@ impl<'a> Store<'a> {
         requires sourced { IsSourced state.now }
         ensures items { self.new.items ≡ self.old.items }
         ensures form { self.new.form ≡ self.old.form }
+        ensures code { self.new.code ≡ self.old.code }
         ensures grows { Grows self.old.shared self.new.shared }
         ensures node { IfOk result (λ node. IsNode self.new.shared node) }
         ensures state { IfOk result (λ node. sourced_in self.new.shared node ≡ state.now) }
@@ -277,9 +284,9 @@ impl<'a> Store<'a> {
     pub fn find(&self, node: &Node<'_>) -> Option<usize>
         requires { IsWithin self.now.shared node.now }
         ensures within { IfSome result (λ v. v < length self.now.items) }
-        ensures alike { IfSome result (λ v. (s : SourcedFlat) → slice_get self.now.items v ≡ Some s → AreSameLooks (sourced_in self.now.shared node.now) s) }
+        ensures alike { IfSome result (λ v. (s : SourcedFlat) → slice_get self.now.items v ≡ Some s → AreSameLooks self.now.code (sourced_in self.now.shared node.now) s) }
         ensures sourced { (v : ℕ) (s : SourcedFlat) → slice_get self.now.items v ≡ Some s → IsSourced s }
-        ensures none { result ≡ None → (v : ℕ) (s : SourcedFlat) → slice_get self.now.items v ≡ Some s → AreMoments (sourced_in self.now.shared node.now) s → AreSameLooks (sourced_in self.now.shared node.now) s → ⊥ }
+        ensures none { result ≡ None → (v : ℕ) (s : SourcedFlat) → slice_get self.now.items v ≡ Some s → AreMoments (sourced_in self.now.shared node.now) s → AreSameLooks self.now.code (sourced_in self.now.shared node.now) s → ⊥ }
     {
         tells_apart();
         self.table.each();
@@ -296,6 +303,7 @@ impl<'a> Store<'a> {
         ensures ok { OnOk result (self.new.items ≡ self.old.items ++ sourced_in self.old.shared node.entry ∷ []) }
         ensures err { OnErr result (self.new.items ≡ self.old.items) }
         ensures form { self.new.form ≡ self.old.form }
+        ensures code { self.new.code ≡ self.old.code }
         ensures shared { self.new.shared ≡ self.old.shared }
     {
         let hash = hash_of(&self.table, &node);

@@ -2,9 +2,9 @@
 
 ghost use Rattle.std.specs.Prelude.{◌≡◌, ◌≢◌, ◌⊎◌, ◌<◌, ℕ, List, [], ◌∷◌, length, true, false, Some, None, slice_get, IfOk, IfSome};
 ghost use Rattle.std.specs.List.{slice_index_or, AllByRecursion};
+ghost use Rattle.ir_freeze.specs.Basis.{Basis, IsBasis};
 ghost use Rattle.ir_freeze.specs.Frozen.{frozen, is_over};
 ghost use Rattle.ir_freeze.specs.Twins.{IsBounded};
-ghost use Rattle.ir_mach.specs.Core.{memory_size};
 ghost use Rattle.ir_store.specs.Nodes.{LookSame};
 ghost use Rattle.ir_store.specs.Hashes.{IsFoundBy, KeepsFound};
 ghost use Rattle.ir_store.specs.Hashes as hashes;
@@ -19,7 +19,7 @@ use crate::number::short;
 use crate::rows::Rows;
 use crate::sourced::SourcedThread;
 use crate::twin::same_thread;
-use ir_freeze::{over, tells_apart};
+use ir_freeze::{Basis, over, tells_apart};
 use ir_image::ImageForm;
 use ir_sources::Sources;
 use ir_thread::Thread;
@@ -62,7 +62,7 @@ fn after_source(hash: u64, source: &Sources<'_>) -> u64
 
 // The hash of what can be seen of a thread: of its bytes, and of what answers it, unless it is over.
 fn seen_hash(bytes: &[u8], thread: &Thread, source: &Sources<'_>) -> u64
-    ensures { (start : List ℕ) → bytes.now ≡ frozen start thread.now [] → result ≡ table.seen_hash start (thread.now, source.now) }
+    ensures { (basis : Basis) → bytes.now ≡ frozen basis thread.now [] → result ≡ table.seen_hash basis (thread.now, source.now) }
 {
     let hash = after_bytes(empty_hash(), bytes);
     if over(thread) {
@@ -74,7 +74,7 @@ fn seen_hash(bytes: &[u8], thread: &Thread, source: &Sources<'_>) -> u64
 
 // The hash of a thread beside what answers it, where what can be seen of it has this one.
 fn whole_hash(seen: u64, thread: &Thread, source: &Sources<'_>) -> u64
-    ensures { (start : List ℕ) → seen ≡ table.seen_hash start (thread.now, source.now) → result ≡ table.whole_hash start (thread.now, source.now) }
+    ensures { (basis : Basis) → seen ≡ table.seen_hash basis (thread.now, source.now) → result ≡ table.whole_hash basis (thread.now, source.now) }
 {
     let hash = after_number(seen, thread.number() as u64);
     let hash = after_number(hash, thread.steps());
@@ -109,9 +109,9 @@ fn is_like(
     thread: &Thread,
     source: &Sources<'_>,
 ) -> Result<bool, AllocError>
-    requires { bytes.now ≡ frozen rows.now.start thread.now [] }
-    ensures like { IfOk result (λ like. like ≡ true → LooksLike rows.now.start rows.now.items n (thread.now, source.now)) }
-    ensures other { IfOk result (λ like. like ≡ false → LooksLike rows.now.start rows.now.items n (thread.now, source.now) → ⊥) }
+    requires { bytes.now ≡ frozen rows.now.basis thread.now [] }
+    ensures like { IfOk result (λ like. like ≡ true → LooksLike rows.now.basis rows.now.items n (thread.now, source.now)) }
+    ensures other { IfOk result (λ like. like ≡ false → LooksLike rows.now.basis rows.now.items n (thread.now, source.now) → ⊥) }
 {
     if n >= rows.len() {
         return Ok(false);
@@ -153,11 +153,11 @@ fn look_for(
     thread: &Thread,
     source: &Sources<'_>,
 ) -> Result<Option<usize>, AllocError>
-    requires bytes { bytes.now ≡ frozen rows.now.start thread.now [] }
+    requires bytes { bytes.now ≡ frozen rows.now.basis thread.now [] }
     requires look { HaveOneLook seen.now rows.now }
-    requires hash { hash ≡ table.seen_hash rows.now.start (thread.now, source.now) }
-    ensures like { IfOk result (λ like. IfSome like (λ m. LooksLike rows.now.start rows.now.items m (thread.now, source.now))) }
-    ensures none { IfOk result (λ like. like ≡ None → (n : ℕ) (x : ThreadState × Source) → slice_get rows.now.items n ≡ Some x → AreLike rows.now.start x (thread.now, source.now) → ⊥) }
+    requires hash { hash ≡ table.seen_hash rows.now.basis (thread.now, source.now) }
+    ensures like { IfOk result (λ like. IfSome like (λ m. LooksLike rows.now.basis rows.now.items m (thread.now, source.now))) }
+    ensures none { IfOk result (λ like. like ≡ None → (n : ℕ) (x : ThreadState × Source) → slice_get rows.now.items n ≡ Some x → AreLike rows.now.basis x (thread.now, source.now) → ⊥) }
 {
     rows.each();
     for steps in 0..MOST_STEPS {
@@ -180,12 +180,12 @@ fn look_of(
     thread: &Thread,
     source: &Sources<'_>,
 ) -> Result<usize, AllocError>
-    requires bytes { bytes.now ≡ frozen rows.now.start thread.now [] }
+    requires bytes { bytes.now ≡ frozen rows.now.basis thread.now [] }
     requires look { HaveOneLook seen.old rows.now }
-    requires hash { hash ≡ table.seen_hash rows.now.start (thread.now, source.now) }
+    requires hash { hash ≡ table.seen_hash rows.now.basis (thread.now, source.now) }
     ensures keeps { KeepsFound seen.old seen.new }
     ensures found { IfOk result (λ k. IsFoundBy seen.new hash k) }
-    ensures like { IfOk result (λ k. (k ≡ length rows.now.items) ⊎ LooksLike rows.now.start rows.now.items k (thread.now, source.now)) }
+    ensures like { IfOk result (λ k. (k ≡ length rows.now.items) ⊎ LooksLike rows.now.basis rows.now.items k (thread.now, source.now)) }
     ensures one { IfOk result (λ k. StandsFor rows.now (thread.now, source.now) k) }
 {
     rows.each();
@@ -198,20 +198,16 @@ fn look_of(
 }
 
 impl<'a> Table<'a> {
-    /// No threads, of an image of this form, and with this private memory at first.
-    ///
-    /// # Errors
-    /// Out of memory.
-    pub fn new(alloc: Global, form: ImageForm, start: &[u8]) -> Result<Table<'a>, AllocError>
-        requires { length start.now ≡ memory_size }
-        ensures { IfOk result (λ t. t ≡ record { items = []; form = form; start = start.now; looks = [] }) }
+    /// No threads, of an image of this form, to be frozen against this basis.
+    pub fn new(alloc: Global, form: ImageForm, basis: Basis<'a>) -> Table<'a>
+        ensures { result ≡ record { items = []; form = form; basis = basis.entry; looks = [] } }
     {
-        Ok(Table {
+        Table {
             alloc,
-            rows: Rows::new(alloc, form, start)?,
+            rows: Rows::new(alloc, form, basis),
             index: Index::new(alloc),
             seen: Index::new(alloc),
-        })
+        }
     }
 
     // Adds a new thread with these bytes beside what answers it, and says its number.
@@ -224,13 +220,14 @@ impl<'a> Table<'a> {
         source: &Sources<'a>,
     ) -> Result<usize, AllocError>
         requires form { thread.now.form ≡ self.old.form }
-        requires bytes { bytes.now ≡ frozen self.old.start thread.now [] }
-        requires whole { whole ≡ table.whole_hash self.old.start (thread.now, source.now) }
-        requires seen { seen ≡ table.seen_hash self.old.start (thread.now, source.now) }
+        requires bytes { bytes.now ≡ frozen self.old.basis thread.now [] }
+        requires whole { whole ≡ table.whole_hash self.old.basis (thread.now, source.now) }
+        requires seen { seen ≡ table.seen_hash self.old.basis (thread.now, source.now) }
         requires new { (n : ℕ) → slice_get self.old.items n ≡ Some (thread.now, source.now) → ⊥ }
         ensures keeps { Keeps self.old.items self.new.items }
         ensures looks { Keeps self.old.looks self.new.looks }
         ensures form { self.new.form ≡ self.old.form }
+        ensures basis { self.new.basis ≡ self.old.basis }
         ensures found { IfOk result (λ n. slice_get self.new.items n ≡ Some (thread.now, source.now)) }
         ensures one { IfOk result (λ n. (m : ℕ) → slice_get self.new.items m ≡ Some (thread.now, source.now) → m ≡ n) }
     {
@@ -250,6 +247,7 @@ impl<'a> Table<'a> {
         ensures keeps { Keeps self.old.items self.new.items }
         ensures looks { Keeps self.old.looks self.new.looks }
         ensures form { self.new.form ≡ self.old.form }
+        ensures basis { self.new.basis ≡ self.old.basis }
         ensures found { IfOk result (λ n. slice_get self.new.items n ≡ Some (thread.now, source.now)) }
         ensures one { IfOk result (λ n. (m : ℕ) → slice_get self.new.items m ≡ Some (thread.now, source.now) → m ≡ n) }
     {
@@ -276,6 +274,7 @@ impl<'a> Table<'a> {
         ensures keeps { Keeps self.old.items self.new.items }
         ensures looks { Keeps self.old.looks self.new.looks }
         ensures form { self.new.form ≡ self.old.form }
+        ensures basis { self.new.basis ≡ self.old.basis }
         ensures within { IfOk result (λ numbers. AreIn self.new.items numbers.items) }
         ensures threads { IfOk result (λ numbers. threads_at self.new.items numbers.items ≡ threads.now) }
         ensures sources { IfOk result (λ numbers. sources_at self.new.items numbers.items ≡ sources.now) }
@@ -332,10 +331,17 @@ impl<'a> Table<'a> {
         self.rows.look(n)
     }
 
+    /// What threads are frozen against.
+    pub fn basis(&self) -> &Basis<'a>
+        ensures { result.now ≡ self.now.basis }
+    {
+        self.rows.basis()
+    }
+
     /// What is so of each thread.
     pub fn each(&self)
         ensures one { (seen : List (ℕ × ℕ)) × HaveOneLook seen self.now }
-        ensures size { length self.now.start ≡ memory_size }
+        ensures basis { IsBasis self.now.basis }
         ensures bounded { AllByRecursion (λ (x : ThreadState × Source). IsBounded x.0) self.now.items }
     {
         self.rows.each();
@@ -345,7 +351,7 @@ impl<'a> Table<'a> {
     pub fn same_look(&self, m: usize, n: usize) -> bool
         requires first { m < length self.now.items }
         requires second { n < length self.now.items }
-        ensures same { result ≡ true → (x y : ThreadState × Source) → slice_get self.now.items m ≡ Some x → slice_get self.now.items n ≡ Some y → LookSame x y }
+        ensures same { result ≡ true → (x y : ThreadState × Source) → slice_get self.now.items m ≡ Some x → slice_get self.now.items n ≡ Some y → LookSame self.now.basis.code x y }
         ensures other { result ≡ false → slice_index_or self.now.looks m 0 ≢ slice_index_or self.now.looks n 0 }
     {
         tells_apart();

@@ -6,4 +6,4 @@ use Rattle.ir_graph.proofs.likeness.same_state.Given as goal
 
 abbrev pub invariant-loop-t : goal.invariant-loop-t
 invariant-loop-t l = (u : ℕ) → u < l.t
-    → Same l.first.flat.code (view (thread_of l.first.flat u), source_of l.first u) (view (thread_of l.second.flat u), source_of l.second u)
+    → Same l.basis.code (view (thread_of l.first.flat u), source_of l.first u) (view (thread_of l.second.flat u), source_of l.second u)

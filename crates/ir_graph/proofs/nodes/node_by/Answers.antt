@@ -1,4 +1,4 @@
-use Rattle.std.proofs.Common.{◌≡◌, Some, sym, subst}
+use Rattle.std.proofs.Common.{◌≡◌, Some, sym, ap, ◌∙◌, subst}
 use Rattle.std.specs.Prelude.{slice_get}
 use Rattle.ir_lemmas.proofs.CallerLemmas.{element_below_length_exists, if_ok_of_implied}
 use Rattle.ir_store.specs.Nodes.{SourcedFlat, IsSourced, sourced_in}
@@ -29,6 +29,11 @@ node_of-requires-clause-is c =
           (both_sourced flats.items flats.shared f.0 c.args.way.thread c.args.way.refused c.args.way.node c.args.turn c.requires.nodes f.1 (c.requires.thread f.0 f.1)
           (c.thread_number.ensures.sourced f.0 f.1) (c.requires.turn f.0 f.1));
     }
+
+pub node_of-requires-clause-code : goal.node_of-requires-clause-code
+node_of-requires-clause-code c =
+    let f = element_below_length_exists c.args.flats.now.items c.args.way.node c.requires.node in
+    c.requires.code f.0 f.1 ∙ sym (ap (λ (z : SourcedFlat). z.flat.code) (c.in_ok-new.ensures.state f.0 f.1))
 
 pub node_of-requires-clause-like : goal.node_of-requires-clause-like
 node_of-requires-clause-like c = λ u k there.

@@ -1,4 +1,4 @@
-use Rattle.std.proofs.Common.{◌≡◌, ◌<◌, Some, sym, subst}
+use Rattle.std.proofs.Common.{◌≡◌, ◌<◌, Some, sym, ap, ◌∙◌, subst}
 use Rattle.std.specs.Prelude.{slice_get}
 use Rattle.ir_runs.specs.Run.{Can}
 use Rattle.ir_flat.specs.Flat.{machine, tables}
@@ -72,6 +72,15 @@ returns-in-Err-clause-leads c =
     let less = c.requires.thread s at in
     leads_nowhere_if_no_step c.args.flats.now.items s t c.args.way.refused c.args.way.node c.requires.nodes at less
     (subst (λ r. Can (machine f) (tables f) (t, r) → ⊥) c.in-Some.ensures.result c.in-Err.ensures.refused)
+
+pub node_of-requires-clause-code : goal.node_of-requires-clause-code
+node_of-requires-clause-code c =
+    let f = c.state.inside.flat in
+    let s = sourced_flat f c.state.inside.sources.items in
+    let w = c.run_to_rest.new.state in
+    let at = subst (λ z. slice_get c.args.flats.now.items c.args.way.node ≡ Some z) (sym c.state.view_is) c.in_ok-state.ensures.found in
+    let same : w.flat.code ≡ s.flat.code = c.run_to_rest.ensures.goes.code ∙ c.in_default-take.ensures.code in
+    c.by_numbers.ensures.code ∙ c.requires.code s at ∙ sym same ∙ sym (ap (λ (z : SourcedFlat). z.flat.code) c.in_ok-new.ensures.state)
 
 pub node_of-requires-clause-like : goal.node_of-requires-clause-like
 node_of-requires-clause-like c = λ v k is.

@@ -1,7 +1,7 @@
 use Rattle.std.proofs.Common.{◌≡◌, Some, sym, subst, [], ◌∷◌}
 use Rattle.std.specs.Prelude.{slice_get}
 use Rattle.ir_explore.proofs.CallerLemmas.{slice_get_kept_by_append}
-use Rattle.ir_store.specs.Nodes.{sourced_in}
+use Rattle.ir_store.specs.Nodes.{AreSameLooks, sourced_in}
 use Rattle.ir_graph.specs.Nodes.{AreNodes}
 use Rattle.ir_graph.specs.Reached.{AllReached}
 use Rattle.ir_graph.proofs.Alike.{same_looks_if_look_alike}
@@ -13,7 +13,8 @@ use Rattle.ir_graph.proofs.nodes.node_of.Goals as goal
 pub returns-in-Some-clause-alike : goal.returns-in-Some-clause-alike
 returns-in-Some-clause-alike c = λ f is.
     look_alike_if_same_looks (sourced_in c.args.flats.now.shared c.args.new) f (c.requires.like c.in-Some.v f is) c.requires.is.sourced.each
-    (c.requires.nodes.each c.in-Some.v f is) (c.in-Some.ensures.alike f is)
+    (c.requires.nodes.each c.in-Some.v f is)
+    (subst (λ z. AreSameLooks z (sourced_in c.args.flats.now.shared c.args.new) f) c.requires.code (c.in-Some.ensures.alike f is))
 
 pub returns-clause-nodes : goal.returns-clause-nodes
 returns-clause-nodes c =
@@ -22,7 +23,8 @@ returns-clause-nodes c =
     (λ v f at like.
     let moment = c.requires.like v f at in
     c.find.ensures.none c.in_default.is v f at (record { threads = moment.threads; objects = moment.objects; twins = moment.twins })
-    (same_looks_if_look_alike h f c.requires.is.sourced.flat (c.find.ensures.sourced v f at).flat moment.objects like)))
+    (subst (λ z. AreSameLooks z h f) (sym c.requires.code)
+    (same_looks_if_look_alike h f c.requires.is.sourced.flat (c.find.ensures.sourced v f at).flat moment.objects like))))
 
 pub returns-clause-stay : goal.returns-clause-stay
 returns-clause-stay c = λ v f is.

@@ -1,4 +1,4 @@
-use Rattle.std.proofs.Common.{◌≡◌, Some, sym, subst}
+use Rattle.std.proofs.Common.{◌≡◌, Some, sym, ◌∙◌, subst}
 use Rattle.std.specs.Prelude.{slice_get, IfSome}
 use Rattle.ir_explore.specs.declared.stop.Stop.{Stop}
 use Rattle.ir_store.specs.Nodes.{SourcedFlat}
@@ -20,6 +20,16 @@ node_by-requires-clause-turn c = λ f at.
     let one = subst (λ z. IfSome z (λ (x : Turn). (f : SourcedFlat) → slice_get new.items c.args.way.node ≡ Some f
     → IsTurnOf c.args.code.now new.shared f c.args.way.thread c.args.way.refused x)) c.in-Some.is c.in_ok-turn.ensures.turn in
     subst (λ z. IsTurnOf z new.shared f c.args.way.thread c.args.way.refused c.in-Some.turn) (sym (c.requires.code f here)) (one f at)
+
+pub node_by-requires-clause-code : goal.node_by-requires-clause-code
+node_by-requires-clause-code c = λ f at.
+    let here = subst (λ z. slice_get z c.args.way.node ≡ Some f) c.turn_of.ensures.items at in
+    c.turn_of.ensures.store ∙ c.requires.store ∙ sym (c.requires.code f here)
+
+pub node_by_steps-requires-clause-code : goal.node_by_steps-requires-clause-code
+node_by_steps-requires-clause-code c = λ f at.
+    let here = subst (λ z. slice_get z c.args.way.node ≡ Some f) c.turn_of.ensures.items at in
+    c.turn_of.ensures.store ∙ c.requires.store ∙ sym (c.requires.code f here)
 
 pub returns-in-Ok-clause-reached : goal.returns-in-Ok-clause-reached
 returns-in-Ok-clause-reached c = λ x all.

@@ -21,7 +21,7 @@ by_numbers-requires-clause-form c =
     let x = c.args.setup.now in
     let h = c.rest_all.new.state in
     let goes = subst (λ z. GoesPlain z h) c.in_ok-state.ensures c.in_ok-rest_all.ensures.goes in
-    subst (λ z. HaveForm z h.flat.threads) (sym (c.in_ok-flats.ensures.form ∙ c.form.ensures.value ∙ ap (λ (z : Guest). z.form) c.image-image.ensures))
+    subst (λ z. HaveForm z h.flat.threads) (sym (c.new-flats.ensures.form ∙ c.form.ensures.value ∙ ap (λ (z : Guest). z.form) c.image-image.ensures))
     (have_form_of_like_moment x.guest.form (start_of x).flat h.flat (flat_after_plain_steps_is_like_flat_before (start_of x) h goes)
     (start_threads_have_form x.guest most_budget x.profile 0 (length x.guest.entries)))
 
@@ -54,7 +54,7 @@ returns-clause-sound c =
     let tries = free_to_try_if_no_refusals_noted x.profile (length rows) rows refused_rows (λ one. c.in_ok-refused_rows.ensures.one (c.profile.ensures ∙ one))
     (λ two. subst (λ n. (t v : ℕ) → t < n → noted_in refused_rows t v ≡ None) (sym same) (c.in_ok-refused_rows.ensures.two (c.profile.ensures ∙ two))) in
     let states : c.push.new.self.items ≡ h ∷ [] =
-    c.in_ok-push.ensures.ok ∙ ap (λ z. z ++ sourced_in c.by_numbers.new.self.shared c.in_ok-first.first ∷ []) (c.by_numbers.ensures.items ∙ c.in_ok-flats.ensures.items)
+    c.in_ok-push.ensures.ok ∙ ap (λ z. z ++ sourced_in c.by_numbers.new.self.shared c.in_ok-first.first ∷ []) (c.by_numbers.ensures.items ∙ c.new-flats.ensures.items)
     ∙ ap (λ z. z ∷ []) c.in_ok-first.ensures.state in
     subst (λ z. IsGraph x z (noted_by rows refused_rows) (length rows)) (sym states)
     (start_is_graph x h (noted_by rows refused_rows) (length rows) goes c.in_ok-rest_all.ensures.rest

@@ -19,6 +19,9 @@ same_state-requires-clause-like c =
     like_transitive u.flat first s.flat (like_symmetric first u.flat c.in_ok-state.ensures.again.again.like)
     (c.requires.reached c.args.node s c.in_ok-kept.ensures.found).like
 
+pub same_state-requires-clause-code : goal.same_state-requires-clause-code
+same_state-requires-clause-code c = c.in_ok-state.ensures.again.again.like.code ∙ sym c.requires.code ∙ sym c.basis.ensures
+
 pub same_state-requires-clause-sources : goal.same_state-requires-clause-sources
 same_state-requires-clause-sources c = c.in_ok-state.ensures.again.again.each
 

@@ -15,7 +15,7 @@ returns-clause-has c =
     let outcomes = c.args.list.now.outcomes.items in
     let node = c.args.node in
     let x = c.in_ok-shown.shown in
-    let different = subst (λ z. AreOutcomes flats (suc node) (z ++ node ∷ [])) c.as_slice.ensures.value (c.in_ok-new.ensures.new c.if-not-new.false) in
+    let different = subst (λ z. AreOutcomes flats (suc node) (z ++ node ∷ [])) c.as_slice.ensures.value (c.has_new_outcome.ensures.new c.if-not-has_new_outcome.false) in
     subst (λ z. HasShown setup flats origins (suc node) z c.push-2.new.self.items) (sym c.in_ok-push.ensures.items)
     (subst (HasShown setup flats origins (suc node) (listed ++ node ∷ [])) (sym c.in_ok-push-2.ensures.items)
     (has_shown_step setup flats origins node listed outcomes x c.requires.has different c.in_ok-shown.ensures.node

@@ -22,6 +22,9 @@ pub successor-requires-clause-turns : goal.successor-requires-clause-turns
 successor-requires-clause-turns c =
     subst (λ z. AreTurns z c.args.self.now.flats.shared c.args.self.now.ahead) (sym c.code-code.ensures) c.requires.sound.1
 
+pub successor-requires-clause-store : goal.successor-requires-clause-store
+successor-requires-clause-store c = c.requires.sound.2 ∙ sym c.code-code.ensures
+
 pub returns-in_err-next-clause-sound : goal.returns-in_err-next-clause-sound
 returns-in_err-next-clause-sound c =
     let g = c.args.self.now in
@@ -29,6 +32,7 @@ returns-in_err-next-clause-sound c =
       is_graph_after_nodes_added g.setup g.flats.items c.successor.new.flats.items (noted_by g.rows.items g.refused_rows.items)
           (length g.rows.items) c.requires.sound.0 grown.stay grown.nodes (grown.reached g.setup c.requires.sound.0.reached) grown.grown,
       subst (λ z. AreTurns z c.successor.new.flats.shared c.successor.new.ahead) c.code-code.ensures grown.turns,
+      grown.store ∙ c.requires.sound.2,
     )
 
 pub returns-in_err-note_way-clause-sound : goal.returns-in_err-note_way-clause-sound
@@ -55,6 +59,7 @@ returns-in_err-note_way-clause-sound c =
     c.requires.node c.in_ok-next.ensures.within c.in_ok-next.ensures.leads in (
       is_graph_of_equal_rows g.setup flats new tries same also noted,
       subst (λ z. AreTurns z c.successor.new.flats.shared c.successor.new.ahead) c.code-code.ensures grown.turns,
+      grown.store ∙ c.requires.sound.2,
     )
 
 pub returns-clause-sound : goal.returns-clause-sound
@@ -81,4 +86,5 @@ returns-clause-sound c =
     c.requires.node c.in_ok-next.ensures.within c.in_ok-next.ensures.leads in (
       is_graph_of_equal_rows g.setup flats new tries same also noted,
       subst (λ z. AreTurns z c.successor.new.flats.shared c.successor.new.ahead) c.code-code.ensures grown.turns,
+      grown.store ∙ c.requires.sound.2,
     )

@@ -12,12 +12,12 @@ use Rattle.ir_store.proofs.rows.Rows.over.Goals as goal
 
 pub returns : goal.returns
 returns c =
-    let start = c.self.inside.start.items in
+    let start = c.self.inside.basis.memory in
     let rows = c.self.inside.rows.items in
     let row = c.index-row.result.now in
     let less = subst (λ (z : table.Table). c.args.n < length z.items) (sym c.self.view_is) c.requires in
     let stands = slice_get-get_or rows c.args.n row (subst (λ k. c.args.n < k) (length_of_map (beside_in start) rows) less)
     ∙ ap Some (sym c.index-row.ensures) in
-    c.over.ensures ∙ slice_get_element_satisfies_all_by_recursion (KnowsOver start) rows c.args.n row c.self.invariant.3 stands
+    c.over.ensures ∙ slice_get_element_satisfies_all_by_recursion (KnowsOver start) rows c.args.n row c.self.invariant.2 stands
     ∙ ap (λ (x : ThreadState × Source). is_over x.0) (looked_up_row_is_get_or_of_mapped_rows (beside_in start) rows row c.args.n idle_beside less c.index-row.ensures)
     ∙ ap (λ (z : table.Table). is_over (get_or z.items c.args.n idle_beside).0) c.self.view_is

@@ -14,49 +14,50 @@ use Rattle.ir_store.proofs.rows.Rows.push.Goals as goal
 
 pub invariant_of-self : goal.invariant_of-self
 invariant_of-self c =
-    let start = c.self.inside.start.items in
+    let basis = c.self.inside.basis in
+    let start = basis.memory in
     let form = c.self.inside.form in
     let rows = c.self.inside.rows.items in
     let new = c.put.new.items.items in
     let row = c.in_ok-row.row in
     let thread : thread_in start row ≡ c.args.thread.now =
-    ap (λ l. thread_in l row) (sym c.as_slice.ensures.value) ∙ c.in_ok-row.ensures.thread in
+    ap (λ l. thread_in l row) (sym c.memory.ensures.value) ∙ c.in_ok-row.ensures.thread in
     let made : beside_in start row ≡ (c.args.thread.now, c.args.source.now) = λ i. (thread i, c.in_ok-row.ensures.source i) in
     let look : look_of row ≡ c.args.look = c.in_ok-row.ensures.look in
-    let is : (look_of row ≡ length (map (beside_in start) rows)) ⊎ LooksLike start (map (beside_in start) rows) (look_of row) (beside_in start row) =
-    subst (λ z. (look_of row ≡ length (map (beside_in start) rows)) ⊎ LooksLike start (map (beside_in start) rows) (look_of row) z) (sym made)
-    (subst (λ k. (k ≡ length (map (beside_in start) rows)) ⊎ LooksLike start (map (beside_in start) rows) k (c.args.thread.now, c.args.source.now)) (sym look)
-    (subst (λ (z : table.Table). (c.args.look ≡ length z.items) ⊎ LooksLike z.start z.items c.args.look (c.args.thread.now, c.args.source.now))
+    let is : (look_of row ≡ length (map (beside_in start) rows)) ⊎ LooksLike basis (map (beside_in start) rows) (look_of row) (beside_in start row) =
+    subst (λ z. (look_of row ≡ length (map (beside_in start) rows)) ⊎ LooksLike basis (map (beside_in start) rows) (look_of row) z) (sym made)
+    (subst (λ k. (k ≡ length (map (beside_in start) rows)) ⊎ LooksLike basis (map (beside_in start) rows) k (c.args.thread.now, c.args.source.now)) (sym look)
+    (subst (λ (z : table.Table). (c.args.look ≡ length z.items) ⊎ LooksLike z.basis z.items c.args.look (c.args.thread.now, c.args.source.now))
     (sym c.self.view_is) c.requires.look)) in (
-      c.self.invariant.0,
-      all_by_recursion_of_map_if_rows_unchanged_or_pushed (beside_in start) (λ (x : ThreadState × Source). x.0.form ≡ form) rows new row c.self.invariant.1
+      all_by_recursion_of_map_if_rows_unchanged_or_pushed (beside_in start) (λ (x : ThreadState × Source). x.0.form ≡ form) rows new row c.self.invariant.0
           (ap (λ (s : ThreadState). s.form) thread ∙ c.requires.form ∙ ap (λ (z : table.Table). z.form) (sym c.self.view_is)) c.put.ensures.either,
-      all_by_recursion_of_map_if_rows_unchanged_or_pushed (beside_in start) (λ (x : ThreadState × Source). IsBounded x.0) rows new row c.self.invariant.2
+      all_by_recursion_of_map_if_rows_unchanged_or_pushed (beside_in start) (λ (x : ThreadState × Source). IsBounded x.0) rows new row c.self.invariant.1
           (subst IsBounded (sym thread) c.bounded.ensures) c.put.ensures.either,
-      all_by_recursion_if_unchanged_or_pushed (KnowsOver start) rows new row c.self.invariant.3 (c.in_ok-row.ensures.over ∙ ap is_over (sym thread)) c.put.ensures.either,
-      are_looks_kept_if_rows_unchanged_or_pushed (beside_in start) look_of start rows new row c.self.invariant.4 is c.put.ensures.either,
+      all_by_recursion_if_unchanged_or_pushed (KnowsOver start) rows new row c.self.invariant.2 (c.in_ok-row.ensures.over ∙ ap is_over (sym thread)) c.put.ensures.either,
+      are_looks_kept_if_rows_unchanged_or_pushed (beside_in start) look_of basis rows new row c.self.invariant.3 is c.put.ensures.either,
     )
 
 pub returns-clause-ok : goal.returns-clause-ok
 returns-clause-ok c =
-    let start = c.self.inside.start.items in
+    let basis = c.self.inside.basis in
+    let start = basis.memory in
     let form = c.self.inside.form in
     let rows = c.self.inside.rows.items in
     let row = c.in_ok-row.row in
     let thread : thread_in start row ≡ c.args.thread.now =
-    ap (λ l. thread_in l row) (sym c.as_slice.ensures.value) ∙ c.in_ok-row.ensures.thread in
+    ap (λ l. thread_in l row) (sym c.memory.ensures.value) ∙ c.in_ok-row.ensures.thread in
     let made : beside_in start row ≡ (c.args.thread.now, c.args.source.now) = λ i. (thread i, c.in_ok-row.ensures.source i) in
     on_ok_weaker c.put.result
     (λ e. (λ i. record {
       items = (ap (map (beside_in start)) e ∙ map_push (beside_in start) rows row ∙ ap (λ s. map (beside_in start) rows ++ s ∷ []) made) i;
       form = form;
-      start = start;
+      basis = basis;
       looks = (ap (map look_of) e ∙ map_push look_of rows row ∙ ap (λ k. map look_of rows ++ k ∷ []) c.in_ok-row.ensures.look) i;
     })
     ∙ ap (λ (z : table.Table). record {
       items = z.items ++ (c.args.thread.now, c.args.source.now) ∷ [];
       form = z.form;
-      start = z.start;
+      basis = z.basis;
       looks = z.looks ++ c.args.look ∷ [];
     }) c.self.view_is) c.put.ensures.ok
 
@@ -64,8 +65,8 @@ pub returns-clause-err : goal.returns-clause-err
 returns-clause-err c =
     on_err_weaker c.put.result
     (λ e. ap (λ (l : List Row). record {
-      items = map (beside_in c.self.inside.start.items) l;
+      items = map (beside_in c.self.inside.basis.memory) l;
       form = c.self.inside.form;
-      start = c.self.inside.start.items;
+      basis = c.self.inside.basis;
       looks = map look_of l;
     }) e ∙ c.self.view_is) c.put.ensures.err

@@ -10,19 +10,19 @@ use Rattle.ir_store.proofs.rows.Rows.thread.Goals as goal
 
 pub returns-clause-found : goal.returns-clause-found
 returns-clause-found c =
-    let start = c.self.inside.start.items in
+    let start = c.self.inside.basis.memory in
     let row = c.index-row.result.now in
     let less = subst (λ (z : table.Table). c.args.n < length z.items) (sym c.self.view_is) c.requires in
-    c.in_ok-thread.ensures ∙ ap (λ l. thread_in l row) c.as_slice.ensures.value
+    c.in_ok-thread.ensures ∙ ap (λ l. thread_in l row) c.memory.ensures.value
     ∙ ap (λ (x : ThreadState × Source). x.0) (looked_up_row_is_get_or_of_mapped_rows (beside_in start) c.self.inside.rows.items row c.args.n idle_beside less c.index-row.ensures)
     ∙ ap (λ (z : table.Table). (get_or z.items c.args.n idle_beside).0) c.self.view_is
 
 pub returns-clause-form : goal.returns-clause-form
 returns-clause-form c =
-    let start = c.self.inside.start.items in
+    let start = c.self.inside.basis.memory in
     let row = c.index-row.result.now in
     let less = subst (λ (z : table.Table). c.args.n < length z.items) (sym c.self.view_is) c.requires in
     let here = looked_up_row_is_element_of_mapped_rows (beside_in start) c.self.inside.rows.items row c.args.n (beside_in start row) less c.index-row.ensures (λ i. beside_in start row) in
-    ap (λ (s : ThreadState). s.form) (c.in_ok-thread.ensures ∙ ap (λ l. thread_in l row) c.as_slice.ensures.value)
-    ∙ slice_get_element_satisfies_all_by_recursion (λ (x : ThreadState × Source). x.0.form ≡ c.self.inside.form) _ c.args.n (beside_in start row) c.self.invariant.1 here
+    ap (λ (s : ThreadState). s.form) (c.in_ok-thread.ensures ∙ ap (λ l. thread_in l row) c.memory.ensures.value)
+    ∙ slice_get_element_satisfies_all_by_recursion (λ (x : ThreadState × Source). x.0.form ≡ c.self.inside.form) _ c.args.n (beside_in start row) c.self.invariant.0 here
     ∙ ap (λ (z : table.Table). z.form) c.self.view_is

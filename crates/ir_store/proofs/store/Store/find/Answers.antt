@@ -1,4 +1,4 @@
-use Rattle.std.proofs.Common.{◌≡◌, ◌∙◌, ◌<◌, sym, ap, subst, refl, map, length, get_or, Some}
+use Rattle.std.proofs.Common.{◌≡◌, ◌∙◌, ◌<◌, sym, ap, subst, refl, map, length, get_or, Some, ℕ, List}
 use Rattle.std.specs.Prelude.{slice_get}
 use Rattle.std.proofs.lemmas.Option.{slice_get_within}
 use Rattle.ir_store.specs.declared.spot.Spot.{Spot}
@@ -21,10 +21,11 @@ returns-clause-none c = λ none v s at moments same.
     let in_b : IsWithin shared b = (node_is shared nodes c.self.invariant.0 v b less refl s there).within in
     let moments' : AreMoments (sourced_in shared a) (sourced_in shared b) =
     subst (AreMoments (sourced_in shared a)) (sym is) (subst (λ (z : Stored). AreMoments (sourced_in z.shared a) s) (sym c.self.view_is) moments) in
-    let same' : AreSameLooks (sourced_in shared a) (sourced_in shared b) =
-    subst (AreSameLooks (sourced_in shared a)) (sym is) (subst (λ (z : Stored). AreSameLooks (sourced_in z.shared a) s) (sym c.self.view_is) same) in
+    let code : List ℕ = c.self.inside.table.basis.code in
+    let same' : AreSameLooks code (sourced_in shared a) (sourced_in shared b) =
+    subst (AreSameLooks code (sourced_in shared a)) (sym is) (subst (λ (z : Stored). AreSameLooks z.code (sourced_in z.shared a) s) (sym c.self.view_is) same) in
     c.find_node.ensures.none none v (node_less shared nodes c.self.invariant.0 v b less refl s there)
-    (same_numbers_if_same_looks c.tells_apart.ensures c.each.ensures.one.0 c.self.inside.table c.self.inside.words c.each.ensures.size c.each.ensures.bounded
+    (same_numbers_if_same_looks c.tells_apart.ensures c.each.ensures.one.0 c.self.inside.table c.self.inside.words c.each.ensures.basis c.each.ensures.bounded
     c.each.ensures.one.1 c.each_once.ensures a b in_a in_b moments' same')
 
 pub returns-clause-sourced : goal.returns-clause-sourced

@@ -7,7 +7,7 @@ use Rattle.ir_store.proofs.table.Table.add.Goals as goal
 pub find-requires-clause-found : goal.find-requires-clause-found
 find-requires-clause-found c = λ n at.
     let x : ThreadState × Source = (c.args.thread.now, c.args.source.now) in
-    let start = c.self.inside.rows.start in
+    let basis = c.self.inside.rows.basis in
     subst (λ h. IsFoundBy c.self.inside.index h n)
-    (sym (c.whole_hash-whole.ensures start (c.seen_hash-seen.ensures start (c.as_slice.ensures.value ∙ c.in_ok-bytes.ensures))))
+    (sym (c.whole_hash-whole.ensures basis (c.seen_hash-seen.ensures basis (c.as_slice.ensures.value ∙ c.in_ok-bytes.ensures))))
     (c.self.invariant.0.found n x at)

@@ -32,6 +32,7 @@ loop-t-preserved c =
       keeps = λ k s e. keeps k s (before.keeps k s e);
       looks = λ k s e. c.add.ensures.looks k s (before.looks k s e);
       form = c.add.ensures.form ∙ before.form;
+      basis = c.add.ensures.basis ∙ before.basis;
       within = subst (AreIn new) (sym c.in_ok-push.ensures.items)
           (all_by_recursion_after_push (λ k. k < length new) numbers n
           (all_by_recursion_weaker (λ k. k < length old) (λ k. k < length new) numbers (index_below_length_kept_if_elements_kept old new idle_beside keeps) before.within)

@@ -7,6 +7,7 @@ invariant-loop-t l = record {
   keeps : Keeps l.fn.self.items l.self.items;
   looks : Keeps l.fn.self.looks l.self.looks;
   form : l.self.form ≡ l.fn.self.form;
+  basis : l.self.basis ≡ l.fn.self.basis;
   within : AreIn l.self.items l.numbers.items;
   threads : threads_at l.self.items l.numbers.items ≡ take l.t l.threads;
   sources : sources_at l.self.items l.numbers.items ≡ take l.t l.sources;

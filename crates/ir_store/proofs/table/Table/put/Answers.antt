@@ -30,13 +30,13 @@ invariant_of-self-2 c =
     let t : Table = c.self.inside.rows in
     let x : ThreadState × Source = (c.args.thread.now, c.args.source.now) in
     let k = c.in_ok-look.look in
-    let here : IsFoundBy c.note.new.self (whole_hash t.start x) (length t.items) =
-    subst (IsFoundBy c.note.new.self (whole_hash t.start x)) c.len-n.ensures
-    (subst (λ h. IsFoundBy c.note.new.self h c.len-n.result) (c.requires.whole ∙ ap (λ (z : Table). whole_hash z.start x) (sym c.self.view_is)) c.in_ok-note.ensures.found) in
+    let here : IsFoundBy c.note.new.self (whole_hash t.basis x) (length t.items) =
+    subst (IsFoundBy c.note.new.self (whole_hash t.basis x)) c.len-n.ensures
+    (subst (λ h. IsFoundBy c.note.new.self h c.len-n.result) (c.requires.whole ∙ ap (λ (z : Table). whole_hash z.basis x) (sym c.self.view_is)) c.in_ok-note.ensures.found) in
     let new : (n : ℕ) → slice_get t.items n ≡ Some x → ⊥ =
     subst (λ (z : Table). (n : ℕ) → slice_get z.items n ≡ Some x → ⊥) (sym c.self.view_is) c.requires.new in
-    let found : IsFoundBy c.look_of.new.seen (seen_hash t.start x) k =
-    subst (λ h. IsFoundBy c.look_of.new.seen h k) (c.requires.seen ∙ ap (λ (z : Table). seen_hash z.start x) (sym c.self.view_is)) c.in_ok-look.ensures.found in
+    let found : IsFoundBy c.look_of.new.seen (seen_hash t.basis x) k =
+    subst (λ h. IsFoundBy c.look_of.new.seen h k) (c.requires.seen ∙ ap (λ (z : Table). seen_hash z.basis x) (sym c.self.view_is)) c.in_ok-look.ensures.found in
     subst (λ z. AreOnce c.note.new.self z × HaveOneLook c.look_of.new.seen z) (sym c.in_ok-push.ensures.ok) (
       once_after_push c.self.inside.index c.note.new.self t x k c.self.invariant.0 c.note.ensures.keeps here new,
       one_look_after_push c.self.inside.seen c.look_of.new.seen t x k c.self.invariant.1 c.look_of.ensures.keeps found c.in_ok-look.ensures.one,
