@@ -5,6 +5,6 @@ pub use Rattle.ir_explore.proofs.Meant.{repeated_turn_adds_one_switch_at_most, s
 -- what is gone over up to a level
 pub use Rattle.ir_explore.proofs.Gone.{covered_below_gone_over_level}
 -- a list with one more
-pub use Rattle.ir_explore.proofs.Reached.{index_of_element_is_below_length}
+pub use Rattle.ir_explore.proofs.Reached.{index_of_element_is_below_length, WaysUnder, ways_under_number_are, ways_under_number_are_one}
 -- a search with no next level
 pub use Rattle.ir_explore.proofs.Between.{all_are_asked_if_next_level_is_empty}

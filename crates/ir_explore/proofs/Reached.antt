@@ -30,8 +30,34 @@ goes_one_step_further leading size (way ∷ ways) refused v w x g is l =
 
 pub ways_under_number_stay_if_table_grows : (old new : List Refusal) → Stay old new → (number : ℕ) (ways : List Bool) → AreWaysUnder old number ways → AreWaysUnder new number ways
 ways_under_number_stay_if_table_grows old new stay number ways Whole = Whole
-ways_under_number_stay_if_table_grows old new stay number ways (Refused i x before at s) =
-    Refused i x before (stay i x at) (ways_under_number_stay_if_table_grows old new stay x.before before s)
+ways_under_number_stay_if_table_grows old new stay number ways (Refused i x before at low s) =
+    Refused i x before (stay i x at) low (ways_under_number_stay_if_table_grows old new stay x.before before s)
+
+-- the table has as many refused tries as the number says
+pub number_within_table : (refusals : List Refusal) (number : ℕ) (ways : List Bool) → AreWaysUnder refusals number ways → number ≤ length refusals
+number_within_table refusals number ways Whole = omega arith
+number_within_table refusals number ways (Refused i x before at low s) = let l = index_of_element_is_below_length refusals i x at in omega (arith, l)
+
+-- what the ways under a number are made of
+abbrev pub WaysUnder : List Refusal → ℕ → List Bool → Type 0
+WaysUnder refusals zero ways = ways ≡ []
+WaysUnder refusals (suc i) ways = (x : Refusal) × (before : List Bool) × (slice_get refusals i ≡ Some x) × (x.before ≤ i)
+    × AreWaysUnder refusals x.before before × (ways ≡ before ++ replicate x.entries false ++ true ∷ [])
+
+pub ways_under_number_are : (refusals : List Refusal) (number : ℕ) (ways : List Bool) → AreWaysUnder refusals number ways → WaysUnder refusals number ways
+ways_under_number_are refusals number ways Whole = refl
+ways_under_number_are refusals number ways (Refused i x before at low s) = (x, before, at, low, s, refl)
+
+-- a number has one list of ways
+pub ways_under_number_are_one : (refusals : List Refusal) (number : ℕ) (ways more : List Bool) → AreWaysUnder refusals number ways
+    → AreWaysUnder refusals number more → ways ≡ more
+ways_under_number_are_one refusals number ways more Whole other = sym (ways_under_number_are refusals 0 more other)
+ways_under_number_are_one refusals number ways more (Refused i x before at low s) other =
+    let r = ways_under_number_are refusals (suc i) more other in
+    let one : r.0 ≡ x = same_Some r.0 x (sym r.2 ∙ at) in
+    let same : before ≡ r.1 = ways_under_number_are_one refusals x.before before r.1 s
+    (subst (λ (z : Refusal). AreWaysUnder refusals z.before r.1) one r.4) in
+    ap (λ z. z ++ replicate x.entries false ++ true ∷ []) same ∙ ap (λ (z : Refusal). r.1 ++ replicate z.entries false ++ true ∷ []) (sym one) ∙ sym r.5
 
 pub begins_at_if_nodes_kept : (nodes more : List Origin) → ((v : ℕ) (n : Origin) → slice_get nodes v ≡ Some n → slice_get more v ≡ Some n)
     → (k from : ℕ) → BeginsAt nodes k from → BeginsAt more k from
@@ -95,7 +121,7 @@ ways_after_step_end_with_its_way refusals table n true next a ways (before, spel
     let all : List Bool = before ++ replicate n.entries false ++ true ∷ [] in
     subst (λ z. AreWaysOf table z (ways ++ true ∷ [])) (sym a.1) (
       all,
-      Refused (length refusals) last before at
+      Refused (length refusals) last before at (number_within_table refusals n.last_refusal before spelled)
           (ways_under_number_stay_if_table_grows refusals table (table_stays_after_step refusals table n true next a) n.last_refusal before spelled),
       ap (λ z. z ++ true ∷ []) is ∙ sym (append-nil all),
     )

@@ -14,7 +14,7 @@ Goes leading size v (refused ∷ ways) w = (x : ℕ) × (leading refused v ≡ S
 -- ways under an earlier number, then so many that aren't refused, and then one that is.
 pub data AreWaysUnder (refusals : List Refusal) : ℕ → List Bool → Type 0 where
   Whole : AreWaysUnder refusals zero []
-  Refused : (i : ℕ) → (x : Refusal) → (before : List Bool) → slice_get refusals i ≡ Some x → AreWaysUnder refusals x.before before
+  Refused : (i : ℕ) → (x : Refusal) → (before : List Bool) → slice_get refusals i ≡ Some x → x.before ≤ i → AreWaysUnder refusals x.before before
       → AreWaysUnder refusals (suc i) (before ++ replicate x.entries false ++ true ∷ [])
 
 -- the ways of a turn: those under its number, and then so many that aren't refused

@@ -14,8 +14,6 @@ pub enum Stop {
     Private(usize),
     /// This thread's log is full, or its budget spent.
     Log(usize),
-    /// No order of the threads led to this node once more.
-    Order(usize),
     /// This thread calls for the time once more than can be counted.
     World(usize),
     /// Out of memory.

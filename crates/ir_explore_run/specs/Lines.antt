@@ -57,7 +57,6 @@ abbrev pub why_text : Stop → List ℕ
 why_text stop.Nodes = codes "states"
 why_text (stop.Private t) = codes "private " ++ decimal t
 why_text (stop.Log t) = codes "log " ++ decimal t
-why_text (stop.Order v) = codes "order " ++ decimal v
 why_text (stop.World t) = codes "world " ++ decimal t
 why_text stop.Memory = codes "memory"
 

@@ -19,7 +19,6 @@ use Rattle.ir_image.specs.Guest.{Guest, object_count, object_words}
 use Rattle.ir_object.specs.Cell.{Cell}
 use Rattle.ir_order.specs.Spelling.{IsListOf}
 use Rattle.ir_outcomes.specs.Explored.{IsAt, AreExplored, AreAll, AreHangs}
-use Rattle.ir_outcomes.specs.Hang.{IsOrder}
 use Rattle.ir_outcomes.specs.declared.explored.Explored.{Explored}
 use Rattle.ir_outcomes.specs.declared.shown.Shown.{Shown}
 use Rattle.ir_record.specs.Recording.{turns_of_items}
@@ -126,8 +125,7 @@ known_of e = record {
 
 -- It is so. The states are different ones of the guest at rest, to each of which a run leads. Once the search is finished, they and the outcomes are
 -- all, and so many states can't be brought to an end: where there are any, a run that hangs is known too, and only there. Where the switches that
--- were wanted are covered, some state needs as many. The search stopped early only for what the plan says, or where an order that was found led to
--- its state no second time.
+-- were wanted are covered, some state needs as many. The search stopped early only for what the plan says.
 pub record AreKnown (guest : Guest) (plan : ExplorePlan) (k : Known) : Type 0 where
   pub explored : AreExplored (setup_of guest plan) k.flats k.levels k.outcomes
   pub all : k.ended ≡ Finished → AreAll (setup_of guest plan) k.flats k.outcomes
@@ -138,7 +136,7 @@ pub record AreKnown (guest : Guest) (plan : ExplorePlan) (k : Known) : Type 0 wh
   pub unknown : (k.ended ≡ Finished → ⊥) → k.hang ≡ None
   pub covered : k.ended ≡ Covered → k.levels ≡ suc plan.switches
   pub left : k.ended ≡ Covered → (v : ℕ) × (s : SourcedFlat) × (slice_get k.flats v ≡ Some s) × NeedsSwitches (setup_of guest plan) s plan.switches
-  pub stopped : (why : Stop) → k.ended ≡ Stopped why → MayStop (setup_of guest plan) k.flats plan.bounds.nodes plan.bounds.private why ⊎ IsOrder why
+  pub stopped : (why : Stop) → k.ended ≡ Stopped why → MayStop (setup_of guest plan) k.flats plan.bounds.nodes plan.bounds.private why
 
 -- a hang is printed if one is known, and then how the search ended
 pub record IsEnding (k : Known) (answered : ExitStatus) (text : List ℕ) : Type 0 where

@@ -111,7 +111,6 @@ fn why_text(alloc: Global, stop: Stop) -> Result<String, AllocError>
         Stop::Nodes => String::from_str(alloc, "states"),
         Stop::Private(thread) => format!(in alloc; "private {thread}"),
         Stop::Log(thread) => format!(in alloc; "log {thread}"),
-        Stop::Order(node) => format!(in alloc; "order {node}"),
         Stop::World(thread) => format!(in alloc; "world {thread}"),
         Stop::Memory => String::from_str(alloc, "memory"),
     }

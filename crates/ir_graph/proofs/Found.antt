@@ -72,6 +72,20 @@ pub refused_leads_nowhere_unless_try : (states : List SourcedFlat) (t v : ℕ) �
 refused_leads_nowhere_unless_try states t v nodes none s is e same by can =
     let here = none s is in no_seen_refusal_unless_try s t here.0 here.1 e same by
 
+-- where all threads rest, they do again once one of them had its turn
+pub all_rest_after_turn : (s u w : SourcedFlat) (t r : ℕ) → AllRest s.flat → TakesStep s u t r → GoesPlain u w → OthersStay u w t
+    → Rests (ask_of w.flat.code (thread_of w.flat t)) → AllRest w.flat
+all_rest_after_turn s u w t r rest step goes others rests p few = elim (cases_eq p t) [
+  | inl same ↦ subst (λ z. Rests (ask_of w.flat.code (thread_of w.flat z))) (sym same) rests
+  | inr other ↦
+      let stays : thread_of w.flat p ≡ thread_of s.flat p =
+      others.threads p other ∙ (others_stay_after_step s u t r step.is).threads p other in
+      let size = goes.threads in
+      let threads = step.threads in
+      subst (λ z. Rests (ask_of z (thread_of w.flat p))) (sym (goes.code ∙ step.code))
+      (subst (λ z. Rests (ask_of s.flat.code z)) (sym stays) (rest p (omega (arith, few, size, threads))))
+]
+
 -- s at a node, u after the step of thread t, w where it comes to rest
 module _ (states : List SourcedFlat) (s u w : SourcedFlat) (t r v : ℕ) (nodes : AreNodes states) (at : slice_get states v ≡ Some s)
     (less : t < length s.flat.threads) (step : TakesStep s u t r) (goes : GoesPlain u w) where
@@ -85,16 +99,7 @@ module _ (states : List SourcedFlat) (s u w : SourcedFlat) (t r v : ℕ) (nodes 
   reached_each = goes.sources ∙ step.sources ∙ nodes.each v s at ∙ sym step.threads ∙ sym goes.threads
 
   pub reached_rests : OthersStay u w t → Rests (ask_of w.flat.code (thread_of w.flat t)) → AllRest w.flat
-  reached_rests others rests p few = elim (cases_eq p t) [
-    | inl same ↦ subst (λ z. Rests (ask_of w.flat.code (thread_of w.flat z))) (sym same) rests
-    | inr other ↦
-        let stays : thread_of w.flat p ≡ thread_of s.flat p =
-        others.threads p other ∙ (others_stay_after_step s u t r step.is).threads p other in
-        let size = goes.threads in
-        let threads = step.threads in
-        subst (λ z. Rests (ask_of z (thread_of w.flat p))) (sym (goes.code ∙ step.code))
-        (subst (λ z. Rests (ask_of s.flat.code z)) (sym stays) (nodes.rest v s at p (omega (arith, few, size, threads))))
-  ]
+  reached_rests = all_rest_after_turn s u w t r (nodes.rest v s at) step goes
 
 pub leads_to_node_if_reached_state_looks_alike : (states : List SourcedFlat) (s u w : SourcedFlat) (t : ℕ) (refused : Bool) (v : ℕ) → AreNodes states → slice_get states v ≡ Some s
     → t < length s.flat.threads → MayGo refused (ask_of s.flat.code (thread_of s.flat t)) → TakesStep s u t (result_by refused) → GoesPlain u w

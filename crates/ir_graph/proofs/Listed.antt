@@ -36,7 +36,7 @@ abbrev pub empty_state : SourcedFlat
 empty_state = record { flat = record { code = []; threads = []; objects = [] }; sources = [] }
 
 -- states that look the same have one outcome
-outcomes_of_alike_states_are_equal : (code : List ℕ) (u v : run.State (ThreadState × Source)) → Alike code u v → outcome_of (plain u) ≡ outcome_of (plain v)
+pub outcomes_of_alike_states_are_equal : (code : List ℕ) (u v : run.State (ThreadState × Source)) → Alike code u v → outcome_of (plain u) ≡ outcome_of (plain v)
 outcomes_of_alike_states_are_equal code u v alike = λ i. record {
   ends = λ t. end_at t i;
   outputs = λ t. output_at t i;

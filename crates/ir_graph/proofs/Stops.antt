@@ -1,7 +1,7 @@
 -- Why a search stops.
 use Rattle.std.proofs.Common.{◌≡◌, ℕ, List, sym, subst, length}
 use Rattle.ir_explore.specs.declared.stop.Stop.{Stop}
-use Rattle.ir_explore.specs.declared.stop.Stop.TheVariants.{Nodes, Private, Log, Order, World, Memory}
+use Rattle.ir_explore.specs.declared.stop.Stop.TheVariants.{Nodes, Private, Log, World, Memory}
 use Rattle.ir_thread.specs.State.{ask_of}
 use Rattle.ir_flat.specs.Flat.{thread_of}
 use Rattle.ir_store.specs.Nodes.{SourcedFlat, source_of}
@@ -17,7 +17,6 @@ pub stops_at_refused_ask : (s u : SourcedFlat) (t limit : ℕ) (stop : Stop)
 stops_at_refused_ask s u t limit Nodes h = absurd h
 stops_at_refused_ask s u t limit (Private v) h = absurd h
 stops_at_refused_ask s u t limit (Log v) h = h
-stops_at_refused_ask s u t limit (Order v) h = absurd h
 stops_at_refused_ask s u t limit (World v) h = h
 stops_at_refused_ask s u t limit Memory h = absurd h
 
@@ -27,7 +26,6 @@ pub may_stop_by_thread_stop : (x : Setup) (flats : List SourcedFlat) (nodes limi
 may_stop_by_thread_stop x flats nodes limit Nodes h = absurd h.stops
 may_stop_by_thread_stop x flats nodes limit (Private u) h = h
 may_stop_by_thread_stop x flats nodes limit (Log u) h = h
-may_stop_by_thread_stop x flats nodes limit (Order v) h = absurd h.stops
 may_stop_by_thread_stop x flats nodes limit (World u) h = h
 may_stop_by_thread_stop x flats nodes limit Memory h = absurd h.stops
 

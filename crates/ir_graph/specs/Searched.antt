@@ -2,7 +2,7 @@
 use Rattle.std.specs.Prelude.{◌≡◌, ℕ, ◌<◌, ◌≤◌, List, Some, length, slice_get}
 use Rattle.ir_explore.specs.declared.origin.Origin.{Origin}
 use Rattle.ir_explore.specs.Levels.{rows}
-use Rattle.ir_explore.specs.Origins.{AreRising}
+use Rattle.ir_explore.specs.Origins.{AreReached, AreRising}
 use Rattle.ir_explore.specs.Searching.{HasGone, IsBetween}
 use Rattle.ir_store.specs.Nodes.{SourcedFlat}
 use Rattle.ir_graph.specs.Setup.{Setup}
@@ -27,13 +27,15 @@ pub record AreSearched (x : Setup) (flats : List SourcedFlat) (origins : List Or
   pub within : (c : ℕ) → c < levels → WithinListed x flats origins c
   pub found : (c : ℕ) → c < levels → WithinFound x flats origins c
 
--- a search over the graph of a guest
+-- A search over the graph of a guest. It came to the first of the states as their origins say.
 pub record IsSearch (s : States) : Type 0 where
   pub graph : IsGraph s.graph.setup s.graph.flats.items (noted_by s.graph.rows.items s.graph.refused_rows.items) (length s.graph.rows.items)
   pub turns : AreTurns s.graph.setup.guest.code s.graph.flats.shared s.graph.ahead
   pub room : length s.graph.flats.items ≤ s.graph.bounds.nodes
   pub threads : length (rows s.search.opened.items) ≡ length s.graph.rows.items
   pub code : s.graph.flats.code ≡ s.graph.setup.guest.code
+  pub ways : AreReached (noted_by s.graph.rows.items s.graph.refused_rows.items) s.search.found.refusals.items s.search.found.nodes.items
+  pub few : length s.search.found.nodes.items ≤ length s.graph.flats.items
 
 -- it stands between two levels
 abbrev pub StandsBetween : States → Type 0

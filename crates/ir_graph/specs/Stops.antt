@@ -1,7 +1,7 @@
 -- Why a search over the states of a guest stops.
 use Rattle.std.specs.Prelude.{◌≡◌, ℕ, ◌≤◌, ◌+◌, ◌^◌, false, List, length}
 use Rattle.ir_explore.specs.declared.stop.Stop.{Stop}
-use Rattle.ir_explore.specs.declared.stop.Stop.TheVariants.{Nodes, Private, Log, Order, World, Memory}
+use Rattle.ir_explore.specs.declared.stop.Stop.TheVariants.{Nodes, Private, Log, World, Memory}
 use Rattle.ir_thread.specs.State.{ask_of}
 use Rattle.ir_runs.specs.declared.env_kind.EnvKind.TheVariants.{Clock}
 use Rattle.ir_thread.specs.declared.ask.Ask.{Ask}
@@ -48,12 +48,10 @@ pub record IsStop (x : Setup) (limit : ℕ) (stop : Stop) : Type 0 where
   pub reached : IsReached x at
   pub stops : StopsAt from at thread limit stop
 
--- Why a search over these states stops: there are as many as there may be, out of memory, or some thread is not followed. That no order led to a
--- node once more is no reason.
+-- Why a search over these states stops: there are as many as there may be, out of memory, or some thread is not followed.
 abbrev pub MayStop : Setup → List SourcedFlat → ℕ → ℕ → Stop → Type 0
 MayStop x states nodes limit Nodes = length states ≡ nodes
 MayStop x states nodes limit Memory = Unit {0}
-MayStop x states nodes limit (Order v) = ⊥
 MayStop x states nodes limit (Private t) = IsStop x limit (Private t)
 MayStop x states nodes limit (Log t) = IsStop x limit (Log t)
 MayStop x states nodes limit (World t) = IsStop x limit (World t)

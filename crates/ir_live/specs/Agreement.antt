@@ -14,7 +14,7 @@ pub record IsRegisterFile (core : Core) : Type 0 where
   pub count : length core.registers ≡ 32
   pub zero_register : register core 0 ≡ 0
 
--- cores that differ in registers alone that aren't live where they stand, and a7 is none of these
+-- cores that differ at most in registers that aren't live where they stand; a7 is the same in both
 pub record AgreeOnLive (code : List ℕ) (x y : Core) : Type 0 where
   pub first : IsRegisterFile x
   pub second : IsRegisterFile y
@@ -23,12 +23,12 @@ pub record AgreeOnLive (code : List ℕ) (x y : Core) : Type 0 where
   pub call : register x 17 ≡ register y 17
   pub live : (number : ℕ) → IsLiveRegister code (point_of x) number → register x number ≡ register y number
 
--- threads that differ in such registers of their cores alone
+-- threads that differ at most in such registers of their cores
 pub record DifferInDead (code : List ℕ) (x y : ThreadState) : Type 0 where
   pub rest : record x { core = y.core } ≡ y
   pub cores : AgreeOnLive code x.core y.core
 
--- such threads ask the same, and differ so again after the same result
+-- such threads ask the same, and differ at most in such registers again after the same result
 abbrev pub AgreementLasts : Type 0
 AgreementLasts = (code : List ℕ) (x y : ThreadState) → DifferInDead code x y
     → (ask_of code x ≡ ask_of code y)

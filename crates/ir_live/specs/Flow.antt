@@ -50,7 +50,7 @@ call_number value = if nat_lt value call_limit then value else 0
 
 -- ---- instructions
 
--- whether it is one of these registers
+-- whether it is the register of this number
 abbrev pub is_one : Register → ℕ → Bool
 is_one named register = named.number == register
 

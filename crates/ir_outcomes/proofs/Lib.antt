@@ -4,4 +4,7 @@ mod Showing
 mod Listed
 mod Steps
 mod Lost
+mod Onwards
+mod Arriving
+mod Along
 pub mod CallerLemmas

@@ -1,5 +1,5 @@
 -- The outcomes of a guest, listed.
-use Rattle.std.specs.Prelude.{◌≡◌, ◌↔◌, ◌⊎◌, ℕ, suc, ◌<◌, ◌≤◌, Bool, List, Option, Some, None, length, slice_get}
+use Rattle.std.specs.Prelude.{◌≡◌, ◌↔◌, ℕ, suc, ◌<◌, ◌≤◌, Bool, List, Option, Some, None, length, slice_get}
 use Rattle.ir_explore.specs.declared.origin.Origin.{Origin}
 use Rattle.ir_explore.specs.declared.search.Ended.TheVariants.{Finished, Covered, Stopped}
 use Rattle.ir_explore.specs.declared.stop.Stop.{Stop}
@@ -16,7 +16,6 @@ use Rattle.ir_graph.specs.Setup.{Setup, IsCountedOf}
 use Rattle.ir_graph.specs.Stops.{MayStop}
 use Rattle.ir_graph.specs.declared.nodes.Bounds.{Bounds}
 use Rattle.ir_graph.specs.Outcomes.{Outcome, outcome_of}
-use Rattle.ir_outcomes.specs.Hang.{IsOrder}
 use Rattle.ir_outcomes.specs.declared.explored.Explored.{Explored}
 use Rattle.ir_outcomes.specs.Shown.{outcome_by, switches_by, IsShown, IsHangShown}
 use Rattle.ir_outcomes.specs.declared.shown.Shown.{Shown}
@@ -93,7 +92,5 @@ pub record IsExplored (setup : Setup) (bounds : Bounds) (most : ℕ) (e : Explor
   -- it ended so only where all levels that are wanted are gone over, and some state needs as many switches as there may be
   pub covered : e.ended ≡ Covered → e.levels ≡ suc most
   pub left : e.ended ≡ Covered → (v : ℕ) × (s : SourcedFlat) × (slice_get e.states.graph.flats.items v ≡ Some s) × NeedsSwitches setup s most
-  -- It stopped only where the states are as many as may be, memory ends, a run leads to a thread that is not followed, or an order that was
-  -- found doesn't lead to its state once more.
-  pub stopped : (why : Stop) → e.ended ≡ Stopped why
-      → MayStop setup e.states.graph.flats.items bounds.nodes bounds.private why ⊎ IsOrder why
+  -- it stopped only where the states are as many as may be, memory ends, or a run leads to a thread that is not followed
+  pub stopped : (why : Stop) → e.ended ≡ Stopped why → MayStop setup e.states.graph.flats.items bounds.nodes bounds.private why

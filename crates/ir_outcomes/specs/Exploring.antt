@@ -1,5 +1,5 @@
 -- The outcomes of a guest while a search for them goes on, level by level.
-use Rattle.std.specs.Prelude.{◌≡◌, ◌⊎◌, ℕ, suc, ◌<◌, ◌≤◌, List, Option, Some, None, length}
+use Rattle.std.specs.Prelude.{◌≡◌, ℕ, suc, ◌<◌, ◌≤◌, List, Option, Some, None, length}
 use Rattle.ir_explore.specs.declared.origin.Origin.{Origin}
 use Rattle.ir_explore.specs.declared.stop.Stop.{Stop}
 use Rattle.ir_store.specs.Nodes.{SourcedFlat}
@@ -8,7 +8,6 @@ use Rattle.ir_graph.specs.Searched.{AreSearched, IsSearch, StandsBetween}
 use Rattle.ir_graph.specs.Setup.{Setup}
 use Rattle.ir_graph.specs.Stops.{MayStop}
 use Rattle.ir_outcomes.specs.Explored.{AreExplored, AreShown}
-use Rattle.ir_outcomes.specs.Hang.{IsOrder}
 use Rattle.ir_outcomes.specs.declared.exploring.Exploring.{Exploring}
 use Rattle.ir_outcomes.specs.declared.shown.Shown.{Shown}
 
@@ -36,7 +35,7 @@ pub record IsExploring (e : Exploring) : Type 0 where
   pub wanted : e.states.search.level.number ≤ suc e.most
   pub going : e.stop ≡ None → CanGoOn e
   pub stopped : (why : Stop) → e.stop ≡ Some why
-      → MayStop e.states.graph.setup e.states.graph.flats.items e.states.graph.bounds.nodes e.states.graph.bounds.private why ⊎ IsOrder why
+      → MayStop e.states.graph.setup e.states.graph.flats.items e.states.graph.bounds.nodes e.states.graph.bounds.private why
 
 -- more than so many levels are left to go over, or none where the search can't go on
 abbrev pub levels_left : Option Stop → ℕ → ℕ

@@ -1,5 +1,5 @@
 -- How a search came to a node, backwards.
-use Rattle.std.specs.Prelude.{◌≡◌, ◌<◌, ◌≤◌, ℕ, Bool, true, false, List, [], ◌∷◌, ◌++◌, replicate, Some, slice_get}
+use Rattle.std.specs.Prelude.{◌≡◌, ◌<◌, ℕ, Bool, true, false, List, [], ◌∷◌, ◌++◌, replicate, Some, slice_get}
 use Rattle.ir_explore.specs.declared.origin.Origin.{Origin}
 use Rattle.ir_explore.specs.declared.origin.Refusal.{Refusal}
 
@@ -13,10 +13,6 @@ IsPathTo origins v (n ∷ m ∷ path) = (slice_get origins v ≡ Some n) × IsPa
 abbrev pub FallInLevel : List Origin → Type 0
 FallInLevel origins = (v : ℕ) (n : Origin) → slice_get origins v ≡ Some n → 0 < n.level
     → (m : Origin) × (slice_get origins n.from ≡ Some m) × (m.level < n.level)
-
--- the refused try before each of these is none, or has an earlier place
-abbrev pub GoBack : List Refusal → Type 0
-GoBack table = (i : ℕ) (x : Refusal) → slice_get table i ≡ Some x → x.before ≤ i
 
 -- the ways of these refused tries, of which the last comes first: so many steps that aren't refused, and then one that is
 abbrev pub ways_of : List Refusal → List Bool

@@ -9,7 +9,6 @@ ghost use Rattle.ir_graph.specs.Searched.{IsWhole};
 ghost use Rattle.ir_graph.specs.Stops.{IsStop, MayStop};
 ghost use Rattle.ir_outcomes.specs.Explored.{AreHangs, IsExplored};
 ghost use Rattle.ir_outcomes.specs.Exploring.{IsExploring};
-ghost use Rattle.ir_outcomes.specs.Hang.{IsOrder};
 ghost use Rattle.ir_thread.specs.State.{IsAllowed};
 
 use crate::explored::Explored;
@@ -136,19 +135,21 @@ impl<'a> Exploring<'a> {
         requires over { self.now.states.search.level.until ≤ self.now.states.search.level.first }
         requires whole { IsWhole self.now.states }
         ensures hangs { IfOk result (λ found. AreHangs self.now.states.graph.setup self.now.states.graph.flats.items found.0 found.1) }
-        ensures refused { IfErr result (λ why. (why ≡ Memory) ⊎ IsOrder why) }
+        ensures refused { IfErr result (λ why. MayStop self.now.states.graph.setup self.now.states.graph.flats.items self.now.states.graph.bounds.nodes self.now.states.graph.bounds.private why) }
     {
         let marks = self.states.marks(self.alloc)?;
         let lost = count_lost(marks.as_slice());
-        let hang = find_hang(self.alloc, &self.states, marks.as_slice())?;
-        Ok((lost, hang))
+        match find_hang(self.alloc, &self.states, marks.as_slice()) {
+            Ok(hang) => Ok((lost, hang)),
+            Err(why) => Err(why),
+        }
     }
 
     // How the search ended.
     fn ending(&self) -> Ending
         requires allowed { IsAllowed self.now.states.graph.setup.profile self.now.states.graph.setup.guest }
         requires is { IsExploring self.now }
-        ensures stopped { (why : Stop) → result.ended ≡ Stopped why → MayStop self.now.states.graph.setup self.now.states.graph.flats.items self.now.states.graph.bounds.nodes self.now.states.graph.bounds.private why ⊎ IsOrder why }
+        ensures stopped { (why : Stop) → result.ended ≡ Stopped why → MayStop self.now.states.graph.setup self.now.states.graph.flats.items self.now.states.graph.bounds.nodes self.now.states.graph.bounds.private why }
         ensures finished { result.ended ≡ Finished → (self.now.stop ≡ None) × (self.now.states.search.level.until ≤ self.now.states.search.level.first) × IsWhole self.now.states }
         ensures covered { result.ended ≡ Covered → (self.now.stop ≡ None) × (self.now.states.search.level.first < self.now.states.search.level.until) }
         ensures hangs { result.ended ≡ Finished → AreHangs self.now.states.graph.setup self.now.states.graph.flats.items result.hangs result.hang }

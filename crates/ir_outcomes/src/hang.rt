@@ -1,15 +1,15 @@
 //! A state that can't be brought to an end, with turns that lead to it.
 
-ghost use Rattle.std.specs.Prelude.{◌≡◌, ◌⊎◌, ℕ, ◌<◌, ◌≤◌, false, Some, None, length, slice_get, IfOk, IfErr};
-ghost use Rattle.ir_explore.specs.declared.stop.Stop.TheVariants.{Memory, Order};
+ghost use Rattle.std.specs.Prelude.{◌≡◌, ℕ, ◌<◌, ◌≤◌, false, Some, None, length, slice_get, IfOk, IfErr};
 ghost use Rattle.ir_explore.specs.declared.origin.Origin.{Origin};
 ghost use Rattle.ir_explore.specs.Following.{IsOpen};
 ghost use Rattle.ir_explore.specs.Ways.{shut};
-ghost use Rattle.ir_graph.specs.Reached.{AllReached};
+ghost use Rattle.ir_graph.specs.Searched.{IsSearch};
+ghost use Rattle.ir_graph.specs.Stops.{MayStop};
 ghost use Rattle.ir_record.specs.Recording.{turns_of_items};
 ghost use Rattle.ir_store.specs.Nodes.{SourcedFlat};
 ghost use Rattle.ir_thread.specs.State.{IsAllowed};
-ghost use Rattle.ir_outcomes.specs.Hang.{IsFirst, IsOrder};
+ghost use Rattle.ir_outcomes.specs.Hang.{IsFirst};
 ghost use Rattle.ir_outcomes.specs.Shown.{IsShownAt};
 ghost use Rattle.ir_outcomes.specs.declared.shown.Shown.{Shown};
 
@@ -17,7 +17,7 @@ use crate::path::path_to;
 use crate::rerun::run_to_node;
 use crate::shown::Shown;
 use ir_explore::Stop;
-use ir_graph::{States, same_state};
+use ir_graph::States;
 use std::alloc::Global;
 
 /// How many of the states aren't marked.
@@ -49,22 +49,19 @@ fn first_lost(marks: &[bool]) -> Option<usize>
 // Turns that lead to a node.
 fn lead(alloc: Global, states: &States<'_>, node: usize) -> Result<Shown, Stop>
     requires allowed { IsAllowed states.now.graph.setup.profile states.now.graph.setup.guest }
-    requires reached { AllReached states.now.graph.setup states.now.graph.flats.items }
-    requires code { states.now.graph.flats.code ≡ states.now.graph.setup.guest.code }
-    requires node { node < length states.now.graph.flats.items }
+    requires search { IsSearch states.now }
     requires origin { node < length states.now.search.found.nodes.items }
-    ensures refused { IfErr result (λ stop. (stop ≡ Memory) ⊎ (stop ≡ Order node)) }
+    ensures refused { IfErr result (λ stop. MayStop states.now.graph.setup states.now.graph.flats.items states.now.graph.bounds.nodes states.now.graph.bounds.private stop) }
     ensures node { IfOk result (λ shown. shown.node ≡ node) }
     ensures level { IfOk result (λ shown. (n : Origin) → slice_get states.now.search.found.nodes.items node ≡ Some n → shown.level ≡ n.level) }
     ensures shown { IfOk result (λ shown. (s : SourcedFlat) → slice_get states.now.graph.flats.items node ≡ Some s → IsShownAt states.now.graph.setup s shown.level (turns_of_items shown.turns.items)) }
 {
     let origins = states.search.found.nodes.as_slice();
     let path = path_to(alloc, origins, node)?;
-    let (state, turns) = run_to_node(alloc, states, path.as_slice(), node)?;
-    let kept = states.graph.flats.get(node)?;
-    if !same_state(alloc, states.graph.flats.basis(), &state, &kept)? {
-        return Err(Stop::Order(node));
-    }
+    let (_, turns) = match run_to_node(alloc, states, path.as_slice(), node) {
+        Ok(run) => run,
+        Err(stop) => return Err(stop),
+    };
     Ok(Shown {
         node,
         level: origins[node].level as usize,
@@ -75,14 +72,12 @@ fn lead(alloc: Global, states: &States<'_>, node: usize) -> Result<Shown, Stop>
 /// The first state that isn't marked, with turns that lead to it.
 ///
 /// # Errors
-/// Out of memory. No turns were found that lead to it.
+/// Out of memory, or a thread is not followed on the way.
 pub fn find_hang(alloc: Global, states: &States<'_>, marks: &[bool]) -> Result<Option<Shown>, Stop>
     requires allowed { IsAllowed states.now.graph.setup.profile states.now.graph.setup.guest }
-    requires reached { AllReached states.now.graph.setup states.now.graph.flats.items }
-    requires code { states.now.graph.flats.code ≡ states.now.graph.setup.guest.code }
-    requires few { length states.now.search.found.nodes.items ≤ length states.now.graph.flats.items }
+    requires search { IsSearch states.now }
     requires marks { length marks.now ≤ length states.now.search.found.nodes.items }
-    ensures refused { IfErr result (λ stop. (stop ≡ Memory) ⊎ IsOrder stop) }
+    ensures refused { IfErr result (λ stop. MayStop states.now.graph.setup states.now.graph.flats.items states.now.graph.bounds.nodes states.now.graph.bounds.private stop) }
     ensures none { IfOk result (λ hang. hang ≡ None → (v : ℕ) → v < length marks.now → IsOpen marks.now v) }
     ensures first { IfOk result (λ hang. (x : Shown) → hang ≡ Some x → IsFirst marks.now x.node) }
     ensures level { IfOk result (λ hang. (x : Shown) → hang ≡ Some x → (n : Origin) → slice_get states.now.search.found.nodes.items x.node ≡ Some n → x.level ≡ n.level) }
@@ -91,6 +86,8 @@ pub fn find_hang(alloc: Global, states: &States<'_>, marks: &[bool]) -> Result<O
     let Some(node) = first_lost(marks) else {
         return Ok(None);
     };
-    let shown = lead(alloc, states, node)?;
-    Ok(Some(shown))
+    match lead(alloc, states, node) {
+        Ok(shown) => Ok(Some(shown)),
+        Err(stop) => Err(stop),
+    }
 }

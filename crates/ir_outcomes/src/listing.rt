@@ -1,12 +1,11 @@
 //! The outcomes among the states that were found.
 
-ghost use Rattle.std.specs.Prelude.{◌≡◌, ◌⊎◌, ℕ, suc, ◌<◌, ◌≤◌, length, IfErr, OnErr, OnOk};
-ghost use Rattle.ir_explore.specs.declared.stop.Stop.TheVariants.{Memory};
+ghost use Rattle.std.specs.Prelude.{◌≡◌, suc, ◌<◌, ◌≤◌, length, IfErr, OnErr, OnOk};
 ghost use Rattle.ir_explore.specs.Following.{Stay};
-ghost use Rattle.ir_graph.specs.Searched.{AreSearched};
+ghost use Rattle.ir_graph.specs.Searched.{AreSearched, IsSearch};
+ghost use Rattle.ir_graph.specs.Stops.{MayStop};
 ghost use Rattle.ir_outcomes.specs.Explored.{AreExplored};
 ghost use Rattle.ir_outcomes.specs.Exploring.{HasShown};
-ghost use Rattle.ir_outcomes.specs.Hang.{IsOrder};
 ghost use Rattle.ir_thread.specs.State.{IsAllowed};
 
 use crate::shown::{Shown, show};
@@ -30,19 +29,23 @@ pub struct Listing {
 // A node's outcome is shown, if all threads are done there and it is new.
 fn add_node(alloc: Global, states: &States<'_>, list: &mut Listing, node: usize) -> Result<(), Stop>
     requires allowed { IsAllowed states.now.graph.setup.profile states.now.graph.setup.guest }
+    requires search { IsSearch states.now }
     requires searched { AreSearched states.now.graph.setup states.now.graph.flats.items states.now.search.found.nodes.items states.now.search.level.number }
     requires node { node < length states.now.search.found.nodes.items }
     requires has { HasShown states.now.graph.setup states.now.graph.flats.items states.now.search.found.nodes.items node list.old.listed.items list.old.outcomes.items }
     ensures has { OnOk result (HasShown states.now.graph.setup states.now.graph.flats.items states.now.search.found.nodes.items (suc node) list.new.listed.items list.new.outcomes.items) }
     ensures same { OnErr result (list.new.outcomes.items ≡ list.old.outcomes.items) }
     ensures stay { Stay list.old.outcomes.items list.new.outcomes.items }
-    ensures refused { IfErr result (λ why. (why ≡ Memory) ⊎ IsOrder why) }
+    ensures refused { IfErr result (λ why. MayStop states.now.graph.setup states.now.graph.flats.items states.now.graph.bounds.nodes states.now.graph.bounds.private why) }
 {
     let flats = &states.graph.flats;
     if !has_new_outcome(flats, list.listed.as_slice(), node) {
         return Ok(());
     }
-    let shown = show(alloc, states, node)?;
+    let shown = match show(alloc, states, node) {
+        Ok(shown) => shown,
+        Err(stop) => return Err(stop),
+    };
     list.listed.push(node)?;
     list.outcomes.push(shown)?;
     Ok(())
@@ -51,9 +54,10 @@ fn add_node(alloc: Global, states: &States<'_>, list: &mut Listing, node: usize)
 /// The new outcomes among the states that were found since the last call are shown.
 ///
 /// # Errors
-/// Out of memory, or some turns lead to their state no second time. Then only the outcomes before are shown.
+/// Out of memory, or a thread is not followed on the way to a state. Then only the outcomes before are shown.
 pub fn show_new(alloc: Global, states: &States<'_>, list: &mut Listing) -> Result<(), Stop>
     requires allowed { IsAllowed states.now.graph.setup.profile states.now.graph.setup.guest }
+    requires search { IsSearch states.now }
     requires searched { AreSearched states.now.graph.setup states.now.graph.flats.items states.now.search.found.nodes.items states.now.search.level.number }
     requires few { list.old.seen ≤ length states.now.search.found.nodes.items }
     requires has { HasShown states.now.graph.setup states.now.graph.flats.items states.now.search.found.nodes.items list.old.seen list.old.listed.items list.old.outcomes.items }
@@ -64,7 +68,7 @@ pub fn show_new(alloc: Global, states: &States<'_>, list: &mut Listing) -> Resul
     ensures has { OnOk result (HasShown states.now.graph.setup states.now.graph.flats.items states.now.search.found.nodes.items list.new.seen list.new.listed.items list.new.outcomes.items) }
     ensures seen { OnOk result (list.new.seen ≡ length states.now.search.found.nodes.items) }
     ensures levels { OnOk result (list.new.levels ≡ states.now.search.level.number) }
-    ensures refused { IfErr result (λ why. (why ≡ Memory) ⊎ IsOrder why) }
+    ensures refused { IfErr result (λ why. MayStop states.now.graph.setup states.now.graph.flats.items states.now.graph.bounds.nodes states.now.graph.bounds.private why) }
 {
     for node in list.seen..states.search.found.nodes.len() {
         if let Err(why) = add_node(alloc, states, list, node) {

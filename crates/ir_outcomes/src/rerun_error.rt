@@ -3,6 +3,7 @@
 ghost use Rattle.std.specs.Prelude.{◌≡◌};
 ghost use Rattle.ir_outcomes.specs.declared.rerun_error.RerunError.TheVariants.{NoMemory};
 
+use ir_explore::Stop;
 use std::alloc::{AllocError, AllocFailed};
 
 /// Why a guest doesn't go by a path once more.
@@ -10,8 +11,10 @@ use std::alloc::{AllocError, AllocFailed};
 pub enum RerunError {
     /// Out of memory.
     NoMemory,
-    /// A thread doesn't go on by the path's next way, or the table of refused tries doesn't say which that is.
+    /// A thread doesn't go on by the path's next way.
     NoWay,
+    /// A thread is not followed to its next entry or try.
+    Stopped(Stop),
 }
 
 impl From<AllocError> for RerunError {

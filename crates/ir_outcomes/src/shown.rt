@@ -1,10 +1,12 @@
 //! An outcome with turns that lead to it.
 
-ghost use Rattle.std.specs.Prelude.{◌≡◌, ◌⊎◌, ℕ, ◌<◌, Some, length, slice_get, IfOk, IfErr};
-ghost use Rattle.ir_explore.specs.declared.stop.Stop.TheVariants.{Memory, Order};
+ghost use Rattle.std.specs.Prelude.{◌≡◌, ◌<◌, Some, length, slice_get, IfOk, IfErr};
 ghost use Rattle.ir_explore.specs.declared.origin.Origin.{Origin};
-ghost use Rattle.ir_graph.specs.Reached.{AllReached};
+ghost use Rattle.ir_flat.specs.Flat.{machine, tables};
+ghost use Rattle.ir_graph.specs.Searched.{IsSearch};
+ghost use Rattle.ir_graph.specs.Stops.{MayStop};
 ghost use Rattle.ir_record.specs.Recording.{turns_of_items};
+ghost use Rattle.ir_runs.specs.Run.{IsDone};
 ghost use Rattle.ir_store.specs.Nodes.{SourcedFlat};
 ghost use Rattle.ir_thread.specs.State.{IsAllowed};
 ghost use Rattle.ir_outcomes.specs.Shown.{IsShown};
@@ -12,7 +14,7 @@ ghost use Rattle.ir_outcomes.specs.Shown.{IsShown};
 use crate::path::path_to;
 use crate::rerun::run_to_node;
 use ir_explore::Stop;
-use ir_graph::{States, is_done, same_outcome};
+use ir_graph::States;
 use ir_record::Item;
 use std::alloc::Global;
 
@@ -30,24 +32,23 @@ pub struct Shown {
 /// The outcome of a node where all threads are done, with turns that lead to it.
 ///
 /// # Errors
-/// Out of memory. No turns were found that lead to it.
+/// Out of memory, or a thread is not followed on the way.
 pub fn show(alloc: Global, states: &States<'_>, node: usize) -> Result<Shown, Stop>
     requires allowed { IsAllowed states.now.graph.setup.profile states.now.graph.setup.guest }
-    requires reached { AllReached states.now.graph.setup states.now.graph.flats.items }
-    requires node { node < length states.now.graph.flats.items }
+    requires search { IsSearch states.now }
     requires origin { node < length states.now.search.found.nodes.items }
-    ensures refused { IfErr result (λ stop. (stop ≡ Memory) ⊎ (stop ≡ Order node)) }
+    requires done { (s : SourcedFlat) → slice_get states.now.graph.flats.items node ≡ Some s → IsDone (machine s.flat) (tables s.flat) }
+    ensures refused { IfErr result (λ stop. MayStop states.now.graph.setup states.now.graph.flats.items states.now.graph.bounds.nodes states.now.graph.bounds.private stop) }
     ensures node { IfOk result (λ shown. shown.node ≡ node) }
     ensures level { IfOk result (λ shown. (n : Origin) → slice_get states.now.search.found.nodes.items node ≡ Some n → shown.level ≡ n.level) }
     ensures shown { IfOk result (λ shown. (s : SourcedFlat) → slice_get states.now.graph.flats.items node ≡ Some s → IsShown states.now.graph.setup s shown.level (turns_of_items shown.turns.items)) }
 {
     let origins = states.search.found.nodes.as_slice();
     let path = path_to(alloc, origins, node)?;
-    let (state, turns) = run_to_node(alloc, states, path.as_slice(), node)?;
-    let kept = states.graph.flats.get(node)?;
-    if !is_done(&state.flat) || !same_outcome(&state.flat, &kept.flat) {
-        return Err(Stop::Order(node));
-    }
+    let (_, turns) = match run_to_node(alloc, states, path.as_slice(), node) {
+        Ok(run) => run,
+        Err(stop) => return Err(stop),
+    };
     Ok(Shown {
         node,
         level: origins[node].level as usize,

@@ -3,17 +3,12 @@ use Rattle.std.proofs.lemmas.Option.{same_Some, slice_get_within}
 use Rattle.ir_outcomes.specs.Hang.{IsFirst}
 use Rattle.ir_outcomes.proofs.hang.find_hang.Goals as goal
 
-pub lead-requires-clause-node : goal.lead-requires-clause-node
-lead-requires-clause-node c =
-    let l = slice_get_within c.args.marks.now c.in-Some.node false (c.in-Some.ensures.some c.in-Some.node refl).0 in
-    let a = c.requires.marks in let b = c.requires.few in omega (arith, l, a, b)
-
 pub lead-requires-clause-origin : goal.lead-requires-clause-origin
 lead-requires-clause-origin c =
     let l = slice_get_within c.args.marks.now c.in-Some.node false (c.in-Some.ensures.some c.in-Some.node refl).0 in
     let a = c.requires.marks in omega (arith, l, a)
 
-pub returns-clause-first : goal.returns-clause-first
-returns-clause-first c = λ x is.
-    subst (IsFirst c.args.marks.now) (sym c.in_ok-shown.ensures.node ∙ ap (λ z. z.node) (same_Some c.in_ok-shown.shown x is))
+pub returns-in-Ok-clause-first : goal.returns-in-Ok-clause-first
+returns-in-Ok-clause-first c = λ x is.
+    subst (IsFirst c.args.marks.now) (sym c.in-Ok.ensures.node ∙ ap (λ z. z.node) (same_Some c.in-Ok.shown x is))
     (c.in-Some.ensures.some c.in-Some.node refl)

@@ -1,29 +1,35 @@
-use Rattle.std.proofs.Common.{◌≡◌, ◌<◌, ◌≤◌, Some, suc, length, sym, ap, ◌∙◌, subst}
+use Rattle.std.proofs.Common.{◌≡◌, ◌<◌, ◌≤◌, Some, suc, length, sym, ap, ◌∙◌, subst, arith}
 use Rattle.std.specs.Prelude.{slice_get}
 use Rattle.std.specs.List.{slice_index_or}
 use Rattle.std.proofs.lemmas.Option.{same_Some, slice_get-get_or}
 use Rattle.ir_explore.specs.declared.origin.Origin.{Origin}
 use Rattle.ir_explore.specs.Origins.{first_origin}
-use Rattle.ir_graph.specs.Nodes.{LookAlike}
 use Rattle.ir_graph.proofs.CallerLemmas.{like_symmetric, like_transitive}
-use Rattle.ir_record.specs.Recording.{turns_of_items}
+use Rattle.ir_graph.specs.Notes.{noted_by}
 use Rattle.ir_graph.specs.Setup.{start_of}
+use Rattle.ir_record.specs.Recording.{turns_of_items}
+use Rattle.ir_outcomes.specs.Path.{FallInLevel, IsPathTo}
+use Rattle.ir_outcomes.proofs.Along.{origins_fall_in_level}
 use Rattle.ir_outcomes.proofs.Lost.{shown_at_level_if_again_by_short_enough_path}
 use Rattle.ir_outcomes.proofs.hang.lead.Goals as goal
 
-pub same_state-requires-clause-like : goal.same_state-requires-clause-like
-same_state-requires-clause-like c =
-    let s = c.in_ok-kept.kept in
-    let u = c.in_ok-state.state in
-    let first = (start_of c.args.states.now.graph.setup).flat in
-    like_transitive u.flat first s.flat (like_symmetric first u.flat c.in_ok-state.ensures.again.again.like)
-    (c.requires.reached c.args.node s c.in_ok-kept.ensures.found).like
+pub path_to-requires-clause-within : goal.path_to-requires-clause-within
+path_to-requires-clause-within c = subst (λ z. c.args.node < length z) (sym c.as_slice-origins.ensures.value) c.requires.origin
 
-pub same_state-requires-clause-code : goal.same_state-requires-clause-code
-same_state-requires-clause-code c = c.in_ok-state.ensures.again.again.like.code ∙ sym c.requires.code ∙ sym c.basis.ensures
+pub path_to-requires-clause-falls : goal.path_to-requires-clause-falls
+path_to-requires-clause-falls c =
+    let graph = c.args.states.now.graph in
+    let found = c.args.states.now.search.found in
+    subst FallInLevel (sym c.as_slice-origins.ensures.value)
+    (origins_fall_in_level (noted_by graph.rows.items graph.refused_rows.items) found.refusals.items found.nodes.items c.requires.search.ways)
 
-pub same_state-requires-clause-sources : goal.same_state-requires-clause-sources
-same_state-requires-clause-sources c = c.in_ok-state.ensures.again.again.each
+pub run_to_node-requires-clause-node : goal.run_to_node-requires-clause-node
+run_to_node-requires-clause-node c = let a = c.requires.origin in let b = c.requires.search.few in omega (arith, a, b)
+
+pub run_to_node-requires-clause-path : goal.run_to_node-requires-clause-path
+run_to_node-requires-clause-path c =
+    subst (IsPathTo c.args.states.now.search.found.nodes.items c.args.node) (sym c.as_slice.ensures.value)
+    (subst (λ z. IsPathTo z c.args.node c.in_ok-path.path.items) c.as_slice-origins.ensures.value c.in_ok-path.ensures.path)
 
 pub returns-clause-level : goal.returns-clause-level
 returns-clause-level c = λ n is.
@@ -35,18 +41,16 @@ returns-clause-level c = λ n is.
 
 pub returns-clause-shown : goal.returns-clause-shown
 returns-clause-shown c = λ s here.
-    let kept = c.in_ok-kept.kept in
-    let u = c.in_ok-state.state in
-    let at : slice_get c.args.states.now.graph.flats.items c.args.node ≡ Some kept = c.in_ok-kept.ensures.found in
-    let first = (start_of c.args.states.now.graph.setup).flat in
+    let setup = c.args.states.now.graph.setup in
+    let u = c.in-Ok.run'.0 in
+    let again = c.in-Ok.ensures.again in
+    let first = (start_of setup).flat in
     let origins = c.as_slice-origins.result.now in
     let wide : c.args.node < length origins = subst (λ z. c.args.node < length z) (sym c.as_slice-origins.ensures.value) c.requires.origin in
     let n : Origin = slice_index_or origins c.args.node first_origin in
-    shown_at_level_if_again_by_short_enough_path c.args.states.now.graph.setup (turns_of_items c.in_ok-state.turns.items) c.args.states.now.search.found.refusals.items
-    c.as_slice.result.now n.level s u
-    c.in_ok-state.ensures.again
+    shown_at_level_if_again_by_short_enough_path setup (turns_of_items c.in-Ok.run'.1.items) c.args.states.now.search.found.refusals.items c.as_slice.result.now
+    n.level s u again
     (subst (λ z. length z ≤ suc n.level) (sym c.as_slice.ensures.value)
     (c.in_ok-path.ensures.few n (slice_get-get_or origins c.args.node first_origin wide)))
-    (like_transitive u.flat first s.flat (like_symmetric first u.flat c.in_ok-state.ensures.again.again.like)
-    (c.requires.reached c.args.node s here).like)
-    (subst (LookAlike u) (same_Some kept s (sym at ∙ here)) (c.in_ok-same_state.ensures c.if-not-branch.false))
+    (like_transitive u.flat first s.flat (like_symmetric first u.flat again.again.like) (c.requires.search.graph.reached c.args.node s here).like)
+    (c.in-Ok.ensures.alike s here)

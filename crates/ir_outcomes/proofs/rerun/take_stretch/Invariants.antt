@@ -1,8 +1,9 @@
-use Rattle.std.proofs.Common.{◌<◌, length}
+use Rattle.std.proofs.Common.{◌<◌, length, replicate}
 use Rattle.ir_flat.specs.Flat.{thread_of}
 use Rattle.ir_graph.specs.Plain.{Rests}
 use Rattle.ir_graph.specs.Turn.{GoesAlone}
 use Rattle.ir_thread.specs.State.{ask_of}
+use Rattle.ir_outcomes.specs.Again.{ArrivesBy}
 use Rattle.ir_outcomes.proofs.rerun.take_stretch.Given as goal
 
 abbrev pub invariant-loop : goal.invariant-loop
@@ -11,4 +12,5 @@ invariant-loop l = record {
   rests : Rests (ask_of l.state.flat.code (thread_of l.state.flat l.stretch.thread));
   thread : l.stretch.thread < length l.state.flat.threads;
   source : l.stretch.thread < length l.state.sources;
+  arrives : ArrivesBy l.stretch.thread (replicate l.counter l.stretch.refused) l.fn.state l.state;
 }

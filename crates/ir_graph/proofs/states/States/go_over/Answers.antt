@@ -17,6 +17,8 @@ returns-clause-is g c =
       room = c.go_over.ensures.room;
       threads = c.go_over.ensures.threads ∙ c.requires.is.threads ∙ c.requires.is.graph.number ∙ ap (λ z. length z.guest.entries) (sym setup)
           ∙ sym c.go_over.ensures.sound.0.number;
+      ways = c.go_over.ensures.has.reached;
+      few = c.go_over.ensures.has.few;
     }
 
 pub returns-clause-setup : goal.returns-clause-setup

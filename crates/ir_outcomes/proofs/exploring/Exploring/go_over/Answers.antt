@@ -1,13 +1,11 @@
-use Rattle.std.proofs.Common.{◌≡◌, ◌≤◌, ◌⊎◌, suc, inl, inr, sym, subst, arith}
+use Rattle.std.proofs.Common.{◌≤◌, suc, inl, inr, sym, subst, arith}
 use Rattle.ir_lemmas.proofs.CallerLemmas.{on_ok_of_implied}
 use Rattle.ir_explore.specs.declared.origin.Level.{Level}
-use Rattle.ir_explore.specs.declared.stop.Stop.TheVariants.{Memory}
 use Rattle.ir_graph.specs.Searched.{AreSearched}
 use Rattle.ir_graph.specs.Setup.{Setup}
 use Rattle.ir_graph.specs.Stops.{MayStop}
 use Rattle.ir_thread.specs.State.{IsAllowed}
 use Rattle.ir_outcomes.specs.Exploring.{HasShown}
-use Rattle.ir_outcomes.specs.Hang.{IsOrder}
 use Rattle.ir_outcomes.proofs.Listed.{shown_among}
 use Rattle.ir_outcomes.proofs.Steps.{ok_fact_if_no_error, error_fact_of_known_error, property_carries_from_old_to_new_if_error_keeps_old}
 use Rattle.ir_outcomes.proofs.exploring.Exploring.go_over.Goals as goal
@@ -63,11 +61,8 @@ returns-clause-is g c =
             levels = ok_fact_if_no_error shown.result n.0 shown.ensures.levels;
           };
       stopped = λ why is. elim (c.first_stop-self.ensures.some why is) [
-        | inl e ↦ elim (error_fact_of_known_error (λ w. (w ≡ Memory) ⊎ IsOrder w) shown.result why e shown.ensures.refused) [
-          | inl m ↦ inl (subst may (sym m) tt)
-          | inr o ↦ inr o
-        ]
-        | inr e ↦ inl (error_fact_of_known_error may searched.result why e searched.ensures.stopped)
+        | inl e ↦ error_fact_of_known_error may shown.result why e shown.ensures.refused
+        | inr e ↦ error_fact_of_known_error may searched.result why e searched.ensures.stopped
       ];
     }
 
