@@ -14,7 +14,7 @@ use Rattle.ir_graph.specs.Nodes.{AllRest}
 use Rattle.ir_graph.specs.Plain.{GoesPlain}
 use Rattle.ir_graph.specs.Setup.{Setup, start_of}
 use Rattle.ir_graph.proofs.CallerLemmas.{plain_start_is_reached}
-use Rattle.ir_outcomes.specs.Again.{AlongPath, ArrivesBy, FailsBy, HaveWays, MayFail, StandsAt}
+use Rattle.ir_outcomes.specs.Along.{AlongPath, ArrivesBy, FailsBy, HaveWays, MayFail, StandsAt}
 use Rattle.ir_outcomes.specs.Path.{FallInLevel, IsPathTo, ways_of}
 use Rattle.ir_outcomes.specs.declared.rerun_error.RerunError.{RerunError}
 use Rattle.ir_outcomes.proofs.Onwards.{rests_alike_at_first_node}

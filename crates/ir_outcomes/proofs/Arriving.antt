@@ -20,7 +20,7 @@ use Rattle.ir_graph.specs.Plain.{full_by, full_of, sources_by, GoesPlain, Others
 use Rattle.ir_graph.specs.Setup.{Setup, start_of}
 use Rattle.ir_graph.specs.Stops.{IsStop, StopsAt}
 use Rattle.ir_graph.proofs.CallerLemmas.{TakesStep, all_rest_after_turn, every_number_rests_if_all_rest, flat_after_plain_steps_is_like_flat_before, is_stop_if_stops_after_entry_from_reached_state, like_transitive, no_seen_refusal_unless_try, no_seen_step_if_no_step, rest_ask_is_not_own, seen_state, step_of_reached_is_reached}
-use Rattle.ir_outcomes.specs.Again.{StandsAt, ArrivesBy, FailsBy}
+use Rattle.ir_outcomes.specs.Along.{StandsAt, ArrivesBy, FailsBy}
 use Rattle.ir_outcomes.specs.declared.rerun_error.RerunError.{RerunError}
 use Rattle.ir_outcomes.specs.declared.rerun_error.RerunError.TheVariants.{NoMemory, NoWay, Stopped}
 use Rattle.ir_outcomes.proofs.Onwards.{goes_where_alike_leads, has_step_if_alike_has}

@@ -1,5 +1,6 @@
 pub mod Path
 pub mod Again
+pub mod Along
 pub mod Shown
 pub mod Explored
 pub mod Hang

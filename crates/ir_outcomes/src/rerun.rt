@@ -14,7 +14,8 @@ ghost use Rattle.ir_graph.specs.Turn.{GoesAlone};
 ghost use Rattle.ir_record.specs.Recording.{turns_of_items};
 ghost use Rattle.ir_store.specs.Nodes.{SourcedFlat};
 ghost use Rattle.ir_thread.specs.State.{IsAllowed, ask_of};
-ghost use Rattle.ir_outcomes.specs.Again.{AlongPath, ArrivesBy, FailsBy, HaveWays, IsAgain, IsAgainBy, MayFail, StandsAt, ways_by};
+ghost use Rattle.ir_outcomes.specs.Again.{IsAgain, IsAgainBy, ways_by};
+ghost use Rattle.ir_outcomes.specs.Along.{AlongPath, ArrivesBy, FailsBy, HaveWays, MayFail, StandsAt};
 ghost use Rattle.ir_outcomes.specs.Path.{IsPathTo};
 ghost use Rattle.ir_outcomes.specs.declared.rerun_error.RerunError.TheVariants.{NoMemory, Stopped};
 

@@ -1,7 +1,8 @@
 use Rattle.std.proofs.Common.{[], ℕ}
 use Rattle.ir_record.specs.Recording.{turns_of_items}
 use Rattle.ir_graph.specs.Setup.{Setup}
-use Rattle.ir_outcomes.specs.Again.{AlongPath, IsAgain, IsAgainBy}
+use Rattle.ir_outcomes.specs.Again.{IsAgain, IsAgainBy}
+use Rattle.ir_outcomes.specs.Along.{AlongPath}
 use Rattle.ir_outcomes.proofs.Along.{StandsBy}
 use Rattle.ir_outcomes.proofs.Paths.{last_turns}
 use Rattle.ir_outcomes.proofs.rerun.add_path.Given as goal

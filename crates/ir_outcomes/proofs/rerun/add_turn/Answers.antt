@@ -1,7 +1,8 @@
 use Rattle.std.proofs.Common.{◌≡◌, ◌<◌, ◌+◌, ◌-◌, ◌++◌, [], ◌∷◌, true, false, length, get_or, replicate, refl, sym, ap, ◌∙◌, subst, arith, append_assoc}
 use Rattle.ir_explore.specs.declared.origin.Refusal.{Refusal}
 use Rattle.ir_record.specs.Recording.{turns_of_items}
-use Rattle.ir_outcomes.specs.Again.{ArrivesBy, FailsBy, IsAgain, ways_by}
+use Rattle.ir_outcomes.specs.Again.{IsAgain, ways_by}
+use Rattle.ir_outcomes.specs.Along.{ArrivesBy, FailsBy}
 use Rattle.ir_outcomes.specs.Path.{ways_of}
 use Rattle.ir_outcomes.proofs.Again.{is_again_with_empty_ways_appended, is_again_with_ways_joined, is_again_with_ways_of_turn_joined}
 use Rattle.ir_outcomes.proofs.Along.{last_ways_come_first, ways_of_turn_are_one}

@@ -1,7 +1,8 @@
 use Rattle.std.proofs.Common.{List, ℕ, Bool, ◌++◌}
 use Rattle.ir_record.specs.Recording.{turns_of_items}
 use Rattle.ir_graph.specs.Setup.{Setup}
-use Rattle.ir_outcomes.specs.Again.{ArrivesBy, IsAgain, ways_by}
+use Rattle.ir_outcomes.specs.Again.{IsAgain, ways_by}
+use Rattle.ir_outcomes.specs.Along.{ArrivesBy}
 use Rattle.ir_outcomes.proofs.Paths.{last_ways}
 use Rattle.ir_outcomes.proofs.rerun.add_turn.Given as goal
 

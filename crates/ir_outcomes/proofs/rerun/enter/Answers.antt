@@ -5,7 +5,7 @@ use Rattle.ir_store.specs.Nodes.{SourcedFlat}
 use Rattle.ir_graph.specs.Plain.{MayGo, Rests, sourced_flat}
 use Rattle.ir_graph.specs.Turn.{GoesAlone}
 use Rattle.ir_graph.proofs.CallerLemmas.{TakesStep, goes_alone_append, goes_alone_by_entry, takes_step_at_rest_if_tables_step}
-use Rattle.ir_outcomes.specs.Again.{StandsAt}
+use Rattle.ir_outcomes.specs.Along.{StandsAt}
 use Rattle.ir_outcomes.proofs.Arriving.{step_is_there, stands_after_turn, stop_after_turn, way_is_there}
 use Rattle.ir_thread.specs.State.{ask_of}
 use Rattle.ir_outcomes.proofs.rerun.enter.Goals as goal

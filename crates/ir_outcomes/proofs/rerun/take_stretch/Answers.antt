@@ -1,7 +1,7 @@
 use Rattle.std.proofs.Common.{◌≡◌, ◌+◌, ◌-◌, ◌∷◌, ◌++◌, [], replicate, sym, subst, arith}
 use Rattle.ir_graph.specs.Turn.{GoesAlone}
 use Rattle.ir_graph.proofs.CallerLemmas.{goes_alone_append}
-use Rattle.ir_outcomes.specs.Again.{ArrivesBy, FailsBy}
+use Rattle.ir_outcomes.specs.Along.{ArrivesBy, FailsBy}
 use Rattle.ir_outcomes.proofs.Arriving.{arrives_append, arrives_by_plain_steps, fails_after, fails_append, fails_at_rest, replicate_apart, replicate_one_more}
 use Rattle.ir_outcomes.proofs.rerun.take_stretch.Goals as goal
 

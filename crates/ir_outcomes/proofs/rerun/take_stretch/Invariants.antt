@@ -3,7 +3,7 @@ use Rattle.ir_flat.specs.Flat.{thread_of}
 use Rattle.ir_graph.specs.Plain.{Rests}
 use Rattle.ir_graph.specs.Turn.{GoesAlone}
 use Rattle.ir_thread.specs.State.{ask_of}
-use Rattle.ir_outcomes.specs.Again.{ArrivesBy}
+use Rattle.ir_outcomes.specs.Along.{ArrivesBy}
 use Rattle.ir_outcomes.proofs.rerun.take_stretch.Given as goal
 
 abbrev pub invariant-loop : goal.invariant-loop
