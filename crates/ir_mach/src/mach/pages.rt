@@ -1,6 +1,6 @@
 //! A machine taken apart into registers and pages of private memory, and built from them.
 
-ghost use Rattle.std.specs.Prelude.{◌≡◌, ◌<◌, length, flat_map, map, IfOk};
+ghost use Rattle.std.specs.Prelude.{◌≡◌, ◌<◌, length, flat_map, map, true, false, IfOk};
 ghost use Rattle.ir_mach.specs.Core.{memory_size};
 ghost use Rattle.ir_mach.specs.Pages.{ArePages, core_of, memory_pages, page_of, page_size, register_file};
 
@@ -48,6 +48,14 @@ impl Mach {
             pc: self.pc,
             registers,
         }
+    }
+
+    /// Whether the pc and the registers are these.
+    pub fn has_registers(&self, regs: &Regs) -> bool
+        ensures same { result ≡ true → register_file self.now ≡ regs.now }
+        ensures other { result ≡ false → register_file self.now ≡ regs.now → ⊥ }
+    {
+        self.pc == regs.pc && self.registers[..32] == regs.registers[..32]
     }
 
     /// Page i of private memory: 4,096 bytes.

@@ -1,6 +1,6 @@
 //! A thread taken apart into a frame and pages, and built from them.
 
-ghost use Rattle.std.specs.Prelude.{◌≡◌, ◌<◌, length, map, IfOk};
+ghost use Rattle.std.specs.Prelude.{◌≡◌, ◌<◌, length, map, true, false, IfOk};
 ghost use Rattle.ir_mach.specs.Core.{memory_size};
 ghost use Rattle.ir_mach.specs.Pages.{ArePages, memory_pages, page_of, page_size};
 ghost use Rattle.ir_thread.specs.Frames.{frame_of, thread_of};
@@ -10,7 +10,24 @@ use crate::holding::roomy;
 use crate::limits::MOST_OUTPUT;
 use crate::thread::Thread;
 use ir_mach::Mach;
+use ir_runs::Access;
 use std::alloc::{AllocError, Global};
+
+// Whether the same is held.
+fn same_held(first: &[Option<Access>], second: &[Option<Access>]) -> bool
+    ensures same { result ≡ true → first.now ≡ second.now }
+    ensures other { result ≡ false → first.now ≡ second.now → ⊥ }
+{
+    if first.len() != second.len() {
+        return false;
+    }
+    for o in 0..first.len() {
+        if first[o] != second[o] {
+            return false;
+        }
+    }
+    true
+}
 
 impl Thread {
     /// All of the thread but its private memory.
@@ -35,6 +52,34 @@ impl Thread {
             output: Vec::from_slice(alloc, self.output.as_slice())?,
             ended: self.ended,
         })
+    }
+
+    // Whether the numbers of the thread are those of a frame.
+    fn has_numbers(&self, frame: &Frame) -> bool
+        ensures number { result ≡ true → self.now.number ≡ frame.now.number }
+        ensures budget { result ≡ true → self.now.budget ≡ frame.now.budget }
+        ensures steps { result ≡ true → self.now.steps ≡ frame.now.steps }
+        ensures events { result ≡ true → self.now.events ≡ frame.now.events }
+        ensures other { result ≡ false → frame_of self.now ≡ frame.now → ⊥ }
+    {
+        self.number == frame.number
+            && self.budget == frame.budget
+            && self.steps == frame.steps
+            && self.events == frame.events
+    }
+
+    /// Whether all of the thread but its private memory is this.
+    pub fn has_frame(&self, frame: &Frame) -> bool
+        ensures same { result ≡ true → frame_of self.now ≡ frame.now }
+        ensures other { result ≡ false → frame_of self.now ≡ frame.now → ⊥ }
+    {
+        self.has_numbers(frame)
+            && self.profile == frame.profile
+            && self.form == frame.form
+            && self.ended == frame.ended
+            && same_held(self.held.as_slice(), frame.held.as_slice())
+            && self.output.as_slice() == frame.output.as_slice()
+            && self.mach.has_registers(&frame.regs)
     }
 
     /// Page i of private memory: 4,096 bytes.
