@@ -1,3 +1,4 @@
+mod Given
 mod InParts
 mod Putting
 mod ReadFiles

@@ -1,5 +1,5 @@
 -- Texts that are shown, and lines that are written in parts.
-use Rattle.std.proofs.Common.{◌≡◌, refl, ◌==◌, ◌&&◌, if◌then◌else◌, Bool, true, false, ℕ, List, [], ◌∷◌, ◌++◌, sym, ap, ◌∙◌, subst, append_assoc}
+use Rattle.std.proofs.Common.{◌≡◌, refl, ◌==◌, ◌&&◌, if◌then◌else◌, true, false, ℕ, List, [], ◌∷◌, ◌++◌, sym, ap, ◌∙◌, subst, append_assoc}
 use Rattle.std.specs.Prelude.{Option, not, nat_lt}
 use Rattle.std.specs.List.{list_all}
 use Rattle.std.specs.Io.KnownBytes.{Appends}

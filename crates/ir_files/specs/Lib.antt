@@ -1,3 +1,4 @@
+pub mod Given
 pub mod Outputs
 pub mod Places
 pub mod Shown

@@ -1,6 +1,7 @@
 -- What takes the outputs of a recording, a thread's at a time.
-use Rattle.std.specs.Prelude.{◌≡◌, ◌<◌, ℕ, Bool, true, List, ◌++◌, length, take, codes, decimal, ⊤, Option, None, Some}
+use Rattle.std.specs.Prelude.{◌≡◌, ◌<◌, ℕ, Bool, true, false, List, [], ◌∷◌, ◌++◌, length, map, take, codes, decimal, ⊤, Option, None, Some}
 use Rattle.std.specs.List.{enumerate_from}
+use Rattle.ir_files.specs.Given.{KnownFile, IsAt, known_bytes}
 
 -- the number of a thread, and what it printed
 abbrev pub Printed : Type 0
@@ -19,6 +20,20 @@ abbrev pub Gains : Option (List Printed) → Option (List Printed) → List Prin
 Gains None new more = ⊤
 Gains (Some xs) None more = ⊥
 Gains (Some xs) (Some ys) more = ys ≡ xs ++ more
+
+-- an output: the number of its thread, and its file, with all that it was given
+abbrev pub printed_in : ℕ × KnownFile → Printed
+printed_in output = (output.0, known_bytes output.1.bytes)
+
+-- the outputs that were put in files, if it is known what these were given; without paths none is known
+abbrev pub outputs_given : {Path File : Type 0} → Bool → (File → ℕ × KnownFile) → Option Path → List File → Option (List Printed)
+outputs_given knows known None files = None
+outputs_given false known (Some paths) files = None
+outputs_given true known (Some paths) files = Some (map (λ file. printed_in (known file)) files)
+
+-- one file more than before, of this thread and at this path
+abbrev pub HasLast : {File : Type 0} → (File → ℕ × KnownFile) → List File → List File → ℕ → List ℕ → Type 0
+HasLast {File} known old new thread path = (file : File) × (new ≡ old ++ file ∷ []) × ((known file).0 ≡ thread) × IsAt (known file).1 path
 
 -- the outputs that were taken whole before and after, and whether one of them was not
 pub record OutputWriter : Type 0 where

@@ -1,13 +1,13 @@
 //! The files that the arguments name.
 
-ghost use Rattle.std.specs.Prelude.{◌≡◌, ◌<◌, ◌≤◌, ℕ, [], length, false, true, IfOk, IfSome, Ok, Err, None};
+ghost use Rattle.std.specs.Prelude.{◌≡◌, ◌<◌, ◌≤◌, ℕ, [], length, take, IfOk, OnOk, OnErr, IfSome, Ok, Err};
+ghost use Rattle.std.specs.Io.KnownBytes.{Keeps, Appends};
 ghost use Rattle.ir_files.specs.declared.files.FileErr.TheVariants.{NoMem, TooLong};
 
 use crate::folder::Folder;
 use crate::reason::reason;
-use ir_stream::{DeviceErr, Sink};
 use std::alloc::{AllocError, Global};
-use std::io::{ErrorKind, Read, Write};
+use std::io::{ErrorKind, Read};
 use thiserror::Error;
 
 /// The most bytes of a source, an image or a trace.
@@ -71,12 +71,15 @@ pub fn read_file<D: Folder>(
 }
 
 // Writes a prefix of the bytes, and gives its length: at least one byte, if there are any. Tries again where a signal interrupts it.
-pub fn put<W: Write>(file: &mut W, bytes: &[u8]) -> Result<usize, ErrorKind>
+pub fn put<D: Folder>(folder: &D, file: &mut D::Open, bytes: &[u8]) -> Result<usize, ErrorKind>
     ensures count { IfOk result (λ n. n ≤ length bytes.now) }
     ensures some { result ≡ Ok 0 → bytes.now ≡ [] }
+    ensures path { (D.known file.new).path ≡ (D.known file.old).path }
+    ensures bytes { IfOk result (λ n. Appends (D.known file.old).bytes (D.known file.new).bytes (take n bytes.now)) }
+    ensures kept { OnErr result (Keeps (D.known file.old).bytes (D.known file.new).bytes) }
 {
     for _ in 0..u64::MAX {
-        match file.write(bytes) {
+        match folder.write(file, bytes) {
             Ok(n) if n > 0 || bytes.is_empty() => return Ok(n),
             Ok(_) => return Err(ErrorKind::WriteZero),
             Err(error) => {
@@ -89,70 +92,15 @@ pub fn put<W: Write>(file: &mut W, bytes: &[u8]) -> Result<usize, ErrorKind>
     Err(ErrorKind::Interrupted)
 }
 
-/// A file that is made, or emptied, as the first bytes are written to it.
-#[derive(Drop)]
-pub struct NewFile<'a, D: Folder> {
-    folder: &'a D,
-    path: &'a str,
-    file: Option<D::Open>,
-    failed: bool,
-    why: &'static str,
-}
-
-impl<'a, D: Folder> NewFile<'a, D> {
-    /// The file of a path, to which nothing was written yet.
-    pub fn new(folder: &'a D, path: &'a str) -> NewFile<'a, D>
-        ensures folder { result.folder.now ≡ folder.now }
-        ensures path { result.path.now ≡ path.now }
-        ensures works { result.failed ≡ false }
-    {
-        NewFile {
-            folder,
-            path,
-            file: None,
-            failed: false,
-            why: "",
-        }
+// Writes all of the bytes.
+pub fn put_all<D: Folder>(folder: &D, file: &mut D::Open, bytes: &[u8]) -> Result<(), ErrorKind>
+    ensures path { (D.known file.new).path ≡ (D.known file.old).path }
+    ensures bytes { OnOk result (Appends (D.known file.old).bytes (D.known file.new).bytes bytes.now) }
+{
+    let mut rest = bytes;
+    while !rest.is_empty() {
+        let n = put(folder, file, rest)?;
+        rest = &rest[n..];
     }
-
-    /// Why it failed, if it did.
-    pub fn why(&self) -> &'static str {
-        self.why
-    }
-
-    // It failed, for this reason.
-    fn fail(&mut self, kind: ErrorKind) -> DeviceErr
-        ensures { self.new.failed ≡ true }
-    {
-        self.failed = true;
-        self.why = reason(kind);
-        DeviceErr
-    }
-}
-
-impl<D: Folder> Sink for NewFile<'_, D> {
-    ghost written = { λ _. None };
-
-    ghost broken = { λ f. f.failed };
-
-    fn write(&mut self, bytes: &[u8]) -> Result<usize, DeviceErr> {
-        if self.file.is_none() {
-            match self.folder.create(self.path) {
-                Ok(file) => self.file = Some(file),
-                Err(error) => return Err(self.fail(error.kind())),
-            }
-        }
-        let count = match &mut self.file {
-            Some(file) => put(file, bytes),
-            None => Err(ErrorKind::NotFound),
-        };
-        match count {
-            Ok(count) => Ok(count),
-            Err(kind) => Err(self.fail(kind)),
-        }
-    }
-
-    fn failed(&self) -> bool {
-        self.failed
-    }
+    Ok(())
 }

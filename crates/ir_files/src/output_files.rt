@@ -1,15 +1,17 @@
 //! Files of what the threads of a recording print.
 
-ghost use Rattle.std.specs.Prelude.{◌≡◌, ℕ, Bool, List, ◌∷◌, [], map, OnOk, OnErr, IfOk, None, true, false};
+ghost use Rattle.std.specs.Prelude.{◌≡◌, ℕ, Bool, List, ◌∷◌, [], map, OnOk, OnErr, IfOk, IfSome, Some, true, false, slice_get, ◌++◌};
 ghost use Rattle.std.specs.declared.option.Option.{Option};
 ghost use Rattle.std.specs.List.{range_with_len};
 ghost use Rattle.std.specs.String.{string_bytes};
-ghost use Rattle.ir_files.specs.Outputs.{Printed, Gains, output_path};
+ghost use Rattle.ir_files.specs.Given.{IsAt, Has};
+ghost use Rattle.ir_files.specs.Outputs.{Printed, Gains, HasLast, output_path, outputs_given};
 
-use crate::files::NewFile;
+use crate::files::put_all;
 use crate::folder::Folder;
 use crate::places::loses;
-use ir_stream::{DeviceErr, Sink, write_all};
+use crate::reason::reason;
+use ir_stream::DeviceErr;
 use std::alloc::{AllocError, Global};
 
 /// What takes the outputs of a recording, a thread's at a time. An `Err` makes `failed` true for good.
@@ -65,6 +67,13 @@ pub fn output_paths(alloc: Global, prefix: &str, threads: usize) -> Result<Vec<S
     Ok(paths)
 }
 
+// The output of a thread, all of which was put in a file.
+#[derive(Drop)]
+struct OutputFile<D: Folder> {
+    thread: usize,
+    file: D::Closed,
+}
+
 /// The files of the threads' outputs. Each is made, or emptied, as it is put, also for a thread that printed nothing; what
 /// is there and is no file, as a device or a link, is written to as it is. If a write fails, a part of that output may be
 /// there, and the outputs before it are. Without paths outputs go nowhere.
@@ -74,6 +83,8 @@ pub struct OutputFiles<'a, D: Folder> {
     // A path for each thread, or none if no one asked for the outputs.
     paths: Option<&'a [String]>,
     trace: &'a str,
+    // The outputs so far.
+    each: Vec<OutputFile<D>>,
     failed: bool,
     name: &'a str,
     why: &'static str,
@@ -81,15 +92,23 @@ pub struct OutputFiles<'a, D: Folder> {
 
 impl<'a, D: Folder> OutputFiles<'a, D> {
     /// The files at these paths, beside a trace at this one.
-    pub fn new(folder: &'a D, paths: Option<&'a [String]>, trace: &'a str) -> OutputFiles<'a, D>
+    pub fn new(
+        alloc: Global,
+        folder: &'a D,
+        paths: Option<&'a [String]>,
+        trace: &'a str,
+    ) -> OutputFiles<'a, D>
         ensures folder { result.folder.now ≡ folder.now }
+        ensures paths { result.paths ≡ paths.entry }
         ensures trace { result.trace.now ≡ trace.now }
+        ensures none { result.each.items ≡ [] }
         ensures works { result.failed ≡ false }
     {
         OutputFiles {
             folder,
             paths,
             trace,
+            each: Vec::new(alloc),
             failed: false,
             name: "",
             why: "",
@@ -98,7 +117,10 @@ impl<'a, D: Folder> OutputFiles<'a, D> {
 
     // It failed at a path, for this reason.
     fn fail(&mut self, name: &'a str, why: &'static str) -> DeviceErr
-        ensures { self.new.failed ≡ true }
+        ensures failed { self.new.failed ≡ true }
+        ensures folder { self.new.folder ≡ self.old.folder }
+        ensures paths { self.new.paths ≡ self.old.paths }
+        ensures each { self.new.each ≡ self.old.each }
     {
         self.failed = true;
         self.name = name;
@@ -123,8 +145,23 @@ impl<'a, D: Folder> OutputFiles<'a, D> {
     }
 }
 
+// A file at a path that has these bytes, and no others, closed.
+fn written_at<D: Folder>(folder: &D, path: &str, bytes: &[u8]) -> Result<D::Closed, &'static str>
+    ensures at { IfOk result (λ file. IsAt (D.known_closed file) path.now) }
+    ensures bytes { IfOk result (λ file. Has (D.knows folder.now) (D.known_closed file) bytes.now) }
+{
+    let mut file = match folder.create(path) {
+        Ok(file) => file,
+        Err(error) => return Err(reason(error.kind())),
+    };
+    match put_all(folder, &mut file, bytes) {
+        Ok(()) => Ok(folder.close(file)),
+        Err(kind) => Err(reason(kind)),
+    }
+}
+
 impl<D: Folder> OutputSink for OutputFiles<'_, D> {
-    ghost taken = { λ _. None };
+    ghost taken = { λ f. outputs_given (D.knows f.folder.now) (λ o. (o.thread, D.known_closed o.file)) f.paths f.each.items };
 
     ghost broken = { λ f. f.failed };
 
@@ -132,7 +169,17 @@ impl<D: Folder> OutputSink for OutputFiles<'_, D> {
 
     ghost cause = { λ f. f.why.now };
 
-    fn put(&mut self, thread: usize, bytes: &[u8]) -> Result<(), DeviceErr> {
+    fn put(&mut self, thread: usize, bytes: &[u8]) -> Result<(), DeviceErr>
+        ensures taken { OnOk result (Gains (outputs_given (D.knows self.old.folder.now) (λ o. (o.thread, D.known_closed o.file)) self.old.paths self.old.each.items) (outputs_given (D.knows self.new.folder.now) (λ o. (o.thread, D.known_closed o.file)) self.new.paths self.new.each.items) ((thread, bytes.now) ∷ [])) }
+        ensures stays { OnOk result (self.new.failed ≡ self.old.failed) }
+        ensures kept { OnErr result (Gains (outputs_given (D.knows self.old.folder.now) (λ o. (o.thread, D.known_closed o.file)) self.old.paths self.old.each.items) (outputs_given (D.knows self.new.folder.now) (λ o. (o.thread, D.known_closed o.file)) self.new.paths self.new.each.items) []) }
+        ensures err { OnErr result (self.new.failed ≡ true) }
+        // Where there are paths, this is the file at the path of the thread.
+        ensures put { OnOk result (IfSome self.old.paths (λ paths. (path : List ℕ) × (slice_get (map string_bytes paths.now) thread ≡ Some path) × HasLast (λ o. (o.thread, D.known_closed o.file)) self.old.each.items self.new.each.items thread path)) }
+        // They are the same files of the same folder.
+        ensures folder { self.new.folder ≡ self.old.folder }
+        ensures paths { self.new.paths ≡ self.old.paths }
+    {
         let Some(paths) = self.paths else {
             return Ok(());
         };
@@ -143,12 +190,16 @@ impl<D: Folder> OutputSink for OutputFiles<'_, D> {
         if self.loses_another(path, &paths[..thread]) {
             return Err(self.fail(path, "it is another file of this recording"));
         }
-        let mut file = NewFile::new(self.folder, path);
-        // A write of no bytes makes the file too.
-        if file.write(&[]).is_err() || write_all(&mut file, bytes).is_err() {
-            return Err(self.fail(path, file.why()));
+        if self.each.reserve(1).is_err() {
+            return Err(self.fail(path, "memory ran out"));
         }
-        Ok(())
+        match written_at(self.folder, path, bytes) {
+            Ok(file) => {
+                self.each.push_reserved(OutputFile { thread, file });
+                Ok(())
+            }
+            Err(why) => Err(self.fail(path, why)),
+        }
     }
 
     fn name(&self) -> &str {

@@ -1,7 +1,9 @@
 //! Files that are in their place only once they are whole.
 
-ghost use Rattle.std.specs.Prelude.{◌≡◌, ℕ, List, Bool, OnOk, OnErr, IfSome, None, false, true};
-ghost use Rattle.std.specs.String.{string_bytes};
+ghost use Rattle.std.specs.Prelude.{◌≡◌, ◌≤◌, ℕ, List, Bool, [], length, take, Ok, IfOk, OnOk, OnErr, IfSome, false, true};
+ghost use Rattle.std.specs.Io.KnownBytes.{Keeps, Appends};
+ghost use Rattle.std.proofs.Props.{props};
+ghost use Rattle.ir_files.specs.Given.{IsAt, fresh, given, is_put, path_made, stands_at};
 
 use crate::files::put;
 use crate::folder::Folder;
@@ -71,17 +73,19 @@ fn path_beside(alloc: Global, place: &str, number: u32) -> Result<String, AllocE
 }
 
 // A new file beside a place, under the first of its names at which nothing is.
-fn made_beside<D: Folder>(
-    alloc: Global,
-    folder: &D,
-    place: &str,
-) -> Result<(D::Open, String), &'static str> {
+fn made_beside<D: Folder>(alloc: Global, folder: &D, place: &str) -> Result<Made<D>, &'static str>
+    ensures at { IfOk result (λ m. IsAt (D.known m.file) (path_made place.now m.beside)) }
+    ensures empty { IfOk result (λ m. (D.known m.file).bytes ≡ fresh (D.knows folder.now)) }
+{
     for number in 1..=MOST_PARTS {
         let Ok(path) = path_beside(alloc, place, number) else {
             return Err("memory ran out");
         };
         match folder.create_new(path.as_str()) {
-            Ok(file) => return Ok((file, path)),
+            Ok(file) => return Ok(Made {
+                file,
+                beside: Some(path),
+            }),
             Err(error) => {
                 if error.kind() != ErrorKind::AlreadyExists {
                     return Err(reason(error.kind()));
@@ -92,6 +96,41 @@ fn made_beside<D: Folder>(
     Err("files of all names for its parts are there")
 }
 
+// A file that was made at a place, or beside it.
+#[derive(Drop)]
+struct Made<D: Folder> {
+    file: D::Open,
+    // The path of what is written beside the place; none where it is written at its place.
+    beside: Option<String>,
+}
+
+// The file of a place, to which nothing was written yet.
+fn made_for<D: Folder>(alloc: Global, folder: &D, place: &str) -> Result<Made<D>, &'static str>
+    ensures at { IfOk result (λ m. IsAt (D.known m.file) (path_made place.now m.beside)) }
+    ensures empty { IfOk result (λ m. (D.known m.file).bytes ≡ fresh (D.knows folder.now)) }
+{
+    if !folder.is_kept(place) {
+        return made_beside(alloc, folder, place);
+    }
+    match folder.create(place) {
+        Ok(file) => Ok(Made { file, beside: None }),
+        Err(error) => Err(reason(error.kind())),
+    }
+}
+
+// Puts a file that was made beside its place there.
+fn put_there<D: Folder>(folder: &D, made: &Made<D>, place: &str) -> Result<(), ErrorKind>
+    requires at { IsAt (D.known made.now.file) (path_made place.now made.now.beside) }
+    ensures { OnOk result (stands_at (D.was_put folder.now) (D.known made.now.file) place.now ≡ true) }
+{
+    if let Some(beside) = &made.beside {
+        if let Err(error) = folder.rename(beside.as_str(), place) {
+            return Err(error.kind());
+        }
+    }
+    Ok(())
+}
+
 /// A file that is written beside its place and then put there, over what was there before. Nothing that is there already is
 /// written to, or removed: the file beside is a new one. Where a write fails, or putting it there, nothing of it is left and
 /// its place is as it was. What is there and is no file, as a device or a link, is written to as it is.
@@ -100,12 +139,13 @@ pub struct WholeFile<'a, D: Folder> {
     alloc: Global,
     folder: &'a D,
     place: &'a str,
-    file: Option<D::Open>,
-    // The path of what is written beside the place; none where it is written at its place, or not yet.
-    beside: Option<String>,
+    made: Option<Made<D>>,
     failed: bool,
     why: &'static str,
     whole: bool,
+    // It was made at its place, or beside; whole, it is at its place.
+    ghost at: { IfSome made (λ m. IsAt (D.known m.file) (path_made place.now m.beside)) } by { Prim.hlevel props },
+    ghost put: { whole ≡ true → is_put (D.was_put folder.now) (λ m. D.known m.file) made place.now ≡ true } by { Prim.hlevel props },
 }
 
 impl<'a, D: Folder> WholeFile<'a, D> {
@@ -113,6 +153,7 @@ impl<'a, D: Folder> WholeFile<'a, D> {
     pub fn new(alloc: Global, folder: &'a D, place: &'a str) -> WholeFile<'a, D>
         ensures folder { result.folder.now ≡ folder.now }
         ensures place { result.place.now ≡ place.now }
+        ensures empty { given (D.knows result.folder.now) (λ m. D.known m.file) result.made ≡ fresh (D.knows folder.now) }
         ensures works { result.failed ≡ false }
         ensures whole { result.whole ≡ false }
     {
@@ -120,57 +161,71 @@ impl<'a, D: Folder> WholeFile<'a, D> {
             alloc,
             folder,
             place,
-            file: None,
-            beside: None,
+            made: None,
             failed: false,
             why: "",
             whole: false,
         }
     }
 
-    // Before the first byte: the file is made.
-    fn make(&mut self) -> Result<(), &'static str>
-        ensures { self.new.failed ≡ self.old.failed }
-    {
-        if self.folder.is_kept(self.place) {
-            match self.folder.create(self.place) {
-                Ok(file) => self.file = Some(file),
-                Err(error) => return Err(reason(error.kind())),
-            }
-            return Ok(());
-        }
-        let (file, path) = made_beside(self.alloc, self.folder, self.place)?;
-        self.file = Some(file);
-        self.beside = Some(path);
-        Ok(())
-    }
-
     // It failed, for this reason, and what was written beside its place goes.
     fn fail(&mut self, why: &'static str) -> DeviceErr
-        ensures { self.new.failed ≡ true }
+        ensures failed { self.new.failed ≡ true }
+        ensures folder { self.new.folder ≡ self.old.folder }
+        ensures place { self.new.place ≡ self.old.place }
+        ensures made { self.new.made ≡ self.old.made }
     {
         self.failed = true;
         self.why = why;
-        if let Some(beside) = &self.beside {
+        if let Some(
+            Made {
+                beside: Some(beside),
+                ..
+            },
+        ) = &self.made
+        {
             let _ = self.folder.remove(beside.as_str());
         }
         DeviceErr
     }
+
+    // Before the first byte: the file is made.
+    fn make(&mut self) -> Result<(), DeviceErr>
+        ensures folder { self.new.folder ≡ self.old.folder }
+        ensures place { self.new.place ≡ self.old.place }
+        ensures kept { given (D.knows self.new.folder.now) (λ m. D.known m.file) self.new.made ≡ given (D.knows self.old.folder.now) (λ m. D.known m.file) self.old.made }
+        ensures stays { OnOk result (self.new.failed ≡ self.old.failed) }
+        ensures err { OnErr result (self.new.failed ≡ true) }
+    {
+        if self.made.is_none() {
+            match made_for(self.alloc, self.folder, self.place) {
+                Ok(made) => self.made = Some(made),
+                Err(why) => return Err(self.fail(why)),
+            }
+        }
+        Ok(())
+    }
 }
 
 impl<D: Folder> Sink for WholeFile<'_, D> {
-    ghost written = { λ _. None };
+    ghost written = { λ f. given (D.knows f.folder.now) (λ m. D.known m.file) f.made };
 
     ghost broken = { λ f. f.failed };
 
-    fn write(&mut self, bytes: &[u8]) -> Result<usize, DeviceErr> {
-        if self.file.is_none() {
-            if let Err(why) = self.make() {
-                return Err(self.fail(why));
-            }
-        }
-        let count = match &mut self.file {
-            Some(file) => put(file, bytes),
+    fn write(&mut self, bytes: &[u8]) -> Result<usize, DeviceErr>
+        ensures count { IfOk result (λ n. n ≤ length bytes.now) }
+        ensures some { result ≡ Ok 0 → bytes.now ≡ [] }
+        ensures bytes { IfOk result (λ n. Appends (given (D.knows self.old.folder.now) (λ m. D.known m.file) self.old.made) (given (D.knows self.new.folder.now) (λ m. D.known m.file) self.new.made) (take n bytes.now)) }
+        ensures stays { OnOk result (self.new.failed ≡ self.old.failed) }
+        ensures kept { OnErr result (Keeps (given (D.knows self.old.folder.now) (λ m. D.known m.file) self.old.made) (given (D.knows self.new.folder.now) (λ m. D.known m.file) self.new.made)) }
+        ensures err { OnErr result (self.new.failed ≡ true) }
+        // It is the file of the same place.
+        ensures folder { self.new.folder ≡ self.old.folder }
+        ensures place { self.new.place ≡ self.old.place }
+    {
+        self.make()?;
+        let count = match &mut self.made {
+            Some(made) => put(self.folder, &mut made.file, bytes),
             None => Err(ErrorKind::NotFound),
         };
         match count {
@@ -192,25 +247,26 @@ impl<D: Folder> WholeSink for WholeFile<'_, D> {
     ghost cause = { λ f. f.why.now };
 
     fn finish(&mut self) -> Result<(), DeviceErr>
+        ensures kept { given (D.knows self.new.folder.now) (λ m. D.known m.file) self.new.made ≡ given (D.knows self.old.folder.now) (λ m. D.known m.file) self.old.made }
         ensures whole { OnOk result (self.new.whole ≡ true) }
-        // What was written beside its place was put there.
-        ensures put { OnOk result (IfSome self.old.beside (λ beside. D.was_put self.old.folder.now (string_bytes beside) self.old.place.now ≡ true)) }
+        // The file that was given the bytes is at its place: it was made there, or put there.
+        ensures put { OnOk result (is_put (D.was_put self.old.folder.now) (λ m. D.known m.file) self.new.made self.old.place.now ≡ true) }
         ensures stays { OnOk result (self.new.failed ≡ self.old.failed) }
         ensures err { OnErr result (self.new.failed ≡ true) }
     {
-        // No byte was written: the file is empty, and isn't made yet.
-        if self.file.is_none() && self.beside.is_none() {
-            if let Err(why) = self.make() {
-                return Err(self.fail(why));
+        // If no byte was written, the file is empty, and isn't made yet.
+        self.make()?;
+        let put = match &self.made {
+            Some(made) => put_there(self.folder, made, self.place),
+            None => Err(ErrorKind::NotFound),
+        };
+        match put {
+            Ok(()) => {
+                self.whole = true;
+                Ok(())
             }
+            Err(kind) => Err(self.fail(reason(kind))),
         }
-        if let Some(beside) = &self.beside {
-            if let Err(error) = self.folder.rename(beside.as_str(), self.place) {
-                return Err(self.fail(reason(error.kind())));
-            }
-        }
-        self.whole = true;
-        Ok(())
     }
 
     fn name(&self) -> &str {
