@@ -91,7 +91,7 @@ pub struct OutputFiles<'a, D: Folder> {
 }
 
 impl<'a, D: Folder> OutputFiles<'a, D> {
-    /// The files at these paths, beside a trace at this one.
+    /// The files at these paths and beside a trace at this one.
     pub fn new(
         alloc: Global,
         folder: &'a D,
@@ -174,7 +174,7 @@ impl<D: Folder> OutputSink for OutputFiles<'_, D> {
         ensures stays { OnOk result (self.new.failed ≡ self.old.failed) }
         ensures kept { OnErr result (Gains (outputs_given (D.knows self.old.folder.now) (λ o. (o.thread, D.known_closed o.file)) self.old.paths self.old.each.items) (outputs_given (D.knows self.new.folder.now) (λ o. (o.thread, D.known_closed o.file)) self.new.paths self.new.each.items) []) }
         ensures err { OnErr result (self.new.failed ≡ true) }
-        // Where there are paths, this is the file at the path of the thread.
+        // This is the file at the path of the thread, if there are paths.
         ensures put { OnOk result (IfSome self.old.paths (λ paths. (path : List ℕ) × (slice_get (map string_bytes paths.now) thread ≡ Some path) × HasLast (λ o. (o.thread, D.known_closed o.file)) self.old.each.items self.new.each.items thread path)) }
         // They are the same files of the same folder.
         ensures folder { self.new.folder ≡ self.old.folder }
