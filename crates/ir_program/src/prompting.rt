@@ -26,7 +26,8 @@ pub struct Prompting<'a, S, R> {
 impl<'a, S: Source, R> Prompting<'a, S, R> {
     /// The reader, at the start of a line.
     pub fn new(reader: S, rt: &'a R, asks: bool) -> Prompting<'a, S, R>
-        ensures { S.broken result.reader ≡ S.broken reader }
+        ensures left { S.left result.reader ≡ S.left reader }
+        ensures works { S.broken result.reader ≡ S.broken reader }
     {
         Prompting {
             reader,

@@ -1,7 +1,7 @@
 //! Which writing loses what is read, by what is at the two paths; and files of the most bytes.
 
 use crate::shelf::Shelf;
-use ir_files::{FileErr, Found, loses, read_file};
+use ir_files::{FileErr, Folder, Found, loses, read_file};
 use std::test::Fail;
 
 const ONE: Found = Found::File(1, 7);
@@ -43,6 +43,24 @@ fn a_file_may_have_the_most_bytes(rt: HostRuntime) -> Result<(), Fail> {
             }
             Err(why) => assert!(rt; matches!(why, FileErr::TooLong(limit) if limit == most)),
         }
+    }
+    Ok(())
+}
+
+#[test]
+fn a_pinned_file_is_read_and_stays(rt: HostRuntime) -> Result<(), Fail> {
+    let shelf = Shelf::with_pinned(rt.alloc(), "pinned", b"abcd")?;
+    shelf.add_file("other", b"e")?;
+    let folder = &shelf;
+    assert!(rt; folder.create("pinned").is_err());
+    assert!(rt; folder.create_new("pinned").is_err());
+    assert!(rt; folder.rename("other", "pinned").is_err());
+    assert!(rt; folder.rename("pinned", "other").is_err());
+    assert!(rt; folder.remove("pinned").is_err());
+    assert!(rt; folder.found_at("pinned") != Found::Nothing);
+    for _ in 0..2 {
+        let read = read_file(rt.alloc(), &folder, "pinned", 4);
+        assert!(rt; matches!(read, Ok(bytes) if bytes.as_slice() == b"abcd"));
     }
     Ok(())
 }

@@ -39,12 +39,16 @@ pub fn record_files<'a, D: Folder>(
     trace: &'a str,
     outputs: Option<&'a [String]>,
 ) -> RecordFiles<WholeFile<'a, D>, OutputFiles<'a, D>>
+    ensures folder { result.trace.folder.now ≡ folder.now }
+    ensures place { result.trace.place.now ≡ trace.now }
+    ensures folders { result.outputs.folder.now ≡ folder.now }
+    ensures paths { result.outputs.paths ≡ outputs.entry }
     ensures writes { result.trace.failed ≡ false }
     ensures puts { result.outputs.failed ≡ false }
 {
     RecordFiles {
         trace: WholeFile::new(alloc, folder, trace),
-        outputs: OutputFiles::new(folder, outputs, trace),
+        outputs: OutputFiles::new(alloc, folder, outputs, trace),
     }
 }
 
