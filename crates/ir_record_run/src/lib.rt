@@ -15,4 +15,4 @@ pub use order::{OrderErr, bad_item, read_order};
 pub use parsed_image::ParsedImage;
 pub use plan::RecordPlan;
 pub use record_fault::RecordFault;
-pub use recording::{record_run, thread_line};
+pub use recording::{record_by_list, record_run, thread_line};

@@ -125,24 +125,6 @@ fn recorded_by_threads<R: Threads + Wait + Sync + Clock, G: Gate + Sync>(
     }
 }
 
-// The same of the image's guest by the order that the list spells, or by threads.
-fn recorded<R: Threads + Wait + Sync + Clock, G: Gate + Sync>(
-    rt: &R,
-    alloc: Global,
-    gate: &G,
-    image: &ParsedImage<'_>,
-    plan: &RecordPlan<'_>,
-) -> Result<(Trace, Vec<Vec<u8>>), RecordFault>
-    ensures recorded { IfOk result (λ r. IsRecordedOf image.now plan.now r.0 (map (λ b. b.items) r.1.items)) }
-    ensures allowed { OnOk result (Allows image.now plan.now) }
-    ensures refused { IfErr result (λ e. Refuses e image.now plan.now) }
-{
-    match plan.order {
-        Some(list) => recorded_in_order(rt, alloc, image, list, plan),
-        None => recorded_by_threads(rt, alloc, gate, image, plan),
-    }
-}
-
 fn line_by(
     alloc: Global,
     number: usize,
@@ -226,35 +208,30 @@ fn written<W: WholeSink, P: OutputSink, O: Sink>(
     Ok(())
 }
 
-// Records, writes what was recorded, and hands it back.
-fn run<
-    R: Threads + Wait + Sync + Clock + AllocGlobal,
-    G: Gate + Sync,
-    W: WholeSink,
-    P: OutputSink,
-    O: Sink,
->(
-    rt: &R,
-    gate: &G,
-    image: &ParsedImage<'_>,
-    plan: &RecordPlan<'_>,
+// Writes what was recorded, if something was, and hands it back.
+fn kept<W: WholeSink, P: OutputSink, O: Sink>(
+    alloc: Global,
+    recording: &Recording<'_, '_, '_, '_>,
+    recorded: Result<(Trace, Vec<Vec<u8>>), RecordFault>,
     files: &mut RecordFiles<W, P>,
     out: &mut O,
 ) -> Result<Trace, RecordFault>
-    ensures done { IfOk result (λ recorded. (printed : List (List ℕ)) × IsRecordedOf image.now plan.now recorded printed
+    requires recorded { IfOk recorded (λ r. IsRecordedOf recording.now.image.now recording.now.plan.now r.0 (map (λ b. b.items) r.1.items)) }
+    requires allowed { OnOk recorded (Allows recording.now.image.now recording.now.plan.now) }
+    requires refused { IfErr recorded (λ e. Refuses e recording.now.image.now recording.now.plan.now) }
+    ensures done { IfOk result (λ recorded. (printed : List (List ℕ)) × IsRecordedOf recording.now.image.now recording.now.plan.now recorded printed
         × Appends (W.written files.old.trace) (W.written files.new.trace) (encoding recorded)
         × TookEach (output_writer_of (P.taken files.old.outputs) (P.taken files.new.outputs) (P.broken files.new.outputs)) printed
         × Appends (O.written out.old) (O.written out.new) (lines_of recorded)) }
     ensures whole { OnOk result (W.whole files.new.trace ≡ true) }
-    ensures allowed { OnOk result (Allows image.now plan.now) }
-    ensures stopped { IfErr result (λ e. Stops e image.now plan.now
+    ensures allowed { OnOk result (Allows recording.now.image.now recording.now.plan.now) }
+    ensures stopped { IfErr result (λ e. Stops e recording.now.image.now recording.now.plan.now
         (writer_of (W.written files.old.trace) (W.written files.new.trace) (W.broken files.new.trace))
         (output_writer_of (P.taken files.old.outputs) (P.taken files.new.outputs) (P.broken files.new.outputs))
         (writer_of (O.written out.old) (O.written out.new) (O.broken out.new))
         ((files.new.trace ≡ files.old.trace) × (files.new.outputs ≡ files.old.outputs) × (out.new ≡ out.old)) ((files.new.outputs ≡ files.old.outputs) × (out.new ≡ out.old)) (out.new ≡ out.old)) }
 {
-    let alloc = rt.alloc();
-    let (recorded, printed) = recorded(rt, alloc, gate, image, plan)?;
+    let (recorded, printed) = recorded?;
     let bytes = write_trace(alloc, &recorded)?;
     let lines = lines(alloc, &recorded)?;
     match written(
@@ -311,6 +288,90 @@ fn tell_fault<W: WholeSink, P: OutputSink, E: Sink>(
     }
 }
 
+// Writes what was recorded, if something was, and hands it back. A fault is reported.
+fn told<W: WholeSink, P: OutputSink, O: Sink, E: Sink>(
+    alloc: Global,
+    recording: &Recording<'_, '_, '_, '_>,
+    recorded: Result<(Trace, Vec<Vec<u8>>), RecordFault>,
+    files: &mut RecordFiles<W, P>,
+    out: &mut O,
+    faults: &mut E,
+) -> Result<Trace, ExitStatus>
+    requires recorded { IfOk recorded (λ r. IsRecordedOf recording.now.image.now recording.now.plan.now r.0 (map (λ b. b.items) r.1.items)) }
+    requires allowed { OnOk recorded (Allows recording.now.image.now recording.now.plan.now) }
+    requires refused { IfErr recorded (λ e. Refuses e recording.now.image.now recording.now.plan.now) }
+    requires writes { W.broken files.old.trace ≡ false }
+    requires puts { P.broken files.old.outputs ≡ false }
+    requires prints { O.broken out.old ≡ false }
+    requires reports { E.broken faults.old ≡ false }
+    ensures done { IfOk result (λ recorded. (printed : List (List ℕ)) × IsRecordedOf recording.now.image.now recording.now.plan.now recorded printed
+        × Appends (W.written files.old.trace) (W.written files.new.trace) (encoding recorded)
+        × TookEach (output_writer_of (P.taken files.old.outputs) (P.taken files.new.outputs) (P.broken files.new.outputs)) printed
+        × Appends (O.written out.old) (O.written out.new) (lines_of recorded)) }
+    ensures whole { OnOk result (W.whole files.new.trace ≡ true) }
+    ensures allowed { OnOk result (Allows recording.now.image.now recording.now.plan.now) }
+    ensures quiet { OnOk result (faults.new ≡ faults.old) }
+    ensures stopped { IfErr result (λ status. (e : RecordFault) × (status ≡ fault_status e)
+        × IsReported e recording.now.image.now recording.now.plan.now (unwritten_of (W.called files.new.trace) (W.cause files.new.trace)) (unwritten_of (P.called files.new.outputs) (P.cause files.new.outputs))
+        (writer_of (E.written faults.old) (E.written faults.new) (E.broken faults.new)) × Stops e recording.now.image.now recording.now.plan.now
+        (writer_of (W.written files.old.trace) (W.written files.new.trace) (W.broken files.new.trace))
+        (output_writer_of (P.taken files.old.outputs) (P.taken files.new.outputs) (P.broken files.new.outputs))
+        (writer_of (O.written out.old) (O.written out.new) (O.broken out.new))
+        ((files.new.trace ≡ files.old.trace) × (files.new.outputs ≡ files.old.outputs) × (out.new ≡ out.old)) ((files.new.outputs ≡ files.old.outputs) × (out.new ≡ out.old)) (out.new ≡ out.old)) }
+{
+    match kept(alloc, recording, recorded, files, out) {
+        Ok(recorded) => Ok(recorded),
+        Err(why) => {
+            let Recording { image, plan } = *recording;
+            tell_fault(faults, &why, image, plan, &files.trace, &files.outputs);
+            Err(why.status())
+        }
+    }
+}
+
+/// Records the guest of an image in the order that the list of its plan spells, on one thread. It waits for nothing. What is written and
+/// reported is as of `record_run`.
+///
+/// # Errors
+/// The exit status, as of `record_run`.
+pub fn record_by_list<R: Clock + AllocGlobal, W: WholeSink, P: OutputSink, O: Sink, E: Sink>(
+    rt: &R,
+    recording: &Recording<'_, '_, '_, '_>,
+    list: &str,
+    files: &mut RecordFiles<W, P>,
+    out: &mut O,
+    faults: &mut E,
+) -> Result<Trace, ExitStatus>
+    requires list { recording.now.plan.now.order ≡ Some list.now }
+    requires writes { W.broken files.old.trace ≡ false }
+    requires puts { P.broken files.old.outputs ≡ false }
+    requires prints { O.broken out.old ≡ false }
+    requires reports { E.broken faults.old ≡ false }
+    // Of the run by the order the trace was written, what each of its threads printed as that
+    // thread's output, and its lines, and no fault reported.
+    ensures done { IfOk result (λ recorded. (printed : List (List ℕ)) × IsRecordedOf recording.now.image.now recording.now.plan.now recorded printed
+        × Appends (W.written files.old.trace) (W.written files.new.trace) (encoding recorded)
+        × TookEach (output_writer_of (P.taken files.old.outputs) (P.taken files.new.outputs) (P.broken files.new.outputs)) printed
+        × Appends (O.written out.old) (O.written out.new) (lines_of recorded)) }
+    ensures whole { OnOk result (W.whole files.new.trace ≡ true) }
+    // The profile allows its threads and objects.
+    ensures allowed { OnOk result (Allows recording.now.image.now recording.now.plan.now) }
+    ensures quiet { OnOk result (faults.new ≡ faults.old) }
+    // Else what stopped it, what that left, and that it is reported.
+    ensures stopped { IfErr result (λ status. (e : RecordFault) × (status ≡ fault_status e)
+        × IsReported e recording.now.image.now recording.now.plan.now (unwritten_of (W.called files.new.trace) (W.cause files.new.trace)) (unwritten_of (P.called files.new.outputs) (P.cause files.new.outputs))
+        (writer_of (E.written faults.old) (E.written faults.new) (E.broken faults.new)) × Stops e recording.now.image.now recording.now.plan.now
+        (writer_of (W.written files.old.trace) (W.written files.new.trace) (W.broken files.new.trace))
+        (output_writer_of (P.taken files.old.outputs) (P.taken files.new.outputs) (P.broken files.new.outputs))
+        (writer_of (O.written out.old) (O.written out.new) (O.broken out.new))
+        ((files.new.trace ≡ files.old.trace) × (files.new.outputs ≡ files.old.outputs) × (out.new ≡ out.old)) ((files.new.outputs ≡ files.old.outputs) × (out.new ≡ out.old)) (out.new ≡ out.old)) }
+{
+    let alloc = rt.alloc();
+    let Recording { image, plan } = *recording;
+    let recorded = recorded_in_order(rt, alloc, image, list, plan);
+    told(alloc, recording, recorded, files, out, faults)
+}
+
 /// Records the guest of an image by a plan: in the order that its list spells, on one thread; without a list on real
 /// threads. Writes the trace, then what each thread printed, an output each, and then a line `thread T end E code C steps S
 /// events N` for each thread. The budget is in steps, for each thread. RANDOM gives the words of PCG32, started for thread T
@@ -363,11 +424,12 @@ pub fn record_run<
         ((files.new.trace ≡ files.old.trace) × (files.new.outputs ≡ files.old.outputs) × (out.new ≡ out.old)) ((files.new.outputs ≡ files.old.outputs) × (out.new ≡ out.old)) (out.new ≡ out.old)) }
 {
     let Recording { image, plan } = *recording;
-    match run(rt, gate, image, plan, files, out) {
-        Ok(recorded) => Ok(recorded),
-        Err(why) => {
-            tell_fault(faults, &why, image, plan, &files.trace, &files.outputs);
-            Err(why.status())
+    match plan.order {
+        Some(list) => record_by_list(rt, recording, list, files, out, faults),
+        None => {
+            let alloc = rt.alloc();
+            let recorded = recorded_by_threads(rt, alloc, gate, image, plan);
+            told(alloc, recording, recorded, files, out, faults)
         }
     }
 }

@@ -1,4 +1,4 @@
-use Rattle.std.proofs.Common.{◌≡◌, sym, subst}
+use Rattle.std.proofs.Common.{sym, subst}
 use Rattle.ir_files.specs.Writers.{writer_of}
 use Rattle.ir_record_run.specs.Faults.{IsReported, unwritten_of}
 use Rattle.ir_record_run.specs.declared.record_fault.RecordFault.{RecordFault}
