@@ -8,7 +8,7 @@ use Rattle.ir_packet.specs.Stream.{Item, Place, Between, Inside, Summing, Digit,
 use Rattle.ir_packet.specs.Parts.{Part, Byte, Whole, CutOff, bytes_of, items_of, begun, part_at, parts_from, parts, IsPlain, IsPlainPlace, IsPart}
 
 -- what a byte after `$` leads to, by whether it is `$` or `#`
-abbrev inside_by : Bool → Bool → List ℕ → ℕ → Place
+abbrev pub inside_by : Bool → Bool → List ℕ → ℕ → Place
 inside_by t u raw b = cond t (Inside []) (cond u (Summing raw) (Inside (raw ++ b ∷ [])))
 
 bytes_of_part_and_begun_after_step_between_are_byte : (b : ℕ) (bytes : List ℕ) (t : Bool) → eqb b 36 ≡ t
@@ -97,19 +97,19 @@ between_step_is_plain_place : (t : Bool) → IsPlainPlace (cond t (Inside []) Be
 between_step_is_plain_place true = empty_is_plain
 between_step_is_plain_place false = tt
 
-step_keeps_plain_place : (p : Place) (b : ℕ) → IsPlainPlace p → IsPlainPlace (step p b)
+pub step_keeps_plain_place : (p : Place) (b : ℕ) → IsPlainPlace p → IsPlainPlace (step p b)
 step_keeps_plain_place Between b plain = between_step_is_plain_place (eqb b 36)
 step_keeps_plain_place (Inside raw) b plain = inside_step_is_plain_place raw b (eqb b 36) (eqb b 35) plain refl refl
 step_keeps_plain_place (Summing raw) b plain = plain
 step_keeps_plain_place (Digit raw a) b plain = tt
 
-abbrev is_between : Place → Bool
+abbrev pub is_between : Place → Bool
 is_between Between = true
 is_between (Inside raw) = false
 is_between (Summing raw) = false
 is_between (Digit raw a) = false
 
-place_is_not_between_if_is_between_is_false : (p : Place) → is_between p ≡ false → p ≡ Between → ⊥
+pub place_is_not_between_if_is_between_is_false : (p : Place) → is_between p ≡ false → p ≡ Between → ⊥
 place_is_not_between_if_is_between_is_false p isnt is = false≢true (sym isnt ∙ ap is_between is)
 
 abbrev AreAllParts : List Part → Type 0

@@ -7,3 +7,4 @@ mod Pieces
 mod Written
 pub mod CallerLemmas
 mod Rows
+mod Only

@@ -60,6 +60,24 @@ IsPart (Byte b) = b ≡ dollar → ⊥
 IsPart (Whole raw a b) = IsPlain raw
 IsPart (CutOff bytes) = (p : Place) × (bytes ≡ begun p) × IsPlainPlace p × (p ≡ Between → ⊥)
 
+-- a part that begins with `$`
+abbrev pub BeginsPacket : Part → Type 0
+BeginsPacket (Byte b) = ⊥
+BeginsPacket (Whole raw a b) = ⊤
+BeginsPacket (CutOff bytes) = ⊤
+
+-- what stands behind a packet that is cut off: nothing, or the `$` that cut it off before its `#`
+abbrev pub CutsOff : List ℕ → List Part → Type 0
+CutsOff bytes [] = ⊤
+CutsOff bytes (next ∷ rest) = ((raw : List ℕ) × (bytes ≡ begun (Inside raw)) × IsPlain raw) × BeginsPacket next
+
+-- each packet that is cut off is so
+unfoldable pub AreCutOff : List Part → Type 0
+AreCutOff [] = ⊤
+AreCutOff (Byte b ∷ rest) = AreCutOff rest
+AreCutOff (Whole raw a b ∷ rest) = AreCutOff rest
+AreCutOff (CutOff bytes ∷ rest) = CutsOff bytes rest × AreCutOff rest
+
 -- the parts of the bytes, from a place on
 unfoldable pub parts_from : Place → List ℕ → List Part
 parts_from p [] = left_at p

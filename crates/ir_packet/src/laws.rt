@@ -4,7 +4,7 @@ ghost use Rattle.std.specs.Prelude.{◌≡◌, ◌≤◌, ◌++◌, ◌∷◌, �
 ghost use Rattle.std.specs.List.{AllByRecursion};
 ghost use Rattle.ir_packet.specs.Packets.{escaped, packet_of};
 ghost use Rattle.ir_packet.specs.Stream.{Place, Packet, place_after, items_from, items, most_bytes};
-ghost use Rattle.ir_packet.specs.Parts.{IsPart, bytes_of, items_of, parts};
+ghost use Rattle.ir_packet.specs.Parts.{Part, IsPart, AreCutOff, bytes_of, items_of, parts};
 ghost use Rattle.ir_packet.specs.Reading.{kept, items_read};
 
 /// What a stream holds is what its pieces hold, each read on from where the one before it ends.
@@ -17,10 +17,13 @@ pub fn reader_finds_what_the_stream_holds()
     ensures { (p : Place) (bytes : List ℕ) → items_read (kept p) bytes ≡ items_from p bytes }
 {}
 
-/// Each byte of a stream is in one of its parts, and only there.
+/// Each byte of a stream is in one of its parts, and only there. A packet is cut off by the end of the stream or by the next `$`
+/// alone; and a stream has no other such parts.
 pub fn parts_are_the_stream()
     ensures bytes { (bytes : List ℕ) → flat_map bytes_of (parts bytes) ≡ bytes }
     ensures form { (bytes : List ℕ) → AllByRecursion IsPart (parts bytes) }
+    ensures cut { (bytes : List ℕ) → AreCutOff (parts bytes) }
+    ensures only { (bytes : List ℕ) (those : List Part) → flat_map bytes_of those ≡ bytes → AllByRecursion IsPart those → AreCutOff those → those ≡ parts bytes }
 {}
 
 /// What a stream holds is what its parts hold.

@@ -1,4 +1,5 @@
 use Rattle.ir_packet.proofs.Cut.{bytes_of_parts_join_to_stream, parts_of_stream_are_parts}
+use Rattle.ir_packet.proofs.Only.{parts_of_stream_are_cut_off, such_parts_are_parts_of_stream}
 use Rattle.ir_packet.proofs.laws.parts_are_the_stream.Goals as goal
 
 pub returns-clause-bytes : goal.returns-clause-bytes
@@ -6,3 +7,9 @@ returns-clause-bytes c = bytes_of_parts_join_to_stream
 
 pub returns-clause-form : goal.returns-clause-form
 returns-clause-form c = parts_of_stream_are_parts
+
+pub returns-clause-cut : goal.returns-clause-cut
+returns-clause-cut c = parts_of_stream_are_cut_off
+
+pub returns-clause-only : goal.returns-clause-only
+returns-clause-only c = such_parts_are_parts_of_stream
