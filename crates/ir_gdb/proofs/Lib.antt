@@ -22,3 +22,10 @@ mod Moving
 mod Over
 mod Replying
 mod Restarting
+mod Finding
+mod Alone
+mod SameCuts
+mod Ways
+mod Blocked
+mod Unpassed
+mod ShownOnce

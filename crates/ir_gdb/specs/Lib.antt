@@ -13,3 +13,4 @@ pub mod Texts
 pub mod Replies
 pub mod Connection
 pub mod Session
+pub mod Laws

@@ -1,0 +1,28 @@
+//! What holds of gdb's moves. The functions do nothing: their contracts are the laws.
+
+ghost use Rattle.ir_gdb.specs.Laws.{ContinueIsSession, ContinueBackIsSession, StepIsSession, StepBackIsSession, NoHitIsPassed, NoneIsBlocked, EachHitIsShownOnce};
+
+/// A thread that moves alone ends where a session's command leads, with gdb's breakpoints set there too; no watch is set, and the
+/// thread doesn't wait.
+pub fn alone_is_session()
+    ensures continues { ContinueIsSession }
+    ensures continues_back { ContinueBackIsSession }
+    ensures steps { StepIsSession }
+    ensures steps_back { StepBackIsSession }
+{}
+
+/// A move of the threads together passes no hit of a thread: no other than the thread that stops has one up to where it comes, and
+/// that thread has none before its stop.
+pub fn no_hit_is_passed()
+    ensures { NoHitIsPassed }
+{}
+
+/// Threads whose hits are on the way don't all block each other.
+pub fn none_is_blocked()
+    ensures { NoneIsBlocked }
+{}
+
+/// `continue` repeated to the end, or `reverse-continue`, shows each hit of each thread once; no watch is set.
+pub fn each_hit_is_shown_once()
+    ensures { EachHitIsShownOnce }
+{}
