@@ -6,7 +6,7 @@ use Rattle.ir_thread.specs.State.{ask_of}
 use Rattle.ir_flat.specs.Flat.{thread_of}
 use Rattle.ir_freeze.specs.Frozen.{is_over}
 use Rattle.ir_store.specs.Nodes.{Shared, SourcedFlat, IsSourced, AreSameLooks, cell_in, with_turn}
-use Rattle.ir_store.specs.Table.{idle_beside}
+use Rattle.ir_store.specs.Table.{idle_beside, HaveNoTicks}
 use Rattle.ir_graph.specs.declared.known.Turn.{Turn}
 use Rattle.ir_graph.specs.Setup.{Setup}
 use Rattle.ir_graph.specs.Ahead.{IsTurnOf}
@@ -14,8 +14,9 @@ use Rattle.ir_graph.specs.Lone.{MayBegin, TakesTurn}
 use Rattle.ir_graph.specs.Nodes.{LookAlike, AllRest, AreNodes, Stay, LeadsFrom}
 use Rattle.ir_graph.specs.Plain.{IsLike, MayGo, result_by}
 use Rattle.ir_graph.specs.Reached.{IsReached}
+use Rattle.ir_graph.specs.Times.{LeadsTickless}
 use Rattle.ir_graph.proofs.Alike.{look_alike_by_threads_and_words}
-use Rattle.ir_graph.proofs.Found.{reached_like, reached_rests, leads_to_node_if_reached_state_looks_alike}
+use Rattle.ir_graph.proofs.Found.{reached_like, reached_rests, leads_to_node_if_reached_state_looks_alike, leads_tickless_if_reached_state_is}
 use Rattle.ir_graph.proofs.Leads.{no_seen_step_if_done}
 use Rattle.ir_graph.proofs.LoneSteps.{IsLoneTurn, lone_turn_if_takes_turn, ask_may_go_if_it_begins_turn}
 use Rattle.ir_graph.proofs.Over.{ask_of_over_thread_is_done}
@@ -67,12 +68,18 @@ module _ (states : List SourcedFlat) (shared : Shared) (s : SourcedFlat) (t : �
   both_reached x reached =
       step_of_reached_is_reached x s goes.0 after_turn t (result_by refused) reached (nodes.rest v s at t less) step goes.1.goes.goes
 
-  pub both_leads : (new : List SourcedFlat) (p : ℕ) → Stay states new → ((k : SourcedFlat) → slice_get new p ≡ Some k → LookAlike after_turn k)
-      → LeadsFrom new t refused v (Some p)
-  both_leads =
+  both_may : MayGo refused (ask_of s.flat.code (thread_of s.flat t))
+  both_may =
       let begins = subst (λ z. MayBegin z turn.object (cell_in shared.words turn.spot).fields
       (ask_of s.flat.code (slice_index_or shared.threads turn.from idle_beside).0)) is.way is.is.takes.begins in
-      let may = subst (λ z. MayGo refused (ask_of s.flat.code z.0)) is.here
+      subst (λ z. MayGo refused (ask_of s.flat.code z.0)) is.here
       (ask_may_go_if_it_begins_turn turn.object refused (cell_in shared.words turn.spot).fields
-      (ask_of s.flat.code (slice_index_or shared.threads turn.from idle_beside).0) begins) in
-      leads_to_node_if_reached_state_looks_alike states s goes.0 after_turn t refused v nodes at less may step goes.1.goes.goes
+      (ask_of s.flat.code (slice_index_or shared.threads turn.from idle_beside).0) begins)
+
+  pub both_leads : (new : List SourcedFlat) (p : ℕ) → Stay states new → ((k : SourcedFlat) → slice_get new p ≡ Some k → LookAlike after_turn k)
+      → LeadsFrom new t refused v (Some p)
+  both_leads = leads_to_node_if_reached_state_looks_alike states s goes.0 after_turn t refused v nodes at less both_may step goes.1.goes.goes
+
+  pub both_lead_tickless : (new : List SourcedFlat) (p : ℕ) → Stay states new → ((k : SourcedFlat) → slice_get new p ≡ Some k → LookAlike after_turn k)
+      → HaveNoTicks after_turn.sources → LeadsTickless new t refused v p
+  both_lead_tickless = leads_tickless_if_reached_state_is states s goes.0 after_turn t refused v nodes at less both_may step goes.1.goes.goes

@@ -9,10 +9,12 @@ use Rattle.ir_states.specs.Nodes.{LeadsTo}
 use Rattle.ir_thread.specs.State.{ask_of}
 use Rattle.ir_flat.specs.Flat.{tables, machine, thread_of}
 use Rattle.ir_store.specs.Nodes.{SourcedFlat}
+use Rattle.ir_store.specs.Table.{HaveNoTicks}
 use Rattle.ir_graph.specs.Nodes.{Alike, seen_by, answered_by, seen_of, LookAlike, AllRest, AreNodes, Stay, LeadsFrom, IsStepBy, HasStepBy}
 use Rattle.ir_graph.specs.Plain.{GoesPlain, IsLike, MayGo, OthersStay, Rests, result_by}
+use Rattle.ir_graph.specs.Times.{AlikeTickless, LeadsTickless}
 use Rattle.ir_graph.proofs.Alike.{look_alike_symmetric}
-use Rattle.ir_graph.proofs.Leads.{look_alike_reflexive, no_seen_step_if_no_step, no_seen_refusal_unless_try, way_leads_to_alike_node}
+use Rattle.ir_graph.proofs.Leads.{look_alike_reflexive, no_seen_step_if_no_step, no_seen_refusal_unless_try, way_leads_to_alike_node, way_leads_to_tickless_node}
 use Rattle.ir_graph.proofs.Plain.{TakesStep, like_reflexive, like_transitive, like_symmetric, flat_after_plain_steps_is_like_flat_before, flat_after_step_is_like_flat_before, others_stay_after_step}
 
 pub are_nodes_after_node_added : (states : List SourcedFlat) (new : SourcedFlat) → AreNodes states → length new.sources ≡ length new.flat.threads
@@ -100,6 +102,16 @@ module _ (states : List SourcedFlat) (s u w : SourcedFlat) (t r v : ℕ) (nodes 
 
   pub reached_rests : OthersStay u w t → Rests (ask_of w.flat.code (thread_of w.flat t)) → AllRest w.flat
   reached_rests = all_rest_after_turn s u w t r (nodes.rest v s at) step goes
+
+pub leads_tickless_if_reached_state_is : (states : List SourcedFlat) (s u w : SourcedFlat) (t : ℕ) (refused : Bool) (v : ℕ) → AreNodes states
+    → slice_get states v ≡ Some s → t < length s.flat.threads → MayGo refused (ask_of s.flat.code (thread_of s.flat t)) → TakesStep s u t (result_by refused)
+    → GoesPlain u w → (new : List SourcedFlat) (p : ℕ) → Stay states new → ((k : SourcedFlat) → slice_get new p ≡ Some k → LookAlike w k)
+    → HaveNoTicks w.sources → LeadsTickless new t refused v p
+leads_tickless_if_reached_state_is states s u w t refused v nodes at less may step goes new p stay alike none s' k here there =
+    subst (λ z. (e : Step) → e.0 ≡ t → IsStepBy z refused e → Can (seen_by z.flat.code) (seen_of z) e
+    → LeadsTo (seen_by z.flat.code) (answered_by z.flat.code) (AlikeTickless z.flat.code) (seen_of z) e (seen_of k))
+    (same_Some s s' (sym (stay v s at) ∙ here))
+    (way_leads_to_tickless_node s u w k t refused (nodes.rest v s at t less) may step goes (alike k there) none)
 
 pub leads_to_node_if_reached_state_looks_alike : (states : List SourcedFlat) (s u w : SourcedFlat) (t : ℕ) (refused : Bool) (v : ℕ) → AreNodes states → slice_get states v ≡ Some s
     → t < length s.flat.threads → MayGo refused (ask_of s.flat.code (thread_of s.flat t)) → TakesStep s u t (result_by refused) → GoesPlain u w

@@ -33,7 +33,7 @@ use Rattle.ir_graph.proofs.Plain.{like_reflexive}
 use Rattle.ir_graph.proofs.Reached.{plain_start_is_reached}
 
 -- a node that was there before is what it was
-old_node_is_unchanged : (flats new : List SourcedFlat) (v : ℕ) (f : SourcedFlat) → Stay flats new → v < length flats → slice_get new v ≡ Some f → slice_get flats v ≡ Some f
+pub old_node_is_unchanged : (flats new : List SourcedFlat) (v : ℕ) (f : SourcedFlat) → Stay flats new → v < length flats → slice_get new v ≡ Some f → slice_get flats v ≡ Some f
 old_node_is_unchanged flats new v f stay l is =
     let old = element_below_length_exists flats v l in
     subst (λ z. slice_get flats v ≡ Some z) (same_Some old.0 f (sym (stay v old.0 old.1) ∙ is)) old.1

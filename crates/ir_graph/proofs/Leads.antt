@@ -1,23 +1,25 @@
 -- Where a thread leads from a state at rest.
-use Rattle.std.proofs.Common.{◌≡◌, ℕ, zero, suc, ◌≤◌, Bool, true, false, [], ◌∷◌, inl, inr, refl, sym, ap, ◌∙◌, subst, length}
+use Rattle.std.proofs.Common.{◌≡◌, ℕ, zero, suc, ◌≤◌, Bool, true, false, List, [], ◌∷◌, inl, inr, refl, sym, ap, ◌∙◌, subst, length}
 use Rattle.std.proofs.lemmas.Bool.{cases_lt}
 use Rattle.ir_runs.specs.Machine as machines
 use Rattle.ir_runs.specs.Machine.{act_of, Never, Admits, target}
-use Rattle.ir_runs.specs.Run.{Step, act, Can, after, end}
+use Rattle.ir_runs.specs.Run.{State, Step, act, Can, after, end}
 use Rattle.ir_states.specs.Counting.{IsAnswered, is_own, IsAtRest, GoesAhead}
 use Rattle.ir_states.specs.Nodes.{LeadsTo}
 use Rattle.ir_states.specs.Orders.{is_refusal}
 use Rattle.ir_states.specs.Outcomes.{Begins}
 use Rattle.ir_states.specs.Sources.{answer_of}
 use Rattle.ir_states.proofs.CallerLemmas.{leads_to_by_equal_act}
-use Rattle.ir_thread.specs.State.{ask_of, shared_ask}
+use Rattle.ir_thread.specs.State.{ThreadState, ask_of, shared_ask}
 use Rattle.ir_thread.specs.declared.ask.Ask.{Ask}
 use Rattle.ir_thread.specs.declared.ask.Ask.TheVariants as ask
-use Rattle.ir_sources.specs.Sources.{given}
+use Rattle.ir_sources.specs.Sources.{Source, given}
 use Rattle.ir_seen.proofs.CallerLemmas.{seen_machine_is_view}
 use Rattle.ir_flat.specs.Flat.{Flat, tables, machine, thread_of, idle}
 use Rattle.ir_store.specs.Nodes.{SourcedFlat, source_of}
+use Rattle.ir_store.specs.Table.{HaveNoTicks}
 use Rattle.ir_graph.specs.Nodes.{seen_by, answered_by, Alike, seen_of, LookAlike, AllRest, IsStepBy, HasStepBy}
+use Rattle.ir_graph.specs.Times.{AlikeTickless}
 use Rattle.ir_graph.specs.Plain.{full_of, GoesPlain, MayGo, Rests, result_by}
 use Rattle.ir_graph.proofs.Alike.{slice_index_or_past_length_is_default}
 use Rattle.ir_graph.proofs.Full.{seen_state, end_of_live_run_seen, counts_of_live_run_seen, counts_if_seen, plain_run_seen}
@@ -138,10 +140,11 @@ no_seen_step_if_done s t done (u, r) same can =
     let real : Can (machine s.flat) (tables s.flat) (t, r) = can_step_at_rest_if_seen_step_can s t r rests here in
     subst (λ q. Admits (machine s.flat) (act_of (shared_ask q) r) ((tables s.flat).objects (target (act_of (shared_ask q) r)))) done real
 
--- A thread that rests takes a step, and runs on to what looks the same as k.
-step_leads_to_alike_node : (s u w k : SourcedFlat) (t r : ℕ) → Rests (ask_of s.flat.code (thread_of s.flat t)) → TakesStep s u t r → GoesPlain u w → LookAlike w k
-    → LeadsTo (seen_by s.flat.code) (answered_by s.flat.code) (Alike s.flat.code) (seen_of s) (t, r) (seen_of k)
-step_leads_to_alike_node s u w k t r rests step goes alike =
+-- A thread that rests takes a step, and runs on to w, which is to k as R says.
+step_leads_to_related_node : (R : State (ThreadState × Source) → State (ThreadState × Source) → Type 0) (s u w k : SourcedFlat) (t r : ℕ)
+    → Rests (ask_of s.flat.code (thread_of s.flat t)) → TakesStep s u t r → GoesPlain u w → R (seen_of w) (seen_of k)
+    → LeadsTo (seen_by s.flat.code) (answered_by s.flat.code) R (seen_of s) (t, r) (seen_of k)
+step_leads_to_related_node R s u w k t r rests step goes related =
     let run = step_at_rest_is_answered_run s u t r rests step in
     let takes = counts_of_live_run_seen s.flat.code (full_of s) ((t, r) ∷ []) run.1 run.0 in
     let one : after (seen_by s.flat.code) (seen_of s) (t, r) ≡ seen_of u =
@@ -152,21 +155,21 @@ step_leads_to_alike_node s u w k t r rests step goes alike =
     let moved : GoesAhead (seen_by s.flat.code) (answered_by s.flat.code) (seen_of u) goes.ahead =
     subst (λ z. GoesAhead (seen_by z) (answered_by z) (seen_of u) goes.ahead) step.code ahead in
     let there : end (seen_by s.flat.code) (seen_of u) goes.ahead ≡ seen_of w =
-    subst (λ z. end (seen_by z) (seen_of u) goes.ahead ≡ seen_of w) step.code ends in
-    let looks : Alike s.flat.code (seen_of w) (seen_of k) = subst (λ z. Alike z (seen_of w) (seen_of k)) (goes.code ∙ step.code) alike in record {
+    subst (λ z. end (seen_by z) (seen_of u) goes.ahead ≡ seen_of w) step.code ends in record {
       can = takes.0.0;
       ahead = goes.ahead;
       goes = subst (λ z. GoesAhead (seen_by s.flat.code) (answered_by s.flat.code) z goes.ahead) (sym one) moved;
-      alike = subst (λ z. Alike s.flat.code z (seen_of k)) (sym (ap (λ z. end (seen_by s.flat.code) z goes.ahead) one ∙ there)) looks;
+      alike = subst (λ z. R z (seen_of k)) (sym (ap (λ z. end (seen_by s.flat.code) z goes.ahead) one ∙ there)) related;
     }
 
 -- So does each step of the same way, and there is one.
-pub way_leads_to_alike_node : (s u w k : SourcedFlat) (t : ℕ) (refused : Bool) → Rests (ask_of s.flat.code (thread_of s.flat t))
-    → MayGo refused (ask_of s.flat.code (thread_of s.flat t)) → TakesStep s u t (result_by refused) → GoesPlain u w → LookAlike w k
+pub way_leads_to_related_node : (R : State (ThreadState × Source) → State (ThreadState × Source) → Type 0) (s u w k : SourcedFlat) (t : ℕ) (refused : Bool)
+    → Rests (ask_of s.flat.code (thread_of s.flat t)) → MayGo refused (ask_of s.flat.code (thread_of s.flat t)) → TakesStep s u t (result_by refused)
+    → GoesPlain u w → R (seen_of w) (seen_of k)
     → HasStepBy s t refused × ((e : Step) → e.0 ≡ t → IsStepBy s refused e → Can (seen_by s.flat.code) (seen_of s) e
-    → LeadsTo (seen_by s.flat.code) (answered_by s.flat.code) (Alike s.flat.code) (seen_of s) e (seen_of k))
-way_leads_to_alike_node s u w k t refused rests may step goes alike =
-    let base = step_leads_to_alike_node s u w k t (result_by refused) rests step goes alike in (
+    → LeadsTo (seen_by s.flat.code) (answered_by s.flat.code) R (seen_of s) e (seen_of k))
+way_leads_to_related_node R s u w k t refused rests may step goes related =
+    let base = step_leads_to_related_node R s u w k t (result_by refused) rests step goes related in (
       (
         result_by refused,
         base.can,
@@ -175,22 +178,49 @@ way_leads_to_alike_node s u w k t refused rests may step goes alike =
       λ e same by there.
           let here : Can (seen_by s.flat.code) (seen_of s) (t, e.1) = subst (λ z. Can (seen_by s.flat.code) (seen_of s) (z, e.1)) same there in
           let way : IsStepBy s refused (t, e.1) = subst (λ z. IsStepBy s refused (z, e.1)) same by in
-          subst (λ z. LeadsTo (seen_by s.flat.code) (answered_by s.flat.code) (Alike s.flat.code) (seen_of s) (z, e.1) (seen_of k)) (sym same)
-          (leads_to_by_equal_act (seen_by s.flat.code) (answered_by s.flat.code) (Alike s.flat.code) (seen_of s) t (result_by refused) e.1 (seen_of k)
+          subst (λ z. LeadsTo (seen_by s.flat.code) (answered_by s.flat.code) R (seen_of s) (z, e.1) (seen_of k)) (sym same)
+          (leads_to_by_equal_act (seen_by s.flat.code) (answered_by s.flat.code) R (seen_of s) t (result_by refused) e.1 (seen_of k)
           (seen_act_at_rest_is_real_act s t (result_by refused) rests ∙ seen_act_depends_on_way_alone s t e.1 refused rests way here
           ∙ sym (seen_act_at_rest_is_real_act s t e.1 rests)) base),
     )
+
+-- so it does to what looks the same
+pub way_leads_to_alike_node : (s u w k : SourcedFlat) (t : ℕ) (refused : Bool) → Rests (ask_of s.flat.code (thread_of s.flat t))
+    → MayGo refused (ask_of s.flat.code (thread_of s.flat t)) → TakesStep s u t (result_by refused) → GoesPlain u w → LookAlike w k
+    → HasStepBy s t refused × ((e : Step) → e.0 ≡ t → IsStepBy s refused e → Can (seen_by s.flat.code) (seen_of s) e
+    → LeadsTo (seen_by s.flat.code) (answered_by s.flat.code) (Alike s.flat.code) (seen_of s) e (seen_of k))
+way_leads_to_alike_node s u w k t refused rests may step goes alike =
+    way_leads_to_related_node (Alike s.flat.code) s u w k t refused rests may step goes
+    (subst (λ z. Alike z (seen_of w) (seen_of k)) (goes.code ∙ step.code) alike)
+
+-- and where no source has answered a call for the time, it leads there so
+pub way_leads_to_tickless_node : (s u w k : SourcedFlat) (t : ℕ) (refused : Bool) → Rests (ask_of s.flat.code (thread_of s.flat t))
+    → MayGo refused (ask_of s.flat.code (thread_of s.flat t)) → TakesStep s u t (result_by refused) → GoesPlain u w → LookAlike w k → HaveNoTicks w.sources
+    → (e : Step) → e.0 ≡ t → IsStepBy s refused e → Can (seen_by s.flat.code) (seen_of s) e
+    → LeadsTo (seen_by s.flat.code) (answered_by s.flat.code) (AlikeTickless s.flat.code) (seen_of s) e (seen_of k)
+way_leads_to_tickless_node s u w k t refused rests may step goes alike none =
+    (way_leads_to_related_node (AlikeTickless s.flat.code) s u w k t refused rests may step goes
+    (subst (λ z. Alike z (seen_of w) (seen_of k)) (goes.code ∙ step.code) alike, none)).1
 
 pub look_alike_reflexive : (s : SourcedFlat) → LookAlike s s
 look_alike_reflexive s = record { threads = λ t. inl refl; inside = λ o t. refl; words = λ o. refl }
 
 -- from the start the threads go on alone to what is at rest
-pub begins_by_plain_steps : (s u : SourcedFlat) → GoesPlain s u
-    → Begins (seen_by s.flat.code) (answered_by s.flat.code) (Alike s.flat.code) (seen_of s) (seen_of u)
-begins_by_plain_steps s u goes = record {
+begins_related : (R : State (ThreadState × Source) → State (ThreadState × Source) → Type 0) (s u : SourcedFlat) → GoesPlain s u → R (seen_of u) (seen_of u)
+    → Begins (seen_by s.flat.code) (answered_by s.flat.code) R (seen_of s) (seen_of u)
+begins_related R s u goes related = record {
   ahead = goes.ahead;
   goes = plain_run_seen s.flat.code (full_of s) goes.ahead goes.plain;
-  alike = subst (λ z. Alike s.flat.code z (seen_of u))
-      (sym (end_of_live_run_seen s.flat.code (full_of s) goes.ahead goes.plain.1 ∙ ap seen_state (sym goes.ends)))
-      (record { threads = λ t. inl refl; inside = λ o t. refl; words = λ o. refl });
+  alike = subst (λ z. R z (seen_of u)) (sym (end_of_live_run_seen s.flat.code (full_of s) goes.ahead goes.plain.1 ∙ ap seen_state (sym goes.ends))) related;
 }
+
+alike_itself : (code : List ℕ) (s : State (ThreadState × Source)) → Alike code s s
+alike_itself code s = record { threads = λ t. inl refl; inside = λ o t. refl; words = λ o. refl }
+
+pub begins_by_plain_steps : (s u : SourcedFlat) → GoesPlain s u
+    → Begins (seen_by s.flat.code) (answered_by s.flat.code) (Alike s.flat.code) (seen_of s) (seen_of u)
+begins_by_plain_steps s u goes = begins_related (Alike s.flat.code) s u goes (alike_itself s.flat.code (seen_of u))
+
+pub begins_tickless : (s u : SourcedFlat) → GoesPlain s u → HaveNoTicks u.sources
+    → Begins (seen_by s.flat.code) (answered_by s.flat.code) (AlikeTickless s.flat.code) (seen_of s) (seen_of u)
+begins_tickless s u goes none = begins_related (AlikeTickless s.flat.code) s u goes (alike_itself s.flat.code (seen_of u), none)

@@ -23,3 +23,6 @@ mod LoneSteps
 mod KnownTurns
 mod Over
 mod Both
+mod Ticks
+mod Times
+mod Timed

@@ -13,3 +13,4 @@ pub mod Searched
 pub mod Hangs
 pub mod Stops
 pub mod Standing
+pub mod Times

@@ -1,5 +1,5 @@
 -- What a search over the states of a guest gives.
-use Rattle.std.specs.Prelude.{◌≡◌, ℕ, ◌<◌, ◌≤◌, List, Some, length, slice_get}
+use Rattle.std.specs.Prelude.{◌≡◌, ◌↔◌, true, ℕ, ◌<◌, ◌≤◌, List, Some, length, slice_get}
 use Rattle.ir_explore.specs.declared.origin.Origin.{Origin}
 use Rattle.ir_explore.specs.Levels.{rows}
 use Rattle.ir_explore.specs.Origins.{AreReached, AreRising}
@@ -14,6 +14,7 @@ use Rattle.ir_graph.specs.Notes.{noted_by}
 use Rattle.ir_graph.specs.Outcomes.{AllListed, WithinListed}
 use Rattle.ir_graph.specs.Reached.{AllReached}
 use Rattle.ir_graph.specs.Standing.{AllFound, WithinFound}
+use Rattle.ir_graph.specs.Times.{HasTimedRun, KnowsTimes}
 use Rattle.ir_graph.specs.declared.states.States.{States}
 
 -- The states are those of this guest at rest, to each of which a run leads. Origins are known of the first of them, by rising levels, and so
@@ -36,6 +37,7 @@ pub record IsSearch (s : States) : Type 0 where
   pub code : s.graph.flats.code ≡ s.graph.setup.guest.code
   pub ways : AreReached (noted_by s.graph.rows.items s.graph.refused_rows.items) s.search.found.refusals.items s.search.found.nodes.items
   pub few : length s.search.found.nodes.items ≤ length s.graph.flats.items
+  pub times : KnowsTimes s.graph.setup s.graph.flats.items (noted_by s.graph.rows.items s.graph.refused_rows.items) s.graph.timed
 
 -- it stands between two levels
 abbrev pub StandsBetween : States → Type 0
@@ -45,9 +47,11 @@ StandsBetween s = IsBetween (noted_by s.graph.rows.items s.graph.refused_rows.it
 abbrev pub HasLevels : States → ℕ → Type 0
 HasLevels s n = HasGone (noted_by s.graph.rows.items s.graph.refused_rows.items) (length (rows s.search.opened.items)) (length s.graph.flats.items) s.search.found.nodes.items s.search.found.refusals.items n
 
--- each outcome of the guest is that of a listed state; its runs that count stand at listed states, and end there where all threads rest
+-- each outcome of the guest is that of a listed state; its runs that count stand at listed states, and end there where all threads rest; it is
+-- known whether some of them answers a call for the time
 pub record IsWhole (s : States) : Type 0 where
   pub all : AllListed s.graph.setup s.graph.flats.items
   pub nodes : length s.search.found.nodes.items ≡ length s.graph.flats.items
   pub found : AllFound s.graph.setup s.graph.flats.items
   pub stand : AllStand s.graph.setup s.graph.flats.items s.search.found.nodes.items
+  pub timed : (s.graph.timed ≡ true) ↔ HasTimedRun s.graph.setup

@@ -6,6 +6,7 @@ ghost use Rattle.ir_graph.specs.Graph.{IsGraph};
 ghost use Rattle.ir_graph.specs.Notes.{noted_by};
 ghost use Rattle.ir_graph.specs.Setup.{Setup};
 ghost use Rattle.ir_graph.specs.Stops.{MayStop};
+ghost use Rattle.ir_graph.specs.Times.{KnowsTimes};
 ghost use Rattle.ir_store.specs.Nodes.{SourcedFlat};
 
 use crate::ahead::Ahead;
@@ -25,6 +26,8 @@ pub struct Graph<'a> {
     pub flats: Store<'a>,
     /// How far the search may go.
     pub bounds: Bounds,
+    /// Whether some call for the time was answered on a way to a state.
+    pub timed: bool,
     pub(crate) ahead: Ahead,
     pub(crate) rows: Vec<Row>,
     pub(crate) refused_rows: Vec<Row>,
@@ -48,7 +51,8 @@ impl<'a> Successors for Graph<'a> {
     ghost noted = { λ g. noted_by g.rows.items g.refused_rows.items };
 
     ghost is_sound = { λ g. IsGraph g.setup g.flats.items (noted_by g.rows.items g.refused_rows.items) (length g.rows.items)
-        × AreTurns g.setup.guest.code g.flats.shared g.ahead × (g.flats.code ≡ g.setup.guest.code) };
+        × AreTurns g.setup.guest.code g.flats.shared g.ahead × (g.flats.code ≡ g.setup.guest.code)
+        × KnowsTimes g.setup g.flats.items (noted_by g.rows.items g.refused_rows.items) g.timed };
 
     fn known(&self, thread: usize, refused: bool, node: usize) -> Option<Option<usize>> {
         if refused {
@@ -68,7 +72,14 @@ impl<'a> Successors for Graph<'a> {
             node,
         };
         let code = self.setup.code();
-        let next = successor(&mut self.flats, &mut self.ahead, code, way, self.bounds)?;
+        let next = successor(
+            &mut self.flats,
+            &mut self.timed,
+            &mut self.ahead,
+            code,
+            way,
+            self.bounds,
+        )?;
         let nodes = self.flats.len();
         note_way(&mut self.rows, &mut self.refused_rows, nodes, way, next)?;
         Ok(next)

@@ -1,6 +1,6 @@
 //! The nodes that were found, and where threads lead from them.
 
-ghost use Rattle.std.specs.Prelude.{◌≡◌, ◌⊎◌, ℕ, suc, ◌<◌, ◌≤◌, true, Some, None, length, slice_get, IfOk, IfErr, IfSome, OnOk, OnErr, IsErrOf};
+ghost use Rattle.std.specs.Prelude.{◌≡◌, ◌⊎◌, ℕ, suc, ◌<◌, ◌≤◌, true, false, Some, None, length, slice_get, IfOk, IfErr, IfSome, OnOk, OnErr, IsErrOf};
 ghost use Rattle.ir_explore.specs.declared.stop.Stop.TheVariants.{Nodes, Memory};
 ghost use Rattle.ir_graph.specs.Ahead.{AreTurns, IsTurnOf};
 ghost use Rattle.ir_graph.specs.Nodes.{LookAlike, AllRest, AreNodes, Stay, LeadsFrom};
@@ -8,7 +8,9 @@ ghost use Rattle.ir_graph.specs.Plain.{IsLike};
 ghost use Rattle.ir_graph.specs.Reached.{IsReached, AllReached};
 ghost use Rattle.ir_graph.specs.Stops.{MayStop};
 ghost use Rattle.ir_graph.specs.Setup.{Setup};
+ghost use Rattle.ir_graph.specs.Times.{HasTimedRun, LeadsTickless};
 ghost use Rattle.ir_store.specs.Nodes.{Grows, IsNode, SourcedFlat, sourced_in};
+ghost use Rattle.ir_store.specs.Table.{HaveTicks, HaveNoTicks};
 
 use crate::ahead::Ahead;
 use crate::known::Turn;
@@ -28,8 +30,13 @@ pub struct Bounds {
     pub private: u64,
 }
 
-// The node that looks the same as this state, a new one where none was found.
-fn node_of<'a>(flats: &mut Store<'a>, new: Node<'a>, most: usize) -> Result<usize, Stop>
+// The node that looks the same as this state, a new one where none was found. It is noted if some call for the time was answered before it.
+fn node_of<'a>(
+    flats: &mut Store<'a>,
+    timed: &mut bool,
+    new: Node<'a>,
+    most: usize,
+) -> Result<usize, Stop>
     requires nodes { AreNodes flats.old.items }
     requires is { IsNode flats.old.shared new }
     requires code { flats.old.code ≡ new.code }
@@ -48,7 +55,10 @@ fn node_of<'a>(flats: &mut Store<'a>, new: Node<'a>, most: usize) -> Result<usiz
     ensures room { length flats.new.items ≤ most }
     ensures full { IsErrOf result Nodes → length flats.new.items ≡ most }
     ensures stopped { IfErr result (λ stop. (stop ≡ Memory) ⊎ ((stop ≡ Nodes) × (length flats.new.items ≡ most))) }
+    ensures ticks { timed.new ≡ true → (timed.old ≡ true) ⊎ HaveTicks (sourced_in flats.old.shared new.entry).sources }
+    ensures tickless { timed.new ≡ false → (timed.old ≡ false) × HaveNoTicks (sourced_in flats.old.shared new.entry).sources }
 {
+    *timed = *timed || flats.is_timed(&new);
     if let Some(v) = flats.find(&new) {
         return Ok(v);
     }
@@ -61,7 +71,13 @@ fn node_of<'a>(flats: &mut Store<'a>, new: Node<'a>, most: usize) -> Result<usiz
 }
 
 // The node where a turn of a thread leads.
-fn node_by<'a>(flats: &mut Store<'a>, way: Way, turn: Turn, most: usize) -> Result<usize, Stop>
+fn node_by<'a>(
+    flats: &mut Store<'a>,
+    timed: &mut bool,
+    way: Way,
+    turn: Turn,
+    most: usize,
+) -> Result<usize, Stop>
     requires nodes { AreNodes flats.old.items }
     requires node { way.node < length flats.old.items }
     requires thread { (s : SourcedFlat) → slice_get flats.old.items way.node ≡ Some s → way.thread < length s.flat.threads }
@@ -80,14 +96,22 @@ fn node_by<'a>(flats: &mut Store<'a>, way: Way, turn: Turn, most: usize) -> Resu
     ensures room { length flats.new.items ≤ most }
     ensures full { IsErrOf result Nodes → length flats.new.items ≡ most }
     ensures stopped { IfErr result (λ stop. (stop ≡ Memory) ⊎ ((stop ≡ Nodes) × (length flats.new.items ≡ most))) }
+    ensures has { (x : Setup) → AllReached x flats.old.items → (timed.old ≡ true → HasTimedRun x) → timed.new ≡ true → HasTimedRun x }
+    ensures were { timed.new ≡ false → timed.old ≡ false }
+    ensures tickless { IfOk result (λ w. timed.new ≡ false → LeadsTickless flats.new.items way.thread way.refused way.node w) }
 {
     flats.thread_number(way.node, way.thread);
     let new = flats.with_both(way.node, way.thread, turn.to, turn.object, turn.after)?;
-    node_of(flats, new, most)
+    node_of(flats, timed, new, most)
 }
 
 // The node where a thread leads by its steps, one by one.
-fn node_by_steps<'a>(flats: &mut Store<'a>, way: Way, bounds: Bounds) -> Result<Option<usize>, Stop>
+fn node_by_steps<'a>(
+    flats: &mut Store<'a>,
+    timed: &mut bool,
+    way: Way,
+    bounds: Bounds,
+) -> Result<Option<usize>, Stop>
     requires nodes { AreNodes flats.old.items }
     requires node { way.node < length flats.old.items }
     requires thread { (s : SourcedFlat) → slice_get flats.old.items way.node ≡ Some s → way.thread < length s.flat.threads }
@@ -105,6 +129,9 @@ fn node_by_steps<'a>(flats: &mut Store<'a>, way: Way, bounds: Bounds) -> Result<
     ensures room { length flats.new.items ≤ bounds.nodes }
     ensures full { IsErrOf result Nodes → length flats.new.items ≡ bounds.nodes }
     ensures stopped { IfErr result (λ stop. (x : Setup) → AllReached x flats.old.items → MayStop x flats.new.items bounds.nodes bounds.private stop) }
+    ensures has { (x : Setup) → AllReached x flats.old.items → (timed.old ≡ true → HasTimedRun x) → timed.new ≡ true → HasTimedRun x }
+    ensures were { timed.new ≡ false → timed.old ≡ false }
+    ensures tickless { IfOk result (λ next. (w : ℕ) → next ≡ Some w → timed.new ≡ false → LeadsTickless flats.new.items way.thread way.refused way.node w) }
 {
     let mut state = flats.get(way.node)?;
     let asked = state.flat.ask(way.thread);
@@ -118,7 +145,7 @@ fn node_by_steps<'a>(flats: &mut Store<'a>, way: Way, bounds: Bounds) -> Result<
         return Err(stop);
     }
     let new = flats.by_numbers(&state)?;
-    match node_of(flats, new, bounds.nodes) {
+    match node_of(flats, timed, new, bounds.nodes) {
         Ok(next) => Ok(Some(next)),
         Err(stop) => Err(stop),
     }
@@ -130,6 +157,7 @@ fn node_by_steps<'a>(flats: &mut Store<'a>, way: Way, bounds: Bounds) -> Result<
 /// `Nodes` if the new one would be one too many, what `run_to_rest` gives, or out of memory.
 pub fn successor<'a>(
     flats: &mut Store<'a>,
+    timed: &mut bool,
     ahead: &mut Ahead,
     code: &Code,
     way: Way,
@@ -154,6 +182,9 @@ pub fn successor<'a>(
     ensures room { length flats.new.items ≤ bounds.nodes }
     ensures full { IsErrOf result Nodes → length flats.new.items ≡ bounds.nodes }
     ensures stopped { IfErr result (λ stop. (x : Setup) → AllReached x flats.old.items → MayStop x flats.new.items bounds.nodes bounds.private stop) }
+    ensures has { (x : Setup) → AllReached x flats.old.items → (timed.old ≡ true → HasTimedRun x) → timed.new ≡ true → HasTimedRun x }
+    ensures were { timed.new ≡ false → timed.old ≡ false }
+    ensures tickless { IfOk result (λ next. (w : ℕ) → next ≡ Some w → timed.new ≡ false → LeadsTickless flats.new.items way.thread way.refused way.node w) }
 {
     let number = flats.thread_number(way.node, way.thread);
     if flats.thread_over(number) {
@@ -163,10 +194,10 @@ pub fn successor<'a>(
         return Ok(None);
     }
     if let Some(turn) = turn_of(flats, ahead, code, way, bounds.private)? {
-        return match node_by(flats, way, turn, bounds.nodes) {
+        return match node_by(flats, timed, way, turn, bounds.nodes) {
             Ok(next) => Ok(Some(next)),
             Err(stop) => Err(stop),
         };
     }
-    node_by_steps(flats, way, bounds)
+    node_by_steps(flats, timed, way, bounds)
 }

@@ -9,6 +9,7 @@ ghost use Rattle.ir_graph.specs.Notes.{noted_by, noted_in};
 ghost use Rattle.ir_graph.specs.Plain.{GoesPlain};
 ghost use Rattle.ir_graph.specs.Setup.{Setup, start_of};
 ghost use Rattle.ir_graph.specs.Stops.{IsStop};
+ghost use Rattle.ir_graph.specs.Times.{KnowsTimes};
 ghost use Rattle.ir_mach.specs.Core.{memory_size};
 ghost use Rattle.ir_thread.specs.State.{IsAllowed};
 ghost use Rattle.ir_thread.specs.declared.profile.Profile.TheVariants.{One, Two};
@@ -90,6 +91,7 @@ pub fn start_graph<'a>(alloc: Global, setup: &Setup<'a>, bounds: Bounds) -> Resu
     ensures bounds { IfOk result (λ graph. graph.bounds ≡ bounds) }
     ensures threads { IfOk result (λ graph. length graph.rows.items ≡ length setup.now.guest.entries) }
     ensures sound { IfOk result (λ graph. IsGraph setup.now graph.flats.items (noted_by graph.rows.items graph.refused_rows.items) (length graph.rows.items)) }
+    ensures times { IfOk result (λ graph. KnowsTimes setup.now graph.flats.items (noted_by graph.rows.items graph.refused_rows.items) graph.timed) }
     ensures none { IfOk result (λ graph. graph.ahead ≡ []) }
     ensures code { IfOk result (λ graph. graph.flats.code ≡ setup.now.guest.code) }
 {
@@ -103,11 +105,13 @@ pub fn start_graph<'a>(alloc: Global, setup: &Setup<'a>, bounds: Bounds) -> Resu
     let basis = Basis::new(alloc, setup.code(), start)?;
     let mut flats = Store::new(alloc, image.form(), basis);
     let first = flats.by_numbers(&state)?;
+    let timed = flats.is_timed(&first);
     flats.push(first)?;
     Ok(Graph {
         setup: setup.copy(),
         flats,
         bounds,
+        timed,
         ahead: Ahead::new(alloc),
         rows,
         refused_rows,

@@ -41,6 +41,14 @@ sources_at table numbers = map (λ n. (slice_index_or table n idle_beside).1) nu
 abbrev pub beside_at : List (ThreadState × Source) → List ℕ → ℕ → ThreadState × Source
 beside_at table numbers t = (slice_index_or (threads_at table numbers) t idle, slice_index_or (sources_at table numbers) t no_source)
 
+-- some call for the time was answered by one of these
+abbrev pub HaveTicks : List Source → Type 0
+HaveTicks sources = (t : ℕ) × (0 < (slice_index_or sources t no_source).ticks)
+
+-- none was
+abbrev pub HaveNoTicks : List Source → Type 0
+HaveNoTicks sources = (t : ℕ) → (slice_index_or sources t no_source).ticks ≡ 0
+
 -- whether all threads have ended and hold nothing
 abbrev pub all_over : List ThreadState → Bool
 all_over [] = true

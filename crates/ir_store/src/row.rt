@@ -79,6 +79,14 @@ impl<'a> Row<'a> {
         self.source.copy()
     }
 
+    /// How many calls for the time were answered.
+    pub fn ticks(&self) -> u64
+        ensures { result ≡ self.now.source.ticks }
+    {
+        let [ticks, _, _] = self.source.mark();
+        ticks
+    }
+
     /// Whether the thread has ended and holds nothing.
     pub fn over(&self) -> bool
         ensures { result ≡ self.now.over }

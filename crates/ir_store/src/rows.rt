@@ -137,6 +137,15 @@ impl<'a> Rows<'a> {
         Ok(own.as_slice() == bytes)
     }
 
+    /// How many calls for the time were answered of the thread of a number.
+    pub fn ticks(&self, n: usize) -> u64
+        requires { n < length self.now.items }
+        ensures { result ≡ (slice_index_or self.now.items n idle_beside).1.ticks }
+    {
+        let row = &self.rows[n];
+        row.ticks()
+    }
+
     /// Whether the thread of a number has ended and holds nothing.
     pub fn over(&self, n: usize) -> bool
         requires { n < length self.now.items }

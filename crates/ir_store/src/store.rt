@@ -6,7 +6,7 @@ ghost use Rattle.ir_flat.specs.Flat.{cell_of};
 ghost use Rattle.ir_freeze.specs.Frozen.{is_over};
 ghost use Rattle.ir_store.specs.Nodes.{SourcedFlat, sourced_thread, with_turn, IsSourced, cell_in, sourced_in, AreKept, AreSameLooks, AreSameNumbers, AreMoments, AreNodesFound, Grows, IsNode, IsWithin, Stored};
 ghost use Rattle.ir_store.specs.Places.{no_node};
-ghost use Rattle.ir_store.specs.Table.{HaveForm, all_over, idle_beside, AreIn};
+ghost use Rattle.ir_store.specs.Table.{HaveForm, HaveTicks, HaveNoTicks, all_over, idle_beside, AreIn};
 
 use crate::compare::{hash_of, same_looks};
 use crate::index::{Index, MOST_STEPS};
@@ -172,6 +172,15 @@ impl<'a> Store<'a> {
         ensures { result ≡ is_over (slice_index_or self.now.shared.threads n idle_beside).0 }
     {
         self.table.over(n)
+    }
+
+    /// Whether some call for the time was answered of a thread of a state.
+    pub fn is_timed(&self, node: &Node<'_>) -> bool
+        requires { AreIn self.now.shared.threads node.now.threads }
+        ensures timed { result ≡ true → HaveTicks (sourced_in self.now.shared node.now).sources }
+        ensures untimed { result ≡ false → HaveNoTicks (sourced_in self.now.shared node.now).sources }
+    {
+        self.table.is_timed(node.threads.as_slice())
     }
 
     /// The object of these numbers.

@@ -8,7 +8,7 @@ ghost use Rattle.ir_freeze.specs.Twins.{IsBounded};
 ghost use Rattle.ir_store.specs.Nodes.{LookSame};
 ghost use Rattle.ir_store.specs.Hashes.{IsFoundBy, KeepsFound};
 ghost use Rattle.ir_store.specs.Hashes as hashes;
-ghost use Rattle.ir_store.specs.Table.{HaveForm, idle_beside, threads_at, sources_at, all_over, AreIn, Keeps, LooksLike, AreLike, AreOnce, HaveOneLook, StandsFor};
+ghost use Rattle.ir_store.specs.Table.{HaveForm, idle_beside, threads_at, sources_at, all_over, AreIn, HaveTicks, HaveNoTicks, Keeps, LooksLike, AreLike, AreOnce, HaveOneLook, StandsFor};
 ghost use Rattle.ir_store.specs.Table as table;
 ghost use Rattle.ir_sources.specs.Sources.{Source};
 ghost use Rattle.ir_thread.specs.State.{ThreadState};
@@ -308,6 +308,20 @@ impl<'a> Table<'a> {
         ensures { result ≡ is_over (slice_index_or self.now.items n idle_beside).0 }
     {
         self.rows.over(n)
+    }
+
+    /// Whether some call for the time was answered of a thread of these numbers.
+    pub fn is_timed(&self, numbers: &[u32]) -> bool
+        requires { AreIn self.now.items numbers.now }
+        ensures timed { result ≡ true → HaveTicks (sources_at self.now.items numbers.now) }
+        ensures untimed { result ≡ false → HaveNoTicks (sources_at self.now.items numbers.now) }
+    {
+        for t in 0..numbers.len() {
+            if self.rows.ticks(numbers[t] as usize) > 0 {
+                return true;
+            }
+        }
+        false
     }
 
     /// Whether all threads of these numbers have.
