@@ -1,5 +1,5 @@
 -- A search over the graph of a guest, level by level.
-use Rattle.std.proofs.Common.{◌≡◌, ℕ, Bool, Option, List, length, subst}
+use Rattle.std.proofs.Common.{◌≡◌, ◌↔◌, ℕ, Bool, true, Option, List, length, subst}
 use Rattle.std.specs.Global.{Vec}
 use Rattle.std.specs.Prelude.{Result, Ok, Err, IfOk, IfErr}
 use Rattle.ir_explore.specs.declared.origin.Origin.{Origin}
@@ -15,9 +15,11 @@ use Rattle.ir_graph.specs.Notes.{noted_by}
 use Rattle.ir_graph.specs.Outcomes.{AllListed}
 use Rattle.ir_graph.specs.Searched.{AreSearched}
 use Rattle.ir_graph.specs.Standing.{AllFound}
+use Rattle.ir_graph.specs.Times.{HasTimedRun, KnowsTimes}
 use Rattle.ir_graph.proofs.Hangs.{are_marked, all_found, all_stand}
 use Rattle.ir_graph.proofs.Listed.{all_listed_if_all_asked, within_listed_if_covered}
 use Rattle.ir_graph.proofs.Standing.{within_found_if_covered}
+use Rattle.ir_graph.proofs.Times.{is_timed_exactly_if_known}
 
 module _ (x : Setup) (flats : List SourcedFlat) (rows tries : List (Vec (Option (Option ℕ)))) (origins : List Origin)
     (refusals : List Refusal) (threads levels : ℕ) (graph : IsGraph x flats (noted_by rows tries) (length rows))
@@ -51,6 +53,9 @@ module _ (x : Setup) (flats : List SourcedFlat) (rows tries : List (Vec (Option 
     stand_by =
         all_stand x flats (noted_by rows tries) (length rows) graph origins refusals has.reached all asked_each levels
         (subst (λ z. AreGoneOver (noted_by rows tries) z origins levels) same has.gone) has.most has.first
+
+    pub timed_by : (timed : Bool) → KnowsTimes x flats (noted_by rows tries) timed → (timed ≡ true) ↔ HasTimedRun x
+    timed_by timed known = is_timed_exactly_if_known x flats (noted_by rows tries) (length rows) graph asked_each timed known
 
     pub marked_by : (marks : List Bool) → AreWays (noted_by rows tries) (length rows) flats marks → AreMarked flats marks
     marked_by marks ways =

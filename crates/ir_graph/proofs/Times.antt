@@ -44,8 +44,7 @@ has_timed_run_if_reached_state_has_ticks x s reached ticks =
       _,
       reached.steps,
       answered_run_is_counting x reached.steps reached.answered,
-      t,
-      log_has_time_if_ticks_rose (first_source x t) es (first_source_has_no_ticks x t) (subst (λ (z : Source). 0 < z.ticks) left ticks.1),
+      (t, log_has_time_if_ticks_rose (first_source x t) es (first_source_has_no_ticks x t) (subst (λ (z : Source). 0 < z.ticks) left ticks.1)),
     )
 
 -- what the threads' sources are after a run that counts, as the search sees it
@@ -98,9 +97,9 @@ module _ (code : List ℕ) where
         let there = thread_after_step_of_other (seen_by code) v e u other in elim (has u) [
           | inl same ↦ inl (ap (λ x. x.1) here ∙ same ∙ ap (λ x. x.1) (sym there))
           | inr done ↦ inr (
-              ap (λ x. (seen_by code).ask x) here ∙ done.0,
-              ap (λ (x : ThreadState × Source). x.1.ticks) here ∙ done.1,
-            )
+            ap (λ x. (seen_by code).ask x) here ∙ done.0,
+            ap (λ (x : ThreadState × Source). x.1.ticks) here ∙ done.1,
+          )
         ]
   ]
 
@@ -167,7 +166,7 @@ module _ (x : Setup) (flats : List SourcedFlat) (noted : ℕ → BothWays) (thre
 
     followed_tickless : (a : State (ThreadState × Source)) → IsTicklessNode tt a → (e : Step) → Can m a e
         → (b : State (ThreadState × Source)) × IsTicklessNode tt b × AnyNext a e b × LeadsTo m answers (λ s v. s ≡ v) a e b
-    followed_tickless a (v, l, alike, none) e can =
+    followed_tickless a (v, l, (alike, none)) e can =
         let means = graph_means x flats noted threads g in
         let tells = tells_nothing_of_alike_seen_threads x.guest.code in
         let there : Can m (state v) e = tells.can a (state v) alike e can in elim (cases_lt e.0 threads) [
@@ -184,8 +183,10 @@ module _ (x : Setup) (flats : List SourcedFlat) (noted : ℕ → BothWays) (thre
                   (
                     w,
                     to.2,
-                    tells.onwards _ (end m (after m (state v) e) lead.ahead) (state w) goes.1 lead.alike.0,
-                    tickless_if_sources_are x.guest.code _ _ has lead.alike.1,
+                    (
+                      tells.onwards (end m (after m a e) lead.ahead) (end m (after m (state v) e) lead.ahead) (state w) goes.1 lead.alike.0,
+                      tickless_if_sources_are x.guest.code (end m (after m a e) lead.ahead) (end m (after m (state v) e) lead.ahead) has lead.alike.1,
+                    ),
                   ),
                   tt,
                   record { can = can; ahead = lead.ahead; goes = goes.0; alike = refl },
@@ -215,7 +216,7 @@ module _ (x : Setup) (flats : List SourcedFlat) (noted : ℕ → BothWays) (thre
         omega (arith, later, rise)
 
     no_timed_run : HasTimedRun x → ⊥
-    no_timed_run (budget, steps, counting, t, has) =
+    no_timed_run (budget, steps, counting, (t, has)) =
         let es = log (thread_machine x.guest.code) (tables (start_flat x.guest budget x.profile)) steps t in
         let none : ((end m start steps).now t).1.ticks ≡ 0 = seen_end_is_tickless steps (counting_run_counts_as_seen x budget steps counting).0 t in
         let left : (left_after (first_source x t) es).ticks ≡ 0 =

@@ -1,11 +1,14 @@
-use Rattle.std.proofs.Common.{◌≡◌, Some, sym, ap, ◌∙◌, subst}
+use Rattle.std.proofs.Common.{◌≡◌, Some, false, inl, inr, sym, ap, ◌∙◌, subst}
 use Rattle.std.specs.Prelude.{slice_get}
 use Rattle.ir_lemmas.proofs.CallerLemmas.{element_below_length_exists, if_ok_of_implied}
 use Rattle.ir_store.specs.Nodes.{SourcedFlat, IsSourced, sourced_in}
 use Rattle.ir_graph.specs.Nodes.{LookAlike, AllRest, LeadsFrom}
 use Rattle.ir_graph.specs.Plain.{IsLike}
 use Rattle.ir_graph.specs.Reached.{IsReached}
-use Rattle.ir_graph.proofs.Both.{both_sourced, both_like, both_rests, both_reached, both_leads}
+use Rattle.ir_graph.specs.Times.{LeadsTickless}
+use Rattle.ir_store.specs.Table.{HaveNoTicks}
+use Rattle.ir_graph.proofs.Both.{both_sourced, both_like, both_rests, both_reached, both_leads, both_lead_tickless}
+use Rattle.ir_graph.proofs.Times.{has_timed_run_if_reached_state_has_ticks}
 use Rattle.ir_graph.proofs.nodes.node_by.Goals as goal
 
 pub with_both-requires-clause-own : goal.with_both-requires-clause-own
@@ -70,3 +73,27 @@ returns-clause-leads c =
     (λ w alike. both_leads flats.items flats.shared f.0 c.args.way.thread c.args.way.refused c.args.way.node c.args.turn c.requires.nodes f.1 (c.requires.thread f.0 f.1)
     (c.thread_number.ensures.sourced f.0 f.1) (c.requires.turn f.0 f.1) new w c.node_of.ensures.stay
     (λ k is. subst (λ z. LookAlike z k) (c.in_ok-new.ensures.state f.0 f.1) (alike k is))) c.node_of.ensures.alike
+
+pub returns-clause-has : goal.returns-clause-has
+returns-clause-has c = λ x all was new.
+    let flats = c.args.flats.now in
+    let f = element_below_length_exists flats.items c.args.way.node c.requires.node in elim (c.node_of.ensures.ticks new) [
+      | inl old ↦ was old
+      | inr ticks ↦ has_timed_run_if_reached_state_has_ticks x (sourced_in flats.shared c.in_ok-new.new)
+          (subst (IsReached x) (sym (c.in_ok-new.ensures.state f.0 f.1))
+          (both_reached flats.items flats.shared f.0 c.args.way.thread c.args.way.refused c.args.way.node c.args.turn c.requires.nodes f.1 (c.requires.thread f.0 f.1)
+          (c.thread_number.ensures.sourced f.0 f.1) (c.requires.turn f.0 f.1) x (all c.args.way.node f.0 f.1))) ticks
+    ]
+
+pub returns-clause-tickless : goal.returns-clause-tickless
+returns-clause-tickless c =
+    let flats = c.args.flats.now in
+    let f = element_below_length_exists flats.items c.args.way.node c.requires.node in
+    let h = sourced_in flats.shared c.in_ok-new.new in
+    let new = c.node_of.new.flats.items in
+    if_ok_of_implied (λ w. (k : SourcedFlat) → slice_get new w ≡ Some k → LookAlike h k)
+    (λ w. c.node_of.new.timed ≡ false → LeadsTickless new c.args.way.thread c.args.way.refused c.args.way.node w) c.node_of.result
+    (λ w alike none. both_lead_tickless flats.items flats.shared f.0 c.args.way.thread c.args.way.refused c.args.way.node c.args.turn c.requires.nodes f.1 (c.requires.thread f.0 f.1)
+    (c.thread_number.ensures.sourced f.0 f.1) (c.requires.turn f.0 f.1) new w c.node_of.ensures.stay
+    (λ k is. subst (λ z. LookAlike z k) (c.in_ok-new.ensures.state f.0 f.1) (alike k is))
+    (subst (λ (z : SourcedFlat). HaveNoTicks z.sources) (c.in_ok-new.ensures.state f.0 f.1) (c.node_of.ensures.tickless none).1)) c.node_of.ensures.alike

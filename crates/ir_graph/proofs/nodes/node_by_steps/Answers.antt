@@ -1,15 +1,18 @@
-use Rattle.std.proofs.Common.{◌≡◌, ◌<◌, Some, sym, ap, ◌∙◌, subst}
+use Rattle.std.proofs.Common.{◌≡◌, ◌<◌, Some, inl, inr, sym, ap, ◌∙◌, subst}
 use Rattle.std.specs.Prelude.{slice_get}
 use Rattle.ir_runs.specs.Run.{Can}
 use Rattle.ir_flat.specs.Flat.{machine, tables}
 use Rattle.ir_store.specs.Nodes.{SourcedFlat}
-use Rattle.ir_store.specs.Table.{HaveForm}
+use Rattle.std.proofs.lemmas.Option.{same_Some}
+use Rattle.ir_store.specs.Table.{HaveForm, HaveTicks, HaveNoTicks}
+use Rattle.ir_graph.specs.Times.{LeadsTickless}
+use Rattle.ir_graph.proofs.Times.{has_timed_run_if_reached_state_has_ticks}
 use Rattle.ir_graph.specs.Nodes.{LookAlike, AllRest, Stay}
 use Rattle.ir_graph.specs.Plain.{sourced_flat, IsLike, MayGo}
 use Rattle.ir_graph.specs.Reached.{IsReached, AllReached}
 use Rattle.ir_graph.proofs.Reached.{step_of_reached_is_reached}
 use Rattle.ir_graph.proofs.Stops.{is_stop_if_stops_after_entry_from_reached_state, may_stop_by_thread_stop}
-use Rattle.ir_graph.proofs.Found.{leads_nowhere_if_no_step, reached_like, reached_each, reached_rests, leads_to_node_if_reached_state_looks_alike}
+use Rattle.ir_graph.proofs.Found.{leads_nowhere_if_no_step, reached_like, reached_each, reached_rests, leads_to_node_if_reached_state_looks_alike, leads_tickless_if_reached_state_is}
 use Rattle.ir_graph.proofs.Forms.{have_form_of_like_moment}
 use Rattle.ir_graph.proofs.Plain.{TakesStep, takes_step_at_rest_if_tables_step, like_transitive, flat_after_step_is_like_flat_before, flat_after_plain_steps_is_like_flat_before}
 use Rattle.ir_graph.proofs.nodes.node_by_steps.Goals as goal
@@ -220,3 +223,74 @@ returns-in-Ok-clause-stay c = subst (λ z. Stay z c.node_of.new.flats.items) c.b
 
 pub returns-clause-stay : goal.returns-clause-stay
 returns-clause-stay c = subst (λ z. Stay z c.node_of.new.flats.items) c.by_numbers.ensures.items c.node_of.ensures.stay
+
+pub returns-in-Ok-clause-has : goal.returns-in-Ok-clause-has
+returns-in-Ok-clause-has c = λ x all was new.
+    let f = c.state.inside.flat in
+    let g = c.take.new.self in
+    let sources = c.state.inside.sources.items in
+    let s = sourced_flat f sources in
+    let u = sourced_flat g sources in
+    let t = c.args.way.thread in
+    let at = subst (λ z. slice_get c.args.flats.now.items c.args.way.node ≡ Some z) (sym c.state.view_is) c.in_ok-state.ensures.found in
+    let less = c.requires.thread s at in
+    let rests = c.requires.nodes.rest c.args.way.node s at t less in
+    let one = c.in_default-take.ensures in
+    let step : TakesStep (sourced_flat c.state.inside.flat c.state.inside.sources.items) (sourced_flat c.take.new.self c.state.inside.sources.items)
+    c.args.way.thread c.in-Some.answer =
+    takes_step_at_rest_if_tables_step f g sources t c.in-Some.answer rests one.admitted one.taken one.code one.threads one.objects in
+    let w = c.run_to_rest.new.state in
+    let goes = c.run_to_rest.ensures.goes in elim (c.node_of.ensures.ticks new) [
+      | inl old ↦ was old
+      | inr ticks ↦ has_timed_run_if_reached_state_has_ticks x w (step_of_reached_is_reached x s u w t c.in-Some.answer (all c.args.way.node s at) rests step goes)
+          (subst (λ (z : SourcedFlat). HaveTicks z.sources) c.in_ok-new.ensures.state ticks)
+    ]
+
+pub returns-clause-has : goal.returns-clause-has
+returns-clause-has c = λ x all was new.
+    let f = c.state.inside.flat in
+    let g = c.take.new.self in
+    let sources = c.state.inside.sources.items in
+    let s = sourced_flat f sources in
+    let u = sourced_flat g sources in
+    let t = c.args.way.thread in
+    let at = subst (λ z. slice_get c.args.flats.now.items c.args.way.node ≡ Some z) (sym c.state.view_is) c.in_ok-state.ensures.found in
+    let less = c.requires.thread s at in
+    let rests = c.requires.nodes.rest c.args.way.node s at t less in
+    let one = c.in_default-take.ensures in
+    let step : TakesStep (sourced_flat c.state.inside.flat c.state.inside.sources.items) (sourced_flat c.take.new.self c.state.inside.sources.items)
+    c.args.way.thread c.in-Some.answer =
+    takes_step_at_rest_if_tables_step f g sources t c.in-Some.answer rests one.admitted one.taken one.code one.threads one.objects in
+    let w = c.run_to_rest.new.state in
+    let goes = c.run_to_rest.ensures.goes in elim (c.node_of.ensures.ticks new) [
+      | inl old ↦ was old
+      | inr ticks ↦ has_timed_run_if_reached_state_has_ticks x w (step_of_reached_is_reached x s u w t c.in-Some.answer (all c.args.way.node s at) rests step goes)
+          (subst (λ (z : SourcedFlat). HaveTicks z.sources) c.in_ok-new.ensures.state ticks)
+    ]
+
+pub returns-in-Ok-clause-tickless : goal.returns-in-Ok-clause-tickless
+returns-in-Ok-clause-tickless c = λ p is none.
+    let f = c.state.inside.flat in
+    let g = c.take.new.self in
+    let sources = c.state.inside.sources.items in
+    let s = sourced_flat f sources in
+    let u = sourced_flat g sources in
+    let t = c.args.way.thread in
+    let at = subst (λ z. slice_get c.args.flats.now.items c.args.way.node ≡ Some z) (sym c.state.view_is) c.in_ok-state.ensures.found in
+    let less = c.requires.thread s at in
+    let rests = c.requires.nodes.rest c.args.way.node s at t less in
+    let one = c.in_default-take.ensures in
+    let step : TakesStep (sourced_flat c.state.inside.flat c.state.inside.sources.items) (sourced_flat c.take.new.self c.state.inside.sources.items)
+    c.args.way.thread c.in-Some.answer =
+    takes_step_at_rest_if_tables_step f g sources t c.in-Some.answer rests one.admitted one.taken one.code one.threads one.objects in
+    let w = c.run_to_rest.new.state in
+    let goes = c.run_to_rest.ensures.goes in
+    let r = c.in-Some.ensures.result in
+    let may = subst (MayGo c.args.way.refused) c.ask-asked.ensures.value c.in-Some.ensures.has in
+    subst (LeadsTickless c.node_of.new.flats.items t c.args.way.refused c.args.way.node) (same_Some c.in-Ok.next p is)
+    (leads_tickless_if_reached_state_is c.args.flats.now.items s u w t c.args.way.refused c.args.way.node c.requires.nodes at less may
+    (subst (TakesStep (sourced_flat c.state.inside.flat c.state.inside.sources.items) (sourced_flat c.take.new.self c.state.inside.sources.items)
+    c.args.way.thread) r step) goes c.node_of.new.flats.items c.in-Ok.next
+    (subst (λ z. Stay z c.node_of.new.flats.items) c.by_numbers.ensures.items c.node_of.ensures.stay)
+    (λ k is. subst (λ z. LookAlike z k) c.in_ok-new.ensures.state (c.in-Ok.ensures.alike k is))
+    (subst (λ (z : SourcedFlat). HaveNoTicks z.sources) c.in_ok-new.ensures.state (c.node_of.ensures.tickless none).1))

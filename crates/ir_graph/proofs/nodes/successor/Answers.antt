@@ -56,3 +56,12 @@ returns-clause-stopped c =
     (λ (stop : Stop). (x : Setup) → AllReached x c.args.flats.now.items → MayStop x new c.args.bounds.nodes c.args.bounds.private stop)
     c.node_by_steps.result (λ stop may x all. may x (subst (AllReached x) (sym c.turn_of.ensures.items) all))
     c.node_by_steps.ensures.stopped
+
+pub returns-in-Ok-clause-has : goal.returns-in-Ok-clause-has
+returns-in-Ok-clause-has c = λ x all. c.node_by.ensures.has x (subst (AllReached x) (sym c.turn_of.ensures.items) all)
+
+pub returns-in-Err-clause-has : goal.returns-in-Err-clause-has
+returns-in-Err-clause-has c = λ x all. c.node_by.ensures.has x (subst (AllReached x) (sym c.turn_of.ensures.items) all)
+
+pub returns-clause-has : goal.returns-clause-has
+returns-clause-has c = λ x all. c.node_by_steps.ensures.has x (subst (AllReached x) (sym c.turn_of.ensures.items) all)

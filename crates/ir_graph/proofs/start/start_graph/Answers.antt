@@ -8,7 +8,9 @@ use Rattle.ir_graph.specs.Setup.{start_of}
 use Rattle.ir_graph.proofs.Grown.{free_to_try_if_no_refusals_noted, noted_by_past_threads_leads_nowhere, start_is_graph}
 use Rattle.ir_image.specs.Guest.{Guest}
 use Rattle.ir_store.specs.Nodes.{SourcedFlat, sourced_in}
-use Rattle.ir_store.specs.Table.{HaveForm}
+use Rattle.ir_store.specs.Table.{HaveForm, HaveTicks, HaveNoTicks}
+use Rattle.ir_graph.specs.Times.{KnowsTimes}
+use Rattle.ir_graph.proofs.Timed.{start_knows_times}
 use Rattle.ir_graph.proofs.Forms.{have_form_of_like_moment, start_threads_have_form, start_has_source_for_each_thread}
 use Rattle.ir_graph.proofs.Plain.{flat_after_plain_steps_is_like_flat_before}
 use Rattle.ir_graph.proofs.start.start_graph.Goals as goal
@@ -61,3 +63,26 @@ returns-clause-sound c =
     (goes.sources ∙ start_has_source_for_each_thread x ∙ sym goes.threads) (sym many)
     (many ∙ goes.threads ∙ length_of_start_threads x.guest most_budget x.profile 0 (length x.guest.entries)) free tries
     (noted_by_past_threads_leads_nowhere rows refused_rows (let a = c.in_ok-refused_rows.ensures.threads in omega (arith, a, same))))
+
+pub returns-clause-times : goal.returns-clause-times
+returns-clause-times c =
+    let x = c.args.setup.now in
+    let h = c.rest_all.new.state in
+    let rows = c.in_ok-rows.rows.items in
+    let refused_rows = c.in_ok-refused_rows.refused_rows.items in
+    let value = ap length c.threads-threads.ensures.value ∙ ap (λ (z : SourcedFlat). length z.flat.threads) c.state.view_is in
+    let goes = subst (λ z. GoesPlain z h) c.in_ok-state.ensures c.in_ok-rest_all.ensures.goes in
+    let same = c.in_ok-rows.ensures.threads in
+    let many : length rows ≡ length h.flat.threads = same ∙ value in
+    let free = subst (λ n. (t v : ℕ) → t < n → noted_in rows t v ≡ None) (sym same) c.in_ok-rows.ensures.free in
+    let tries = free_to_try_if_no_refusals_noted x.profile (length rows) rows refused_rows (λ one. c.in_ok-refused_rows.ensures.one (c.profile.ensures ∙ one))
+    (λ two. subst (λ n. (t v : ℕ) → t < n → noted_in refused_rows t v ≡ None) (sym same) (c.in_ok-refused_rows.ensures.two (c.profile.ensures ∙ two))) in
+    let states : c.push.new.self.items ≡ h ∷ [] =
+    c.in_ok-push.ensures.ok ∙ ap (λ z. z ++ sourced_in c.by_numbers.new.self.shared c.in_ok-first.first ∷ []) (c.by_numbers.ensures.items ∙ c.new-flats.ensures.items)
+    ∙ ap (λ z. z ∷ []) c.in_ok-first.ensures.state in
+    let first : sourced_in c.by_numbers.new.self.shared c.in_ok-first.first ≡ h = c.in_ok-first.ensures.state in
+    subst (λ z. KnowsTimes x z (noted_by rows refused_rows) c.is_timed-timed.result) (sym states)
+    (start_knows_times x h (noted_by rows refused_rows) (length rows) c.is_timed-timed.result goes free tries
+    (noted_by_past_threads_leads_nowhere rows refused_rows (let a = c.in_ok-refused_rows.ensures.threads in omega (arith, a, same)))
+    (λ e. subst (λ (z : SourcedFlat). HaveTicks z.sources) first (c.is_timed-timed.ensures.timed e))
+    (λ e. subst (λ (z : SourcedFlat). HaveNoTicks z.sources) first (c.is_timed-timed.ensures.untimed e)))

@@ -6,7 +6,7 @@ use Rattle.ir_graph.proofs.Stops.{may_stop_by_memory}
 use Rattle.ir_graph.proofs.states.States.go_over.Goals as goal
 
 pub go_over-requires-clause-sound : goal.go_over-requires-clause-sound
-go_over-requires-clause-sound g c = (c.requires.is.graph, c.requires.is.turns, c.requires.is.code)
+go_over-requires-clause-sound g c = (c.requires.is.graph, c.requires.is.turns, c.requires.is.code, c.requires.is.times)
 
 pub returns-clause-is : goal.returns-clause-is
 returns-clause-is g c =
@@ -14,6 +14,7 @@ returns-clause-is g c =
       graph = c.go_over.ensures.sound.0;
       turns = c.go_over.ensures.sound.1;
       code = c.go_over.ensures.sound.2;
+      times = c.go_over.ensures.sound.3;
       room = c.go_over.ensures.room;
       threads = c.go_over.ensures.threads ∙ c.requires.is.threads ∙ c.requires.is.graph.number ∙ ap (λ z. length z.guest.entries) (sym setup)
           ∙ sym c.go_over.ensures.sound.0.number;

@@ -4,6 +4,7 @@ use Rattle.ir_explore.specs.Searching.{IsBetween}
 use Rattle.ir_graph.specs.Ahead.{AreTurns}
 use Rattle.ir_graph.specs.Graph.{IsGraph}
 use Rattle.ir_graph.specs.Notes.{noted_by}
+use Rattle.ir_graph.specs.Times.{KnowsTimes}
 use Rattle.ir_graph.proofs.states.States.start.Goals as goal
 
 pub returns-clause-is : goal.returns-clause-is
@@ -18,6 +19,7 @@ returns-clause-is c =
       threads = c.in_ok-search.ensures.threads ∙ c.len.ensures ∙ graph.rows.ok.0;
       code = made.code ∙ ap (λ z. z.guest.code) (sym made.setup);
       ways = has.reached;
+      times = subst (λ z. KnowsTimes z graph.flats.items noted graph.timed) (sym made.setup) made.times;
       few = let one = made.one in let l = has.few in omega (arith, one, l);
     }
 
