@@ -22,6 +22,8 @@ are_known_of_plan_if_known_at_n_switches guest plan n k a last = record {
   found = a.found;
   hanging = a.hanging;
   unknown = a.unknown;
+  timed = a.timed;
+  untimed = a.untimed;
   covered = λ e. a.covered e ∙ ap suc (last e);
   left = λ e. let l = a.left e in (l.0, l.1, l.2, subst (NeedsSwitches (setup_of guest plan) l.1) (last e) l.3);
   stopped = a.stopped;

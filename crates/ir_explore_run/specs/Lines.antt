@@ -1,5 +1,5 @@
 -- The lines of `ir explore`.
-use Rattle.std.specs.Prelude.{ℕ, zero, suc, ◌*◌, List, [], ◌∷◌, ◌++◌, codes, decimal, length, take, drop, flat_map, Option, Some, None}
+use Rattle.std.specs.Prelude.{ℕ, zero, suc, ◌*◌, Bool, true, false, List, [], ◌∷◌, ◌++◌, codes, decimal, length, take, drop, flat_map, Option, Some, None}
 use Rattle.hex.specs.Hex.{encode_lower}
 use Rattle.ir_thread.specs.State.{end_number, end_code, ThreadState}
 use Rattle.ir_thread.specs.declared.end.End.{End}
@@ -85,9 +85,14 @@ hangs_text Finished hangs = codes " hangs " ++ decimal hangs
 hangs_text Covered hangs = []
 hangs_text (Stopped why) hangs = []
 
+-- that a call for the time is answered by a count
+abbrev pub clock_text : Bool → List ℕ
+clock_text true = codes " clock counted"
+clock_text false = []
+
 -- the last line
-abbrev pub last_line : List ℕ → List ℕ → List ℕ → List ℕ
-last_line ended counts hangs = ended ++ (codes " " ++ (counts ++ (hangs ++ 10 ∷ [])))
+abbrev pub last_line : List ℕ → List ℕ → List ℕ → List ℕ → List ℕ
+last_line ended counts hangs clock = ended ++ (codes " " ++ (counts ++ (hangs ++ (clock ++ 10 ∷ []))))
 
 -- the line of the outcome that is recorded, by its number, with the list that spells its order
 abbrev pub found_line : ℕ → ℕ → List ℕ → List ℕ

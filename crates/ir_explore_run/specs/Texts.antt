@@ -1,5 +1,5 @@
 -- What `ir explore` writes.
-use Rattle.std.specs.Prelude.{◌≡◌, ◌⊎◌, ℕ, zero, suc, Option, Some, None, List, [], ◌++◌, length, take, flat_map, if◌then◌else◌, nat_eq, slice_get}
+use Rattle.std.specs.Prelude.{◌≡◌, ◌⊎◌, ℕ, zero, suc, Bool, true, false, Option, Some, None, List, [], ◌++◌, length, take, flat_map, if◌then◌else◌, nat_eq, slice_get}
 use Rattle.std.specs.List.{slice_index_or}
 use Rattle.std.specs.Cmp.Lexicographic.{pointwise}
 use Rattle.ir_explore.specs.declared.search.Ended.{Ended}
@@ -15,6 +15,7 @@ use Rattle.ir_graph.specs.Reached.{AllReached}
 use Rattle.ir_graph.specs.Setup.{Setup}
 use Rattle.ir_graph.specs.Standing.{AllFound, NeedsSwitches}
 use Rattle.ir_graph.specs.Stops.{IsStop, MayStop}
+use Rattle.ir_graph.specs.Times.{HasTimedRun}
 use Rattle.ir_image.specs.Guest.{Guest, object_count, object_words}
 use Rattle.ir_object.specs.Cell.{Cell}
 use Rattle.ir_order.specs.Spelling.{IsListOf}
@@ -26,7 +27,7 @@ use Rattle.ir_thread.specs.State.{ThreadState}
 use Rattle.ir_store.specs.Nodes.{SourcedFlat}
 use Rattle.ir_explore_run.specs.declared.started.Started.{Started}
 use Rattle.ir_explore_run.specs.Plan.{ExplorePlan, setup_of}
-use Rattle.ir_explore_run.specs.Lines.{outcome_line, thread_text, object_line, hang_line, ended_text, counts_text, hangs_text, last_line}
+use Rattle.ir_explore_run.specs.Lines.{outcome_line, thread_text, object_line, hang_line, ended_text, counts_text, hangs_text, clock_text, last_line}
 
 -- the lines of the first n threads
 abbrev pub threads_text : List ThreadState → ℕ → List ℕ
@@ -89,10 +90,10 @@ abbrev pub IsHangText : Option Shown → List ℕ → Type 0
 IsHangText None text = text ≡ []
 IsHangText (Some x) text = (list : List ℕ) × IsListOf list (turns_of_items x.turns.items) × (text ≡ hang_line x.level list)
 
--- the last line: how the search ended, and how many outcomes, states and hangs there are
-abbrev pub end_line : Ended → ℕ → ℕ → ℕ → ℕ → List ℕ
-end_line ended levels outcomes states hangs =
-    last_line (ended_text ended levels) (counts_text outcomes states) (hangs_text ended hangs)
+-- the last line: how the search ended, how many outcomes, states and hangs there are, and whether some call for the time was answered
+abbrev pub end_line : Ended → ℕ → ℕ → ℕ → ℕ → Bool → List ℕ
+end_line ended levels outcomes states hangs timed =
+    last_line (ended_text ended levels) (counts_text outcomes states) (hangs_text ended hangs) (clock_text timed)
 
 -- why there is nothing to print of a search: it didn't begin
 abbrev pub IsReason : Guest → ExplorePlan → Stop → Type 0
@@ -112,6 +113,8 @@ pub record Known : Type 0 where
   pub hangs : ℕ
   -- a run that leads to one of them
   pub hang : Option Shown
+  -- whether some run that counts answers a call for the time
+  pub timed : Bool
 
 abbrev pub known_of : Explored → Known
 known_of e = record {
@@ -121,11 +124,13 @@ known_of e = record {
   ended = e.ended;
   hangs = e.hangs;
   hang = e.hang;
+  timed = e.states.graph.timed;
 }
 
 -- It is so. The states are different ones of the guest at rest, to each of which a run leads. Once the search is finished, they and the outcomes are
 -- all, and so many states can't be brought to an end: where there are any, a run that hangs is known too, and only there. Where the switches that
--- were wanted are covered, some state needs as many. The search stopped early only for what the plan says.
+-- were wanted are covered, some state needs as many. The search stopped early only for what the plan says. Some run of the guest that counts
+-- answers a call for the time where that is said, and, once the search is finished, only there.
 pub record AreKnown (guest : Guest) (plan : ExplorePlan) (k : Known) : Type 0 where
   pub explored : AreExplored (setup_of guest plan) k.flats k.levels k.outcomes
   pub all : k.ended ≡ Finished → AreAll (setup_of guest plan) k.flats k.outcomes
@@ -134,6 +139,8 @@ pub record AreKnown (guest : Guest) (plan : ExplorePlan) (k : Known) : Type 0 wh
   pub found : k.ended ≡ Finished → AllFound (setup_of guest plan) k.flats
   pub hanging : k.ended ≡ Finished → AreHangs (setup_of guest plan) k.flats k.hangs k.hang
   pub unknown : (k.ended ≡ Finished → ⊥) → k.hang ≡ None
+  pub timed : k.timed ≡ true → HasTimedRun (setup_of guest plan)
+  pub untimed : k.ended ≡ Finished → HasTimedRun (setup_of guest plan) → k.timed ≡ true
   pub covered : k.ended ≡ Covered → k.levels ≡ suc plan.switches
   pub left : k.ended ≡ Covered → (v : ℕ) × (s : SourcedFlat) × (slice_get k.flats v ≡ Some s) × NeedsSwitches (setup_of guest plan) s plan.switches
   pub stopped : (why : Stop) → k.ended ≡ Stopped why → MayStop (setup_of guest plan) k.flats plan.bounds.nodes plan.bounds.private why
@@ -142,7 +149,7 @@ pub record AreKnown (guest : Guest) (plan : ExplorePlan) (k : Known) : Type 0 wh
 pub record IsEnding (k : Known) (answered : ExitStatus) (text : List ℕ) : Type 0 where
   pub hang_lines : List ℕ
   pub hang_text : IsHangText k.hang hang_lines
-  pub whole : text ≡ hang_lines ++ end_line k.ended k.levels (length k.outcomes) (length k.flats) k.hangs
+  pub whole : text ≡ hang_lines ++ end_line k.ended k.levels (length k.outcomes) (length k.flats) k.hangs k.timed
   pub status : answered ≡ status_of k.ended
 
 -- it is printed: the outcomes of the guest, a hang if one is known, and how the search for them ended
@@ -161,7 +168,7 @@ IsFound guest plan answered text = (k : Known) × AreKnown guest plan k × IsKno
 pub record IsStopped (guest : Guest) (plan : ExplorePlan) (answered : ExitStatus) (text : List ℕ) : Type 0 where
   pub why : Stop
   pub reason : IsReason guest plan why
-  pub whole : text ≡ end_line (Stopped why) 0 0 0 0
+  pub whole : text ≡ end_line (Stopped why) 0 0 0 0 false
   pub status : answered ≡ status.NotSo
 
 -- the answer about a guest

@@ -50,6 +50,7 @@ pub fn ending_text(
         outcomes: outcomes.len(),
         states: explored.states.graph.flats.len(),
         hangs: explored.hangs,
+        timed: explored.states.graph.timed,
     };
     let line = end_line(alloc, ending)?;
     text.extend_from_slice(line.as_bytes())?;
@@ -90,6 +91,7 @@ pub fn stopped_text(alloc: Global, why: Stop) -> Result<(Vec<u8>, ExitStatus), A
         outcomes: 0,
         states: 0,
         hangs: 0,
+        timed: false,
     };
     let line = end_line(alloc, ending)?;
     let text = Vec::from_slice(alloc, line.as_bytes())?;

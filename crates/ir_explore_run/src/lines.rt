@@ -2,7 +2,7 @@
 
 ghost use Rattle.std.specs.Prelude.{◌≡◌, ◌++◌, IfOk, OnOk};
 ghost use Rattle.std.specs.String.{string_bytes};
-ghost use Rattle.ir_explore_run.specs.Lines.{outcome_line, thread_line, thread_text, object_line, number_of, code_of, why_text, covered_text, hang_line, found_line, counts_text, ended_text, hangs_text, last_line};
+ghost use Rattle.ir_explore_run.specs.Lines.{outcome_line, thread_line, thread_text, object_line, number_of, code_of, why_text, covered_text, hang_line, found_line, counts_text, ended_text, hangs_text, clock_text, last_line};
 
 use crate::bytes::{put_bytes, put_words};
 use ir_explore::{Ended, Stop};
@@ -166,14 +166,22 @@ pub fn hangs_text(alloc: Global, ended: Ended, hangs: usize) -> Result<String, A
     }
 }
 
+/// That a call for the time is answered by a count, if some is.
+pub fn clock_text(timed: bool) -> &'static str
+    ensures { result.now ≡ clock_text timed }
+{
+    if timed { " clock counted" } else { "" }
+}
+
 /// The last line.
 pub fn last_line(
     alloc: Global,
     ended: &str,
     counts: &str,
     hangs: &str,
+    clock: &str,
 ) -> Result<String, AllocError>
-    ensures { IfOk result (λ s. string_bytes s ≡ last_line ended.now counts.now hangs.now) }
+    ensures { IfOk result (λ s. string_bytes s ≡ last_line ended.now counts.now hangs.now clock.now) }
 {
-    format!(in alloc; "{ended} {counts}{hangs}\n")
+    format!(in alloc; "{ended} {counts}{hangs}{clock}\n")
 }

@@ -6,7 +6,7 @@ ghost use Rattle.ir_store.specs.Nodes.{SourcedFlat};
 ghost use Rattle.ir_outcomes.specs.declared.shown.Shown.{Shown};
 ghost use Rattle.ir_explore_run.specs.Texts.{AreTexts, IsHangText, end_line, objects_in};
 
-use crate::lines::{counts_text, ended_text, hang_line, hangs_text, last_line};
+use crate::lines::{clock_text, counts_text, ended_text, hang_line, hangs_text, last_line};
 use crate::outcome::outcome_text;
 use crate::started::Started;
 use crate::states::state_of;
@@ -67,14 +67,22 @@ pub struct Ending {
     pub states: usize,
     /// How many of them can't be brought to an end.
     pub hangs: usize,
+    /// Whether some run of the guest answers a call for the time.
+    pub timed: bool,
 }
 
 /// The last line.
 pub fn end_line(alloc: Global, ending: Ending) -> Result<String, AllocError>
-    ensures { IfOk result (λ s. string_bytes s ≡ end_line ending.ended ending.levels ending.outcomes ending.states ending.hangs) }
+    ensures { IfOk result (λ s. string_bytes s ≡ end_line ending.ended ending.levels ending.outcomes ending.states ending.hangs ending.timed) }
 {
     let ended = ended_text(alloc, ending.ended, ending.levels)?;
     let counts = counts_text(alloc, ending.outcomes, ending.states)?;
     let hangs = hangs_text(alloc, ending.ended, ending.hangs)?;
-    last_line(alloc, ended.as_str(), counts.as_str(), hangs.as_str())
+    last_line(
+        alloc,
+        ended.as_str(),
+        counts.as_str(),
+        hangs.as_str(),
+        clock_text(ending.timed),
+    )
 }

@@ -1,5 +1,5 @@
 -- The outcomes of a guest, listed.
-use Rattle.std.specs.Prelude.{◌≡◌, ◌↔◌, ℕ, suc, ◌<◌, ◌≤◌, Bool, List, Option, Some, None, length, slice_get}
+use Rattle.std.specs.Prelude.{◌≡◌, ◌↔◌, ℕ, suc, ◌<◌, ◌≤◌, Bool, true, List, Option, Some, None, length, slice_get}
 use Rattle.ir_explore.specs.declared.origin.Origin.{Origin}
 use Rattle.ir_explore.specs.declared.search.Ended.TheVariants.{Finished, Covered, Stopped}
 use Rattle.ir_explore.specs.declared.stop.Stop.{Stop}
@@ -14,6 +14,7 @@ use Rattle.ir_graph.specs.Reached.{AllReached}
 use Rattle.ir_graph.specs.Standing.{AllFound, NeedsSwitches}
 use Rattle.ir_graph.specs.Setup.{Setup, IsCountedOf}
 use Rattle.ir_graph.specs.Stops.{MayStop}
+use Rattle.ir_graph.specs.Times.{HasTimedRun}
 use Rattle.ir_graph.specs.declared.nodes.Bounds.{Bounds}
 use Rattle.ir_graph.specs.Outcomes.{Outcome, outcome_of}
 use Rattle.ir_outcomes.specs.declared.explored.Explored.{Explored}
@@ -89,6 +90,9 @@ pub record IsExplored (setup : Setup) (bounds : Bounds) (most : ℕ) (e : Explor
   -- so are its hangs: one is shown exactly where some run of the guest can't be brought to an end
   pub hangs : e.ended ≡ Finished → AreHangs setup e.states.graph.flats.items e.hangs e.hang
   pub unknown : (e.ended ≡ Finished → ⊥) → e.hang ≡ None
+  -- calls for the time: some run of the guest that counts answers one; once it is finished, exactly then
+  pub timed : e.states.graph.timed ≡ true → HasTimedRun setup
+  pub untimed : e.ended ≡ Finished → HasTimedRun setup → e.states.graph.timed ≡ true
   -- it ended so only where all levels that are wanted are gone over, and some state needs as many switches as there may be
   pub covered : e.ended ≡ Covered → e.levels ≡ suc most
   pub left : e.ended ≡ Covered → (v : ℕ) × (s : SourcedFlat) × (slice_get e.states.graph.flats.items v ≡ Some s) × NeedsSwitches setup s most

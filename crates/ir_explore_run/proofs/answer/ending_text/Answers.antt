@@ -6,9 +6,9 @@ use Rattle.ir_explore_run.proofs.answer.ending_text.Goals as goal
 pub returns : goal.returns
 returns c =
     let explored = c.args.explored.now in
-    let ending : end_line explored.ended explored.levels (length c.as_slice-outcomes.result.now) c.len.result explored.hangs
-    ≡ end_line explored.ended explored.levels (length explored.outcomes.items) (length explored.states.graph.flats.items) explored.hangs =
-    λ i. end_line explored.ended explored.levels (length (c.as_slice-outcomes.ensures.value i)) (c.len.ensures i) explored.hangs in
+    let ending : end_line explored.ended explored.levels (length c.as_slice-outcomes.result.now) c.len.result explored.hangs explored.states.graph.timed
+    ≡ end_line explored.ended explored.levels (length explored.outcomes.items) (length explored.states.graph.flats.items) explored.hangs explored.states.graph.timed =
+    λ i. end_line explored.ended explored.levels (length (c.as_slice-outcomes.ensures.value i)) (c.len.ensures i) explored.hangs explored.states.graph.timed in
     record {
       hang_lines = string_bytes c.in_ok-hang.hang;
       hang_text = c.in_ok-hang.ensures;

@@ -33,6 +33,8 @@ returns-clause-explored c =
           (going.searched later) going.few going.has (going.seen later) f.2.all f.2.nodes;
       hangs = c.ending-ended.ensures.hangs;
       unknown = c.ending-ended.ensures.unknown;
+      timed = is.search.times.has;
+      untimed = λ done has. (c.ending-ended.ensures.finished done).2.timed.1 has;
       covered = λ done.
           let f = c.ending-ended.ensures.covered done in
           let more = f.1 in
