@@ -301,12 +301,14 @@ def ended_ways(before, done):
 
 
 class Judged(NamedTuple):
-    """Each outcome with the fewest switches that lead to it, the fewest switches to a hang or none, and how many states and hangs are counted."""
+    """Each outcome with the fewest switches that lead to it, the fewest switches to a hang or none, how many states and hangs are counted, and
+    whether some run calls CLOCK."""
 
     outcomes: dict
     hang: int | None
     states: int
     hangs: int
+    is_timed: bool
 
 
 def counted(guest, least, before, done, found):
@@ -315,7 +317,8 @@ def counted(guest, least, before, done, found):
     at_rest = {state for state, _ in least if all(rests(operations, thread) for operations, thread in zip(guest, state[0]))}
     hang = min((switches for (state, _), switches in least.items() if state not in ways), default=None)
     return Judged(found, hang, len({looks_of(guest, live, state) for state in at_rest}),
-                  len({looks_of(guest, live, state) for state in at_rest - ways}))
+                  len({looks_of(guest, live, state) for state in at_rest - ways}),
+                  any(thread.source.ticks for state, _ in least for thread in state[0]))
 
 
 def judged(guest, objects, world):
@@ -411,7 +414,7 @@ def check_guest(folder, guest, objects, world=SILENT):
     if [row.switches for row in found] != sorted(row.switches for row in found):
         raise Wrong(f"{guest}: switches don't rise")
     hangs = [int(line.split()[2]) for line in lines if line.startswith("hang ")]
-    whole = f"finished outcomes {len(found)} states {wanted.states} hangs {wanted.hangs}"
+    whole = f"finished outcomes {len(found)} states {wanted.states} hangs {wanted.hangs}" + " clock counted" * wanted.is_timed
     if hangs != ([] if wanted.hang is None else [wanted.hang]) or last != whole:
         raise Wrong(f"{guest} in {world}: hangs after {hangs} switches, wanted {wanted.hang}, and the last line is {last!r}, wanted {whole!r}")
     for row in found:
@@ -517,8 +520,10 @@ COPIES = [[("input", 0), ("skip", 0, -1, 7), ("enter_write", 0), ("put", 0, 0, 0
 SPENDS = [[*entries("enter_read", 0, 1, [("get", 0, 0, 0)]), ("skip", 0, 0, 5), ("input", 0), ("set", 0, 0), *entries("enter_read", 0, 1),
            ("input", 1), ("print", 1), ("random", 1), ("print", 1), ("clock", 1), ("print", 1)],
           [("set", 0, 1), *entries("enter_write", 0, 1, [("put", 0, 0, 0)])]]
+# A thread asks for the time if the other was first, and ends as it does else.
+LATE = [[*entries("enter_read", 0, 1, [("get", 0, 0, 0)]), ("skip", 0, 0, 5), ("clock", 1)], [("set", 0, 1), *entries("enter_write", 0, 1, [("put", 0, 0, 0)])]]
 # Guests that call their world, each with its own.
-ASKING = ((COPIES, 1, World(0, b"\1\2")), (COPIES, 1, World(3, b"")), (SPENDS, 1, World(9, b"AB")), (SPENDS, 1, World(2**64 - 1, b"A")))
+ASKING = ((LATE, 1, World(0, b"")), (COPIES, 1, World(0, b"\1\2")), (COPIES, 1, World(3, b"")), (SPENDS, 1, World(9, b"AB")), (SPENDS, 1, World(2**64 - 1, b"A")))
 # A thread that asks for the time without end.
 ENDLESS = """        .thread main
 main:   addi a7, zero, 4

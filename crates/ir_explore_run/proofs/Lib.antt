@@ -5,3 +5,4 @@ mod Joined
 mod Sought
 mod Printed
 mod Recorded
+mod Untimed

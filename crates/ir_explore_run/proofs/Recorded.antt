@@ -33,7 +33,11 @@ use Rattle.ir_store.specs.Table.{no_source}
 use Rattle.ir_thread.specs.State.{ThreadState, thread_machine}
 use Rattle.ir_thread.specs.declared.profile.Profile.{Profile}
 use Rattle.ir_trace.specs.Recorded.{Recorded, recorded_thread, trace_of}
-use Rattle.ir_explore_run.specs.Recorded.{IsUntimed, AreUntimed, AreUncut, IsOfOutcome, RecordingsHaveOutcomes, RecordingsAreListed, RecordingsNeverFulfil}
+use Rattle.ir_graph.specs.Times.{HasTime, HasTimedRun}
+use Rattle.ir_seen.specs.Seen.{IsSpoilt}
+use Rattle.ir_states.specs.Views.{IsUnspoilt}
+use Rattle.ir_explore_run.specs.Recorded.{IsUntimed, AreUntimed, AreUncut, IsOfOutcome, IsUncutRecording, RecordingsHaveOutcomes, RecordingsAreListed, RecordingsAreUntimed, UntimedRecordingsAreListed, RecordingsNeverFulfil}
+use Rattle.ir_explore_run.proofs.Untimed.{GivesUntilTime, gives_until_time_if_given, events_are_untimed_or_have_time, has_timed_run_if_log_has_time}
 
 -- ---- threads that the guest doesn't have
 
@@ -99,17 +103,27 @@ thread_of_missing_number_is_idle guest budget profile t l = get_or_past (start_f
 
 -- ---- a run that was recorded counts
 
-counted_if_recorded : (setup : Setup) (budget : ℕ) (counted : Bool) (run : List Step) (trace : Recorded) (outputs : List (List ℕ)) (answers : List (List Answered))
-    → IsRecordingOf setup.guest budget setup.profile run (unasked setup.guest) trace outputs answers
-    → ((t : ℕ) → t < length setup.guest.entries → IsAnswered (origin_of counted setup.random setup.input t) (get_or answers t []))
-    → AreUntimed (length setup.guest.entries) trace → AreUncut (length setup.guest.entries) trace → IsCountedOf setup budget run
-counted_if_recorded setup budget counted run trace outputs answers r answered no_clock uncut = record {
-  complete = (w.runs, w.done);
-  answered = λ t. elim (cases_lt t n) [
-    | inl l ↦ of_thread t l
-    | inr g ↦ subst (Gives given (first_source setup t)) (sym (ap events (still t g).0)) tt
-  ];
-  unspoilt = λ t spoilt. elim (cases_lt t n) [
+module _ (setup : Setup) (budget : ℕ) (counted : Bool) (run : List Step) (trace : Recorded) (outputs : List (List ℕ)) (answers : List (List Answered))
+    (r : IsRecordingOf setup.guest budget setup.profile run (unasked setup.guest) trace outputs answers)
+    (answered : (t : ℕ) → t < length setup.guest.entries → IsAnswered (origin_of counted setup.random setup.input t) (get_or answers t []))
+    (uncut : AreUncut (length setup.guest.entries) trace) where
+  abbrev n : ℕ
+  n = length setup.guest.entries
+
+  abbrev m : Machine ThreadState
+  m = thread_machine setup.guest.code
+
+  abbrev s : State ThreadState
+  s = tables (start_flat setup.guest budget setup.profile)
+
+  w : IsWhole m s n (trace_of trace) run
+  w = r.emitted.whole
+
+  still : (t : ℕ) → n ≤ t → (trail m s run t ≡ []) × ((end m s run).now t ≡ s.now t)
+  still t g = no_step_of_thread_above m s n (guest_start_is_idle setup.guest budget setup.profile) run w.runs t g
+
+  recorded_end_is_unspoilt : IsUnspoilt (IsSpoilt setup.guest.code) (end m s run)
+  recorded_end_is_unspoilt t spoilt = elim (cases_lt t n) [
     | inl l ↦ elim spoilt [
       | inl a ↦ (uncut t l).0 (ap number_of (sym (w.ends t l) ∙ a))
       | inr a ↦ (uncut t l).1 (ap number_of (sym (w.ends t l) ∙ a))
@@ -119,37 +133,45 @@ counted_if_recorded setup budget counted run trace outputs answers r answered no
           | inl a ↦ let e : 2 ≡ 13 = ap number_of (sym ends ∙ a) in absurd (omega (arith, e))
           | inr a ↦ let e : 2 ≡ 14 = ap number_of (sym ends ∙ a) in absurd (omega (arith, e))
         ]
-  ];
-}
-  where
-    n : ℕ
-    n = length setup.guest.entries
+  ]
 
-    m : Machine ThreadState
-    m = thread_machine setup.guest.code
+  -- what the world of a thread was asked is in the thread's log
+  kept_in_log : (t : ℕ) → t < n → get_or answers t [] ≡ answers_in (map label_of (recorded_thread trace t).events)
+  kept_in_log t l = kept_answers_are_in_log setup.guest budget setup.profile run answers t l r.answered ∙ ap answers_in (w.logs t l)
 
-    s : State ThreadState
-    s = tables (start_flat setup.guest budget setup.profile)
+  -- what holds of the source and the events of each thread that the guest has, and of no log, holds of each source and log
+  of_each_log : (P : Source → List Label → Type 0) → ((source : Source) → P source [])
+      → ((t : ℕ) → t < n → P (source (seed_of setup.random t) setup.input) (map label_of (recorded_thread trace t).events))
+      → (t : ℕ) → P (first_source setup t) (log m s run t)
+  of_each_log P none some t = elim (cases_lt t n) [
+    | inl l ↦ subst (λ z. P z (log m s run t)) (sym (first_source_is_source setup t l))
+        (subst (P (source (seed_of setup.random t) setup.input)) (sym (w.logs t l)) (some t l))
+    | inr g ↦ subst (P (first_source setup t)) (sym (ap events (still t g).0)) (none (first_source setup t))
+  ]
 
-    w : IsWhole m s n (trace_of trace) run
-    w = r.emitted.whole
-
-    still : (t : ℕ) → n ≤ t → (trail m s run t ≡ []) × ((end m s run).now t ≡ s.now t)
-    still t g = no_step_of_thread_above m s n (guest_start_is_idle setup.guest budget setup.profile) run w.runs t g
-
-    of_thread : (t : ℕ) → t < n → Gives given (first_source setup t) (log m s run t)
-    of_thread t l =
+  counted_if_recorded : AreUntimed n trace → IsCountedOf setup budget run
+  counted_if_recorded no_clock = record {
+    complete = (w.runs, w.done);
+    answered = of_each_log (Gives given) (λ source. tt) (λ t l.
         let es = (recorded_thread trace t).events in
         let a = answered t l in
-        let kept : get_or answers t [] ≡ answers_in (map label_of es) =
-        kept_answers_are_in_log setup.guest budget setup.profile run answers t l r.answered ∙ ap answers_in (w.logs t l) in
         let all : from_sources counted (get_or answers t []) ≡ answers_in (map label_of es) =
-        ap (from_sources counted) kept ∙ answers_from_sources_are_all counted es (no_clock t l) in
-        let gave : Gave (source (seed_of setup.random t) setup.input) (answers_in (map label_of es)) a.0 =
-        subst (λ z. Gave (source (seed_of setup.random t) setup.input) z a.0) all a.1 in
-        subst (λ z. Gives given z (log m s run t)) (sym (first_source_is_source setup t l))
-        (subst (Gives given (source (seed_of setup.random t) setup.input)) (sym (w.logs t l))
-        (log_is_answered_if_source_gave_it (source (seed_of setup.random t) setup.input) (map label_of es) a.0 gave))
+        ap (from_sources counted) (kept_in_log t l) ∙ answers_from_sources_are_all counted es (no_clock t l) in
+        log_is_answered_if_source_gave_it (source (seed_of setup.random t) setup.input) (map label_of es) a.0
+        (subst (λ z. Gave (source (seed_of setup.random t) setup.input) z a.0) all a.1));
+    unspoilt = recorded_end_is_unspoilt;
+  }
+
+  untimed_if_no_timed_run : (HasTimedRun setup → ⊥) → AreUntimed n trace
+  untimed_if_no_timed_run none t l = elim (events_are_untimed_or_have_time (recorded_thread trace t).events) [
+    | inl all ↦ all
+    | inr has ↦ absurd (none (has_timed_run_if_log_has_time setup budget run w.runs
+        (of_each_log GivesUntilTime (λ source. tt) (λ u less.
+        let a = answered u less in
+        gives_until_time_if_given counted (source (seed_of setup.random u) setup.input) (map label_of (recorded_thread trace u).events) a.0
+        (subst (λ z. Gave (source (seed_of setup.random u) setup.input) (from_sources counted z) a.0) (kept_in_log u less) a.1)))
+        recorded_end_is_unspoilt t (subst HasTime (sym (w.logs t l)) has)))
+  ]
 
 -- ---- the laws
 
@@ -174,7 +196,7 @@ recorded_setup_has_outcome image plan trace outputs r no_clock uncut =
     let setup = recorded_setup image plan trace outputs r in
     let of_run : IsOfRun r.guest plan.budget plan.profile some.0 trace outputs = record { trace_of = some.1.emitted; printed = some.1.printed } in
     let counts : IsCountedOf setup plan.budget some.0 =
-    counted_if_recorded setup plan.budget (is_some plan.order) some.0 trace outputs r.answers some.1 r.answered no_clock uncut in
+    counted_if_recorded setup plan.budget (is_some plan.order) some.0 trace outputs r.answers some.1 r.answered uncut no_clock in
     (outcome_by setup plan.budget some.0, (some.0, of_run, refl), (plan.budget, some.0, counts, refl))
 
 same_guest : (image : List ℕ) (a b : Guest) → guest_at image ≡ Ok a → guest_at image ≡ Ok b → a ≡ b
@@ -183,20 +205,39 @@ same_guest image a b x y = same (sym x ∙ y)
     same : {A E : Type 0} {x y : A} → ◌≡◌ {A = Result A E} (Ok x) (Ok y) → x ≡ y
     same e = cc e
 
+same_setup : (setup : Setup) (image : List ℕ) (plan : Plan) (trace : Recorded) (outputs : List (List ℕ)) → (h : IsUncutRecording setup image plan trace outputs)
+    → recorded_setup image plan trace outputs h.recorded ≡ setup
+same_setup setup image plan trace outputs h =
+    let g : h.recorded.guest ≡ setup.guest = same_guest image h.recorded.guest setup.guest h.recorded.is h.guest in
+    λ i. record { guest = g i; profile = h.profile i; random = h.random i; input = h.input i }
+
 pub recordings_have_outcomes : RecordingsHaveOutcomes
-recordings_have_outcomes setup image plan trace outputs h =
-    let r = h.recorded in
-    let g : r.guest ≡ setup.guest = same_guest image r.guest setup.guest r.is h.guest in
-    let e : recorded_setup image plan trace outputs r ≡ setup = λ i. record { guest = g i; profile = h.profile i; random = h.random i; input = h.input i } in
+recordings_have_outcomes setup image plan trace outputs (h, no_clock) =
+    let e = same_setup setup image plan trace outputs h in
     subst (λ z. (x : Outcome) × IsOfOutcome z plan.budget trace outputs x × IsOutcomeOf z x) e
-    (recorded_setup_has_outcome image plan trace outputs r
-    (subst (λ (z : Guest). AreUntimed (length z.entries) trace) (sym g) h.untimed)
-    (subst (λ (z : Guest). AreUncut (length z.entries) trace) (sym g) h.uncut))
+    (recorded_setup_has_outcome image plan trace outputs h.recorded
+    (subst (λ (z : Setup). AreUntimed (length z.guest.entries) trace) (sym e) no_clock)
+    (subst (λ (z : Setup). AreUncut (length z.guest.entries) trace) (sym e) h.uncut))
 
 pub recordings_are_listed : RecordingsAreListed
 recordings_are_listed guest explored k image plan trace outputs are finished h =
     let r = recordings_have_outcomes _ image plan trace outputs h in
     (r.0, r.1, (are.all finished r.0).0 r.2)
+
+pub recordings_are_untimed : RecordingsAreUntimed
+recordings_are_untimed setup image plan trace outputs h none =
+    let r = h.recorded in
+    let e = same_setup setup image plan trace outputs h in
+    let some : IsRecordingOfSome r.guest plan.budget plan.profile (unasked r.guest) trace outputs r.answers =
+    recording_is_of_some_run plan.order r.guest plan.budget plan.profile trace outputs r.answers r.recorded in
+    subst (λ (z : Setup). AreUntimed (length z.guest.entries) trace) e
+    (untimed_if_no_timed_run (recorded_setup image plan trace outputs r) plan.budget (is_some plan.order) some.0 trace outputs r.answers some.1 r.answered
+    (subst (λ (z : Setup). AreUncut (length z.guest.entries) trace) (sym e) h.uncut) (subst (λ z. HasTimedRun z → ⊥) (sym e) none))
+
+pub untimed_recordings_are_listed : UntimedRecordingsAreListed
+untimed_recordings_are_listed guest explored k image plan trace outputs are finished untimed h =
+    recordings_are_listed guest explored k image plan trace outputs are finished
+    (h, recordings_are_untimed _ image plan trace outputs h (λ has. absurd (cc (sym (are.untimed finished has) ∙ untimed))))
 
 pub recordings_never_fulfil : RecordingsNeverFulfil
 recordings_never_fulfil setup conditions image plan trace outputs never h =

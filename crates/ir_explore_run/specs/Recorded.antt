@@ -6,6 +6,7 @@ use Rattle.ir_explore.specs.declared.search.Ended.TheVariants.{Finished}
 use Rattle.ir_graph.specs.Hangs.{IsHangOf}
 use Rattle.ir_graph.specs.Outcomes.{Outcome}
 use Rattle.ir_graph.specs.Setup.{Setup, IsCountedOf}
+use Rattle.ir_graph.specs.Times.{HasTimedRun}
 use Rattle.ir_image.specs.Guest.{Guest, guest_at}
 use Rattle.ir_log.specs.declared.event.Event.{Event}
 use Rattle.ir_log.specs.declared.event.Event.TheVariants.{Answer, Read, Write, Try}
@@ -39,16 +40,19 @@ AreUntimed n trace = (t : ℕ) → t < n → AllByRecursion IsUntimed (recorded_
 abbrev pub AreUncut : ℕ → Recorded → Type 0
 AreUncut n trace = (t : ℕ) → t < n → (end_number (recorded_thread trace t).end ≢ 13) × (end_number (recorded_thread trace t).end ≢ 14)
 
--- The trace and the outputs were recorded of an image's guest, by threads or by a list, with these calls, this random number and this input. No call
--- for the time was answered, no budget was spent and no log was full.
-pub record IsRecordingOfSetup (setup : Setup) (image : List ℕ) (plan : Plan) (trace : Recorded) (outputs : List (List ℕ)) : Type 0 where
+-- The trace and the outputs were recorded of an image's guest, by threads or by a list, with these calls, this random number and this input. No budget
+-- was spent and no log was full.
+pub record IsUncutRecording (setup : Setup) (image : List ℕ) (plan : Plan) (trace : Recorded) (outputs : List (List ℕ)) : Type 0 where
   pub guest : guest_at image ≡ Ok setup.guest
   pub profile : plan.profile ≡ setup.profile
   pub random : plan.random ≡ setup.random
   pub input : plan.input ≡ setup.input
   pub recorded : IsRecordedOf image plan trace outputs
-  pub untimed : AreUntimed (length setup.guest.entries) trace
   pub uncut : AreUncut (length setup.guest.entries) trace
+
+-- neither was a call for the time answered
+abbrev pub IsRecordingOfSetup : Setup → List ℕ → Plan → Recorded → List (List ℕ) → Type 0
+IsRecordingOfSetup setup image plan trace outputs = IsUncutRecording setup image plan trace outputs × AreUntimed (length setup.guest.entries) trace
 
 -- they are of a complete run of the guest with the outcome x
 abbrev pub IsOfOutcome : Setup → ℕ → Recorded → List (List ℕ) → Outcome → Type 0
@@ -64,6 +68,17 @@ RecordingsHaveOutcomes = (setup : Setup) (image : List ℕ) (plan : Plan) (trace
 abbrev pub RecordingsAreListed : Type 0
 RecordingsAreListed = (guest : Guest) (explored : ExplorePlan) (k : Known) (image : List ℕ) (plan : Plan) (trace : Recorded) (outputs : List (List ℕ))
     → AreKnown guest explored k → k.ended ≡ Finished → IsRecordingOfSetup (setup_of guest explored) image plan trace outputs
+    → (x : Outcome) × IsOfOutcome (setup_of guest explored) plan.budget trace outputs x × IsIn k.flats k.outcomes x
+
+-- where no run of the guest that counts answers a call for the time, no recording does
+abbrev pub RecordingsAreUntimed : Type 0
+RecordingsAreUntimed = (setup : Setup) (image : List ℕ) (plan : Plan) (trace : Recorded) (outputs : List (List ℕ)) → IsUncutRecording setup image plan trace outputs
+    → (HasTimedRun setup → ⊥) → AreUntimed (length setup.guest.entries) trace
+
+-- so once a search is finished that doesn't say it of a run, each recording is of a run with one of the outcomes that it lists
+abbrev pub UntimedRecordingsAreListed : Type 0
+UntimedRecordingsAreListed = (guest : Guest) (explored : ExplorePlan) (k : Known) (image : List ℕ) (plan : Plan) (trace : Recorded) (outputs : List (List ℕ))
+    → AreKnown guest explored k → k.ended ≡ Finished → k.timed ≡ false → IsUncutRecording (setup_of guest explored) image plan trace outputs
     → (x : Outcome) × IsOfOutcome (setup_of guest explored) plan.budget trace outputs x × IsIn k.flats k.outcomes x
 
 -- where no outcome of the guest fulfils the conditions, none that is recorded so does

@@ -1,6 +1,6 @@
 //! Laws of what recordings come to, and of hangs. Each function does nothing: its contract is the law.
 
-ghost use Rattle.ir_explore_run.specs.Recorded.{HangsNeverComplete, RecordingsAreListed, RecordingsHaveOutcomes, RecordingsNeverFulfil};
+ghost use Rattle.ir_explore_run.specs.Recorded.{HangsNeverComplete, RecordingsAreListed, RecordingsAreUntimed, RecordingsHaveOutcomes, RecordingsNeverFulfil, UntimedRecordingsAreListed};
 
 /// A recording of the explored guest, by threads too, has one of its outcomes, unless it answered CLOCK, spent a budget or filled a log.
 pub fn recordings_have_outcomes()
@@ -10,6 +10,17 @@ pub fn recordings_have_outcomes()
 /// If a search is finished, such a recording has one of the listed outcomes.
 pub fn recordings_are_listed()
     ensures { RecordingsAreListed }
+{}
+
+/// If no run of the guest that counts answers a call for the time, no such recording does, by real threads either.
+pub fn recordings_are_untimed()
+    ensures { RecordingsAreUntimed }
+{}
+
+/// If a search is finished whose last line doesn't say `clock counted`, each recording of the guest has one of the listed outcomes, unless it
+/// spent a budget or filled a log.
+pub fn untimed_recordings_are_listed()
+    ensures { UntimedRecordingsAreListed }
 {}
 
 /// If it is known that no outcome fulfils the conditions, no such recording does.

@@ -21,7 +21,8 @@ mod until;
 pub use conditions::outcomes_decide;
 pub use fault::ExploreFault;
 pub use laws::{
-    hangs_never_complete, recordings_are_listed, recordings_have_outcomes, recordings_never_fulfil,
+    hangs_never_complete, recordings_are_listed, recordings_are_untimed, recordings_have_outcomes,
+    recordings_never_fulfil, untimed_recordings_are_listed,
 };
 pub use plan::{ExplorePlan, UntilPlan};
 pub use run::explore_run;

@@ -14,6 +14,8 @@ pub use Rattle.ir_graph.proofs.Reached.{answered_run_is_run, done_answered_run_i
 pub use Rattle.ir_graph.proofs.Stops.{may_stop_by_memory, may_stop_by_thread_stop, is_stop_if_stops_after_plain_steps_from_start, is_stop_if_stops_after_entry_from_reached_state}
 -- hangs
 pub use Rattle.ir_graph.proofs.Hangs.{answered_run_is_counting, hang_never_completes, can_end_if_answered_run_can, tells_nothing_of_alike_seen_threads}
+-- calls for the time
+pub use Rattle.ir_graph.proofs.Ticks.{first_source_has_no_ticks}
 -- states that look the same
 pub use Rattle.ir_graph.proofs.Listed.{outcomes_of_alike_states_are_equal}
 -- how many switches a state needs

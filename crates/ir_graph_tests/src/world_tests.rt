@@ -81,7 +81,7 @@ other:  addi a0, zero, 0
 const TIMES: &[u8] = b"outcome 1 switches 0 order 0x6,1x6
 thread 0 end 1 code 1 out 0
 thread 1 end 1 code 1 out 0
-finished outcomes 1 states 1 hangs 0
+finished outcomes 1 states 1 hangs 0 clock counted
 ";
 
 const WORDS: &[u8] = b"outcome 1 switches 0 order 0x4,1x4
