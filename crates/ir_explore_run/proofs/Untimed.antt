@@ -191,7 +191,7 @@ module _ (code : List ℕ) where
       first : Step
       first = (e.0, count)
 
-      abbrev counted_call : Ask → Type 0
+      counted_call : Ask → Type 0
       counted_call q = Admits full (act_of q count) (s.objects (target (act_of q count))) × IsAnswered q (answer_of given q (s.now e.0).1) count
 
   timed_prefix_if_log_has_time : (s : State (ThreadState × Source)) → ((t : ℕ) → (s.now t).1.ticks ≡ 0) → (run : List Step) → IsRun m (plain s) run
