@@ -4,8 +4,8 @@ use Rattle.std.specs.Prelude.{slice_get}
 use Rattle.std.specs.Option.{option_map}
 use Rattle.std.specs.List.{AllByRecursion}
 use Rattle.std.proofs.lemmas.List.{map_push}
-use Rattle.std.proofs.lemmas.Option.{slice_get-map, slice_get-get_or, slice_get_read, slice_get_within, get_or_from_slice_get}
-use Rattle.ir_lemmas.proofs.CallerLemmas.{all_by_recursion_after_push, slice_get_after_push_cases, slice_get_element_satisfies_all_by_recursion, added_element_is_last, length_of_map}
+use Rattle.std.proofs.lemmas.Option.{slice_get-map, slice_get_read, slice_get_within, get_or_from_slice_get}
+use Rattle.ir_lemmas.proofs.CallerLemmas.{all_by_recursion_after_push, slice_get_after_push_cases, added_element_is_last, length_of_map}
 use Rattle.ir_freeze.specs.Basis.{Basis}
 use Rattle.ir_sources.specs.Sources.{Source}
 use Rattle.ir_thread.specs.State.{ThreadState}
@@ -74,8 +74,6 @@ pub looked_up_row_is_get_or_of_mapped_rows : {R X : Type 0} (f : R → X) (rows 
 looked_up_row_is_get_or_of_mapped_rows f rows row n d lt at =
     sym (get_or_from_slice_get (map f rows) n (f row) d (looked_up_row_is_element_of_mapped_rows f rows row n (f row) lt at refl))
 
--- what is so of all rows is so of the row that is read
-pub looked_up_row_satisfies_all : {R X : Type 0} (f : R → X) (P : R → Type 0) (rows : List R) (row : R) (n : ℕ) → AllByRecursion P rows → n < length (map f rows)
-    → row ≡ get_or rows n row → P row
-looked_up_row_satisfies_all f P rows row n all lt at =
-    slice_get_element_satisfies_all_by_recursion P rows n row all (slice_get-get_or rows n row (subst (λ k. n < k) (length_of_map f rows) lt) ∙ ap Some (sym at))
+-- the element of the row that is looked up
+pub element_of_row_found : {R X : Type 0} (f : R → X) (rows : List R) (row : R) (n : ℕ) → slice_get rows n ≡ Some row → slice_get (map f rows) n ≡ Some (f row)
+element_of_row_found f rows row n at = slice_get-map f rows n ∙ ap (option_map f) at

@@ -1,12 +1,14 @@
 //! A thread without the private memory that is as at the start, beside what answers it.
 
 ghost use Rattle.std.specs.Prelude.{◌≡◌, length, true, false, IfOk};
+ghost use Rattle.ir_freeze.specs.Frozen.{is_over};
 ghost use Rattle.ir_mach.specs.Core.{memory_size};
 ghost use Rattle.ir_store.specs.Rows.{seen_in};
 ghost use Rattle.ir_store.specs.Rows as rows;
 ghost use Rattle.ir_thread.specs.Frames.{frame_of};
 
 use crate::packed::Packed;
+use ir_freeze::over;
 use ir_sources::Sources;
 use ir_thread::{Frame, Thread};
 use std::alloc::{AllocError, Global};
@@ -75,11 +77,13 @@ impl<'a> Row<'a> {
         self.packed.same(packed) && thread.has_frame(&self.frame) && self.source.same(source)
     }
 
-    /// The bytes of the thread, without its counts of steps and events.
-    pub fn seen(&self) -> &[u8]
-        ensures { result.now ≡ seen_in self.now.packed }
+    /// Whether the thread has these bytes, which are another thread's, and what answers that one, unless that one is over.
+    pub fn looks_like(&self, bytes: &[u8], thread: &Thread, source: &Sources<'_>) -> bool
+        ensures bytes { result ≡ true → seen_in self.now.packed ≡ bytes.now }
+        ensures source { result ≡ true → is_over thread.now ≡ false → self.now.source ≡ source.now }
+        ensures other { result ≡ false → seen_in self.now.packed ≡ bytes.now → (is_over thread.now ≡ false → self.now.source ≡ source.now) → ⊥ }
     {
-        self.packed.seen()
+        (over(thread) || self.source.same(source)) && self.packed.seen() == bytes
     }
 
     /// What answers the thread.

@@ -15,7 +15,7 @@ use crate::bounds::bounded;
 use crate::packed::Packed;
 use crate::put::put;
 use crate::row::Row;
-use ir_freeze::{Basis, comes_back, over};
+use ir_freeze::{Basis, comes_back};
 use ir_image::ImageForm;
 use ir_sources::Sources;
 use ir_thread::Thread;
@@ -45,14 +45,6 @@ impl<'a> Model for Rows<'a> {
         × AllByRecursion (λ (x : ThreadState × Source). IsBounded x.0) (map (beside_in t.basis.memory) t.rows.items)
         × AllByRecursion (HasOwnBytes t.basis) t.rows.items
         × AreLooks t.basis (map (beside_in t.basis.memory) t.rows.items) (map look_of t.rows.items) };
-}
-
-// Whether what answers a thread is the same, unless it is over.
-fn same_unless_over(thread: &Thread, first: &Sources<'_>, second: &Sources<'_>) -> bool
-    ensures same { result ≡ true → is_over thread.now ≡ false → first.now ≡ second.now }
-    ensures other { result ≡ false → (is_over thread.now ≡ false → first.now ≡ second.now) → ⊥ }
-{
-    over(thread) || first.same(second)
 }
 
 impl<'a> Rows<'a> {
@@ -115,30 +107,29 @@ impl<'a> Rows<'a> {
 
     /// Whether the thread of a number is this one, which has these bytes, and is answered so.
     pub fn has(&self, n: usize, packed: &Packed, thread: &Thread, source: &Sources<'_>) -> bool
-        requires within { n < length self.now.items }
-        requires packed { packed.now ≡ packed_of self.now.basis thread.now }
+        requires { packed.now ≡ packed_of self.now.basis thread.now }
         ensures same { result ≡ true → slice_get self.now.items n ≡ Some (thread.now, source.now) }
         ensures other { result ≡ false → slice_get self.now.items n ≡ Some (thread.now, source.now) → ⊥ }
     {
         comes_back();
         self.basis.is_whole();
         bounded(thread);
-        let row = &self.rows[n];
-        row.has(packed, thread, source)
+        match self.rows.get(n) {
+            Some(row) => row.has(packed, thread, source),
+            None => false,
+        }
     }
 
     /// Whether the thread of a number has these bytes, which are another thread's, and what answers that one, unless that one is over.
     pub fn looks_like(&self, n: usize, bytes: &[u8], thread: &Thread, source: &Sources<'_>) -> bool
-        requires within { n < length self.now.items }
-        requires bytes { bytes.now ≡ frozen self.now.basis thread.now [] }
+        requires { bytes.now ≡ frozen self.now.basis thread.now [] }
         ensures like { result ≡ true → LooksLike self.now.basis self.now.items n (thread.now, source.now) }
         ensures other { result ≡ false → LooksLike self.now.basis self.now.items n (thread.now, source.now) → ⊥ }
     {
-        let row = &self.rows[n];
-        if !same_unless_over(thread, row.source(), source) {
-            return false;
+        match self.rows.get(n) {
+            Some(row) => row.looks_like(bytes, thread, source),
+            None => false,
         }
-        row.seen() == bytes
     }
 
     /// Whether the thread of a number has ended and holds nothing.

@@ -83,24 +83,6 @@ fn whole_hash(seen: u64, thread: &Thread, source: &Sources<'_>) -> u64
     after_source(hash, source)
 }
 
-// Whether the thread of a number is this one, which has these bytes, and is answered so.
-fn is_at(rows: &Rows<'_>, n: usize, packed: &Packed, thread: &Thread, source: &Sources<'_>) -> bool
-    requires { packed.now ≡ packed_of rows.now.basis thread.now }
-    ensures same { result ≡ true → slice_get rows.now.items n ≡ Some (thread.now, source.now) }
-    ensures other { result ≡ false → slice_get rows.now.items n ≡ Some (thread.now, source.now) → ⊥ }
-{
-    n < rows.len() && rows.has(n, packed, thread, source)
-}
-
-// Whether the thread of a number looks like this one.
-fn is_like(rows: &Rows<'_>, n: usize, bytes: &[u8], thread: &Thread, source: &Sources<'_>) -> bool
-    requires { bytes.now ≡ frozen rows.now.basis thread.now [] }
-    ensures like { result ≡ true → LooksLike rows.now.basis rows.now.items n (thread.now, source.now) }
-    ensures other { result ≡ false → LooksLike rows.now.basis rows.now.items n (thread.now, source.now) → ⊥ }
-{
-    n < rows.len() && rows.looks_like(n, bytes, thread, source)
-}
-
 // The number of a thread with these bytes beside what answers it, which have this hash.
 fn find(
     rows: &Rows<'_>,
@@ -117,7 +99,7 @@ fn find(
 {
     for steps in 0..MOST_STEPS {
         let n = index.at(hash, steps)?;
-        if is_at(rows, n, packed, thread, source) {
+        if rows.has(n, packed, thread, source) {
             return Some(n);
         }
     }
@@ -142,7 +124,7 @@ fn look_for(
     rows.each();
     for steps in 0..MOST_STEPS {
         let m = seen.at(hash, steps)?;
-        if is_like(rows, m, bytes, thread, source) {
+        if rows.looks_like(m, bytes, thread, source) {
             return Some(m);
         }
     }
