@@ -1,4 +1,4 @@
--- Bytes of threads, with what is changed in private memory.
+-- Bytes of threads with the changes of private memory.
 use Rattle.std.proofs.Common.{◌≡◌, ◌++◌, Bool, true, false, ℕ, List, [], length, take, refl, ap, ◌∙◌, cond}
 use Rattle.std.proofs.lemmas.List.{drop_at, take_at}
 use Rattle.ir_freeze.specs.Basis.{Basis, IsBasis}

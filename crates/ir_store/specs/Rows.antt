@@ -7,7 +7,7 @@ use Rattle.ir_freeze.specs.Basis.{Basis}
 use Rattle.ir_freeze.specs.Frozen.{changes, frozen, is_over}
 use Rattle.ir_freeze.specs.Thawed.{before_changes, thawed}
 
--- bytes of a thread, at which of them the changes of its private memory begin, and whether it is over
+-- the bytes of a thread with the changes of its private memory, at which of them these begin, and whether the thread is over
 pub record Packed : Type 0 where
   pub bytes : List ℕ
   pub at : ℕ
@@ -25,7 +25,7 @@ packed_of basis s = record {
 abbrev pub seen_in : Packed → List ℕ
 seen_in packed = if packed.over then take packed.at packed.bytes else packed.bytes
 
--- all of a thread but its private memory, its bytes and what is changed in that, what answers it, and the number of a thread that looks the same
+-- the frame of a thread, its bytes with the changes of its private memory, what answers it, and the number of a thread that looks the same
 pub record Row : Type 0 where
   pub frame : ThreadFrame
   pub packed : Packed

@@ -1,4 +1,4 @@
-//! The bytes of a thread, and what is changed in its private memory.
+//! The bytes of a thread with the changes of its private memory.
 
 ghost use Rattle.std.specs.Prelude.{◌≡◌, [], ℕ, length, true, false, IfOk};
 ghost use Rattle.ir_freeze.specs.Basis.{Basis};
@@ -14,7 +14,8 @@ use ir_thread::{Frame, Thread};
 use std::alloc::{AllocError, Global};
 use std::marker::Model;
 
-/// The bytes of a thread, at which of them the changes of its private memory begin, and whether it is over: then these come behind its bytes.
+/// The bytes of a thread with the changes of its private memory, at which of them these begin, and whether the thread is over. If it is, the
+/// changes come behind its bytes, and otherwise they are the end of them.
 #[derive(Drop)]
 pub struct Packed {
     bytes: Vec<u8>,

@@ -14,8 +14,7 @@ use ir_thread::{Frame, Thread};
 use std::alloc::{AllocError, Global};
 use std::marker::Model;
 
-/// All of a thread but its private memory, its bytes and what is changed in that, what answers it, and the number of a thread that looks the
-/// same.
+/// The frame of a thread, its bytes with the changes of its private memory, what answers it, and the number of a thread that looks the same.
 #[derive(Drop)]
 pub struct Row<'a> {
     frame: Frame,
