@@ -19,10 +19,6 @@ pub record Outcome : Type 0 where
 abbrev pub outcome_of : run.State ThreadState → Outcome
 outcome_of s = record { ends = λ t. (s.now t).ended; outputs = λ t. (s.now t).output; words = λ o. (s.objects o).words }
 
--- two threads have one end, and printed the same
-abbrev pub EndAlike : ThreadState → ThreadState → Type 0
-EndAlike x y = (x.ended ≡ y.ended) × (x.output ≡ y.output)
-
 -- A state of the list where all threads are done has the outcome of this complete run.
 abbrev pub IsListed : Setup → List SourcedFlat → ℕ → List run.Step → ℕ → SourcedFlat → Type 0
 IsListed x states budget steps v s = (slice_get states v ≡ Some s) × run.IsDone (machine s.flat) (tables s.flat)

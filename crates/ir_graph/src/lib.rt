@@ -2,7 +2,6 @@
 #![tactic(auto)]
 
 mod ahead;
-mod ends;
 mod graph;
 mod known;
 mod likeness;
@@ -19,7 +18,6 @@ mod turns;
 mod way;
 
 pub use ahead::Ahead;
-pub use ends::{is_done, same_outcome};
 pub use graph::Graph;
 pub use likeness::same_state;
 pub use nodes::Bounds;

@@ -1,4 +1,5 @@
 mod Lists
+mod Packs
 mod Rowed
 mod Shared
 mod Looks

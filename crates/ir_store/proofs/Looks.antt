@@ -2,7 +2,7 @@
 use Rattle.std.proofs.Common.{◌≡◌, ◌<◌, ◌+◌, ◌++◌, Bool, true, false, ℕ, zero, suc, List, [], ◌∷◌, length, get_or, map, refl, sym, ap, ◌∙◌, arith, Some, cond, inl, inr}
 use Rattle.std.specs.Prelude.{slice_get, ◌&&◌, drop}
 use Rattle.std.specs.List.{AllByRecursion, slice_index_or}
-use Rattle.std.proofs.lemmas.Option.{same_Some, slice_get-get_or}
+use Rattle.std.proofs.lemmas.Option.{same_Some}
 use Rattle.ir_lemmas.proofs.CallerLemmas.{slice_get_element_satisfies_all_by_recursion}
 use Rattle.ir_freeze.specs.Basis.{Basis, IsBasis}
 use Rattle.ir_freeze.specs.Frozen.{end_bytes, going_bytes, frozen, is_over}
@@ -14,7 +14,7 @@ use Rattle.ir_thread.specs.State.{ThreadState}
 use Rattle.ir_flat.specs.Room.{empty}
 use Rattle.ir_store.specs.declared.spot.Spot.{Spot}
 use Rattle.ir_store.specs.Nodes.{LookSame, cell_in}
-use Rattle.ir_store.specs.Table.{idle_beside, LooksLike, AreLooks, all_over, threads_at}
+use Rattle.ir_store.specs.Table.{idle_beside, AreLooks, all_over, threads_at}
 use Rattle.ir_store.proofs.Lists.{drop_begins_with_element}
 
 -- the mark is no part of the bytes of a thread that is over
@@ -81,15 +81,3 @@ object_words_equal_if_numbers_equal words (s ∷ first) [] size each o = absurd 
 object_words_equal_if_numbers_equal words (s ∷ first) (z ∷ second) size each zero = ap (λ n. slice_index_or words n []) (each zero (omega arith) s z)
 object_words_equal_if_numbers_equal words (s ∷ first) (z ∷ second) size each (suc o) =
     object_words_equal_if_numbers_equal words first second (omega (arith, size)) (λ p lt d e. each (suc p) (omega (arith, lt)) d e) o
-
--- a thread whose bytes are compared, and its source unless the other is over
-pub looks_like_if_bytes_and_source_equal : (basis : Basis) (items : List (ThreadState × Source)) (n : ℕ) (x : ThreadState × Source) (own : ThreadState) (kept : Source)
-    (bytes own_bytes : List ℕ) → n < length items → own ≡ (get_or items n idle_beside).0 → kept ≡ (get_or items n idle_beside).1
-    → bytes ≡ frozen basis x.0 [] → own_bytes ≡ frozen basis own [] → own_bytes ≡ bytes → (is_over x.0 ≡ false → kept ≡ x.1)
-    → LooksLike basis items n x
-looks_like_if_bytes_and_source_equal basis items n x own kept bytes own_bytes lt is from of own_of same source = record {
-  kept = get_or items n idle_beside;
-  at = slice_get-get_or items n idle_beside lt;
-  bytes = ap (λ z. frozen basis z []) (sym is) ∙ sym own_of ∙ same ∙ of;
-  source = λ going. sym from ∙ source going;
-}

@@ -1,19 +1,18 @@
 -- States by the numbers that stand for what threads see of them.
 use Rattle.std.proofs.Common.{◌≡◌, ◌⊎◌, ◌<◌, ◌≤◌, ◌+◌, ℕ, zero, suc, List, [], ◌∷◌, length, get_or, drop, map, refl, sym, ap, ◌∙◌, subst, arith, Some, None}
 use Rattle.std.specs.Prelude.{slice_get}
-use Rattle.std.specs.List.{AllByRecursion, slice_index_or}
-use Rattle.std.proofs.lemmas.Option.{same_Some, slice_get-get_or, get_or_from_slice_get, slice_get_within}
+use Rattle.std.specs.List.{AllByRecursion}
+use Rattle.std.proofs.lemmas.Option.{slice_get-get_or, get_or_from_slice_get}
 use Rattle.ir_lemmas.proofs.CallerLemmas.{slice_get_element_satisfies_all_by_recursion, get_or_element_satisfies_all_by_recursion, length_of_map}
 use Rattle.ir_flat.specs.Room.{empty}
-use Rattle.ir_flat.specs.Flat.{thread_of, idle}
 use Rattle.ir_freeze.specs.Basis.{IsBasis}
 use Rattle.ir_freeze.specs.Twins.{AreTwins, TellsApart, IsBounded}
 use Rattle.ir_sources.specs.Sources.{Source}
 use Rattle.ir_thread.specs.State.{ThreadState}
 use Rattle.ir_store.specs.declared.spot.Spot.{Spot}
 use Rattle.ir_object.specs.Cell.{Cell}
-use Rattle.ir_store.specs.Hashes.{empty_hash, after_number, after_numbers, IsFoundBy, KeepsFound, PassesOver, place_of, number_at, most_steps}
-use Rattle.ir_store.specs.Nodes.{SourcedFlat, Shared, Node, LookSame, cell_in, cells_at, sourced_in, sourced_thread, IsWithin, IsNode, AreKept, AreSameLooks, AreSameNumbers, AreMoments, looks_in, words_in, node_hash, AreNodesFound}
+use Rattle.ir_store.specs.Hashes.{empty_hash, after_number, after_numbers, IsFoundBy, PassesOver, place_of, number_at, most_steps}
+use Rattle.ir_store.specs.Nodes.{Shared, Node, LookSame, cell_in, sourced_in, IsWithin, IsNode, AreKept, AreSameLooks, AreSameNumbers, AreMoments, looks_in, words_in, node_hash, AreNodesFound}
 use Rattle.ir_store.specs.Places.{no_node}
 use Rattle.ir_store.specs.Table.{Table, idle_beside, beside_at, AreLike, HaveOneLook, Keeps}
 use Rattle.ir_store.specs.Words.{EachOnce}

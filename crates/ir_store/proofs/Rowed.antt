@@ -73,3 +73,7 @@ pub looked_up_row_is_get_or_of_mapped_rows : {R X : Type 0} (f : R → X) (rows 
     → f row ≡ get_or (map f rows) n d
 looked_up_row_is_get_or_of_mapped_rows f rows row n d lt at =
     sym (get_or_from_slice_get (map f rows) n (f row) d (looked_up_row_is_element_of_mapped_rows f rows row n (f row) lt at refl))
+
+-- the element of the row that is looked up
+pub element_of_row_found : {R X : Type 0} (f : R → X) (rows : List R) (row : R) (n : ℕ) → slice_get rows n ≡ Some row → slice_get (map f rows) n ≡ Some (f row)
+element_of_row_found f rows row n at = slice_get-map f rows n ∙ ap (option_map f) at

@@ -11,6 +11,7 @@ mod kept;
 mod node;
 mod number;
 mod objects;
+mod packed;
 mod place;
 mod put;
 mod row;
@@ -19,7 +20,6 @@ mod sourced;
 mod spot;
 mod store;
 mod table;
-mod twin;
 mod words;
 
 pub use bounds::bounded;

@@ -1,60 +1,57 @@
 //! A thread without the private memory that is as at the start, beside what answers it.
 
-ghost use Rattle.std.specs.Prelude.{◌≡◌, length, IfOk};
+ghost use Rattle.std.specs.Prelude.{◌≡◌, length, true, false, IfOk};
 ghost use Rattle.ir_freeze.specs.Frozen.{is_over};
 ghost use Rattle.ir_mach.specs.Core.{memory_size};
+ghost use Rattle.ir_store.specs.Rows.{seen_in};
 ghost use Rattle.ir_store.specs.Rows as rows;
+ghost use Rattle.ir_thread.specs.Frames.{frame_of};
 
-use ir_freeze::{changes_of, over, thaw};
+use crate::packed::Packed;
+use ir_freeze::over;
 use ir_sources::Sources;
 use ir_thread::{Frame, Thread};
 use std::alloc::{AllocError, Global};
 use std::marker::Model;
 
-/// All of a thread but its private memory, what is changed in that, what answers it, the number of a thread that looks the same, and whether
-/// it is over.
+/// The frame of a thread, its bytes with the changes of its private memory, what answers it, and the number of a thread that looks the same.
 #[derive(Drop)]
 pub struct Row<'a> {
     frame: Frame,
-    changes: Vec<u8>,
+    packed: Packed,
     source: Sources<'a>,
     look: usize,
-    over: bool,
 }
 
 impl<'a> Model for Row<'a> {
     ghost Value = { rows.Row };
 
-    ghost view = { λ r. record { frame = r.frame; changes = r.changes.items; source = r.source; look = r.look; over = r.over } };
+    ghost view = { λ r. record { frame = r.frame; packed = r.packed; source = r.source; look = r.look } };
 }
 
 impl<'a> Row<'a> {
-    /// The row of a thread whose private memory was `start` at first, beside what answers it, and which looks like the one of this number.
+    /// The row of a thread with these bytes, beside what answers it, and which looks like the one of this number.
     ///
     /// # Errors
     /// Out of memory.
     pub fn of(
-        alloc: Global,
-        start: &[u8],
         thread: &Thread,
+        packed: Packed,
         source: &Sources<'a>,
         look: usize,
     ) -> Result<Row<'a>, AllocError>
-        requires { length start.now ≡ memory_size }
-        ensures thread { IfOk result (λ row. rows.thread_in start.now row ≡ thread.now) }
+        ensures frame { IfOk result (λ row. row.frame ≡ frame_of thread.now) }
+        ensures packed { IfOk result (λ row. row.packed ≡ packed) }
         ensures source { IfOk result (λ row. row.source ≡ source.now) }
         ensures look { IfOk result (λ row. row.look ≡ look) }
-        ensures over { IfOk result (λ row. row.over ≡ is_over thread.now) }
     {
         let source = source.copy()?;
         let frame = thread.frame()?;
-        let changes = changes_of(alloc, start, thread)?;
         Ok(Row {
             frame,
-            changes,
+            packed,
             source,
             look,
-            over: over(thread),
         })
     }
 
@@ -66,17 +63,33 @@ impl<'a> Row<'a> {
         requires { length start.now ≡ memory_size }
         ensures { IfOk result (λ thread. thread ≡ rows.thread_in start.now self.now) }
     {
-        thaw(alloc, start, &self.frame, 0, self.changes.as_slice())
+        self.packed.thread(alloc, start, &self.frame)
+    }
+
+    /// Whether the row is a thread's with these bytes, and what answers that is this.
+    pub fn has(&self, packed: &Packed, thread: &Thread, source: &Sources<'_>) -> bool
+        ensures frame { result ≡ true → frame_of thread.now ≡ self.now.frame }
+        ensures packed { result ≡ true → self.now.packed ≡ packed.now }
+        ensures source { result ≡ true → self.now.source ≡ source.now }
+        ensures other { result ≡ false → frame_of thread.now ≡ self.now.frame → self.now.packed ≡ packed.now → self.now.source ≡ source.now → ⊥ }
+    {
+        self.packed.same(packed) && thread.has_frame(&self.frame) && self.source.same(source)
+    }
+
+    /// Whether the thread has these bytes, which are another thread's, and what answers that one, unless that one is over.
+    pub fn looks_like(&self, bytes: &[u8], thread: &Thread, source: &Sources<'_>) -> bool
+        ensures bytes { result ≡ true → seen_in self.now.packed ≡ bytes.now }
+        ensures source { result ≡ true → is_over thread.now ≡ false → self.now.source ≡ source.now }
+        ensures other { result ≡ false → seen_in self.now.packed ≡ bytes.now → (is_over thread.now ≡ false → self.now.source ≡ source.now) → ⊥ }
+    {
+        (over(thread) || self.source.same(source)) && self.packed.seen() == bytes
     }
 
     /// What answers the thread.
-    ///
-    /// # Errors
-    /// Out of memory.
-    pub fn source(&self) -> Result<Sources<'a>, AllocError>
-        ensures { IfOk result (λ source. source ≡ self.now.source) }
+    pub fn source(&self) -> &Sources<'a>
+        ensures { result.now ≡ self.now.source }
     {
-        self.source.copy()
+        &self.source
     }
 
     /// How many calls for the time were answered.
@@ -89,9 +102,9 @@ impl<'a> Row<'a> {
 
     /// Whether the thread has ended and holds nothing.
     pub fn over(&self) -> bool
-        ensures { result ≡ self.now.over }
+        ensures { result ≡ self.now.packed.over }
     {
-        self.over
+        self.packed.over()
     }
 
     /// The number of a thread that looks the same.

@@ -5,16 +5,17 @@ ghost use Rattle.std.specs.List.{slice_index_or, AllByRecursion};
 ghost use Rattle.ir_freeze.specs.Basis.{IsBasis};
 ghost use Rattle.ir_freeze.specs.Frozen.{frozen, is_over};
 ghost use Rattle.ir_freeze.specs.Twins.{IsBounded};
-ghost use Rattle.ir_store.specs.Rows.{beside_in, look_of, KnowsOver};
+ghost use Rattle.ir_store.specs.Rows.{beside_in, look_of, packed_of, HasOwnBytes};
 ghost use Rattle.ir_store.specs.Table.{idle_beside, LooksLike, AreLooks};
 ghost use Rattle.ir_store.specs.Table as table;
 ghost use Rattle.ir_sources.specs.Sources.{Source};
 ghost use Rattle.ir_thread.specs.State.{ThreadState};
 
 use crate::bounds::bounded;
+use crate::packed::Packed;
 use crate::put::put;
 use crate::row::Row;
-use ir_freeze::{Basis, freeze, over};
+use ir_freeze::{Basis, comes_back};
 use ir_image::ImageForm;
 use ir_sources::Sources;
 use ir_thread::Thread;
@@ -42,16 +43,8 @@ impl<'a> Model for Rows<'a> {
 
     ghost invariant = { λ t. AllByRecursion (λ (x : ThreadState × Source). x.0.form ≡ t.form) (map (beside_in t.basis.memory) t.rows.items)
         × AllByRecursion (λ (x : ThreadState × Source). IsBounded x.0) (map (beside_in t.basis.memory) t.rows.items)
-        × AllByRecursion (KnowsOver t.basis.memory) t.rows.items
+        × AllByRecursion (HasOwnBytes t.basis) t.rows.items
         × AreLooks t.basis (map (beside_in t.basis.memory) t.rows.items) (map look_of t.rows.items) };
-}
-
-// Whether what answers a thread is the same, unless it is over.
-fn same_unless_over(thread: &Thread, first: &Sources<'_>, second: &Sources<'_>) -> bool
-    ensures same { result ≡ true → is_over thread.now ≡ false → first.now ≡ second.now }
-    ensures other { result ≡ false → (is_over thread.now ≡ false → first.now ≡ second.now) → ⊥ }
-{
-    over(thread) || first.same(second)
 }
 
 impl<'a> Rows<'a> {
@@ -74,15 +67,15 @@ impl<'a> Rows<'a> {
         self.rows.len()
     }
 
-    /// The bytes of a thread, without its counts of steps and events.
+    /// The bytes of a thread, which is frozen against the same basis.
     ///
     /// # Errors
     /// Out of memory.
-    pub fn bytes(&self, thread: &Thread) -> Result<Vec<u8>, AllocError>
-        ensures { IfOk result (λ bytes. bytes.items ≡ frozen self.now.basis thread.now []) }
+    pub fn packed(&self, thread: &Thread) -> Result<Packed, AllocError>
+        ensures { IfOk result (λ packed. packed ≡ packed_of self.now.basis thread.now) }
     {
-        let bytes = freeze(self.alloc, &self.basis, thread, &[])?;
-        Ok(bytes)
+        let packed = Packed::of(self.alloc, &self.basis, thread)?;
+        Ok(packed)
     }
 
     /// The thread of a number.
@@ -108,33 +101,35 @@ impl<'a> Rows<'a> {
         ensures { IfOk result (λ source. source ≡ (slice_index_or self.now.items n idle_beside).1) }
     {
         let row = &self.rows[n];
-        let source = row.source()?;
+        let source = row.source().copy()?;
         Ok(source)
     }
 
-    /// Whether the thread of a number has these bytes, which are another thread's, and what answers that one, unless that one is over.
-    ///
-    /// # Errors
-    /// Out of memory.
-    pub fn looks_like(
-        &self,
-        n: usize,
-        bytes: &[u8],
-        thread: &Thread,
-        source: &Sources<'_>,
-    ) -> Result<bool, AllocError>
-        requires within { n < length self.now.items }
-        requires bytes { bytes.now ≡ frozen self.now.basis thread.now [] }
-        ensures like { IfOk result (λ like. like ≡ true → LooksLike self.now.basis self.now.items n (thread.now, source.now)) }
-        ensures other { IfOk result (λ like. like ≡ false → LooksLike self.now.basis self.now.items n (thread.now, source.now) → ⊥) }
+    /// Whether the thread of a number is this one, which has these bytes, and is answered so.
+    pub fn has(&self, n: usize, packed: &Packed, thread: &Thread, source: &Sources<'_>) -> bool
+        requires { packed.now ≡ packed_of self.now.basis thread.now }
+        ensures same { result ≡ true → slice_get self.now.items n ≡ Some (thread.now, source.now) }
+        ensures other { result ≡ false → slice_get self.now.items n ≡ Some (thread.now, source.now) → ⊥ }
     {
-        let kept = self.source(n)?;
-        if !same_unless_over(thread, &kept, source) {
-            return Ok(false);
+        comes_back();
+        self.basis.is_whole();
+        bounded(thread);
+        match self.rows.get(n) {
+            Some(row) => row.has(packed, thread, source),
+            None => false,
         }
-        let own = self.thread(n)?;
-        let own = self.bytes(&own)?;
-        Ok(own.as_slice() == bytes)
+    }
+
+    /// Whether the thread of a number has these bytes, which are another thread's, and what answers that one, unless that one is over.
+    pub fn looks_like(&self, n: usize, bytes: &[u8], thread: &Thread, source: &Sources<'_>) -> bool
+        requires { bytes.now ≡ frozen self.now.basis thread.now [] }
+        ensures like { result ≡ true → LooksLike self.now.basis self.now.items n (thread.now, source.now) }
+        ensures other { result ≡ false → LooksLike self.now.basis self.now.items n (thread.now, source.now) → ⊥ }
+    {
+        match self.rows.get(n) {
+            Some(row) => row.looks_like(bytes, thread, source),
+            None => false,
+        }
     }
 
     /// How many calls for the time were answered of the thread of a number.
@@ -180,23 +175,27 @@ impl<'a> Rows<'a> {
         self.basis.is_whole();
     }
 
-    /// Adds a thread beside what answers it, and the number of one that looks the same.
+    /// Adds a thread with these bytes beside what answers it, and the number of one that looks the same.
     ///
     /// # Errors
     /// Out of memory; nothing is added.
     pub fn push(
         &mut self,
         thread: &Thread,
+        packed: Packed,
         source: &Sources<'a>,
         look: usize,
     ) -> Result<(), AllocError>
         requires form { thread.now.form ≡ self.old.form }
+        requires packed { packed ≡ packed_of self.old.basis thread.now }
         requires look { (look ≡ length self.old.items) ⊎ LooksLike self.old.basis self.old.items look (thread.now, source.now) }
         ensures ok { OnOk result (self.new ≡ record self.old { items = self.old.items ++ (thread.now, source.now) ∷ []; looks = self.old.looks ++ look ∷ [] }) }
         ensures err { OnErr result (self.new ≡ self.old) }
     {
+        comes_back();
+        self.basis.is_whole();
         bounded(thread);
-        let row = Row::of(self.alloc, self.basis.memory(), thread, source, look)?;
+        let row = Row::of(thread, packed, source, look)?;
         put(&mut self.rows, row)
     }
 }

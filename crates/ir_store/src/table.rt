@@ -8,6 +8,7 @@ ghost use Rattle.ir_freeze.specs.Twins.{IsBounded};
 ghost use Rattle.ir_store.specs.Nodes.{LookSame};
 ghost use Rattle.ir_store.specs.Hashes.{IsFoundBy, KeepsFound};
 ghost use Rattle.ir_store.specs.Hashes as hashes;
+ghost use Rattle.ir_store.specs.Rows.{packed_of};
 ghost use Rattle.ir_store.specs.Table.{HaveForm, idle_beside, threads_at, sources_at, all_over, AreIn, HaveTicks, HaveNoTicks, Keeps, LooksLike, AreLike, AreOnce, HaveOneLook, StandsFor};
 ghost use Rattle.ir_store.specs.Table as table;
 ghost use Rattle.ir_sources.specs.Sources.{Source};
@@ -16,9 +17,9 @@ ghost use Rattle.ir_thread.specs.State.{ThreadState};
 use crate::hash::{after_bytes, after_number, empty_hash};
 use crate::index::{Index, MOST_STEPS};
 use crate::number::short;
+use crate::packed::Packed;
 use crate::rows::Rows;
 use crate::sourced::SourcedThread;
-use crate::twin::same_thread;
 use ir_freeze::{Basis, over, tells_apart};
 use ir_image::ImageForm;
 use ir_sources::Sources;
@@ -82,66 +83,27 @@ fn whole_hash(seen: u64, thread: &Thread, source: &Sources<'_>) -> u64
     after_source(hash, source)
 }
 
-// Whether the thread of a number is this one, and is answered so.
-fn is_at(
-    rows: &Rows<'_>,
-    n: usize,
-    thread: &Thread,
-    source: &Sources<'_>,
-) -> Result<bool, AllocError>
-    requires { thread.now.form ≡ rows.now.form }
-    ensures same { IfOk result (λ is. is ≡ true → slice_get rows.now.items n ≡ Some (thread.now, source.now)) }
-    ensures other { IfOk result (λ is. is ≡ false → slice_get rows.now.items n ≡ Some (thread.now, source.now) → ⊥) }
-{
-    if n >= rows.len() {
-        return Ok(false);
-    }
-    let answers = rows.source(n)?;
-    let kept = rows.thread(n)?;
-    Ok(answers.same(source) && same_thread(&kept, thread))
-}
-
-// Whether the thread of a number looks like this one.
-fn is_like(
-    rows: &Rows<'_>,
-    n: usize,
-    bytes: &[u8],
-    thread: &Thread,
-    source: &Sources<'_>,
-) -> Result<bool, AllocError>
-    requires { bytes.now ≡ frozen rows.now.basis thread.now [] }
-    ensures like { IfOk result (λ like. like ≡ true → LooksLike rows.now.basis rows.now.items n (thread.now, source.now)) }
-    ensures other { IfOk result (λ like. like ≡ false → LooksLike rows.now.basis rows.now.items n (thread.now, source.now) → ⊥) }
-{
-    if n >= rows.len() {
-        return Ok(false);
-    }
-    let like = rows.looks_like(n, bytes, thread, source)?;
-    Ok(like)
-}
-
-// The number of a thread beside what answers it, which have this hash.
+// The number of a thread with these bytes beside what answers it, which have this hash.
 fn find(
     rows: &Rows<'_>,
     index: &Index,
     hash: u64,
+    packed: &Packed,
     thread: &Thread,
     source: &Sources<'_>,
-) -> Result<Option<usize>, AllocError>
-    requires form { thread.now.form ≡ rows.now.form }
+) -> Option<usize>
+    requires packed { packed.now ≡ packed_of rows.now.basis thread.now }
     requires found { (n : ℕ) → slice_get rows.now.items n ≡ Some (thread.now, source.now) → IsFoundBy index.now hash n }
-    ensures found { IfOk result (λ found. IfSome found (λ n. slice_get rows.now.items n ≡ Some (thread.now, source.now))) }
-    ensures none { IfOk result (λ found. found ≡ None → (n : ℕ) → slice_get rows.now.items n ≡ Some (thread.now, source.now) → ⊥) }
+    ensures found { IfSome result (λ n. slice_get rows.now.items n ≡ Some (thread.now, source.now)) }
+    ensures none { result ≡ None → (n : ℕ) → slice_get rows.now.items n ≡ Some (thread.now, source.now) → ⊥ }
 {
     for steps in 0..MOST_STEPS {
-        let Some(n) = index.at(hash, steps) else {
-            return Ok(None);
-        };
-        if is_at(rows, n, thread, source)? {
-            return Ok(Some(n));
+        let n = index.at(hash, steps)?;
+        if rows.has(n, packed, thread, source) {
+            return Some(n);
         }
     }
-    Ok(None)
+    None
 }
 
 // The number of a thread that looks like this one, where this is the hash of what is seen of it.
@@ -152,23 +114,21 @@ fn look_for(
     bytes: &[u8],
     thread: &Thread,
     source: &Sources<'_>,
-) -> Result<Option<usize>, AllocError>
+) -> Option<usize>
     requires bytes { bytes.now ≡ frozen rows.now.basis thread.now [] }
     requires look { HaveOneLook seen.now rows.now }
     requires hash { hash ≡ table.seen_hash rows.now.basis (thread.now, source.now) }
-    ensures like { IfOk result (λ like. IfSome like (λ m. LooksLike rows.now.basis rows.now.items m (thread.now, source.now))) }
-    ensures none { IfOk result (λ like. like ≡ None → (n : ℕ) (x : ThreadState × Source) → slice_get rows.now.items n ≡ Some x → AreLike rows.now.basis x (thread.now, source.now) → ⊥) }
+    ensures like { IfSome result (λ m. LooksLike rows.now.basis rows.now.items m (thread.now, source.now)) }
+    ensures none { result ≡ None → (n : ℕ) (x : ThreadState × Source) → slice_get rows.now.items n ≡ Some x → AreLike rows.now.basis x (thread.now, source.now) → ⊥ }
 {
     rows.each();
     for steps in 0..MOST_STEPS {
-        let Some(m) = seen.at(hash, steps) else {
-            return Ok(None);
-        };
-        if is_like(rows, m, bytes, thread, source)? {
-            return Ok(Some(m));
+        let m = seen.at(hash, steps)?;
+        if rows.looks_like(m, bytes, thread, source) {
+            return Some(m);
         }
     }
-    Ok(None)
+    None
 }
 
 // The number that stands for a thread: that of a thread that looks the same, or else of the next one, which is noted.
@@ -189,7 +149,7 @@ fn look_of(
     ensures one { IfOk result (λ k. StandsFor rows.now (thread.now, source.now) k) }
 {
     rows.each();
-    if let Some(m) = look_for(rows, seen, hash, bytes, thread, source)? {
+    if let Some(m) = look_for(rows, seen, hash, bytes, thread, source) {
         return Ok(rows.look(m));
     }
     let n = rows.len();
@@ -215,12 +175,12 @@ impl<'a> Table<'a> {
         &mut self,
         whole: u64,
         seen: u64,
-        bytes: &[u8],
+        packed: Packed,
         thread: &Thread,
         source: &Sources<'a>,
     ) -> Result<usize, AllocError>
         requires form { thread.now.form ≡ self.old.form }
-        requires bytes { bytes.now ≡ frozen self.old.basis thread.now [] }
+        requires packed { packed ≡ packed_of self.old.basis thread.now }
         requires whole { whole ≡ table.whole_hash self.old.basis (thread.now, source.now) }
         requires seen { seen ≡ table.seen_hash self.old.basis (thread.now, source.now) }
         requires new { (n : ℕ) → slice_get self.old.items n ≡ Some (thread.now, source.now) → ⊥ }
@@ -232,9 +192,16 @@ impl<'a> Table<'a> {
         ensures one { IfOk result (λ n. (m : ℕ) → slice_get self.new.items m ≡ Some (thread.now, source.now) → m ≡ n) }
     {
         let n = self.rows.len();
-        let look = look_of(&self.rows, &mut self.seen, seen, bytes, thread, source)?;
+        let look = look_of(
+            &self.rows,
+            &mut self.seen,
+            seen,
+            packed.seen(),
+            thread,
+            source,
+        )?;
         self.index.note(whole, n)?;
-        self.rows.push(thread, source, look)?;
+        self.rows.push(thread, packed, source, look)?;
         Ok(n)
     }
 
@@ -251,13 +218,13 @@ impl<'a> Table<'a> {
         ensures found { IfOk result (λ n. slice_get self.new.items n ≡ Some (thread.now, source.now)) }
         ensures one { IfOk result (λ n. (m : ℕ) → slice_get self.new.items m ≡ Some (thread.now, source.now) → m ≡ n) }
     {
-        let bytes = self.rows.bytes(thread)?;
-        let seen = seen_hash(bytes.as_slice(), thread, source);
+        let packed = self.rows.packed(thread)?;
+        let seen = seen_hash(packed.seen(), thread, source);
         let whole = whole_hash(seen, thread, source);
-        if let Some(n) = find(&self.rows, &self.index, whole, thread, source)? {
+        if let Some(n) = find(&self.rows, &self.index, whole, &packed, thread, source) {
             return Ok(n);
         }
-        self.put(whole, seen, bytes.as_slice(), thread, source)
+        self.put(whole, seen, packed, thread, source)
     }
 
     /// The numbers of these threads beside what answers them, of which the new ones are added.

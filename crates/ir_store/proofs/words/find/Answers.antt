@@ -1,6 +1,6 @@
-use Rattle.std.proofs.Common.{◌≡◌, ◌∙◌, ◌≤◌, sym, ap, subst, arith, inl, inr, Some}
+use Rattle.std.proofs.Common.{◌≡◌, ◌∙◌, sym, subst, arith, inl, inr, Some}
 use Rattle.std.specs.Prelude.{slice_get}
-use Rattle.ir_store.specs.Hashes.{IsFoundBy, most_steps}
+use Rattle.ir_store.specs.Hashes.{IsFoundBy}
 use Rattle.ir_store.proofs.Found.{nothing_found_if_all_passed_over}
 use Rattle.ir_store.proofs.words.find.Goals as goal
 

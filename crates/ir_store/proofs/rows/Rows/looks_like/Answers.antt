@@ -1,26 +1,62 @@
-use Rattle.std.proofs.Common.{◌≡◌, ◌∙◌, [], sym, ap, true, Some}
-use Rattle.std.proofs.lemmas.Bool.Decides.{Decides-eqb}
-use Rattle.std.proofs.lemmas.Option.{same_Some, slice_get-get_or}
-use Rattle.std.proofs.lemmas.Slice.Eq.{slice_eq-Decides}
+use Rattle.std.proofs.Common.{◌≡◌, ◌∙◌, [], sym, ap, subst, arith, length, map, List, Some}
+use Rattle.std.specs.Prelude.{slice_get}
+use Rattle.std.proofs.lemmas.Option.{same_Some, slice_get-get_or, slice_get_within}
+use Rattle.ir_lemmas.proofs.CallerLemmas.{slice_get_element_satisfies_all_by_recursion, length_of_map}
 use Rattle.ir_freeze.specs.Frozen.{frozen}
 use Rattle.ir_sources.specs.Sources.{Source}
 use Rattle.ir_thread.specs.State.{ThreadState}
-use Rattle.ir_store.specs.Table.{idle_beside}
-use Rattle.ir_store.proofs.Looks.{looks_like_if_bytes_and_source_equal}
+use Rattle.ir_store.specs.Rows.{Row, beside_in, HasOwnBytes}
+use Rattle.ir_store.specs.Table.{LooksLike}
+use Rattle.ir_store.specs.Table as table
+use Rattle.ir_store.proofs.Packs.{seen_in_row_is_frozen}
+use Rattle.ir_store.proofs.Rowed.{element_of_row_found}
 use Rattle.ir_store.proofs.rows.Rows.looks_like.Goals as goal
 
-pub returns-clause-like : goal.returns-clause-like
-returns-clause-like c = λ equal.
-    looks_like_if_bytes_and_source_equal c.args.self.now.basis c.args.self.now.items c.args.n (c.args.thread.now, c.args.source.now) c.in_ok-own.own c.in_ok-kept.kept
-    c.args.bytes.now c.in_ok-own-2.own.items c.requires.within c.in_ok-own.ensures.found c.in_ok-kept.ensures c.requires.bytes c.in_ok-own-2.ensures
-    (sym c.as_slice.ensures.value ∙ (slice_eq-Decides Decides-eqb c.as_slice.result.now c.args.bytes.now c.eq.result c.eq.ensures).0 equal)
-    (c.same_unless_over.ensures.same c.if-not-same_unless_over.false)
+pub returns-in-Some-clause-like : goal.returns-in-Some-clause-like
+returns-in-Some-clause-like c = λ is.
+    let basis = c.self.inside.basis in
+    let rows = c.self.inside.rows.items in
+    let row = c.in-Some.row.now in
+    let x : ThreadState × Source = (c.args.thread.now, c.args.source.now) in
+    let stands : slice_get rows c.args.n ≡ Some row =
+    subst (λ l. slice_get l c.args.n ≡ Some row) c.deref.ensures.value
+    (slice_get-get_or c.deref.result.now c.args.n row c.in-Some.ensures.lookup.3.0 ∙ ap Some (sym c.in-Some.ensures.lookup.1)) in
+    let own = slice_get_element_satisfies_all_by_recursion (HasOwnBytes basis) rows c.args.n row c.self.invariant.2 stands in
+    subst (λ (z : table.Table). LooksLike z.basis z.items c.args.n x) c.self.view_is (record {
+      kept = beside_in basis.memory row;
+      at = element_of_row_found (beside_in basis.memory) rows row c.args.n stands;
+      bytes = sym (seen_in_row_is_frozen basis row own) ∙ c.looks_like.ensures.bytes is ∙ c.requires
+          ∙ ap (λ (z : table.Table). frozen z.basis x.0 []) (sym c.self.view_is);
+      source = c.looks_like.ensures.source is;
+    })
 
-pub returns-clause-other : goal.returns-clause-other
-returns-clause-other c = λ unequal like.
-    let items = c.args.self.now.items in
-    let kept = same_Some _ like.kept (sym (slice_get-get_or items c.args.n idle_beside c.requires.within) ∙ like.at) in
-    let bytes = c.in_ok-own-2.ensures ∙ ap (λ z. frozen c.args.self.now.basis z []) (c.in_ok-own.ensures.found ∙ ap (λ (x : ThreadState × Source). x.0) kept)
-    ∙ like.bytes ∙ sym c.requires.bytes in
-    let equal : c.eq.result ≡ true = (slice_eq-Decides Decides-eqb c.as_slice.result.now c.args.bytes.now c.eq.result c.eq.ensures).1 (c.as_slice.ensures.value ∙ bytes) in
-    absurd (cc (equal, unequal))
+pub returns-in-Some-clause-other : goal.returns-in-Some-clause-other
+returns-in-Some-clause-other c = λ isnt like.
+    let basis = c.self.inside.basis in
+    let start = basis.memory in
+    let rows = c.self.inside.rows.items in
+    let row = c.in-Some.row.now in
+    let x : ThreadState × Source = (c.args.thread.now, c.args.source.now) in
+    let stands : slice_get rows c.args.n ≡ Some row =
+    subst (λ l. slice_get l c.args.n ≡ Some row) c.deref.ensures.value
+    (slice_get-get_or c.deref.result.now c.args.n row c.in-Some.ensures.lookup.3.0 ∙ ap Some (sym c.in-Some.ensures.lookup.1)) in
+    let own = slice_get_element_satisfies_all_by_recursion (HasOwnBytes basis) rows c.args.n row c.self.invariant.2 stands in
+    let alike : LooksLike basis (map (beside_in start) rows) c.args.n x =
+    subst (λ (z : table.Table). LooksLike z.basis z.items c.args.n x) (sym c.self.view_is) like in
+    let kept : beside_in start row ≡ alike.kept =
+    same_Some (beside_in start row) alike.kept (sym (element_of_row_found (beside_in start) rows row c.args.n stands) ∙ alike.at) in
+    c.looks_like.ensures.other isnt
+    (seen_in_row_is_frozen basis row own ∙ ap (λ (z : ThreadState × Source). frozen basis z.0 []) kept ∙ alike.bytes
+    ∙ ap (λ (z : table.Table). frozen z.basis x.0 []) c.self.view_is ∙ sym c.requires)
+    (λ goes. ap (λ (z : ThreadState × Source). z.1) kept ∙ alike.source goes)
+
+pub returns-in-None-clause-other : goal.returns-in-None-clause-other
+returns-in-None-clause-other c = λ _ like.
+    let basis = c.self.inside.basis in
+    let start = basis.memory in
+    let rows = c.self.inside.rows.items in
+    let x : ThreadState × Source = (c.args.thread.now, c.args.source.now) in
+    let alike : LooksLike basis (map (beside_in start) rows) c.args.n x =
+    subst (λ (z : table.Table). LooksLike z.basis z.items c.args.n x) (sym c.self.view_is) like in
+    absurd (let a = c.in-None.ensures.lookup.3 in let e = ap (λ (l : List Row). length l) c.deref.ensures.value in let b = slice_get_within (map (beside_in start) rows) c.args.n alike.kept alike.at in
+    let m = length_of_map (beside_in start) rows in omega (arith, a, b, e, m))

@@ -4,7 +4,7 @@ use Rattle.ir_lemmas.proofs.CallerLemmas.{slice_get_element_satisfies_all_by_rec
 use Rattle.ir_freeze.specs.Frozen.{is_over}
 use Rattle.ir_sources.specs.Sources.{Source}
 use Rattle.ir_thread.specs.State.{ThreadState}
-use Rattle.ir_store.specs.Rows.{beside_in, KnowsOver}
+use Rattle.ir_store.specs.Rows.{Packed, beside_in, HasOwnBytes}
 use Rattle.ir_store.specs.Table.{idle_beside}
 use Rattle.ir_store.specs.Table as table
 use Rattle.ir_store.proofs.Rowed.{looked_up_row_is_get_or_of_mapped_rows}
@@ -18,6 +18,6 @@ returns c =
     let less = subst (λ (z : table.Table). c.args.n < length z.items) (sym c.self.view_is) c.requires in
     let stands = slice_get-get_or rows c.args.n row (subst (λ k. c.args.n < k) (length_of_map (beside_in start) rows) less)
     ∙ ap Some (sym c.index-row.ensures) in
-    c.over.ensures ∙ slice_get_element_satisfies_all_by_recursion (KnowsOver start) rows c.args.n row c.self.invariant.2 stands
+    c.over.ensures ∙ ap (λ (p : Packed). p.over) (slice_get_element_satisfies_all_by_recursion (HasOwnBytes c.self.inside.basis) rows c.args.n row c.self.invariant.2 stands)
     ∙ ap (λ (x : ThreadState × Source). is_over x.0) (looked_up_row_is_get_or_of_mapped_rows (beside_in start) rows row c.args.n idle_beside less c.index-row.ensures)
     ∙ ap (λ (z : table.Table). is_over (get_or z.items c.args.n idle_beside).0) c.self.view_is

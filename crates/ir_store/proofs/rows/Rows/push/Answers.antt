@@ -1,14 +1,14 @@
 use Rattle.std.proofs.Common.{◌≡◌, ◌⊎◌, ◌++◌, [], ◌∷◌, ap, ◌∙◌, sym, subst, length, map, List}
 use Rattle.std.proofs.lemmas.List.{map_push}
 use Rattle.std.proofs.lemmas.Result.{on_ok_weaker, on_err_weaker}
-use Rattle.ir_freeze.specs.Frozen.{is_over}
 use Rattle.ir_freeze.specs.Twins.{IsBounded}
 use Rattle.ir_sources.specs.Sources.{Source}
 use Rattle.ir_thread.specs.State.{ThreadState}
-use Rattle.ir_store.specs.Rows.{Row, thread_in, beside_in, look_of, KnowsOver}
+use Rattle.ir_store.specs.Rows.{Row, packed_of, thread_in, beside_in, look_of, HasOwnBytes}
 use Rattle.ir_store.specs.Table.{LooksLike}
 use Rattle.ir_store.specs.Table as table
 use Rattle.ir_store.proofs.Lists.{all_by_recursion_if_unchanged_or_pushed}
+use Rattle.ir_store.proofs.Packs.{thread_in_row_with_its_bytes}
 use Rattle.ir_store.proofs.Rowed.{all_by_recursion_of_map_if_rows_unchanged_or_pushed, are_looks_kept_if_rows_unchanged_or_pushed}
 use Rattle.ir_store.proofs.rows.Rows.push.Goals as goal
 
@@ -20,8 +20,10 @@ invariant_of-self c =
     let rows = c.self.inside.rows.items in
     let new = c.put.new.items.items in
     let row = c.in_ok-row.row in
+    let bytes : row.packed ≡ packed_of basis c.args.thread.now =
+    c.in_ok-row.ensures.packed ∙ c.requires.packed ∙ ap (λ (z : table.Table). packed_of z.basis c.args.thread.now) (sym c.self.view_is) in
     let thread : thread_in start row ≡ c.args.thread.now =
-    ap (λ l. thread_in l row) (sym c.memory.ensures.value) ∙ c.in_ok-row.ensures.thread in
+    thread_in_row_with_its_bytes c.comes_back.ensures basis c.is_whole.ensures c.args.thread.now c.bounded.ensures row c.in_ok-row.ensures.frame bytes in
     let made : beside_in start row ≡ (c.args.thread.now, c.args.source.now) = λ i. (thread i, c.in_ok-row.ensures.source i) in
     let look : look_of row ≡ c.args.look = c.in_ok-row.ensures.look in
     let is : (look_of row ≡ length (map (beside_in start) rows)) ⊎ LooksLike basis (map (beside_in start) rows) (look_of row) (beside_in start row) =
@@ -33,7 +35,7 @@ invariant_of-self c =
           (ap (λ (s : ThreadState). s.form) thread ∙ c.requires.form ∙ ap (λ (z : table.Table). z.form) (sym c.self.view_is)) c.put.ensures.either,
       all_by_recursion_of_map_if_rows_unchanged_or_pushed (beside_in start) (λ (x : ThreadState × Source). IsBounded x.0) rows new row c.self.invariant.1
           (subst IsBounded (sym thread) c.bounded.ensures) c.put.ensures.either,
-      all_by_recursion_if_unchanged_or_pushed (KnowsOver start) rows new row c.self.invariant.2 (c.in_ok-row.ensures.over ∙ ap is_over (sym thread)) c.put.ensures.either,
+      all_by_recursion_if_unchanged_or_pushed (HasOwnBytes basis) rows new row c.self.invariant.2 (bytes ∙ ap (packed_of basis) (sym thread)) c.put.ensures.either,
       are_looks_kept_if_rows_unchanged_or_pushed (beside_in start) look_of basis rows new row c.self.invariant.3 is c.put.ensures.either,
     )
 
@@ -44,8 +46,10 @@ returns-clause-ok c =
     let form = c.self.inside.form in
     let rows = c.self.inside.rows.items in
     let row = c.in_ok-row.row in
+    let bytes : row.packed ≡ packed_of basis c.args.thread.now =
+    c.in_ok-row.ensures.packed ∙ c.requires.packed ∙ ap (λ (z : table.Table). packed_of z.basis c.args.thread.now) (sym c.self.view_is) in
     let thread : thread_in start row ≡ c.args.thread.now =
-    ap (λ l. thread_in l row) (sym c.memory.ensures.value) ∙ c.in_ok-row.ensures.thread in
+    thread_in_row_with_its_bytes c.comes_back.ensures basis c.is_whole.ensures c.args.thread.now c.bounded.ensures row c.in_ok-row.ensures.frame bytes in
     let made : beside_in start row ≡ (c.args.thread.now, c.args.source.now) = λ i. (thread i, c.in_ok-row.ensures.source i) in
     on_ok_weaker c.put.result
     (λ e. (λ i. record {

@@ -10,7 +10,7 @@ use Rattle.ir_store.proofs.rows.Rows.source.Goals as goal
 pub returns : goal.returns
 returns c =
     let less = subst (λ (z : table.Table). c.args.n < length z.items) (sym c.self.view_is) c.requires in
-    c.in_ok-source.ensures
+    c.in_ok-source.ensures ∙ c.source.ensures
     ∙ ap (λ (x : ThreadState × Source). x.1)
     (looked_up_row_is_get_or_of_mapped_rows (beside_in c.self.inside.basis.memory) c.self.inside.rows.items c.index-row.result.now c.args.n idle_beside less c.index-row.ensures)
     ∙ ap (λ (z : table.Table). (get_or z.items c.args.n idle_beside).1) c.self.view_is

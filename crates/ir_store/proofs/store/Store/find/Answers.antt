@@ -1,8 +1,7 @@
-use Rattle.std.proofs.Common.{◌≡◌, ◌∙◌, ◌<◌, sym, ap, subst, refl, map, length, get_or, Some, ℕ, List}
+use Rattle.std.proofs.Common.{◌≡◌, sym, subst, refl, map, get_or, Some, ℕ, List}
 use Rattle.std.specs.Prelude.{slice_get}
 use Rattle.std.proofs.lemmas.Option.{slice_get_within}
-use Rattle.ir_store.specs.declared.spot.Spot.{Spot}
-use Rattle.ir_store.specs.Nodes.{SourcedFlat, Shared, Stored, Node, IsNode, IsWithin, IsSourced, AreMoments, AreSameLooks, sourced_in}
+use Rattle.ir_store.specs.Nodes.{Shared, Stored, Node, IsWithin, IsSourced, AreMoments, AreSameLooks, sourced_in}
 use Rattle.ir_store.specs.Places.{no_node}
 use Rattle.ir_store.proofs.Numbered.{same_numbers_if_same_looks}
 use Rattle.ir_store.proofs.Stored.{node_less, node_is, state_is}

@@ -1,7 +1,7 @@
-use Rattle.std.proofs.Common.{◌≡◌, ◌∙◌, sym, ap, subst}
+use Rattle.std.proofs.Common.{sym, subst}
 use Rattle.ir_lemmas.proofs.CallerLemmas.{all_by_recursion_after_push}
 use Rattle.ir_store.specs.Hashes.{IsFoundBy}
-use Rattle.ir_store.specs.Nodes.{Shared, Stored, Node, IsNode, AreKept, AreNodesFound, node_hash}
+use Rattle.ir_store.specs.Nodes.{Shared, Stored, IsNode, AreKept, AreNodesFound, node_hash}
 use Rattle.ir_store.proofs.Found.{each_element_found_after_push}
 use Rattle.ir_store.proofs.store.Store.push.Goals as goal
 

@@ -1,4 +1,4 @@
-use Rattle.std.proofs.Common.{◌≡◌, ◌∙◌, sym, ap, subst, inl, inr, Some}
+use Rattle.std.proofs.Common.{sym, subst}
 use Rattle.ir_sources.specs.Sources.{Source}
 use Rattle.ir_thread.specs.State.{ThreadState}
 use Rattle.ir_store.specs.Hashes.{IsFoundBy}
@@ -9,5 +9,5 @@ find-requires-clause-found c = λ n at.
     let x : ThreadState × Source = (c.args.thread.now, c.args.source.now) in
     let basis = c.self.inside.rows.basis in
     subst (λ h. IsFoundBy c.self.inside.index h n)
-    (sym (c.whole_hash-whole.ensures basis (c.seen_hash-seen.ensures basis (c.as_slice.ensures.value ∙ c.in_ok-bytes.ensures))))
+    (sym (c.whole_hash-whole.ensures basis (c.seen_hash-seen.ensures basis (c.seen.ensures.frozen basis c.args.thread.now c.in_ok-packed.ensures))))
     (c.self.invariant.0.found n x at)

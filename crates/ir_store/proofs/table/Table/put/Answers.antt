@@ -1,10 +1,10 @@
-use Rattle.std.proofs.Common.{◌≡◌, ◌∙◌, ◌++◌, ◌∷◌, [], ℕ, List, length, sym, ap, subst, Some}
+use Rattle.std.proofs.Common.{◌≡◌, ◌∙◌, ◌++◌, ◌∷◌, [], ℕ, length, sym, ap, subst, Some}
 use Rattle.std.specs.Prelude.{slice_get}
 use Rattle.ir_lemmas.proofs.CallerLemmas.{added_element_is_last}
 use Rattle.ir_sources.specs.Sources.{Source}
 use Rattle.ir_thread.specs.State.{ThreadState}
 use Rattle.ir_store.specs.Hashes.{IsFoundBy}
-use Rattle.ir_store.specs.Table.{Table, AreOnce, HaveOneLook, StandsFor, seen_hash, whole_hash}
+use Rattle.ir_store.specs.Table.{Table, AreOnce, HaveOneLook, seen_hash, whole_hash}
 use Rattle.ir_store.proofs.Alike.{one_look_after_notes, once_after_notes, one_look_after_push, once_after_push}
 use Rattle.ir_store.proofs.Lists.{push_keeps_old_elements}
 use Rattle.ir_store.proofs.table.Table.put.Goals as goal
