@@ -7,12 +7,12 @@ use Rattle.ir_explore.specs.declared.origin.Origin.{Origin}
 use Rattle.ir_explore.specs.Following.{BothWays}
 use Rattle.ir_explore.specs.Levels.{Covered}
 use Rattle.ir_explore.specs.Origins.{first_origin}
-use Rattle.ir_explore.proofs.CallerLemmas.{covered_covers, Opened, index_of_element_is_below_length}
+use Rattle.ir_explore.proofs.CallerLemmas.{covered_covers, index_of_element_is_below_length}
 use Rattle.ir_runs.specs.Machine.{Machine}
-use Rattle.ir_runs.specs.Run.{State, Step, end}
+use Rattle.ir_runs.specs.Run.{State, end}
 use Rattle.ir_runs.proofs.CallerLemmas.{StateInvariant}
 use Rattle.ir_states.specs.Counting.{IsAtRest, is_own}
-use Rattle.ir_states.specs.Outcomes.{switches, Covers}
+use Rattle.ir_states.specs.Outcomes.{switches}
 use Rattle.ir_states.proofs.CallerLemmas.{run_within_switches_arrives_at_open_node, nothing_goes_ahead_if_at_rest, seen_good, sourced_machine_is_lawful}
 use Rattle.ir_thread.specs.State.{ThreadState, thread_machine}
 use Rattle.ir_sources.specs.Sources.{Source, given}
@@ -21,12 +21,10 @@ use Rattle.ir_seen.proofs.CallerLemmas.{seen_machine_is_lawful, seen_machine_is_
 use Rattle.ir_flat.specs.Flat.{tables, start_flat}
 use Rattle.ir_store.specs.Nodes.{SourcedFlat}
 use Rattle.ir_graph.specs.Graph.{IsGraph}
-use Rattle.ir_graph.specs.Hangs.{IsCounting}
-use Rattle.ir_graph.specs.Nodes.{seen_by, answered_by, seen_of, Alike, LookAlike, AreNodes, AllRest}
-use Rattle.ir_graph.specs.Reached.{AllReached}
+use Rattle.ir_graph.specs.Nodes.{seen_by, answered_by, seen_of, Alike}
 use Rattle.ir_graph.specs.Searched.{AreSearched}
 use Rattle.ir_graph.specs.Setup.{Setup, first_source}
-use Rattle.ir_graph.specs.Standing.{seen_end, EndsAt, switches_in, IsResting, WithinFound, NeedsSwitches}
+use Rattle.ir_graph.specs.Standing.{seen_end, EndsAt, switches_in, WithinFound, NeedsSwitches}
 use Rattle.ir_graph.proofs.Hangs.{counting_run_counts_as_seen, tells_nothing_of_alike_seen_threads}
 use Rattle.ir_graph.proofs.Leads.{seen_state_is_at_rest_if_all_rest}
 use Rattle.ir_graph.proofs.Listed.{flat_of, state_of, at, graph_means}

@@ -1,6 +1,5 @@
 -- What is known of calls for the time, while a graph grows.
-use Rattle.std.proofs.Common.{◌≡◌, ℕ, zero, suc, ◌<◌, ◌≤◌, Bool, true, false, Option, Some, None, List, [], ◌∷◌, ◌⊎◌, inl, inr, length, refl, sym, ap, ◌∙◌, subst, arith}
-use Rattle.std.specs.Prelude.{slice_get}
+use Rattle.std.proofs.Common.{◌≡◌, ℕ, ◌<◌, ◌≤◌, Bool, true, false, Option, Some, None, List, [], ◌∷◌, ◌⊎◌, inl, inr, length, sym, ◌∙◌, subst}
 use Rattle.std.specs.Global.{Vec}
 use Rattle.std.proofs.lemmas.Bool.{cases_lt}
 use Rattle.std.proofs.lemmas.Option.{same_Some}
@@ -8,7 +7,6 @@ use Rattle.ir_explore.specs.Following.{BothWays}
 use Rattle.ir_states.specs.Outcomes.{Begins}
 use Rattle.ir_states.specs.Views.{beside}
 use Rattle.ir_thread.specs.State.{most_budget}
-use Rattle.ir_thread.specs.declared.profile.Profile.{Profile}
 use Rattle.ir_seen.specs.Seen.{seen_start}
 use Rattle.ir_seen.proofs.CallerLemmas.{start_view_ignores_budget}
 use Rattle.ir_store.specs.Nodes.{SourcedFlat}

@@ -1,17 +1,15 @@
 -- A search over a guest's graph knows whether some run of the guest answers a call for the time.
-use Rattle.std.proofs.Common.{◌≡◌, ◌≢◌, ◌↔◌, ◌⊎◌, ℕ, ◌<◌, ◌≤◌, Bool, true, false, Some, None, Option, List, [], ◌∷◌, length, inl, inr, refl, sym, ap, ◌∙◌, subst, arith}
-use Rattle.std.specs.Prelude.{slice_get}
+use Rattle.std.proofs.Common.{◌≡◌, ◌≢◌, ◌↔◌, ◌⊎◌, ℕ, ◌<◌, Bool, true, false, Some, List, [], ◌∷◌, length, inl, inr, refl, sym, ap, ◌∙◌, subst, arith}
 use Rattle.std.proofs.lemmas.Bool.{cases_eq, cases_lt}
 use Rattle.ir_explore.specs.Following.{BothWays}
 use Rattle.ir_explore.specs.Levels.{AreAsked}
-use Rattle.ir_runs.specs.Machine.{Machine, Done, Never, Admits, act_of, target, reply}
+use Rattle.ir_runs.specs.Machine.{Machine, Done, Admits, act_of, target}
 use Rattle.ir_runs.specs.Lawful.{IsLawful}
 use Rattle.ir_runs.specs.Run.{State, Step, asked, act, Can, after, end, log}
 use Rattle.ir_runs.proofs.CallerLemmas.{StateInvariant, upd_at_own_place, thread_after_step_of_other}
 use Rattle.ir_states.specs.Counting.{Answers, is_own, Counts, GoesAhead, entering}
-use Rattle.ir_states.specs.Nodes.{TellsNothing, LeadsTo, Noted, IsClosed, Chain, Arrives}
+use Rattle.ir_states.specs.Nodes.{LeadsTo, Noted, IsClosed, Chain}
 use Rattle.ir_states.specs.Orders.{is_refusal}
-use Rattle.ir_states.specs.Outcomes.{Begins}
 use Rattle.ir_states.specs.Sources.{left_of}
 use Rattle.ir_states.specs.Views.{beside}
 use Rattle.ir_states.proofs.CallerLemmas.{counting_run_arrives_along_chain_of_its_entries, equality_of_states_tells_nothing, goes_ahead_from_alike_state_to_alike_end, run_is_live_if_its_end_is_unspoilt, sourced_live, seen_good, sourced_machine_is_lawful}
@@ -24,11 +22,11 @@ use Rattle.ir_store.specs.Nodes.{SourcedFlat, source_of}
 use Rattle.ir_store.specs.Table.{HaveTicks}
 use Rattle.ir_graph.specs.Graph.{IsGraph}
 use Rattle.ir_graph.specs.Hangs.{IsCounting}
-use Rattle.ir_graph.specs.Nodes.{seen_by, answered_by, seen_of, Alike}
+use Rattle.ir_graph.specs.Nodes.{seen_by, answered_by, Alike}
 use Rattle.ir_graph.specs.Reached.{IsReached}
 use Rattle.ir_graph.specs.Setup.{Setup, start_of, first_source}
-use Rattle.ir_graph.specs.Times.{HasTime, HasTimedRun, IsTickless, AlikeTickless, KnowsTimes}
-use Rattle.ir_graph.proofs.Full.{seen_state, end_of_live_run_seen}
+use Rattle.ir_graph.specs.Times.{HasTimedRun, IsTickless, AlikeTickless, KnowsTimes}
+use Rattle.ir_graph.proofs.Full.{end_of_live_run_seen}
 use Rattle.ir_graph.proofs.Hangs.{answered_run_is_counting, counting_run_counts_as_seen, tells_nothing_of_alike_seen_threads}
 use Rattle.ir_graph.proofs.Listed.{flat_of, state_of, at, code_at, graph_means}
 use Rattle.ir_graph.proofs.Ticks.{left_after, ticks_rise_if_log_has_time, log_has_time_if_ticks_rose, source_at_end_is_left_after_log, ticks_never_fall_in_run, first_source_has_no_ticks}

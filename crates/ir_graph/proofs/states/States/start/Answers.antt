@@ -1,4 +1,4 @@
-use Rattle.std.proofs.Common.{◌≡◌, ◌≤◌, length, sym, ap, ◌∙◌, subst, arith}
+use Rattle.std.proofs.Common.{length, sym, ap, ◌∙◌, subst, arith}
 use Rattle.ir_explore.specs.Levels.{rows}
 use Rattle.ir_explore.specs.Searching.{IsBetween}
 use Rattle.ir_graph.specs.Ahead.{AreTurns}
