@@ -33,6 +33,7 @@ done. States that differ only in registers that the code doesn't read any more c
                                                  is for not at all. WHY is `states`, the limit is reached; `private T`, thread T
                                                  reached the limit of steps without an entry or a try; `world T`, thread T has
                                                  called CLOCK too often to be counted; `log T`, a log is full; or `memory`
+The line goes on with `clock counted` only if some run calls CLOCK, and after `finished` exactly then.
 Without a last line, after a fault, what is printed is right, but nothing says how complete it is.
 All this is about the runs in which no budget is spent and no log is full, and in which CLOCK, RANDOM and INPUT answer as
 `ir record --order` answers them: CLOCK counts the calls of each thread from 0, and S and FILE say the rest. A recording by
