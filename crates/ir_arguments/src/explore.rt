@@ -91,7 +91,12 @@ pub struct ExploreArguments {
 impl ExploreArguments {
     /// How the guest is explored, which reads these bytes.
     pub fn plan<'a>(&self, input: &'a [u8]) -> ExplorePlan<'a>
-        ensures { result.input ≡ input.now }
+        ensures states { result.bounds.nodes ≡ self.now.reach.states }
+        ensures private { result.bounds.private ≡ self.now.reach.private }
+        ensures switches { result.switches ≡ self.now.reach.switches }
+        ensures profile { result.profile ≡ self.now.profile }
+        ensures random { result.random ≡ self.now.random }
+        ensures input { result.input ≡ input.now }
     {
         let Reach {
             states,

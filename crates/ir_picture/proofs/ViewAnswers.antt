@@ -7,12 +7,11 @@ use Rattle.ir_files.specs.declared.exit_status.ExitStatus.TheVariants as status
 use Rattle.ir_past.specs.Answers.{AreCoherent, Answered, NotAnswered, Stops}
 use Rattle.ir_past.specs.declared.past_err.PastErr.{PastErr}
 use Rattle.ir_past.proofs.CallerLemmas.{not_answered_if_stopped}
-use Rattle.ir_picture.specs.Answers.{IsForm, page_head, page_tail, IsThere, IsTraceAnswer, IsViewAnswer}
+use Rattle.ir_picture.specs.Answers.{IsForm, page_head, page_tail, IsThere, IsTraceAnswer, IsViewAnswer, most_boxes}
 use Rattle.ir_picture.specs.Numbers.{rows_from, listed, box_row, stale_row, data_start, thread_list, data_text}
 use Rattle.ir_picture.specs.Progress.{data_head, stale_head, data_rows}
 use Rattle.ir_picture.specs.declared.asked.Around.{Around}
 use Rattle.ir_picture.specs.declared.asked.Form.TheVariants as form
-use Rattle.ir_picture.specs.declared.limits.TheConstants.{MOST_BOXES}
 use Rattle.ir_picture.proofs.Texts.{four_parts_are_framed_text, data_parts_regroup_with_end, data_parts_regroup_before_last_text}
 use Rattle.ir_picture.specs.Chrome.{AreSights, chrome_text, IsChromeAnswer}
 use Rattle.ir_picture.specs.declared.asked.Asked.{Asked}
@@ -87,7 +86,7 @@ framed_rows_are_data_form r near p before after none ends = (
 )
 
 -- in that of a page it is the page of the picture
-pub framed_rows_are_page_form : (r : Recorded) (near : Option Around) (p : Picture) (before after : List ℕ) → length p.boxes.items ≤ MOST_BOXES → before ≡ page_head
+pub framed_rows_are_page_form : (r : Recorded) (near : Option Around) (p : Picture) (before after : List ℕ) → length p.boxes.items ≤ most_boxes → before ≡ page_head
     → after ≡ codes "\n]}" ++ page_tail → IsForm form.Page r near p status.Done (before ++ (data_rows r near p ++ after))
 framed_rows_are_page_form r near p before after fits begins ends = inl (
   fits,

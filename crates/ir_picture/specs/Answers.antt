@@ -19,7 +19,6 @@ use Rattle.ir_picture.specs.declared.asked.Around.{Around}
 use Rattle.ir_picture.specs.declared.asked.Form.{Form}
 use Rattle.ir_picture.specs.declared.asked.Form.TheVariants as form
 use Rattle.ir_picture.specs.declared.asked.Asked.{Asked}
-use Rattle.ir_picture.specs.declared.limits.TheConstants.{MOST_BOXES}
 use Rattle.ir_picture.specs.declared.placed_box.PlacedBox.{PlacedBox}
 use Rattle.ir_picture.specs.declared.page.TheConstants.{HEAD_1, HEAD_2, TAIL_1, TAIL_2, TAIL_3, TAIL_4}
 use Rattle.ir_picture.specs.declared.picture.Picture.{Picture}
@@ -61,11 +60,15 @@ circle_line t e = codes "circle thread " ++ (decimal t ++ (codes " event " ++ (d
 abbrev pub many_line : ℕ → List ℕ
 many_line count = codes "too many boxes " ++ (decimal count ++ 10 ∷ [])
 
+-- the most boxes of a page
+abbrev pub most_boxes : ℕ
+most_boxes = 200000
+
 -- a picture in a form
 abbrev pub IsForm : Form → Recorded → Option Around → Picture → ExitStatus → List ℕ → Type 0
 IsForm form.Page r near p answered text =
-    ((length p.boxes.items ≤ MOST_BOXES) × (answered ≡ status.Done) × (text ≡ page_text r near p))
-    ⊎ ((MOST_BOXES < length p.boxes.items) × (answered ≡ status.NotFit) × (text ≡ many_line (length p.boxes.items)))
+    ((length p.boxes.items ≤ most_boxes) × (answered ≡ status.Done) × (text ≡ page_text r near p))
+    ⊎ ((most_boxes < length p.boxes.items) × (answered ≡ status.NotFit) × (text ≡ many_line (length p.boxes.items)))
 IsForm form.Data r near p answered text = (answered ≡ status.Done) × (text ≡ data_text r near p ++ 10 ∷ [])
 IsForm form.Chrome r near p answered text = IsChromeAnswer r p answered text
 

@@ -19,10 +19,9 @@ use Rattle.ir_picture.specs.declared.placed_box.PlacedBox.{PlacedBox}
 use Rattle.ir_picture.proofs.CallerLemmas.{four_parts_are_framed_text, data_parts_regroup_with_end, data_parts_regroup_before_last_text, picture_is_of_trace}
 use Rattle.ir_picture_run.specs.Resting.{resting_writes, writes_of}
 use Rattle.ir_picture_run.proofs.Kept.{kept_writes_are_rising}
-use Rattle.ir_picture.specs.Answers.{page_head, page_tail, IsThere, IsPicture}
+use Rattle.ir_picture.specs.Answers.{page_head, page_tail, IsThere, IsPicture, most_boxes}
 use Rattle.ir_picture.specs.Numbers.{rows_from, listed, data_start, thread_list}
 use Rattle.ir_picture.specs.declared.asked.Form.TheVariants as form
-use Rattle.ir_picture.specs.declared.limits.TheConstants.{MOST_BOXES}
 use Rattle.ir_files.specs.declared.exit_status.ExitStatus.TheVariants as status
 use Rattle.ir_picture.specs.declared.asked.Asked.{Asked}
 use Rattle.ir_picture.specs.declared.picture.Picture.{Picture}
@@ -103,7 +102,7 @@ framed_rows_are_data_form f near p drawn kept before after are none ends = (
 
 -- in that of a page it is the page of the picture
 pub framed_rows_are_page_form : (f : FittedTrace) (near : Option Around) (p : Picture) (drawn : List Drawn) (kept : List Resting) (before after : List ℕ)
-    → AreDrawn f p.boxes.items drawn → length p.boxes.items ≤ MOST_BOXES → before ≡ page_head → after ≡ codes "\n]}" ++ page_tail
+    → AreDrawn f p.boxes.items drawn → length p.boxes.items ≤ most_boxes → before ≡ page_head → after ≡ codes "\n]}" ++ page_tail
     → IsForm form.Page f near p kept status.Done (before ++ (data_rows f near p drawn kept ++ after))
 framed_rows_are_page_form f near p drawn kept before after are fits begins ends = inl (
   fits,

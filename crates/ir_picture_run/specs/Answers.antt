@@ -16,12 +16,11 @@ use Rattle.ir_rests.specs.declared.rest.Rest.{Rest}
 use Rattle.ir_picture.specs.Places.{ArePlaced}
 use Rattle.ir_picture.specs.Shown.{AreShown}
 use Rattle.ir_picture.specs.Chrome.{IsChromeAnswer}
-use Rattle.ir_picture.specs.Answers.{IsThere, IsAbsent, page_of, many_line}
+use Rattle.ir_picture.specs.Answers.{IsThere, IsAbsent, page_of, many_line, most_boxes}
 use Rattle.ir_picture.specs.declared.asked.Around.{Around}
 use Rattle.ir_picture.specs.declared.asked.Form.{Form}
 use Rattle.ir_picture.specs.declared.asked.Form.TheVariants as form
 use Rattle.ir_picture.specs.declared.asked.Asked.{Asked}
-use Rattle.ir_picture.specs.declared.limits.TheConstants.{MOST_BOXES}
 use Rattle.ir_picture.specs.declared.picture.Picture.{Picture}
 use Rattle.ir_picture.specs.declared.placed_box.PlacedBox.{PlacedBox}
 use Rattle.ir_picture.specs.declared.view_err.Absent.{Absent}
@@ -60,8 +59,8 @@ pub record IsPage (f : FittedTrace) (near : Option Around) (p : Picture) (kept :
 -- a picture in a form
 abbrev pub IsForm : Form → FittedTrace → Option Around → Picture → List Resting → ExitStatus → List ℕ → Type 0
 IsForm form.Page f near p kept answered text =
-    ((length p.boxes.items ≤ MOST_BOXES) × (answered ≡ status.Done) × IsPage f near p kept text)
-    ⊎ ((MOST_BOXES < length p.boxes.items) × (answered ≡ status.NotFit) × (text ≡ many_line (length p.boxes.items)))
+    ((length p.boxes.items ≤ most_boxes) × (answered ≡ status.Done) × IsPage f near p kept text)
+    ⊎ ((most_boxes < length p.boxes.items) × (answered ≡ status.NotFit) × (text ≡ many_line (length p.boxes.items)))
 IsForm form.Data f near p kept answered text =
     (answered ≡ status.Done) × ((lines : List ℕ) × IsData f near p kept lines × (text ≡ lines ++ 10 ∷ []))
 IsForm form.Chrome f near p kept answered text = IsChromeAnswer f.recorded p answered text
