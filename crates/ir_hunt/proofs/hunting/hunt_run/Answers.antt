@@ -1,4 +1,4 @@
-use Rattle.std.proofs.Common.{List, ℕ, map, refl, sym, ◌∙◌, subst, inl, inr}
+use Rattle.std.proofs.Common.{List, ℕ, refl, sym, ◌∙◌, subst, inl, inr}
 use Rattle.std.specs.String.{string_bytes}
 use Rattle.std.specs.Io.KnownBytes.{Appends}
 use Rattle.std.proofs.KnownBytes.{Appends-trans}
@@ -6,7 +6,6 @@ use Rattle.std.proofs.lemmas.Result.{err_from_is_err_and}
 use Rattle.ir_stream.specs.Answers.{AppendsPrefix}
 use Rattle.ir_files.proofs.CallerLemmas.{if_err_holds_if_holds_of_handed_on_error}
 use Rattle.ir_record_run.specs.declared.record_fault.RecordFault.TheVariants.{Lines}
-use Rattle.ir_chaos.specs.Conditions.{as_condition}
 use Rattle.ir_hunt.proofs.Found.{recording_of_found_is_finding}
 use Rattle.ir_hunt.proofs.Stopping.{error_fact_if_is_err, ok_fact_unless_is_err, line_is_hunt_line}
 use Rattle.ir_hunt.proofs.hunting.hunt_run.Goals as goal
@@ -21,8 +20,8 @@ returns-then-is_err-clause-stopped g c =
       inr (inl (
         line,
         refl,
-        line_is_hunt_line (λ f. f.seed) (λ f. string_bytes f.list) c.args.image.now c.args.plan.now.record c.args.plan.now.way c.args.plan.now.seeds
-            (map as_condition c.args.plan.now.conditions.now) c.args.plan.now.stale c.in-Ok.sought.found line c.in-Ok.ensures.found c.in-Ok.ensures.line,
+        line_is_hunt_line (λ f. f.seed) (λ f. string_bytes f.list) c.args.image.now c.args.plan.now c.in-Ok.sought.found line _ c.in-Ok.ensures.found
+            c.in-Ok.ensures.none c.in-Ok.ensures.line,
         (
           subst (λ (bytes : List ℕ). AppendsPrefix (g.O.Sink.written c.args.out.now) (g.O.Sink.written c.write_all.new.writer) bytes)
               c.as_bytes.ensures.value prefix,
@@ -63,11 +62,11 @@ returns-clause-done g c =
       c.in-Some.found.seed,
       list,
       done.0,
-      recording_of_found_is_finding c.args.image.now c.args.plan.now.record c.args.plan.now.way c.in-Some.found.seed (map as_condition c.args.plan.now.conditions.now) c.args.plan.now.stale list c.in_ok-recorded.recorded
-          done.0 (rw c.in-Some.is at c.in-Ok.ensures.found) done.1,
+      recording_of_found_is_finding c.args.image.now c.args.plan.now c.in-Some.found.seed list c.in_ok-recorded.recorded done.0
+          (rw c.in-Some.is at c.in-Ok.ensures.found) done.1,
       done.2,
       done.3,
-      Appends-trans (g.O.Sink.written c.args.out.now) (g.O.Sink.written c.write_all.new.writer) (g.O.Sink.written c.record_run.new.out) _ _
+      Appends-trans (g.O.Sink.written c.args.out.now) (g.O.Sink.written c.write_all.new.writer) (g.O.Sink.written c.record_by_list.new.out) _ _
           (subst (λ (bytes : List ℕ). Appends (g.O.Sink.written c.args.out.now) (g.O.Sink.written c.write_all.new.writer) bytes) line wrote)
           done.4,
     )
