@@ -130,9 +130,9 @@ fails_if_seed_run_does hunt seed b h answered fails =
     record { run = h.run; order = order_of_turns b.turns; of_seed = h.schedule; planned = planned; fails = fails_in_one_way hunt chooser b h planned fails }
 
 -- a recording by the list is of the run that was found
-pub recording_of_found_is_finding : (image : List ℕ) (plan : HuntPlan) (seed : ℕ) (list : List ℕ) (trace : Recorded) (outputs : List (List ℕ))
-    → IsFoundIn image plan seed list → IsRecordedOf image (by_list plan.record list) trace outputs → IsFinding image plan seed list trace outputs
-recording_of_found_is_finding image plan seed list trace outputs found r =
+pub recording_of_found_is_finding : (image : List ℕ) (plan : HuntPlan) (left_out seed : ℕ) (list : List ℕ) (trace : Recorded) (outputs : List (List ℕ))
+    → IsFoundIn image plan left_out seed list → IsRecordedOf image (by_list plan.record list) trace outputs → IsFinding image plan left_out seed list trace outputs
+recording_of_found_is_finding image plan left_out seed list trace outputs found r =
     let run = found.lowest.found in
     record {
       is = found;

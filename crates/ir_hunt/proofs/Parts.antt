@@ -1,8 +1,12 @@
 -- Seeds that were tried, part after part.
-use Rattle.std.proofs.Common.{◌≡◌, ◌≤◌, ◌<◌, ◌+◌, ◌-◌, ℕ, zero, suc, List, inl, inr, sym, subst, ap, arith, refl}
+use Rattle.std.proofs.Common.{◌≡◌, ◌≤◌, ◌<◌, ◌+◌, ◌-◌, ℕ, zero, suc, List, [], ◌∷◌, ◌++◌, inl, inr, sym, subst, ap, arith, refl, ◌∙◌}
 use Rattle.std.specs.Prelude.{Option, Some, None}
 use Rattle.ir_hunt.specs.Hunt.{Hunt}
-use Rattle.ir_hunt.specs.Tried.{Fails, AreTried, IsPart}
+use Rattle.std.proofs.lemmas.List.Elements.{All-push}
+use Rattle.ir_hunt.specs.Parts.{IsTried, IsBegun, IsPartOf, HasTried}
+use Rattle.ir_hunt.specs.Tried.{Fails, AreTried, AreAllTried, IsLowest, IsPart}
+use Rattle.ir_hunt.specs.declared.part.Part.{Part}
+use Rattle.ir_hunt.specs.declared.plan.Seeds.{Seeds}
 
 -- seeds that were tried, and those after them
 tried_with_those_after : (h : Hunt) (first n m k a b c : ℕ) → k ≡ n + m → c ≡ a + b → AreTried h first n a → AreTried h (first + n) m b
@@ -49,3 +53,42 @@ parts_are_a_part h first last next end a b (Some list) some is more before after
       lower = tried_with_those_after h first (last + 1 - first) (end - next) (end - first) a b (a + b) (omega (arith, some, is, more)) refl before
           (subst (λ n. AreTried h n (end - next) b) there after.lower);
     }
+
+-- what a worker has tried, and a part more
+pub has_tried_a_part_more : (h before after : Hunt) (parts : List Part) (hand : Seeds) (part : Part) → after ≡ before → HasTried h before parts
+    → IsPartOf before hand part → HasTried h after (parts ++ part ∷ [])
+has_tried_a_part_more h before after parts hand part same tried more = record {
+  same = same ∙ tried.same;
+  each = All-push (IsTried h) parts part tried.each (subst (λ z. IsTried z part) tried.same more.begun.tried);
+}
+
+-- what was tried first of these seeds, and then of the seeds after it
+pub begun_with_more_after : (h : Hunt) (seeds left : Seeds) (part next both : Part) → IsBegun h seeds part → IsBegun h left next → left.last ≡ seeds.last
+    → both.seeds.first ≡ part.seeds.first → both.seeds.last ≡ next.seeds.last
+    → ((hunt : Hunt) → IsTried hunt part → IsTried hunt next → IsTried hunt both) → IsBegun h seeds both
+begun_with_more_after h seeds left part next both before after end from to tried = record {
+  tried = tried h before.tried after.tried;
+  from = from ∙ before.from;
+  within = let within = after.within in omega (arith, end, to, within);
+}
+
+-- the last seed of a part is found, and it is the lowest
+pub last_of_part_is_lowest : (h : Hunt) (seeds : Seeds) (first last a : ℕ) (list : List ℕ) → first ≡ seeds.first → last ≤ seeds.last
+    → IsPart h first last a (Some list) → IsLowest h seeds.first seeds.last last a list
+last_of_part_is_lowest h seeds first last a list from within part = record {
+  from = subst (λ z. z ≤ last) from part.from;
+  to = within;
+  found = part.found;
+  lower = subst (λ z. AreTried h z (last - z) a) from part.lower;
+}
+
+-- where no seed is found in a part of all seeds, all were tried
+pub seeds_of_whole_part_are_tried : (h : Hunt) (seeds : Seeds) (first last a : ℕ) → first ≡ seeds.first → last ≡ seeds.last
+    → IsPart h first last a None → AreAllTried h seeds.first seeds.last a
+seeds_of_whole_part_are_tried h seeds first last a from to part =
+    subst (λ z. AreAllTried h seeds.first z a) to (subst (λ z. AreAllTried h z last a) from part)
+
+-- of no seeds all were tried
+pub no_seeds_are_tried : (h : Hunt) (first last : ℕ) → last < first → AreAllTried h first last 0
+no_seeds_are_tried h first last none =
+    let few : 0 ≡ last + 1 - first = omega (arith, none) in subst (λ n. AreTried h first n 0) few refl

@@ -14,15 +14,14 @@ pub record IsNoneIn (image : List ℕ) (plan : HuntPlan) (left_out : ℕ) : Type
   pub choices : List ℕ
   pub tried : AreAllTried (hunt_of guest plan choices) plan.seeds.first plan.seeds.last left_out
 
--- a seed is found, the lowest of the plan's, and the list spells the order of its run
-pub record IsFoundIn (image : List ℕ) (plan : HuntPlan) (seed : ℕ) (list : List ℕ) : Type 0 where
+-- a seed is found, the lowest of the plan's, and the list spells the order of its run: each lower one was tried, and so many of these were left out
+pub record IsFoundIn (image : List ℕ) (plan : HuntPlan) (left_out seed : ℕ) (list : List ℕ) : Type 0 where
   pub guest : Guest
   pub is : guest_at image ≡ Ok guest
   pub choices : List ℕ
-  pub left_out : ℕ
   pub lowest : IsLowest (hunt_of guest plan choices) plan.seeds.first plan.seeds.last seed left_out list
 
 -- the trace of that run, and what its threads printed
-pub record IsFinding (image : List ℕ) (plan : HuntPlan) (seed : ℕ) (list : List ℕ) (trace : Recorded) (outputs : List (List ℕ)) : Type 0 where
-  pub is : IsFoundIn image plan seed list
+pub record IsFinding (image : List ℕ) (plan : HuntPlan) (left_out seed : ℕ) (list : List ℕ) (trace : Recorded) (outputs : List (List ℕ)) : Type 0 where
+  pub is : IsFoundIn image plan left_out seed list
   pub recorded : IsOfRun is.guest plan.record.budget plan.record.profile is.lowest.found.run trace outputs

@@ -21,7 +21,7 @@ IsTold e faults = Reports faults (fault_text (fault_words e))
 
 -- the line of a hunt: of the seed that is found, or that there is none of the plan's
 abbrev pub IsHuntLine : List ℕ → HuntPlan → List ℕ → Type 0
-IsHuntLine image plan line = ((seed : ℕ) × (list : List ℕ) × IsFoundIn image plan seed list × (line ≡ found_line seed list))
+IsHuntLine image plan line = ((left_out seed : ℕ) × (list : List ℕ) × IsFoundIn image plan left_out seed list × (line ≡ found_line seed list))
     ⊎ ((left_out : ℕ) × IsNoneIn image plan left_out × (line ≡ none_line plan.seeds.first plan.seeds.last))
 
 -- how many seeds were left out is reported, if some were; else what is reported is as before

@@ -65,7 +65,7 @@ pub fn order_of_seed<C: Clock>(
     }
 }
 
-// What a hunt comes to: the line that says so, what was found, and else how many seeds were left out, if any were.
+// What a hunt comes to: the line that says so, what was found, and how many seeds were left out, if any were.
 #[derive(Drop)]
 struct Sought {
     line: String,
@@ -78,22 +78,22 @@ fn sought_by(alloc: Global, search: Search, seeds: Seeds) -> Result<Sought, Allo
     ensures found { IfOk result (λ s. s.found ≡ search.found) }
     ensures line { IfOk result (λ s. MatchOption s.found (string_bytes s.line ≡ none_line seeds.first seeds.last)
         (λ f. string_bytes s.line ≡ found_line f.seed (string_bytes f.list))) }
-    ensures left_out { IfOk result (λ s. s.found ≡ None → MatchOption s.left_out (search.left_out ≡ 0)
+    ensures left_out { IfOk result (λ s. MatchOption s.left_out (search.left_out ≡ 0)
         (λ words. (0 < search.left_out) × (string_bytes words ≡ left_out_words search.left_out))) }
 {
     let Search { found, left_out } = search;
+    let left_out = left_out_words(alloc, left_out)?;
     match found {
         Some(found) => {
             let line = found_line(alloc, found.seed, found.list.as_str())?;
             Ok(Sought {
                 line,
                 found: Some(found),
-                left_out: None,
+                left_out,
             })
         }
         None => {
             let line = none_line(alloc, seeds)?;
-            let left_out = left_out_words(alloc, left_out)?;
             Ok(Sought {
                 line,
                 found: None,
@@ -110,16 +110,17 @@ fn hunted<R: Threads + Clock + Sync + Eprint>(
     image: &ParsedImage<'_>,
     plan: &HuntPlan<'_>,
 ) -> Result<Sought, RecordFault>
-    ensures found { IfOk result (λ s. IfSome s.found (λ f. IsFoundIn image.now plan.now f.seed (string_bytes f.list))) }
-    ensures none { IfOk result (λ s. s.found ≡ None → (left_out : ℕ) × IsNoneIn image.now plan.now left_out × MatchOption s.left_out (left_out ≡ 0)
-        (λ words. (0 < left_out) × (string_bytes words ≡ left_out_words left_out))) }
+    ensures sought { IfOk result (λ s. (left_out : ℕ)
+        × MatchOption s.found (IsNoneIn image.now plan.now left_out) (λ f. IsFoundIn image.now plan.now left_out f.seed (string_bytes f.list))
+        × MatchOption s.left_out (left_out ≡ 0) (λ words. (0 < left_out) × (string_bytes words ≡ left_out_words left_out))) }
     ensures line { IfOk result (λ s. MatchOption s.found (string_bytes s.line ≡ none_line plan.now.seeds.first plan.now.seeds.last)
         (λ f. string_bytes s.line ≡ found_line f.seed (string_bytes f.list))) }
     ensures refused { IfErr result (λ e. RefusesHunt e image.now plan.now.record) }
 {
     let guest = image.allowed(&plan.record)?;
     let search = lowest_seed(rt, alloc, guest, plan)?;
-    Ok(sought_by(alloc, search, plan.seeds)?)
+    let sought = sought_by(alloc, search, plan.seeds)?;
+    Ok(sought)
 }
 
 // Reports a fault in its own words.
@@ -135,7 +136,8 @@ fn told<E: Sink>(faults: &mut E, why: RecordFault) -> ExitStatus
 // Reports how many seeds were left out, if any were.
 fn tell_left_out<E: Sink>(faults: &mut E, words: &Option<String>)
     requires { E.broken faults.old ≡ false }
-    ensures { MatchOption words.now (faults.new ≡ faults.old) (λ s. Reports (writer_of (E.written faults.old) (E.written faults.new) (E.broken faults.new)) (fault_text (string_bytes s))) }
+    ensures { (left_out : ℕ) → MatchOption words.now (left_out ≡ 0) (λ words. (0 < left_out) × (string_bytes words ≡ left_out_words left_out))
+        → TellsLeftOut left_out (writer_of (E.written faults.old) (E.written faults.new) (E.broken faults.new)) (faults.new ≡ faults.old) }
 {
     if let Some(words) = words {
         tell(faults, words.as_str());
@@ -155,9 +157,10 @@ fn by_list<'a>(how: &RecordPlan<'a>, list: &'a str) -> RecordPlan<'a>
     }
 }
 
-/// Tries the seeds of a plan. If the run of one fulfils each of its conditions, that of the lowest is recorded: first a line
+/// Tries the seeds of a plan. If the run of one fulfils each of its conditions, the run of the lowest is recorded: first a line
 /// `found seed S order LIST` is written, and then all that `record_by_list` writes of the recording by LIST. Else a line
-/// `none A..B` is all that is written, and how many seeds were left out is reported, if any were. What was recorded is handed back.
+/// `none A..B` is all that is written. How many of the seeds that were tried were left out is reported at the end, if any were.
+/// What was recorded is handed back.
 ///
 /// # Errors
 /// The exit status, as of `record_run`. A fault is reported in one line.
@@ -180,17 +183,17 @@ where
     requires prints { O.broken out.old ≡ false }
     requires reports { E.broken faults.old ≡ false }
     // Of the lowest seed that is found, whose run fulfils each condition: the run's trace was written, what its threads printed, and the lines
-    // with the list. Or each seed was tried and none is found, which was written, and of how many were left out what is to be reported.
+    // with the list. Or each seed was tried and none is found, which was written. If seeds were left out, it is reported how many.
     ensures done { IfOk result (λ o. MatchOption o
         ((files.new.trace ≡ files.old.trace) × (files.new.outputs ≡ files.old.outputs) × Appends (O.written out.old) (O.written out.new) (none_line plan.now.seeds.first plan.now.seeds.last)
         × ((left_out : ℕ) × IsNoneIn image.now plan.now left_out
         × TellsLeftOut left_out (writer_of (E.written faults.old) (E.written faults.new) (E.broken faults.new)) (faults.new ≡ faults.old)))
-        (λ recorded. (seed : ℕ) × (list : List ℕ) × (printed : List (List ℕ)) × IsFinding image.now plan.now seed list recorded printed
+        (λ recorded. (left_out seed : ℕ) × (list : List ℕ) × (printed : List (List ℕ)) × IsFinding image.now plan.now left_out seed list recorded printed
         × Appends (W.written files.old.trace) (W.written files.new.trace) (encoding recorded)
         × TookEach (output_writer_of (P.taken files.old.outputs) (P.taken files.new.outputs) (P.broken files.new.outputs)) printed
-        × Appends (O.written out.old) (O.written out.new) (found_line seed list ++ lines_of recorded))) }
+        × Appends (O.written out.old) (O.written out.new) (found_line seed list ++ lines_of recorded)
+        × TellsLeftOut left_out (writer_of (E.written faults.old) (E.written faults.new) (E.broken faults.new)) (faults.new ≡ faults.old))) }
     ensures whole { IfOk result (λ o. IfSome o (λ _. W.whole files.new.trace ≡ true)) }
-    ensures quiet { IfOk result (λ o. IfSome o (λ _. faults.new ≡ faults.old)) }
     // Else nothing was written; or the line failed; or what was found is said, and its recording stopped.
     ensures stopped { IfErr result (λ status. (e : RecordFault) × (status ≡ fault_status e) × (
         (RefusesHunt e image.now plan.now.record × (files.new.trace ≡ files.old.trace) × (files.new.outputs ≡ files.old.outputs) × (out.new ≡ out.old)
@@ -198,8 +201,8 @@ where
         ⊎ (((line : List ℕ) × (e ≡ Lines) × IsHuntLine image.now plan.now line
         × Failed (writer_of (O.written out.old) (O.written out.new) (O.broken out.new)) line × (files.new.trace ≡ files.old.trace) × (files.new.outputs ≡ files.old.outputs)
         × IsTold e (writer_of (E.written faults.old) (E.written faults.new) (E.broken faults.new)))
-        ⊎ ((seed : ℕ) × (list : List ℕ) × (said : O)
-        × IsFoundIn image.now plan.now seed list
+        ⊎ ((left_out seed : ℕ) × (list : List ℕ) × (said : O)
+        × IsFoundIn image.now plan.now left_out seed list
         × Appends (O.written out.old) (O.written said) (found_line seed list)
         × IsReported e image.now (by_list plan.now.record list) (unwritten_of (W.called files.new.trace) (W.cause files.new.trace)) (unwritten_of (P.called files.new.outputs) (P.cause files.new.outputs))
         (writer_of (E.written faults.old) (E.written faults.new) (E.broken faults.new))
@@ -225,5 +228,6 @@ where
     let plan = &by_list(&plan.record, list);
     let recording = Recording { image, plan };
     let recorded = record_by_list(rt, &recording, list, files, out, faults)?;
+    tell_left_out(faults, &sought.left_out);
     Ok(Some(recorded))
 }

@@ -1,6 +1,6 @@
 //! What is tried of a hunt's seeds at a time.
 
-ghost use Rattle.std.specs.Prelude.{◌≡◌, ◌≤◌, ◌+◌, ◌-◌, None, IfOk};
+ghost use Rattle.std.specs.Prelude.{◌≡◌, ◌≤◌, ◌<◌, ◌+◌, ◌-◌, None, IfOk, true, false};
 ghost use Rattle.std.specs.String.{string_bytes};
 
 use crate::plan::Seeds;
@@ -22,6 +22,14 @@ pub struct Part {
 impl Part {
     ghost use Rattle.ir_hunt.specs.Hunt.{Hunt};
     ghost use Rattle.ir_hunt.specs.Parts.{IsTried};
+
+    /// Whether none is found of it, and it ends before this seed.
+    pub fn ends_before(&self, last: u64) -> bool
+        ensures before { result ≡ true → (self.now.list ≡ None) × (self.now.seeds.last < last) }
+        ensures other { result ≡ false → self.now.list ≡ None → last ≤ self.now.seeds.last }
+    {
+        self.list.is_none() && self.seeds.last < last
+    }
 
     /// This part and the next.
     pub fn then(self, next: Part) -> Part

@@ -55,7 +55,7 @@ fn workers<'a, R: Threads + Clock>(
     ensures { IfOk result (λ ws. All (λ w. w.tries ≡ hunt_of image.now plan.now choices) ws.items) }
 {
     let mut workers = Vec::with_capacity(alloc, count)?;
-    for _ in 0..count {
+    'workers: for _ in 0..count {
         let tries = Tries::by(alloc, rt, image, plan, choices)?;
         workers.push(Worker::new(tries, Vec::new(alloc)))?;
     }
@@ -114,7 +114,7 @@ fn gathered<C: Clock>(
     ensures part { IfOk result (λ part. IsPartOf own.old seeds part) }
 {
     let mut part = part_of(alloc, workers, own, seeds)?;
-    'parts: while part.list.is_none() && part.seeds.last < seeds.last {
+    'parts: while part.ends_before(seeds.last) {
         let left = Seeds {
             first: part.seeds.last + 1,
             last: seeds.last,
@@ -174,7 +174,7 @@ fn try_stretches<R: Threads + Clock + Sync + Eprint>(
     ensures { IfOk result (λ part. IsPartOf own.old seeds part) }
 {
     let mut part = try_stretch(rt, alloc, workers, own, seeds, pace)?;
-    'stretches: while part.list.is_none() && part.seeds.last < seeds.last {
+    'stretches: while part.ends_before(seeds.last) {
         let left = Seeds {
             first: part.seeds.last + 1,
             last: seeds.last,
@@ -183,6 +183,28 @@ fn try_stretches<R: Threads + Clock + Sync + Eprint>(
         part = part.then(next);
     }
     Ok(part)
+}
+
+// The same. What is shown of them is taken off the terminal then.
+fn try_all<R: Threads + Clock + Sync + Eprint>(
+    rt: &R,
+    alloc: Global,
+    workers: &mut [Worker<'_, R>],
+    own: &mut Tries<'_, R>,
+    seeds: Seeds,
+    is_shown: bool,
+) -> Result<Part, AllocError>
+    requires some { seeds.first ≤ seeds.last }
+    requires tries { All (λ w. w.tries ≡ own.old) workers.old }
+    ensures { IfOk result (λ part. IsPartOf own.old seeds part) }
+{
+    let mut pace = Pace {
+        stretches: Stretches::new(workers.len() as u64),
+        shown: Shown::new(rt, is_shown),
+    };
+    let part = try_stretches(rt, alloc, workers, own, seeds, &mut pace);
+    pace.shown.end(rt);
+    part
 }
 
 // What was found of seeds that were tried up to the first that is found.
@@ -195,14 +217,19 @@ fn found_in(part: Part) -> Search
         left_out,
         list,
     } = part;
-    let found = match list {
-        Some(list) => Some(Found {
-            seed: seeds.last,
-            list,
-        }),
-        None => None,
-    };
-    Search { found, left_out }
+    match list {
+        Some(list) => Search {
+            found: Some(Found {
+                seed: seeds.last,
+                list,
+            }),
+            left_out,
+        },
+        None => Search {
+            found: None,
+            left_out,
+        },
+    }
 }
 
 /// The lowest seed that fulfils, sought by as many threads as there are processors.
@@ -228,19 +255,9 @@ pub fn lowest_seed<R: Threads + Clock + Sync + Eprint>(
     }
     let mut own = Tries::new(alloc, rt, image, plan)?;
     let count = worker_count(rt, seeds);
-    let mut workers = workers(rt, alloc, image, plan, count, own.choices())?;
-    let mut pace = Pace {
-        stretches: Stretches::new(count as u64),
-        shown: Shown::new(rt, plan.is_shown),
-    };
-    let part = try_stretches(
-        rt,
-        alloc,
-        workers.as_mut_slice(),
-        &mut own,
-        seeds,
-        &mut pace,
-    );
-    pace.shown.end(rt);
-    Ok(found_in(part?))
+    let choices = own.choices();
+    let mut each = workers(rt, alloc, image, plan, count, choices)?;
+    let workers = each.as_mut_slice();
+    let part = try_all(rt, alloc, workers, &mut own, seeds, plan.is_shown)?;
+    Ok(found_in(part))
 }

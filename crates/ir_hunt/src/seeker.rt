@@ -226,11 +226,11 @@ impl<'a, C: Clock> Seeker<'a, C> {
         ensures tried { IfOk result (λ o. MatchOption o (Fails (hunt_of self.old.image.now self.old.plan.now choices.now) seed)
             (λ list. IsFound (hunt_of self.old.image.now self.old.plan.now choices.now) seed (string_bytes list))) }
     {
-        if self.fulfils(seed, choices)? {
+        let is_found = self.fulfils(seed, choices)?;
+        if is_found {
             let list = list_of(self.alloc, self.runner.turns.as_slice())?;
-            Ok(Some(list))
-        } else {
-            Ok(None)
+            return Ok(Some(list));
         }
+        Ok(None)
     }
 }

@@ -7,6 +7,7 @@ ghost use Rattle.ir_hunt.specs.Parts.{IsTried, HasTried};
 
 use crate::dealing::Dealer;
 use crate::part::Part;
+use crate::plan::Seeds;
 use crate::tries::Tries;
 use crossbeam_utils::CachePadded;
 use std::alloc::AllocError;
@@ -39,19 +40,27 @@ impl<'a, C: Clock> Worker<'a, C> {
         }
     }
 
+    // Tries a hand: whether a seed of it is found.
+    fn try_hand(&mut self, hand: Seeds) -> Result<bool, AllocError>
+        requires { hand.first ≤ hand.last }
+        ensures { (hunt : Hunt) → HasTried hunt self.old.tries self.old.parts.items → HasTried hunt self.new.tries self.new.parts.items }
+    {
+        let part = self.tries.try_all(hand)?;
+        let is_found = part.list.is_some();
+        self.parts.push(part)?;
+        Ok(is_found)
+    }
+
     // Tries each hand that it is dealt, until a seed is found. Then no further hand is dealt.
     fn try_hands(&mut self, dealer: &Dealer) -> Result<(), AllocError>
         ensures { HasTried self.old.tries self.new.tries self.new.parts.items }
     {
         self.parts.clear();
-        for _ in 0..dealer.hands() {
+        'hands: for _ in 0..dealer.hands() {
             let Some(hand) = dealer.next() else {
                 break;
             };
-            let part = self.tries.try_all(hand)?;
-            let is_found = part.list.is_some();
-            self.parts.push(part)?;
-            if is_found {
+            if self.try_hand(hand)? {
                 dealer.close();
                 break;
             }
@@ -84,8 +93,8 @@ impl<'a, C: Clock> Worker<'a, C> {
     }
 }
 
-/// Each worker tries the hands that it is dealt, on a processor of its own if it can.
-pub fn seek_all<R: Threads + Clock + Sync>(rt: &R, workers: &mut [Worker<'_, R>], dealer: &Dealer)
+// Each worker tries the hands that it is dealt, on a processor of its own if it can.
+fn seek_each<R: Threads + Clock + Sync>(rt: &R, workers: &mut [Worker<'_, R>], dealer: &Dealer)
     ensures same { length workers.new ≡ length workers.old }
     ensures tried { (i : ℕ) (d : _) → i < length workers.old → HasTried (slice_index_or workers.old i d).tries (slice_index_or workers.new i d).tries (slice_index_or workers.new i d).parts.items }
 {
@@ -101,6 +110,14 @@ pub fn seek_all<R: Threads + Clock + Sync>(rt: &R, workers: &mut [Worker<'_, R>]
             ensures { HasTried worker.entry.now.tries worker.exit.now.tries worker.exit.now.parts.items }
         { worker.seek(dealer) },
     );
+}
+
+/// The workers of a hunt try the hands that they are dealt, each on a processor of its own if it can.
+pub fn seek_all<R: Threads + Clock + Sync>(rt: &R, workers: &mut [Worker<'_, R>], dealer: &Dealer)
+    ensures tried { (hunt : Hunt) → All (λ w. w.tries ≡ hunt) workers.old → All (λ w. HasTried hunt w.tries w.parts.items) workers.new }
+    ensures tries { (hunt : Hunt) → All (λ w. w.tries ≡ hunt) workers.old → All (λ w. w.tries ≡ hunt) workers.new }
+{
+    seek_each(rt, workers, dealer);
 }
 
 /// What a worker has tried from this seed on, if one has, and not beyond the last.
