@@ -1,6 +1,6 @@
 -- Seeds that were tried, part after part.
 use Rattle.std.proofs.Common.{◌≡◌, ◌≤◌, ◌<◌, ◌+◌, ◌-◌, ℕ, zero, suc, List, [], ◌∷◌, ◌++◌, inl, inr, sym, subst, ap, arith, refl, ◌∙◌}
-use Rattle.std.specs.Prelude.{Option, Some, None}
+use Rattle.std.specs.Prelude.{All, Option, Some, None, Result, Ok, Err, IfOk}
 use Rattle.ir_hunt.specs.Hunt.{Hunt}
 use Rattle.std.proofs.lemmas.List.Elements.{All-push}
 use Rattle.ir_hunt.specs.Parts.{IsTried, IsBegun, IsPartOf, HasTried}
@@ -63,14 +63,30 @@ has_tried_a_part_more h before after parts hand part same tried more = record {
 }
 
 -- what was tried first of these seeds, and then of the seeds after it
-pub begun_with_more_after : (h : Hunt) (seeds left : Seeds) (part next both : Part) → IsBegun h seeds part → IsBegun h left next → left.last ≡ seeds.last
+pub begun_with_more_after : (h now : Hunt) (seeds left : Seeds) (part next both : Part) → now ≡ h → IsBegun h seeds part → IsBegun now left next → left.last ≡ seeds.last
     → both.seeds.first ≡ part.seeds.first → both.seeds.last ≡ next.seeds.last
     → ((hunt : Hunt) → IsTried hunt part → IsTried hunt next → IsTried hunt both) → IsBegun h seeds both
-begun_with_more_after h seeds left part next both before after end from to tried = record {
-  tried = tried h before.tried after.tried;
+begun_with_more_after h now seeds left part next both same before after end from to tried = record {
+  tried = tried h before.tried (subst (λ z. IsTried z next) same after.tried);
   from = from ∙ before.from;
   within = let within = after.within in omega (arith, end, to, within);
 }
+
+-- a copy of what was tried first of these seeds
+pub copy_is_begun : {E : Type 0} (h : Hunt) (seeds : Seeds) (part : Part) (r : Result Part E) → IfOk r (λ p. p.seeds ≡ part.seeds)
+    → IfOk r (λ p. (hunt : Hunt) → IsTried hunt part → IsTried hunt p) → IsBegun h seeds part → IfOk r (λ p. IsBegun h seeds p)
+copy_is_begun h seeds part (Ok p) same tried begun = record {
+  tried = tried h begun.tried;
+  from = ap (λ (s : Seeds). s.first) same ∙ begun.from;
+  within = subst (λ (s : Seeds). s.last ≤ seeds.last) (sym same) begun.within;
+}
+copy_is_begun h seeds part (Err e) same tried begun = tt
+
+-- no more seeds were left out than were tried
+pub left_out_at_most_tried : (h : Hunt) (first n a : ℕ) → AreTried h first n a → a ≤ n
+left_out_at_most_tried h first zero a tried = omega (arith, tried)
+left_out_at_most_tried h first (suc n) a (inl (fails, rest)) = let few = left_out_at_most_tried h first n a rest in omega (arith, few)
+left_out_at_most_tried h first (suc n) a (inr (before, more, rest)) = let few = left_out_at_most_tried h first n before rest in omega (arith, more, few)
 
 -- the last seed of a part is found, and it is the lowest
 pub last_of_part_is_lowest : (h : Hunt) (seeds : Seeds) (first last a : ℕ) (list : List ℕ) → first ≡ seeds.first → last ≤ seeds.last
@@ -92,3 +108,9 @@ seeds_of_whole_part_are_tried h seeds first last a from to part =
 pub no_seeds_are_tried : (h : Hunt) (first last : ℕ) → last < first → AreAllTried h first last 0
 no_seeds_are_tried h first last none =
     let few : 0 ≡ last + 1 - first = omega (arith, none) in subst (λ n. AreTried h first n 0) few refl
+
+-- each worker is of the hunt, and so is each with one more
+pub each_is_of_hunt_with_one_more : {W : Type 0} (workers more : List W) (w : W) (tries : W → Hunt) (h : Hunt) → All (λ x. tries x ≡ h) workers
+    → more ≡ workers ++ w ∷ [] → tries w ≡ h → All (λ x. tries x ≡ h) more
+each_is_of_hunt_with_one_more workers more w tries h each added one =
+    subst (All (λ x. tries x ≡ h)) (sym added) (All-push (λ x. tries x ≡ h) workers w each one)

@@ -1,5 +1,5 @@
 -- What is tried of a hunt's seeds at a time.
-use Rattle.std.specs.Prelude.{◌≡◌, ◌≤◌, ℕ, List, All, None, option_map}
+use Rattle.std.specs.Prelude.{◌≡◌, ◌≤◌, List, All, None, option_map}
 use Rattle.std.specs.String.{string_bytes}
 use Rattle.ir_hunt.specs.Hunt.{Hunt}
 use Rattle.ir_hunt.specs.Tried.{IsPart}

@@ -1,9 +1,8 @@
 -- Which seeds of a hunt were tried.
-use Rattle.std.specs.Prelude.{◌≡◌, ◌≤◌, ◌⊎◌, ℕ, zero, suc, ◌+◌, ◌-◌, List, Option, Some, None, Ok}
-use Rattle.ir_image.specs.Guest.{guest_at}
+use Rattle.std.specs.Prelude.{◌≡◌, ◌≤◌, ◌⊎◌, ℕ, zero, suc, ◌+◌, ◌-◌, List, Option, Some, None}
 use Rattle.ir_runs.specs.Run.{Step}
 use Rattle.ir_order.specs.Recording.{IsPlanned}
-use Rattle.ir_hunt.specs.Finding.{IsOfSeed, FulfilsEach, FailsSome, IsFound}
+use Rattle.ir_hunt.specs.Finding.{IsOfSeed, FailsSome, IsFound}
 use Rattle.ir_hunt.specs.Hunt.{Hunt}
 use Rattle.ir_hunt.specs.Stale.{FailsStale}
 

@@ -139,8 +139,9 @@ fn tell_left_out<E: Sink>(faults: &mut E, words: &Option<String>)
     ensures { (left_out : ℕ) → MatchOption words.now (left_out ≡ 0) (λ words. (0 < left_out) × (string_bytes words ≡ left_out_words left_out))
         → TellsLeftOut left_out (writer_of (E.written faults.old) (E.written faults.new) (E.broken faults.new)) (faults.new ≡ faults.old) }
 {
-    if let Some(words) = words {
-        tell(faults, words.as_str());
+    match words {
+        Some(words) => tell(faults, words.as_str()),
+        None => {}
     }
 }
 

@@ -15,7 +15,6 @@ use crate::shown::Shown;
 use crate::stretches::Stretches;
 use crate::tries::Tries;
 use crate::worker::{Worker, has_failed, part_from, seek_all};
-use ir_chaos::Choices;
 use ir_image::Image;
 use std::alloc::{AllocError, Global};
 use std::thread::{self, Threads};
@@ -49,14 +48,15 @@ fn workers<'a, R: Threads + Clock>(
     image: &'a Image,
     plan: &'a HuntPlan<'a>,
     count: usize,
-    choices: Choices,
+    own: &Tries<'a, R>,
 ) -> Result<Vec<Worker<'a, R>>, AllocError>
     requires allowed { IsAllowed plan.now.record.profile image.now }
-    ensures { IfOk result (λ ws. All (λ w. w.tries ≡ hunt_of image.now plan.now choices) ws.items) }
+    requires same { own.now ≡ hunt_of image.now plan.now own.now.choices }
+    ensures { IfOk result (λ ws. All (λ w. w.tries ≡ own.now) ws.items) }
 {
     let mut workers = Vec::with_capacity(alloc, count)?;
     'workers: for _ in 0..count {
-        let tries = Tries::by(alloc, rt, image, plan, choices)?;
+        let tries = own.again(alloc, rt, image, plan)?;
         workers.push(Worker::new(tries, Vec::new(alloc)))?;
     }
     Ok(workers)
@@ -255,8 +255,7 @@ pub fn lowest_seed<R: Threads + Clock + Sync + Eprint>(
     }
     let mut own = Tries::new(alloc, rt, image, plan)?;
     let count = worker_count(rt, seeds);
-    let choices = own.choices();
-    let mut each = workers(rt, alloc, image, plan, count, choices)?;
+    let mut each = workers(rt, alloc, image, plan, count, &own)?;
     let workers = each.as_mut_slice();
     let part = try_all(rt, alloc, workers, &mut own, seeds, plan.is_shown)?;
     Ok(found_in(part))

@@ -86,29 +86,24 @@ impl<'a, C: Clock> Tries<'a, C> {
         Ok(Tries { seeker, choices })
     }
 
-    /// Before the first seed, by these choices.
+    /// The same of the same hunt.
     ///
     /// # Errors
     /// Out of memory.
-    pub fn by(
+    pub fn again(
+        &self,
         alloc: Global,
         clock: &'a C,
         image: &'a Image,
         plan: &'a HuntPlan<'a>,
-        choices: Choices,
     ) -> Result<Tries<'a, C>, AllocError>
-        requires { IsAllowed plan.now.record.profile image.now }
-        ensures { IfOk result (λ t. t ≡ hunt_of image.now plan.now choices) }
+        requires allowed { IsAllowed plan.now.record.profile image.now }
+        requires same { self.now ≡ hunt_of image.now plan.now self.now.choices }
+        ensures { IfOk result (λ t. t ≡ self.now) }
     {
+        let choices = self.choices;
         let seeker = Seeker::new(alloc, clock, image, plan)?;
         Ok(Tries { seeker, choices })
-    }
-
-    /// The choices.
-    pub fn choices(&self) -> Choices
-        ensures { result ≡ self.now.choices }
-    {
-        self.choices
     }
 
     /// Tries these seeds from the first on, until one is found.

@@ -41,7 +41,7 @@ returns-in_err-recorded-clause-stopped g c =
     let wrote = ok_fact_unless_is_err c.write_all.result _ c.write_all.ensures.ok (sym c.is_err.ensures.value ∙ c.if-is_err.false) in
     let line = c.as_bytes.ensures.value ∙ (rw c.in-Some.is at c.in-Ok.ensures.line) in
     let sought = c.in-Ok.ensures.sought in
-    let stopped = rw c.as_str.ensures.value at (rw c.by_list.ensures at c.in_err-recorded.ensures.stopped) in
+    let stopped = rw c.as_str-list.ensures.value at (rw c.by_list.ensures at c.in_err-recorded.ensures.stopped) in
     if_err_holds_if_holds_of_handed_on_error _ c.from_residual.result c.in_err-recorded.field-0.0 p.0 p.1 p.2 (
       stopped.0,
       stopped.1,
@@ -63,7 +63,7 @@ returns-clause-done g c =
     let wrote = ok_fact_unless_is_err c.write_all.result _ c.write_all.ensures.ok (sym c.is_err.ensures.value ∙ c.if-is_err.false) in
     let line = c.as_bytes.ensures.value ∙ (rw c.in-Some.is at c.in-Ok.ensures.line) in
     let sought = c.in-Ok.ensures.sought in
-    let done = rw c.as_str.ensures.value at (rw c.by_list.ensures at c.in_ok-recorded.ensures.done) in (
+    let done = rw c.as_str-list.ensures.value at (rw c.by_list.ensures at c.in_ok-recorded.ensures.done) in (
       sought.0,
       c.in-Some.found.seed,
       list,
@@ -75,6 +75,6 @@ returns-clause-done g c =
       Appends-trans (g.O.Sink.written c.args.out.now) (g.O.Sink.written c.write_all.new.writer) (g.O.Sink.written c.record_by_list.new.out) _ _
           (subst (λ (bytes : List ℕ). Appends (g.O.Sink.written c.args.out.now) (g.O.Sink.written c.write_all.new.writer) bytes) line wrote)
           done.4,
-      subst (λ z. TellsLeftOut sought.0 (writer_of (g.E.Sink.written z) (g.E.Sink.written c.tell_left_out.new.faults) (g.E.Sink.broken c.tell_left_out.new.faults))
-          (c.tell_left_out.new.faults ≡ z)) c.in_ok-recorded.ensures.quiet (c.tell_left_out.ensures sought.0 sought.2),
+      subst (λ z. TellsLeftOut sought.0 (writer_of (g.E.Sink.written z) (g.E.Sink.written c.tell_left_out-2.new.faults) (g.E.Sink.broken c.tell_left_out-2.new.faults))
+          (c.tell_left_out-2.new.faults ≡ z)) c.in_ok-recorded.ensures.quiet (c.tell_left_out-2.ensures sought.0 sought.2),
     )

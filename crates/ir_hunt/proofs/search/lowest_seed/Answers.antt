@@ -1,4 +1,4 @@
-use Rattle.std.proofs.Common.{◌≡◌, ℕ, List, [], sym, ◌∙◌, subst}
+use Rattle.std.proofs.Common.{[], subst}
 use Rattle.std.specs.Prelude.{MatchOption}
 use Rattle.std.specs.String.{string_bytes}
 use Rattle.ir_hunt.specs.Hunt.{hunt_of}
@@ -6,10 +6,10 @@ use Rattle.ir_hunt.specs.Tried.{AreAllTried, IsLowest}
 use Rattle.ir_hunt.proofs.Parts.{no_seeds_are_tried}
 use Rattle.ir_hunt.proofs.search.lowest_seed.Goals as goal
 
-pub returns-then-first : goal.returns-then-first
-returns-then-first g c = (
+pub returns-then-seeds : goal.returns-then-seeds
+returns-then-seeds g c = (
   [],
-  no_seeds_are_tried (hunt_of c.args.image.now c.args.plan.now []) c.args.plan.now.seeds.first c.args.plan.now.seeds.last c.if-first.true,
+  no_seeds_are_tried (hunt_of c.args.image.now c.args.plan.now []) c.args.plan.now.seeds.first c.args.plan.now.seeds.last c.if-seeds.true,
 )
 
 pub returns : goal.returns

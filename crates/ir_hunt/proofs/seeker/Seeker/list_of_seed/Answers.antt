@@ -1,4 +1,4 @@
-use Rattle.std.proofs.Common.{◌≡◌, ◌⊎◌, List, [], length, map, true, false, sym, ◌∙◌, subst}
+use Rattle.std.proofs.Common.{◌≡◌, ◌⊎◌, List, [], length, true, false, sym, ◌∙◌, subst}
 use Rattle.std.specs.Prelude.{◌≢◌}
 use Rattle.std.specs.String.{string_bytes}
 use Rattle.std.proofs.lemmas.List.Folds.{list_all-map}
@@ -26,7 +26,7 @@ returns-then-is_found-clause-tried g c =
     let spells = subst (λ (ts : List Turns). order_of_turns ts ≢ [] → Spells (string_bytes c.in_ok-list.list) (order_of_turns ts)) c.as_slice.ensures.value
     c.in_ok-list.ensures.spelled ran.some in
     is_found_if_seed_run_fulfils (hunt_of s.image.now s.plan.now c.args.choices.now) c.args.seed (moment_of (λ w. w.answers.items) f.runner)
-        (string_bytes c.in_ok-list.list) ran.ran answered holds (ran.wanted c.if-is_found.true) spells
+    (string_bytes c.in_ok-list.list) ran.ran answered holds (ran.wanted c.if-is_found.true) spells
 
 pub returns-clause-tried : goal.returns-clause-tried
 returns-clause-tried g c =

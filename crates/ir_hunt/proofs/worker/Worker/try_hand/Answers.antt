@@ -1,4 +1,4 @@
-use Rattle.std.proofs.Common.{◌∷◌, [], ◌++◌, subst, sym}
+use Rattle.std.proofs.Common.{subst, sym}
 use Rattle.ir_hunt.specs.Parts.{HasTried}
 use Rattle.ir_hunt.proofs.Parts.{has_tried_a_part_more}
 use Rattle.ir_hunt.proofs.worker.Worker.try_hand.Goals as goal
