@@ -27,14 +27,11 @@ use crate::seek::{Sought, seek};
 use ir_explore::Observer;
 use ir_files::{ExitStatus, OutputSink, WholeSink, tell};
 use ir_image::Image;
-use ir_object::OpenGate;
-use ir_record_run::{ParsedImage, RecordFault, RecordFiles, RecordPlan, Recording, record_run};
+use ir_record_run::{ParsedImage, RecordFault, RecordFiles, RecordPlan, Recording, record_by_list};
 use ir_stream::{Sink, write_all};
 use ir_thread::MOST_BUDGET;
 use ir_trace::Trace;
 use std::alloc::{AllocError, Global};
-use std::sync::Wait;
-use std::thread::Threads;
 use std::time::Clock;
 
 // How an outcome is recorded by a list.
@@ -151,7 +148,7 @@ fn tell_sought<W: Observer, O: Sink>(
 }
 
 /// Looks for the first outcome of a guest that fulfils each condition, and records a run that has it. The outcomes up to that one are written, then
-/// which one it is, with a list that spells the order of the run, and then all that `record_run` writes of the recording by that list. What was
+/// which one it is, with a list that spells the order of the run, and then all that `record_by_list` writes of the recording by that list. What was
 /// recorded is handed back. The observer of the plan is told how far the search is.
 ///
 /// # Errors
@@ -165,7 +162,7 @@ pub fn explore_until<R, V, W, P, O, E>(
     faults: &mut E,
 ) -> Result<Trace, ExitStatus>
 where
-    R: Threads + Wait + Sync + Clock + AllocGlobal,
+    R: Clock + AllocGlobal,
     V: Observer,
     W: WholeSink,
     P: OutputSink,
@@ -208,11 +205,12 @@ where
             return Err(why.status());
         }
     };
-    let how = recording(&plan.explore, Some(list.as_str()));
+    let list = list.as_str();
+    let how = recording(&plan.explore, Some(list));
     let recording = Recording {
         image: plan.image,
         plan: &how,
     };
-    let recorded = record_run(rt, &OpenGate, &recording, files, out, faults)?;
+    let recorded = record_by_list(rt, &recording, list, files, out, faults)?;
     Ok(recorded)
 }

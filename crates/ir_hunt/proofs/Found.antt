@@ -1,5 +1,5 @@
 -- What was found, and what is recorded of it.
-use Rattle.std.proofs.Common.{◌≡◌, ◌<◌, ◌≤◌, ℕ, zero, suc, List, [], ◌++◌, length, get_or, Bool, Option, Some, None, true, sym, ap, ◌∙◌, subst, refl}
+use Rattle.std.proofs.Common.{◌≡◌, ◌<◌, ◌≤◌, ℕ, zero, suc, List, [], ◌++◌, ◌⊎◌, inl, inr, length, get_or, Bool, Option, Some, None, true, false, sym, ap, ◌∙◌, subst, refl}
 use Rattle.std.specs.Prelude.{◌≢◌, replicate}
 use Rattle.std.specs.List.{list_all, AllByRecursion}
 use Rattle.ir_image.specs.Guest.{Guest}
@@ -17,15 +17,18 @@ use Rattle.ir_order.specs.Recording.{IsPlanned}
 use Rattle.ir_order.specs.Spelling.{Spells}
 use Rattle.ir_order.proofs.CallerLemmas.{complete_runs_have_steps, recordings_by_plain_list_are_of_the_run}
 use Rattle.ir_chaos.proofs.CallerLemmas.{schedules_are_orders, schedules_are_of_threads}
-use Rattle.ir_chaos.specs.Conditions.{Condition, fulfils, outcome_of}
+use Rattle.ir_chaos.specs.Conditions.{fulfils, outcome_of}
 use Rattle.ir_chaos.specs.Moments.{Moment}
 use Rattle.ir_chaos.specs.Schedules.{IsSchedule, threads_of}
 use Rattle.ir_chaos.specs.Choices.{chooser_of}
 use Rattle.ir_chaos.specs.declared.chooser.Chooser.{Chooser}
-use Rattle.ir_chaos.specs.declared.way.Way.{Way}
-use Rattle.ir_hunt.specs.Finding.{has_tries, first, FulfilsEach, IsFound, IsFoundIn, IsFinding, by_list}
+use Rattle.ir_hunt.specs.Finding.{has_tries, first, IsJudged, IsFound, by_list}
+use Rattle.ir_hunt.specs.Hunt.{Hunt}
+use Rattle.ir_hunt.specs.Hunted.{IsFoundIn, IsFinding}
 use Rattle.ir_hunt.specs.Seeking.{RanBy}
-use Rattle.ir_hunt.specs.Stale.{IsWanted, FulfilsStale}
+use Rattle.ir_hunt.specs.Stale.{IsWanted, FulfilsStale, FailsStale}
+use Rattle.ir_hunt.specs.Tried.{Fails}
+use Rattle.ir_hunt.specs.declared.plan.HuntPlan.{HuntPlan}
 
 -- no world had answered
 get_or_of_replicated_empty_is_empty : (n t : ℕ) → get_or {A = List Answered} (replicate n []) t [] ≡ []
@@ -42,25 +45,26 @@ schedule_is_run_by_order_of_its_turns guest plan chooser run h = schedules_are_o
     (subst (λ n. IsSchedule (has_tries plan.profile) (machine (first guest plan)) n (tables (first guest plan)) chooser run)
     (length_of_start_threads guest plan.budget plan.profile 0 (length guest.entries)) h)
 
--- what a seed's run came to, where it fulfils each condition
-pub found_run_is_planned_and_fulfils : (guest : Guest) (plan : Plan) (conditions : List Condition) (chooser : Chooser) (b : Moment) (h : RanBy guest plan chooser b)
+-- a run by a chooser to its end is planned by the order of its turns
+run_is_planned : (guest : Guest) (plan : Plan) (chooser : Chooser) (b : Moment) (h : RanBy guest plan chooser b)
     → ((t : ℕ) → t < length guest.entries → IsAnswered (origin_of true plan.random plan.input t) (answers_at b.answers t))
-    → list_all (λ c. fulfils c (outcome_of b.flat)) conditions ≡ true
-    → IsPlanned guest plan (order_of_turns b.turns) h.run × FulfilsEach guest plan conditions h.run
-found_run_is_planned_and_fulfils guest plan conditions chooser b h answered holds = (
-  record {
-    by_order = subst (λ o. IsByOrder (machine (first guest plan)) (tables (first guest plan)) (length guest.entries) o h.run)
-        (sym h.gained.order) (schedule_is_run_by_order_of_its_turns guest plan chooser h.run h.schedule);
-    answered = λ t l. subst (IsAnswered (origin_of true plan.random plan.input t))
-        (h.gained.answers t (subst (λ n. t < n) (sym (length_of_start_threads guest plan.budget plan.profile 0 (length guest.entries))) l) ∙ ap (λ z. z ++ answers_in (log (machine (first guest plan)) (tables (first guest plan)) h.run t))
-        (get_or_of_replicated_empty_is_empty (length guest.entries) t)) (answered t l);
-  },
-  record {
-    flat = b.flat;
-    came = record { ends = h.gained.ends; threads = h.gained.threads; objects = h.gained.objects };
-    each = holds;
-  },
-)
+    → IsPlanned guest plan (order_of_turns b.turns) h.run
+run_is_planned guest plan chooser b h answered = record {
+  by_order = subst (λ o. IsByOrder (machine (first guest plan)) (tables (first guest plan)) (length guest.entries) o h.run)
+      (sym h.gained.order) (schedule_is_run_by_order_of_its_turns guest plan chooser h.run h.schedule);
+  answered = λ t l. subst (IsAnswered (origin_of true plan.random plan.input t))
+      (h.gained.answers t (subst (λ n. t < n) (sym (length_of_start_threads guest plan.budget plan.profile 0 (length guest.entries))) l) ∙ ap (λ z. z ++ answers_in (log (machine (first guest plan)) (tables (first guest plan)) h.run t))
+      (get_or_of_replicated_empty_is_empty (length guest.entries) t)) (answered t l);
+}
+
+-- what is found of what it came to
+run_is_judged : (hunt : Hunt) (chooser : Chooser) (b : Moment) (h : RanBy hunt.guest hunt.plan chooser b) (holds : Bool)
+    → list_all (λ c. fulfils c (outcome_of b.flat)) hunt.conditions ≡ holds → IsJudged hunt h.run holds
+run_is_judged hunt chooser b h holds is = record {
+  flat = b.flat;
+  came = record { ends = h.gained.ends; threads = h.gained.threads; objects = h.gained.objects };
+  each = is;
+}
 
 -- the turns of a run to its end are of the guest's threads
 turns_are_of_guest_threads : (guest : Guest) (plan : Plan) (chooser : Chooser) (b : Moment) → RanBy guest plan chooser b
@@ -82,34 +86,56 @@ planned_run_fulfils_wanted_stale : (guest : Guest) (plan : Plan) (order : List �
 planned_run_fulfils_wanted_stale guest plan order None run h planned = tt
 planned_run_fulfils_wanted_stale guest plan order (Some has) run h planned = h run planned
 
+-- and if none of its runs has it, the run hasn't
+planned_run_fails_stale : (guest : Guest) (plan : Plan) (order : List ℕ) (wanted : Option Bool) (run : List Step) → IsWanted guest plan order wanted false
+    → IsPlanned guest plan order run → FailsStale guest plan wanted run
+planned_run_fails_stale guest plan order None run h planned = absurd cc
+planned_run_fails_stale guest plan order (Some has) run h planned = h run planned
+
 -- the list of a seed's turns, where what its run came to fulfils each condition, and the run has what is wanted of its stale writes
-pub is_found_if_seed_run_fulfils : (guest : Guest) (plan : Plan) (way : Way) (seed : ℕ) (choices : List ℕ) (conditions : List Condition) (wanted : Option Bool) (b : Moment) (list : List ℕ)
-    → RanBy guest plan (chooser_of way seed (length guest.entries) choices) b
-    → ((t : ℕ) → t < length guest.entries → IsAnswered (origin_of true plan.random plan.input t) (answers_at b.answers t))
-    → list_all (λ c. fulfils c (outcome_of b.flat)) conditions ≡ true → IsWanted guest plan (order_of_turns b.turns) wanted true
-    → Spells list (order_of_turns b.turns) → IsFound guest plan way seed conditions wanted list
-is_found_if_seed_run_fulfils guest plan way seed choices conditions wanted b list h answered holds stale spells =
-    let chooser = chooser_of way seed (length guest.entries) choices in
-    let r = found_run_is_planned_and_fulfils guest plan conditions chooser b h answered holds in
+pub is_found_if_seed_run_fulfils : (hunt : Hunt) (seed : ℕ) (b : Moment) (list : List ℕ)
+    → RanBy hunt.guest hunt.plan (chooser_of hunt.way seed (length hunt.guest.entries) hunt.choices) b
+    → ((t : ℕ) → t < length hunt.guest.entries → IsAnswered (origin_of true hunt.plan.random hunt.plan.input t) (answers_at b.answers t))
+    → list_all (λ c. fulfils c (outcome_of b.flat)) hunt.conditions ≡ true → IsWanted hunt.guest hunt.plan (order_of_turns b.turns) hunt.wanted true
+    → Spells list (order_of_turns b.turns) → IsFound hunt seed list
+is_found_if_seed_run_fulfils hunt seed b list h answered holds stale spells =
+    let chooser = chooser_of hunt.way seed (length hunt.guest.entries) hunt.choices in
+    let planned = run_is_planned hunt.guest hunt.plan chooser b h answered in
     record {
       order = order_of_turns b.turns;
-      spelled = spells (length guest.entries) (turns_are_of_guest_threads guest plan chooser b h);
+      spelled = spells (length hunt.guest.entries) (turns_are_of_guest_threads hunt.guest hunt.plan chooser b h);
       run = h.run;
-      choices = choices;
       of_seed = h.schedule;
-      planned = r.0;
-      fulfilled = r.1;
-      stale = planned_run_fulfils_wanted_stale guest plan (order_of_turns b.turns) wanted h.run stale r.0;
+      planned = planned;
+      fulfilled = run_is_judged hunt chooser b h true holds;
+      stale = planned_run_fulfils_wanted_stale hunt.guest hunt.plan (order_of_turns b.turns) hunt.wanted h.run stale planned;
     }
 
+fails_in_one_way : (hunt : Hunt) (chooser : Chooser) (b : Moment) (h : RanBy hunt.guest hunt.plan chooser b)
+    → IsPlanned hunt.guest hunt.plan (order_of_turns b.turns) h.run
+    → (list_all (λ c. fulfils c (outcome_of b.flat)) hunt.conditions ≡ false) ⊎ IsWanted hunt.guest hunt.plan (order_of_turns b.turns) hunt.wanted false
+    → IsJudged hunt h.run false ⊎ FailsStale hunt.guest hunt.plan hunt.wanted h.run
+fails_in_one_way hunt chooser b h planned (inl some) = inl (run_is_judged hunt chooser b h false some)
+fails_in_one_way hunt chooser b h planned (inr stale) = inr (planned_run_fails_stale hunt.guest hunt.plan (order_of_turns b.turns) hunt.wanted h.run stale planned)
+
+-- a seed's run that came to its end and doesn't fulfil some condition, or hasn't what is wanted of its stale writes
+pub fails_if_seed_run_does : (hunt : Hunt) (seed : ℕ) (b : Moment)
+    → RanBy hunt.guest hunt.plan (chooser_of hunt.way seed (length hunt.guest.entries) hunt.choices) b
+    → ((t : ℕ) → t < length hunt.guest.entries → IsAnswered (origin_of true hunt.plan.random hunt.plan.input t) (answers_at b.answers t))
+    → (list_all (λ c. fulfils c (outcome_of b.flat)) hunt.conditions ≡ false) ⊎ IsWanted hunt.guest hunt.plan (order_of_turns b.turns) hunt.wanted false
+    → Fails hunt seed
+fails_if_seed_run_does hunt seed b h answered fails =
+    let chooser = chooser_of hunt.way seed (length hunt.guest.entries) hunt.choices in
+    let planned = run_is_planned hunt.guest hunt.plan chooser b h answered in
+    record { run = h.run; order = order_of_turns b.turns; of_seed = h.schedule; planned = planned; fails = fails_in_one_way hunt chooser b h planned fails }
+
 -- a recording by the list is of the run that was found
-pub recording_of_found_is_finding : (image : List ℕ) (plan : Plan) (way : Way) (seed : ℕ) (conditions : List Condition) (wanted : Option Bool) (list : List ℕ)
-    (trace : Recorded) (outputs : List (List ℕ)) → IsFoundIn image plan way seed conditions wanted list → IsRecordedOf image (by_list plan list) trace outputs
-    → IsFinding image plan way seed conditions wanted list trace outputs
-recording_of_found_is_finding image plan way seed conditions wanted list trace outputs found r = record {
-  guest = found.guest;
-  is = found.is;
-  found = found.found;
-  recorded = recordings_by_plain_list_are_of_the_run image found.guest (by_list plan list) list found.found.order found.found.run trace outputs found.is refl
-      found.found.spelled found.found.planned r;
-}
+pub recording_of_found_is_finding : (image : List ℕ) (plan : HuntPlan) (left_out seed : ℕ) (list : List ℕ) (trace : Recorded) (outputs : List (List ℕ))
+    → IsFoundIn image plan left_out seed list → IsRecordedOf image (by_list plan.record list) trace outputs → IsFinding image plan left_out seed list trace outputs
+recording_of_found_is_finding image plan left_out seed list trace outputs found r =
+    let run = found.lowest.found in
+    record {
+      is = found;
+      recorded = recordings_by_plain_list_are_of_the_run image found.guest (by_list plan.record list) list run.order run.run trace outputs found.is refl
+          run.spelled run.planned r;
+    }

@@ -1,5 +1,5 @@
 mod Found
-mod Lowest
+mod Parts
 mod Recorded
 mod Restarting
 mod Seeking

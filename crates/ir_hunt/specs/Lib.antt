@@ -1,6 +1,9 @@
 pub mod Finding
+pub mod Hunt
+pub mod Hunted
 pub mod Lines
-pub mod Seeds
+pub mod Parts
 pub mod Seeking
 pub mod Stale
 pub mod Stopping
+pub mod Tried

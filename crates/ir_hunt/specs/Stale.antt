@@ -24,6 +24,11 @@ abbrev pub FulfilsStale : Guest → Plan → Option Bool → List Step → Type 
 FulfilsStale guest plan None run = ⊤
 FulfilsStale guest plan (Some has) run = HasStale guest plan run has
 
+-- a run hasn't what is wanted of it: none does, though one is wanted, or one does, though none is; something is wanted
+abbrev pub FailsStale : Guest → Plan → Option Bool → List Step → Type 0
+FailsStale guest plan None run = ⊥
+FailsStale guest plan (Some has) run = HasStale guest plan run (not has)
+
 -- this is the trace of each run of the guest by this order
 abbrev pub IsTraceBy : Guest → Plan → List ℕ → Recorded → Type 0
 IsTraceBy guest plan order trace = (run : List Step) → IsPlanned guest plan order run

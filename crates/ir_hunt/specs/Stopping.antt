@@ -1,15 +1,13 @@
 -- How a hunt ends without a recording.
-use Rattle.std.specs.Prelude.{◌≡◌, ◌≢◌, ◌<◌, ℕ, Bool, List, Option, ◌⊎◌}
+use Rattle.std.specs.Prelude.{◌≡◌, ◌≢◌, ℕ, zero, suc, List, ◌⊎◌}
 use Rattle.ir_files.specs.Writers.{Writer, Reports, fault_text}
 use Rattle.ir_record_run.specs.Faults.{fault_words, Refuses}
 use Rattle.ir_record_run.specs.Plan.{Plan}
 use Rattle.ir_record_run.specs.declared.record_fault.RecordFault.{RecordFault}
 use Rattle.ir_record_run.specs.declared.record_fault.RecordFault.TheVariants.{Clock, Order}
-use Rattle.ir_chaos.specs.Conditions.{Condition}
-use Rattle.ir_chaos.specs.declared.way.Way.{Way}
-use Rattle.ir_hunt.specs.declared.plan.Seeds.{Seeds}
-use Rattle.ir_hunt.specs.Finding.{IsFoundIn}
+use Rattle.ir_hunt.specs.Hunted.{IsFoundIn, IsNoneIn}
 use Rattle.ir_hunt.specs.Lines.{found_line, left_out_words, none_line}
+use Rattle.ir_hunt.specs.declared.plan.HuntPlan.{HuntPlan}
 
 -- why no seed is tried: the image's first fault, or more threads or objects than the profile allows; if memory ran out, that says nothing of them
 pub record RefusesHunt (e : RecordFault) (image : List ℕ) (plan : Plan) : Type 0 where
@@ -21,12 +19,12 @@ pub record RefusesHunt (e : RecordFault) (image : List ℕ) (plan : Plan) : Type
 abbrev pub IsTold : RecordFault → Writer → Type 0
 IsTold e faults = Reports faults (fault_text (fault_words e))
 
--- the line of a hunt: of a seed that was found, or that there is none among these
-abbrev pub IsHuntLine : List ℕ → Plan → Way → Seeds → List Condition → Option Bool → List ℕ → Type 0
-IsHuntLine image plan way seeds conditions wanted line =
-    ((seed : ℕ) × (list : List ℕ) × IsFoundIn image plan way seed conditions wanted list × (line ≡ found_line seed list))
-    ⊎ (line ≡ none_line seeds.first seeds.last)
+-- the line of a hunt: of the seed that is found, or that there is none of the plan's
+abbrev pub IsHuntLine : List ℕ → HuntPlan → List ℕ → Type 0
+IsHuntLine image plan line = ((left_out seed : ℕ) × (list : List ℕ) × IsFoundIn image plan left_out seed list × (line ≡ found_line seed list))
+    ⊎ ((left_out : ℕ) × IsNoneIn image plan left_out × (line ≡ none_line plan.seeds.first plan.seeds.last))
 
--- how many seeds were left out is reported, and some were
-abbrev pub TellsLeftOut : Writer → Type 0
-TellsLeftOut faults = (count : ℕ) × (0 < count) × Reports faults (fault_text (left_out_words count))
+-- how many seeds were left out is reported, if some were; else what is reported is as before
+abbrev pub TellsLeftOut : ℕ → Writer → Type 0 → Type 0
+TellsLeftOut zero faults same = same
+TellsLeftOut (suc n) faults same = Reports faults (fault_text (left_out_words (suc n)))

@@ -1,6 +1,6 @@
 //! The seeds of a stretch, dealt to whoever asks.
 
-ghost use Rattle.std.specs.Prelude.{◌<◌};
+ghost use Rattle.std.specs.Prelude.{◌<◌, ◌≤◌, IfSome};
 
 use crate::plan::Seeds;
 use std::sync::atomic::{AtomicU64, Ordering};
@@ -41,7 +41,9 @@ impl Dealer {
     }
 
     /// The next hand, if there is one.
-    pub fn next(&self) -> Option<Seeds> {
+    pub fn next(&self) -> Option<Seeds>
+        ensures { IfSome result (λ hand. hand.first ≤ hand.last) }
+    {
         let number = self.dealt.fetch_add(1, Ordering::SeqCst);
         if number >= self.hands {
             return None;
@@ -51,7 +53,7 @@ impl Dealer {
             .first
             .checked_add(number.checked_mul(self.size)?)?;
         let last = first.saturating_add(self.size - 1).min(self.stretch.last);
-        Some(Seeds { first, last })
+        (first <= last).then_some(Seeds { first, last })
     }
 
     /// No further hand is dealt. Those that were dealt have all seeds below the others.

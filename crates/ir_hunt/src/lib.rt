@@ -3,6 +3,7 @@
 
 mod dealing;
 mod hunting;
+mod part;
 mod plan;
 mod report;
 mod search;
@@ -10,6 +11,8 @@ mod seeker;
 mod shown;
 mod stale;
 mod stretches;
+mod tries;
+mod worker;
 
 pub use hunting::{hunt_run, order_of_seed};
 pub use plan::{HuntPlan, Seeds};

@@ -1,8 +1,8 @@
 //! The lines of a hunt.
 
-ghost use Rattle.std.specs.Prelude.{◌≡◌, IfOk};
+ghost use Rattle.std.specs.Prelude.{◌≡◌, ◌<◌, IfOk, MatchOption};
 ghost use Rattle.std.specs.String.{string_bytes};
-ghost use Rattle.ir_hunt.specs.Lines.{found_line, none_line};
+ghost use Rattle.ir_hunt.specs.Lines.{found_line, left_out_words, none_line};
 
 use crate::plan::Seeds;
 use std::alloc::{AllocError, Global};
@@ -20,4 +20,16 @@ pub fn none_line(alloc: Global, seeds: Seeds) -> Result<String, AllocError>
 {
     let Seeds { first, last } = seeds;
     format!(in alloc; "none {first}..{last}\n")
+}
+
+/// In words, how many seeds were left out, if any were.
+pub fn left_out_words(alloc: Global, count: u128) -> Result<Option<String>, AllocError>
+    ensures { IfOk result (λ o. MatchOption o (count ≡ 0) (λ words. (0 < count) × (string_bytes words ≡ left_out_words count))) }
+{
+    if count == 0 {
+        return Ok(None);
+    }
+    Ok(Some(format!(in alloc;
+        "seeds that were left out, since their runs have too many turns to be followed: {count}"
+    )?))
 }

@@ -1,16 +1,20 @@
 //! The lowest seed, sought on all processors.
 
-ghost use Rattle.std.specs.Prelude.{◌≡◌, ◌<◌, IfOk, map};
-ghost use Rattle.ir_hunt.specs.Seeds.{lower, IsLowest};
+ghost use Rattle.std.specs.Prelude.{◌≡◌, ◌≤◌, ◌<◌, All, IfOk, MatchOption, length, List, ℕ};
+ghost use Rattle.std.specs.String.{string_bytes};
+ghost use Rattle.ir_hunt.specs.Hunt.{Hunt, hunt_of};
+ghost use Rattle.ir_hunt.specs.Parts.{HasTried, IsBegun, IsPartOf};
+ghost use Rattle.ir_hunt.specs.Tried.{AreAllTried, IsLowest};
+ghost use Rattle.ir_hunt.specs.declared.plan.Seeds.{Seeds};
 ghost use Rattle.ir_thread.specs.State.{IsAllowed};
 
 use crate::dealing::Dealer;
+use crate::part::Part;
 use crate::plan::{HuntPlan, Seeds};
-use crate::seeker::{Lost, Seeker};
 use crate::shown::Shown;
 use crate::stretches::Stretches;
-use crossbeam_utils::CachePadded;
-use ir_chaos::Choices;
+use crate::tries::Tries;
+use crate::worker::{Worker, has_failed, part_from, seek_all};
 use ir_image::Image;
 use std::alloc::{AllocError, Global};
 use std::thread::{self, Threads};
@@ -19,90 +23,22 @@ use std::time::Clock;
 // The most threads that seek.
 const MOST_WORKERS: usize = 64;
 
-// What one processor finds in a stretch.
+/// A seed that is found, and the list that spells the order of its run.
 #[derive(Drop)]
-struct Worker<'a, C> {
-    seeker: Seeker<'a, C>,
-    choices: Choices,
-    // The lowest of its seeds that fulfils.
-    found: Option<u64>,
-    // How many runs weren't followed to their ends.
-    left_out: u64,
-    failed: bool,
-    // Aligned, so that no two workers write to one line of the processor's memory.
-    apart: CachePadded<()>,
-}
-
-impl<C: Clock> Worker<'_, C> {
-    // Tries a seed: whether it is the end of its stretch.
-    fn try_seed(&mut self, seed: u64) -> bool {
-        match self.seeker.fulfils(seed, &self.choices) {
-            Ok(true) => self.found = Some(seed),
-            Ok(false) => return false,
-            Err(Lost::TooLong) => {
-                self.left_out = self.left_out.saturating_add(1);
-                return false;
-            }
-            Err(Lost::NoMem) => self.failed = true,
-        }
-        true
-    }
-
-    // Tries each seed of a hand, until one is the end of its stretch: whether one is.
-    fn try_hand(&mut self, hand: Seeds) -> bool {
-        for seed in hand.first..=hand.last {
-            if self.try_seed(seed) {
-                return true;
-            }
-        }
-        false
-    }
-
-    // Tries each hand that it is dealt, until a seed is the end of the stretch.
-    fn seek(&mut self, dealer: &Dealer) {
-        for _ in 0..dealer.hands() {
-            let Some(hand) = dealer.next() else {
-                return;
-            };
-            if self.try_hand(hand) {
-                dealer.close();
-                return;
-            }
-        }
-    }
+pub struct Found {
+    /// The seed.
+    pub seed: u64,
+    /// The list.
+    pub list: String,
 }
 
 /// What a search came to.
-#[derive(Clone, Copy, Debug, PartialEq, Eq)]
+#[derive(Drop)]
 pub struct Search {
     /// The lowest seed that fulfils.
-    pub found: Option<u64>,
-    /// How often each thread is chosen in the run in rounds.
-    pub choices: Choices,
-    /// How many runs weren't followed to their ends.
-    pub left_out: u64,
-}
-
-// The lower of two seeds, of which each may be none.
-fn lower(one: Option<u64>, other: Option<u64>) -> Option<u64>
-    ensures { result ≡ lower one other }
-{
-    match (one, other) {
-        (Some(seed), Some(next)) => Some(seed.min(next)),
-        (seed, None) => seed,
-        (None, seed) => seed,
-    }
-}
-
-// The lowest seed that a worker found.
-fn lowest<C>(workers: &[Worker<'_, C>]) -> Option<u64>
-    ensures { IsLowest (map (λ w. w.found) workers.now) result }
-{
-    let mut seed = None;
-    for worker in workers {
-        seed = lower(seed, worker.found);
-    }
-    seed
+    pub found: Option<Found>,
+    /// How many of the seeds that were tried were left out; if one is found, of those below it.
+    pub left_out: u128,
 }
 
 // So many workers.
@@ -112,20 +48,16 @@ fn workers<'a, R: Threads + Clock>(
     image: &'a Image,
     plan: &'a HuntPlan<'a>,
     count: usize,
-    choices: Choices,
+    own: &Tries<'a, R>,
 ) -> Result<Vec<Worker<'a, R>>, AllocError>
     requires allowed { IsAllowed plan.now.record.profile image.now }
+    requires same { own.now ≡ hunt_of image.now plan.now own.now.choices }
+    ensures { IfOk result (λ ws. All (λ w. w.tries ≡ own.now) ws.items) }
 {
     let mut workers = Vec::with_capacity(alloc, count)?;
-    for _ in 0..count {
-        workers.push(Worker {
-            seeker: Seeker::new(alloc, rt, image, plan)?,
-            choices,
-            found: None,
-            left_out: 0,
-            failed: false,
-            apart: CachePadded::new(()),
-        })?;
+    'workers: for _ in 0..count {
+        let tries = own.again(alloc, rt, image, plan)?;
+        workers.push(Worker::new(tries, Vec::new(alloc)))?;
     }
     Ok(workers)
 }
@@ -151,21 +83,156 @@ fn worker_count(rt: &impl Threads, seeds: Seeds) -> usize
     processors(rt).min(more as usize + 1)
 }
 
-// Whether memory ran out for a worker.
-fn has_failed<C>(workers: &[Worker<'_, C>]) -> bool {
-    workers.iter().any(|worker| worker.failed)
-}
-
-// How many runs weren't followed to their ends.
-fn left_out<C>(workers: &[Worker<'_, C>]) -> u64 {
-    let mut sum = 0u64;
-    for worker in workers {
-        sum = sum.saturating_add(worker.left_out);
+// What was tried of these seeds from the first on, by a worker. What no worker has tried is tried here.
+fn part_of<C: Clock>(
+    alloc: Global,
+    workers: &[Worker<'_, C>],
+    own: &mut Tries<'_, C>,
+    seeds: Seeds,
+) -> Result<Part, AllocError>
+    requires some { seeds.first ≤ seeds.last }
+    requires tried { All (λ w. HasTried own.old w.tries w.parts.items) workers.now }
+    ensures same { own.new ≡ own.old }
+    ensures part { IfOk result (λ part. IsBegun own.old seeds part) }
+{
+    match part_from(workers, seeds.first, seeds.last) {
+        Some(part) => part.copy(alloc),
+        None => own.try_all(seeds),
     }
-    sum
 }
 
-/// The lowest seed whose run fulfils each condition, sought by as many threads as there are processors.
+// What was tried of all these seeds, part by part, up to the first that is found.
+fn gathered<C: Clock>(
+    alloc: Global,
+    workers: &[Worker<'_, C>],
+    own: &mut Tries<'_, C>,
+    seeds: Seeds,
+) -> Result<Part, AllocError>
+    requires some { seeds.first ≤ seeds.last }
+    requires tried { All (λ w. HasTried own.old w.tries w.parts.items) workers.now }
+    ensures same { own.new ≡ own.old }
+    ensures part { IfOk result (λ part. IsPartOf own.old seeds part) }
+{
+    let mut part = part_of(alloc, workers, own, seeds)?;
+    'parts: while part.ends_before(seeds.last) {
+        let left = Seeds {
+            first: part.seeds.last + 1,
+            last: seeds.last,
+        };
+        let next = part_of(alloc, workers, own, left)?;
+        part = part.then(next);
+    }
+    Ok(part)
+}
+
+// How long stretches are, and what is shown of them.
+#[derive(Clone, Copy, Debug)]
+struct Pace {
+    stretches: Stretches,
+    shown: Shown,
+}
+
+// The workers try the next stretch of these seeds: what was tried of it, up to the first seed that is found.
+fn try_stretch<R: Threads + Clock + Sync + Eprint>(
+    rt: &R,
+    alloc: Global,
+    workers: &mut [Worker<'_, R>],
+    own: &mut Tries<'_, R>,
+    seeds: Seeds,
+    pace: &mut Pace,
+) -> Result<Part, AllocError>
+    requires some { seeds.first ≤ seeds.last }
+    requires tries { All (λ w. w.tries ≡ own.old) workers.old }
+    ensures tries { All (λ w. w.tries ≡ own.old) workers.new }
+    ensures same { own.new ≡ own.old }
+    ensures part { IfOk result (λ part. IsBegun own.old seeds part) }
+{
+    let stretch = pace.stretches.next(seeds);
+    let dealer = Dealer::new(stretch, workers.len() as u64);
+    seek_all(rt, workers, &dealer);
+    if has_failed(workers) {
+        return Err(AllocError);
+    }
+    let part = gathered(alloc, workers, own, stretch)?;
+    if part.list.is_none() {
+        pace.stretches.took(pace.shown.tried(rt, stretch));
+    }
+    Ok(part)
+}
+
+// What was tried of all these seeds, stretch by stretch, up to the first that is found.
+fn try_stretches<R: Threads + Clock + Sync + Eprint>(
+    rt: &R,
+    alloc: Global,
+    workers: &mut [Worker<'_, R>],
+    own: &mut Tries<'_, R>,
+    seeds: Seeds,
+    pace: &mut Pace,
+) -> Result<Part, AllocError>
+    requires some { seeds.first ≤ seeds.last }
+    requires tries { All (λ w. w.tries ≡ own.old) workers.old }
+    ensures { IfOk result (λ part. IsPartOf own.old seeds part) }
+{
+    let mut part = try_stretch(rt, alloc, workers, own, seeds, pace)?;
+    'stretches: while part.ends_before(seeds.last) {
+        let left = Seeds {
+            first: part.seeds.last + 1,
+            last: seeds.last,
+        };
+        let next = try_stretch(rt, alloc, workers, own, left, pace)?;
+        part = part.then(next);
+    }
+    Ok(part)
+}
+
+// The same. What is shown of them is taken off the terminal then.
+fn try_all<R: Threads + Clock + Sync + Eprint>(
+    rt: &R,
+    alloc: Global,
+    workers: &mut [Worker<'_, R>],
+    own: &mut Tries<'_, R>,
+    seeds: Seeds,
+    is_shown: bool,
+) -> Result<Part, AllocError>
+    requires some { seeds.first ≤ seeds.last }
+    requires tries { All (λ w. w.tries ≡ own.old) workers.old }
+    ensures { IfOk result (λ part. IsPartOf own.old seeds part) }
+{
+    let mut pace = Pace {
+        stretches: Stretches::new(workers.len() as u64),
+        shown: Shown::new(rt, is_shown),
+    };
+    let part = try_stretches(rt, alloc, workers, own, seeds, &mut pace);
+    pace.shown.end(rt);
+    part
+}
+
+// What was found of seeds that were tried up to the first that is found.
+fn found_in(part: Part) -> Search
+    ensures { (hunt : Hunt) (seeds : Seeds) → IsPartOf hunt seeds part → MatchOption result.found (AreAllTried hunt seeds.first seeds.last result.left_out)
+        (λ f. IsLowest hunt seeds.first seeds.last f.seed result.left_out (string_bytes f.list)) }
+{
+    let Part {
+        seeds,
+        left_out,
+        list,
+    } = part;
+    match list {
+        Some(list) => Search {
+            found: Some(Found {
+                seed: seeds.last,
+                list,
+            }),
+            left_out,
+        },
+        None => Search {
+            found: None,
+            left_out,
+        },
+    }
+}
+
+/// The lowest seed that fulfils, sought by as many threads as there are processors.
 ///
 /// # Errors
 /// Out of memory.
@@ -176,35 +243,20 @@ pub fn lowest_seed<R: Threads + Clock + Sync + Eprint>(
     plan: &HuntPlan<'_>,
 ) -> Result<Search, AllocError>
     requires { IsAllowed plan.now.record.profile image.now }
+    ensures { IfOk result (λ s. (choices : List ℕ) × MatchOption s.found (AreAllTried (hunt_of image.now plan.now choices) plan.now.seeds.first plan.now.seeds.last s.left_out)
+        (λ f. IsLowest (hunt_of image.now plan.now choices) plan.now.seeds.first plan.now.seeds.last f.seed s.left_out (string_bytes f.list))) }
 {
-    let choices = Seeker::new(alloc, rt, image, plan)?.choices()?;
-    let count = worker_count(rt, plan.seeds);
-    let mut workers = workers(rt, alloc, image, plan, count, choices)?;
-    let mut stretches = Stretches::new(plan.seeds, count as u64);
-    let mut shown = Shown::new(rt, plan.is_shown);
-    let mut found = None;
-    'stretches: while let Some(stretch) = stretches.next() {
-        let dealer = Dealer::new(stretch, count as u64);
-        thread::for_each_mut(
-            rt,
-            workers.as_mut_slice(),
-            count,
-            &|_, worker| { worker.seek(&dealer) },
-        );
-        if has_failed(workers.as_slice()) {
-            shown.end(rt);
-            return Err(AllocError);
-        }
-        found = lowest(workers.as_slice());
-        if found.is_some() {
-            break;
-        }
-        stretches.took(shown.tried(rt, stretch));
+    let seeds = plan.seeds;
+    if seeds.first > seeds.last {
+        return Ok(Search {
+            found: None,
+            left_out: 0,
+        });
     }
-    shown.end(rt);
-    Ok(Search {
-        found,
-        choices,
-        left_out: left_out(workers.as_slice()),
-    })
+    let mut own = Tries::new(alloc, rt, image, plan)?;
+    let count = worker_count(rt, seeds);
+    let mut each = workers(rt, alloc, image, plan, count, &own)?;
+    let workers = each.as_mut_slice();
+    let part = try_all(rt, alloc, workers, &mut own, seeds, plan.is_shown)?;
+    Ok(found_in(part))
 }

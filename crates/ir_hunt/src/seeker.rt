@@ -1,6 +1,7 @@
 //! What runs a guest by one seed after another.
 
-ghost use Rattle.std.specs.Prelude.{◌≡◌, ◌≢◌, ◌<◌, ◌⊎◌, [], length, map, replicate, true, false, IfOk, OnOk};
+ghost use Rattle.std.specs.Prelude.{◌≡◌, ◌≢◌, ◌<◌, ◌⊎◌, [], length, map, replicate, true, false, IfOk, OnOk, MatchOption};
+ghost use Rattle.std.specs.String.{string_bytes};
 ghost use Rattle.std.specs.List.{list_all};
 ghost use Rattle.ir_thread.specs.State.{IsAllowed};
 ghost use Rattle.ir_record.specs.Recording.{order_of_turns};
@@ -9,16 +10,18 @@ ghost use Rattle.ir_sources.specs.Sources.{made_with, origins};
 ghost use Rattle.ir_chaos.specs.Choices.{Serves, chooser_of};
 ghost use Rattle.ir_chaos.specs.Conditions.{as_condition, fulfils, outcome_of};
 ghost use Rattle.ir_chaos.specs.Moments.{moment_of};
-ghost use Rattle.ir_hunt.specs.Finding.{has_tries};
+ghost use Rattle.ir_hunt.specs.Finding.{has_tries, IsFound};
+ghost use Rattle.ir_hunt.specs.Hunt.{hunt_of};
 ghost use Rattle.ir_hunt.specs.Seeking.{fresh, RanBy};
 ghost use Rattle.ir_hunt.specs.Stale.{IsWanted};
+ghost use Rattle.ir_hunt.specs.Tried.{Fails};
 
 use crate::plan::HuntPlan;
 use crate::stale::is_wanted;
 use ir_chaos::{Choices, Chooser, Runner, Stop};
 use ir_flat::Flat;
 use ir_image::{Image, MOST_THREADS};
-use ir_record::Turns;
+use ir_order::list_of;
 use ir_sources::{ProgramWorld, Time, worlds};
 use ir_thread::Profile;
 use std::alloc::{AllocError, Global};
@@ -191,12 +194,9 @@ impl<'a, C: Clock> Seeker<'a, C> {
         )
     }
 
-    /// Whether the run of a seed fulfils each condition, and has what is wanted of its stale writes. These are asked only where it
-    /// fulfils each condition.
-    ///
-    /// # Errors
-    /// It wasn't followed to its end.
-    pub fn fulfils(&mut self, seed: u64, choices: &Choices) -> Result<bool, Lost>
+    // Whether the run of a seed fulfils each condition, and has what is wanted of its stale writes. These are asked only where it
+    // fulfils each condition.
+    fn fulfils(&mut self, seed: u64, choices: &Choices) -> Result<bool, Lost>
         ensures image { self.new.image ≡ self.old.image }
         ensures plan { self.new.plan ≡ self.old.plan }
         ensures ran { OnOk result (RanBy self.old.image.now self.old.plan.now.record (chooser_of self.old.plan.now.way seed (length self.old.image.now.entries) choices.now) (moment_of (λ w. w.answers.items) self.new.runner)) }
@@ -216,10 +216,21 @@ impl<'a, C: Clock> Seeker<'a, C> {
         }
     }
 
-    /// The turns of the last run.
-    pub fn turns(&self) -> &[Turns]
-        ensures { result.now ≡ self.now.runner.turns.items }
+    /// Tries a seed: the list that spells the order of its run, if that fulfils each condition and has what is wanted of its stale writes.
+    ///
+    /// # Errors
+    /// It wasn't followed to its end.
+    pub fn list_of_seed(&mut self, seed: u64, choices: &Choices) -> Result<Option<String>, Lost>
+        ensures image { self.new.image ≡ self.old.image }
+        ensures plan { self.new.plan ≡ self.old.plan }
+        ensures tried { IfOk result (λ o. MatchOption o (Fails (hunt_of self.old.image.now self.old.plan.now choices.now) seed)
+            (λ list. IsFound (hunt_of self.old.image.now self.old.plan.now choices.now) seed (string_bytes list))) }
     {
-        self.runner.turns.as_slice()
+        let is_found = self.fulfils(seed, choices)?;
+        if is_found {
+            let list = list_of(self.alloc, self.runner.turns.as_slice())?;
+            return Ok(Some(list));
+        }
+        Ok(None)
     }
 }

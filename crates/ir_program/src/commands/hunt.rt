@@ -15,7 +15,6 @@ use ir_hunt::{HuntPlan, hunt_run};
 use ir_record_run::ParsedImage;
 use ir_stream::Sink;
 use ir_trace::Trace;
-use std::sync::Wait;
 use std::thread::Threads;
 use std::time::Clock;
 
@@ -40,7 +39,7 @@ fn hunted_into<R, D, G, O, E>(
     faults: &mut E,
 ) -> Result<Option<Trace>, ExitStatus>
 where
-    R: Threads + Wait + Sync + Clock + Eprint + AllocGlobal,
+    R: Threads + Sync + Clock + Eprint + AllocGlobal,
     D: Folder,
     O: Sink,
     E: Sink,
@@ -61,7 +60,7 @@ pub fn hunt_file<R, D, G, O, E>(
     faults: &mut E,
 ) -> ExitStatus
 where
-    R: Threads + Wait + Sync + Clock + Eprint + AllocGlobal,
+    R: Threads + Sync + Clock + Eprint + AllocGlobal,
     D: Folder,
     O: Sink,
     E: Sink,

@@ -17,8 +17,6 @@ use ir_record_run::ParsedImage;
 use ir_stream::Sink;
 use ir_trace::Trace;
 use std::alloc::Global;
-use std::sync::Wait;
-use std::thread::Threads;
 use std::time::Clock;
 
 // The files of the recording.
@@ -58,7 +56,7 @@ fn found_into<R, D, G, O, E>(
     faults: &mut E,
 ) -> Result<Trace, ExitStatus>
 where
-    R: Threads + Wait + Sync + Clock + AllocGlobal,
+    R: Clock + AllocGlobal,
     D: Folder,
     G: Observer,
     O: Sink,
@@ -80,7 +78,7 @@ pub fn until_file<R, D, G, O, E>(
     faults: &mut E,
 ) -> ExitStatus
 where
-    R: Threads + Wait + Sync + Clock + AllocGlobal,
+    R: Clock + AllocGlobal,
     D: Folder,
     G: Observer,
     O: Sink,

@@ -42,5 +42,5 @@ returns-clause-found g c =
           says.says done.1,
       done.2,
       done.3,
-      Appends-trans (g.O.Sink.written c.args.out.now) (g.O.Sink.written c.tell_sought.new.out) (g.O.Sink.written c.record_run.new.out) _ _ told.2 done.4,
+      Appends-trans (g.O.Sink.written c.args.out.now) (g.O.Sink.written c.tell_sought.new.out) (g.O.Sink.written c.record_by_list.new.out) _ _ told.2 done.4,
     )

@@ -1,0 +1,15 @@
+use Rattle.std.proofs.Common.{◌≡◌, ◌-◌}
+use Rattle.std.specs.Prelude.{All}
+use Rattle.ir_hunt.specs.Parts.{IsBegun}
+use Rattle.ir_hunt.proofs.search.try_stretches.Given as goal
+
+-- the seeds of the part were tried, and the workers are of the hunt
+abbrev pub invariant-stretches : goal.invariant-stretches
+invariant-stretches g l = record {
+  tries : All (λ w. w.tries ≡ l.fn.own) l.workers;
+  same : l.own ≡ l.fn.own;
+  begun : IsBegun l.fn.own l.seeds l.part;
+}
+
+abbrev pub decreases-stretches : goal.decreases-stretches
+decreases-stretches g l = l.seeds.last - l.part.seeds.last
