@@ -22,7 +22,7 @@ pieces-preserved g c =
           (answer_text_is_packet_of_piece_and_rest c.pieces.rest.now c.split_at.result.0.now c.split_at.result.1.now c.min.result some c.min.ensures
           c.split_at.ensures.front c.split_at.ensures.back)
           c.in_ok-send_piece.ensures.writes.ok;
-      link = ap (λ (m : Link). sent m m.stub) c.in_ok-send_piece.ensures.link ∙ c.pieces.invariant.link;
+      link = λ packet. ap (λ (m : Link). sent m m.stub packet) c.in_ok-send_piece.ensures.link ∙ c.pieces.invariant.link packet;
       reading = c.in_ok-send_piece.ensures.reading ∙ c.pieces.invariant.reading;
       broken = c.in_ok-send_piece.ensures.writes.stays ∙ c.pieces.invariant.broken;
     }
