@@ -25,9 +25,9 @@ pub record Link : Type 0 where
   pub stub : Stub
   -- whether packets are acknowledged
   pub acknowledges : Bool
-  -- whether the last reply hasn't been acknowledged
+  -- whether a packet has been written, and nothing acknowledged since then
   pub is_owed : Bool
-  -- the packet that was written last, or nothing
+  -- the packet that was written last, or nothing before the first
   pub last : List ℕ
 
 -- the connection, what it reads, and the payload of a reply
@@ -40,8 +40,8 @@ pub record Connecting : Type 0 where
 abbrev pub link_of : Stub → Link
 link_of s = record { stub = s; acknowledges = true; is_owed = false; last = [] }
 
--- the reply isn't acknowledged yet: a packet that is read then is a copy, since gdb sends a packet again where it has waited for the reply,
--- and sends no other before it has acknowledged that
+-- the reply isn't acknowledged yet: a packet that is read then is a copy, since gdb sends a packet again where it has waited too long,
+-- and no other before it has acknowledged the reply
 abbrev pub is_copy : Link → Bool
 is_copy l = l.acknowledges && l.is_owed
 
@@ -49,12 +49,13 @@ is_copy l = l.acknowledges && l.is_owed
 abbrev pub sent : Link → Stub → List ℕ → Link
 sent l s packet = record l { stub = s; is_owed = true; last = packet }
 
--- what is written where gdb refuses a reply: the last packet again, unless it has been acknowledged
-abbrev pub resent : Link → List ℕ
-resent l = if is_copy l then l.last else []
-
+-- what is written if packets are acknowledged
 abbrev pub sign : Link → List ℕ → List ℕ
 sign l text = if l.acknowledges then text else []
+
+-- what is written where gdb refuses a packet: the last again
+abbrev pub resent : Link → List ℕ
+resent l = sign l l.last
 
 -- ---- a session's line
 

@@ -36,15 +36,12 @@ impl Connection {
         write(writer, text)
     }
 
-    // Writes the last packet again, unless it has been acknowledged.
+    // Writes the last packet again, if packets are acknowledged.
     pub fn resend<W: Sink>(&self, writer: &mut W) -> Result<(), Fault>
         ensures writes { WritesText W.written W.broken writer.old writer.new (resent self.now.link) result }
         ensures fault { IfErr result (λ f. f ≡ Fault.Write) }
     {
-        if self.acknowledges && self.is_owed {
-            return write(writer, self.packet.as_slice());
-        }
-        Ok(())
+        self.acknowledge(self.packet.as_slice(), writer)
     }
 
     // Writes the payload as a packet.
