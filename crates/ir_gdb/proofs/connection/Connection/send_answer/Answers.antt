@@ -14,6 +14,10 @@ returns-in_err-send_piece-clause-writes g c =
     c.split_at.ensures.front c.split_at.ensures.back)
     c.in_err-send_piece.ensures.writes.prefix) c.in_err-send_piece.ensures.writes.err
 
+pub returns-in_err-send_piece-clause-link : goal.returns-in_err-send_piece-clause-link
+returns-in_err-send_piece-clause-link g c = λ packet.
+    ap (λ (m : Link). sent m m.stub packet) c.in_err-send_piece.ensures.link ∙ c.pieces.invariant.link packet
+
 pub pieces-preserved : goal.pieces-preserved
 pieces-preserved g c =
     let some : 0 < length c.pieces.rest.now = search rules in
