@@ -187,7 +187,7 @@ def written(folder, guest, pieces):
 
 # After the first: no acknowledgements. Each row: what is read, and the payloads that are written.
 BY_HAND = [
-    (b"junk\x03", []),
+    (b"junk-\x03", []),
     (packet(b""), [b""]),
     (packet(b"nonsense"), [b""]),
     (b"$g#00", []),
@@ -223,15 +223,18 @@ BY_HAND = [
 
 
 def check_by_hand(folder):
-    """Bad packets, copies and the end of the input."""
-    opening = [b"+", packet(b"qAttached"), packet(b"qAttached"), b"+", packet(b"QStartNoAckMode"), b"+"]
+    """Bad packets, copies, refused replies and the end of the input."""
+    opening = [b"+-", packet(b"qAttached"), packet(b"qAttached"), b"-", b"+", packet(b"QStartNoAckMode"), b"+"]
     found = written(folder, "over", opening + [read for read, _ in BY_HAND])
-    wanted = b"+" + packet(b"1") + b"+" + packet(b"OK") + b"".join(packet(payload) for _, payloads in BY_HAND for payload in payloads)
+    wanted = b"+" + packet(b"1") * 2 + b"+" + packet(b"OK") + b"".join(packet(payload) for _, payloads in BY_HAND for payload in payloads)
     if found != wanted:
         raise Wrong(f"packets by hand: found {found!r}, wanted {wanted!r}")
     found = written(folder, "over", [b"$g#00", packet(b"D"), packet(b"g")])
     if found != b"-+" + packet(b"OK"):
         raise Wrong(f"a wrong sum, and packets after the end: found {found!r}")
+    found = written(folder, "over", [line("pos"), b"+-"])
+    if found != b"+" + packet(b"O" + b"at 0 0\n".hex().encode()) + packet(b"OK") * 2:
+        raise Wrong(f"the last packet of an answer, refused: found {found!r}")
 
 
 def check_full(folder):

@@ -14,7 +14,6 @@ use Rattle.ir_hits.specs.Hits.{IsFirstHit, IsLastHit}
 use Rattle.ir_hits.specs.Searching.{IsNextHit}
 use Rattle.ir_debug.specs.Machine.{stop_of}
 use Rattle.ir_packet.specs.declared.reply.Reason.{Reason}
-use Rattle.ir_packet.specs.declared.reply.Reason.TheVariants as reason
 use Rattle.ir_packet.specs.declared.request.Motion.TheVariants as motion
 use Rattle.ir_gdb.specs.declared.point.Breakpoint.{Breakpoint}
 use Rattle.ir_gdb.specs.declared.point.Watched.{Watched}
@@ -22,9 +21,9 @@ use Rattle.ir_gdb.specs.declared.stopped.Stopped.{Stopped}
 use Rattle.ir_gdb.specs.Points.{watch_points, break_points, points_upwards, points_downwards}
 use Rattle.ir_gdb.specs.Stub.{Stub}
 use Rattle.ir_gdb.specs.Stops.{stopped, position_of, watches_if, break_reason, watch_reason, WatchNext, StepsBy, after_step, StepsBackBy, after_back, ContinuesBackBy, BackBy, StopsBelow, stop_above, end_above, stop_below, end_below}
-use Rattle.ir_gdb.specs.Together.{Halt, halt, Comes, MovesAlone}
+use Rattle.ir_gdb.specs.Together.{Halt, Comes, MovesAlone}
 use Rattle.ir_gdb.specs.Over.{PassesHit, over, StepsOver, LeadsBy}
-use Rattle.ir_gdb.specs.Laws.{SessionGoes, LeadsLone}
+use Rattle.ir_gdb.specs.Laws.{SessionGoes, LeadsLone, StaysWhereItIs}
 use Rattle.ir_gdb.proofs.Finding.{position_in, upwards_found_as_session, downwards_found_as_session}
 
 -- ---- where no watch is set
@@ -162,18 +161,18 @@ steps_one run s t p last false to none test within is =
     ap (λ (x : Stopped). x.position) is ∙ least
 
 pub step_goes_as_session : (run : List Step) (s : Stub) (t : ℕ) (h : Halt) → LeadsLone run s t motion.Step h
-    → ((h.thread ≡ t) × SessionGoes run s t (command.Move (move.Step t 1)) h.cut) ⊎ ((s.together ≡ true) × (h ≡ halt t s.desk.at reason.Waits))
+    → ((h.thread ≡ t) × SessionGoes run s t (command.Move (move.Step t 1)) h.cut) ⊎ StaysWhereItIs run s t h
 step_goes_as_session run s t h lone = over_steps (subst (λ (b : Bool). LeadsBy b true run s t motion.Step h) lone.free lone.leads)
   where
     Goes : Type 0
-    Goes = ((h.thread ≡ t) × SessionGoes run s t (command.Move (move.Step t 1)) h.cut) ⊎ ((s.together ≡ true) × (h ≡ halt t s.desk.at reason.Waits))
+    Goes = ((h.thread ≡ t) × SessionGoes run s t (command.Move (move.Step t 1)) h.cut) ⊎ StaysWhereItIs run s t h
 
     here_within : (cut : List ℕ) (k : ℕ) → Comes run s Forwards t k cut → position_of s t ≤ last_of s.desk.fitted t
     here_within cut k comes = let up = comes.1.above t in let within = comes.1.cut t in let count = lone.whole.1.steps t lone.thread in omega (arith, up, within, count)
 
     by : (together passes : Bool) (to : Stopped) (cut : List ℕ) → s.together ≡ together → to.position ≡ min (position_of s t + 1) (last_of s.desk.fitted t)
         → Comes run s Forwards t to.position cut → PassesHit together passes run s cut t → h ≡ over passes s t cut to → Goes
-    by true true to cut so at comes passes is = inr (so, is)
+    by true true to cut so at comes passes is = inr (so, is, (cut, (_, (cut, subst (λ (k : ℕ). Comes run s Forwards t k cut) at comes, (refl, refl))), passes))
     by false true to cut so at comes passes is = absurd (true≢false passes)
     by together false to cut so at comes passes is = inl (
       ap (λ (x : Halt). x.thread) is,

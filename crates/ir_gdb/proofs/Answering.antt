@@ -2,7 +2,7 @@
 use Rattle.std.proofs.Common.{◌≡◌, ◌∙◌, ◌⊎◌, append-nil, ℕ, Bool, true, false, List, [], ◌++◌, Option, Result, Ok, Err, OnOk, OnErr, codes, refl, sym, ap, subst, inl, inr}
 use Rattle.std.specs.Prelude.{⊤}
 use Rattle.std.specs.Io.KnownBytes.{Appends}
-use Rattle.std.proofs.KnownBytes.{Appends-nil, Appends-trans}
+use Rattle.std.proofs.KnownBytes.{Appends-trans}
 use Rattle.ir_stream.specs.Answers.{AppendsPrefix}
 use Rattle.ir_stream.proofs.CallerLemmas.{appends_prefix_of_append_if_first_appended, appends_prefix_of_longer_text}
 use Rattle.ir_cut.specs.Positions.{EachRun}
@@ -40,11 +40,11 @@ pub replies_no_memory_if_lacks : (s : Stub) (asked : Request) (next : Stub) → 
 replies_no_memory_if_lacks s asked next lacks = inr (lacks, refl)
 
 request_is_answered_by_reply_packet : (l : Link) (asked : Request) (s : Stub) (payload : List ℕ) (mid next : Link) → Replies l.stub asked payload s
-    → mid ≡ record l { stub = s } → next ≡ sent mid mid.stub → AnswersBy l asked (packet_of payload) next
-request_is_answered_by_reply_packet l asked s payload mid next replies is after = (payload, s, replies, refl, after ∙ ap (λ (m : Link). sent m m.stub) is)
+    → mid ≡ record l { stub = s } → next ≡ sent mid mid.stub (packet_of payload) → AnswersBy l asked (packet_of payload) next
+request_is_answered_by_reply_packet l asked s payload mid next replies is after = (payload, s, replies, refl, after ∙ ap (λ (m : Link). sent m m.stub (packet_of payload)) is)
 
 pub sent_reply_packet : (l : Link) (asked : Request) (s : Stub) (payload : List ℕ) (mid next : Link) (w w' : Option (List ℕ))
-    → Replies l.stub asked payload s → mid ≡ record l { stub = s } → next ≡ sent mid mid.stub → Appends w w' (packet_of payload)
+    → Replies l.stub asked payload s → mid ≡ record l { stub = s } → next ≡ sent mid mid.stub (packet_of payload) → Appends w w' (packet_of payload)
     → Sent (AnswersBy l asked) next w w'
 sent_reply_packet l asked s payload mid next w w' replies is after grown = record {
   text = packet_of payload;
@@ -53,7 +53,7 @@ sent_reply_packet l asked s payload mid next w w' replies is after grown = recor
 }
 
 pub sent_part_of_reply_packet : (l : Link) (asked : Request) (s : Stub) (payload : List ℕ) (mid next : Link) (w w' : Option (List ℕ))
-    → Replies l.stub asked payload s → mid ≡ record l { stub = s } → next ≡ sent mid mid.stub → AppendsPrefix w w' (packet_of payload)
+    → Replies l.stub asked payload s → mid ≡ record l { stub = s } → next ≡ sent mid mid.stub (packet_of payload) → AppendsPrefix w w' (packet_of payload)
     → SentInPart (AnswersBy l asked) [] w w'
 sent_part_of_reply_packet l asked s payload mid next w w' replies is after grown = record {
   text = packet_of payload;
@@ -64,7 +64,7 @@ sent_part_of_reply_packet l asked s payload mid next w w' replies is after grown
 -- ---- a session's line
 
 line_is_answered_by_response_and_done : (b : Bool) (l : Link) (line : List ℕ) (s : Stub) (answer : List ℕ) → b ≡ false → Responds l.stub line s (λ text. answer ≡ text)
-    → AnswersLine b l line (answer_text answer ++ packet_of (reply_text reply.Done)) (sent l s)
+    → AnswersLine b l line (answer_text answer ++ packet_of (reply_text reply.Done)) (sent l s (packet_of (reply_text reply.Done)))
 line_is_answered_by_response_and_done true l line s answer goes r = absurd cc
 line_is_answered_by_response_and_done false l line s answer goes r = inl (
   s,
@@ -79,13 +79,13 @@ line_is_answered_by_response_and_done false l line s answer goes r = inl (
 )
 
 -- where the answer leads
-link_after_answer_is_sent_of_old_link : (l : Link) (s : Stub) (mid answered next : Link) → mid ≡ record l { stub = s } → sent answered answered.stub ≡ sent mid mid.stub
-    → next ≡ sent answered answered.stub → next ≡ sent l s
-link_after_answer_is_sent_of_old_link l s mid answered next is same after = after ∙ same ∙ ap (λ (m : Link). sent m m.stub) is
+link_after_answer_is_sent_of_old_link : (l : Link) (s : Stub) (mid answered next : Link) → mid ≡ record l { stub = s } → sent answered answered.stub (packet_of (reply_text reply.Done)) ≡ sent mid mid.stub (packet_of (reply_text reply.Done))
+    → next ≡ sent answered answered.stub (packet_of (reply_text reply.Done)) → next ≡ sent l s (packet_of (reply_text reply.Done))
+link_after_answer_is_sent_of_old_link l s mid answered next is same after = after ∙ same ∙ ap (λ (m : Link). sent m m.stub (packet_of (reply_text reply.Done))) is
 
 pub sent_answer_to_line : (b : Bool) (l : Link) (line : List ℕ) (s : Stub) (answer : List ℕ) (mid answered next : Link) (w w1 w2 : Option (List ℕ))
     → b ≡ false → Responds l.stub line s (λ text. answer ≡ text) → mid ≡ record l { stub = s }
-    → sent answered answered.stub ≡ sent mid mid.stub → next ≡ sent answered answered.stub → Appends w w1 (answer_text answer)
+    → sent answered answered.stub (packet_of (reply_text reply.Done)) ≡ sent mid mid.stub (packet_of (reply_text reply.Done)) → next ≡ sent answered answered.stub (packet_of (reply_text reply.Done)) → Appends w w1 (answer_text answer)
     → Appends w1 w2 (packet_of (reply_text reply.Done)) → Sent (AnswersLine b l line) next w w2
 sent_answer_to_line b l line s answer mid answered next w w1 w2 goes r is same after first rest = record {
   text = answer_text answer ++ packet_of (reply_text reply.Done);
@@ -99,7 +99,7 @@ pub sent_part_of_done_packet_after_answer : (b : Bool) (l : Link) (line : List �
     → AppendsPrefix w1 w2 (packet_of (reply_text reply.Done)) → SentInPart (AnswersLine b l line) [] w w2
 sent_part_of_done_packet_after_answer b l line s answer w w1 w2 goes r first rest = record {
   text = answer_text answer ++ packet_of (reply_text reply.Done);
-  is = inl (sent l s, line_is_answered_by_response_and_done b l line s answer goes r);
+  is = inl (sent l s (packet_of (reply_text reply.Done)), line_is_answered_by_response_and_done b l line s answer goes r);
   grown = appends_prefix_of_append_if_first_appended w w1 w2 (answer_text answer) (packet_of (reply_text reply.Done)) first rest;
 }
 
@@ -108,11 +108,11 @@ pub sent_part_of_answer_to_line : (b : Bool) (l : Link) (line : List ℕ) (s : S
     → SentInPart (AnswersLine b l line) [] w w1
 sent_part_of_answer_to_line b l line s answer w w1 goes r first = record {
   text = answer_text answer ++ packet_of (reply_text reply.Done);
-  is = inl (sent l s, line_is_answered_by_response_and_done b l line s answer goes r);
+  is = inl (sent l s (packet_of (reply_text reply.Done)), line_is_answered_by_response_and_done b l line s answer goes r);
   grown = appends_prefix_of_longer_text w w1 (answer_text answer) (packet_of (reply_text reply.Done)) first;
 }
 
-quitting_line_is_answered_not_permitted : (b : Bool) (l : Link) (line : List ℕ) → b ≡ true → AnswersLine b l line (packet_of (reply_text reply.NotPermitted)) (sent l l.stub)
+quitting_line_is_answered_not_permitted : (b : Bool) (l : Link) (line : List ℕ) → b ≡ true → AnswersLine b l line (packet_of (reply_text reply.NotPermitted)) (sent l l.stub (packet_of (reply_text reply.NotPermitted)))
 quitting_line_is_answered_not_permitted true l line quits = (refl, refl)
 quitting_line_is_answered_not_permitted false l line quits = absurd cc
 
@@ -120,28 +120,28 @@ pub sent_part_of_answer_to_quitting_line : (b : Bool) (l : Link) (line : List �
     → AppendsPrefix w w' (packet_of (reply_text reply.NotPermitted)) → SentInPart (AnswersLine b l line) [] w w'
 sent_part_of_answer_to_quitting_line b l line w w' quits grown = record {
   text = packet_of (reply_text reply.NotPermitted);
-  is = inl (sent l l.stub, quitting_line_is_answered_not_permitted b l line quits);
+  is = inl (sent l l.stub (packet_of (reply_text reply.NotPermitted)), quitting_line_is_answered_not_permitted b l line quits);
   grown = grown;
 }
 
 pub sent_answer_to_quitting_line : (b : Bool) (l : Link) (line : List ℕ) (mid next : Link) (w w' : Option (List ℕ)) → b ≡ true → mid ≡ l
-    → next ≡ sent mid mid.stub → Appends w w' (packet_of (reply_text reply.NotPermitted)) → Sent (AnswersLine b l line) next w w'
+    → next ≡ sent mid mid.stub (packet_of (reply_text reply.NotPermitted)) → Appends w w' (packet_of (reply_text reply.NotPermitted)) → Sent (AnswersLine b l line) next w w'
 sent_answer_to_quitting_line b l line mid next w w' quits same after grown = record {
   text = packet_of (reply_text reply.NotPermitted);
-  is = subst (AnswersLine b l line (packet_of (reply_text reply.NotPermitted))) (sym (after ∙ ap (λ (m : Link). sent m m.stub) same))
+  is = subst (AnswersLine b l line (packet_of (reply_text reply.NotPermitted))) (sym (after ∙ ap (λ (m : Link). sent m m.stub (packet_of (reply_text reply.NotPermitted))) same))
       (quitting_line_is_answered_not_permitted b l line quits);
   grown = grown;
 }
 
 line_is_answered_no_memory_if_it_lacks : (b : Bool) (l : Link) (line : List ℕ) (mid next : Link) → b ≡ false
-    → ((mid ≡ l) ⊎ ((s : Stub) × Responds l.stub line s (λ text. ⊤) × (mid ≡ record l { stub = s }))) → next ≡ sent mid mid.stub
+    → ((mid ≡ l) ⊎ ((s : Stub) × Responds l.stub line s (λ text. ⊤) × (mid ≡ record l { stub = s }))) → next ≡ sent mid mid.stub (packet_of (reply_text reply.NoMemory))
     → AnswersLine b l line (packet_of (reply_text reply.NoMemory)) next
 line_is_answered_no_memory_if_it_lacks true l line mid next goes r after = absurd cc
-line_is_answered_no_memory_if_it_lacks false l line mid next goes (inl same) after = inr (inl (after ∙ ap (λ (m : Link). sent m m.stub) same), refl)
-line_is_answered_no_memory_if_it_lacks false l line mid next goes (inr (s, r, is)) after = inr (inr (s, r, after ∙ ap (λ (m : Link). sent m m.stub) is), refl)
+line_is_answered_no_memory_if_it_lacks false l line mid next goes (inl same) after = inr (inl (after ∙ ap (λ (m : Link). sent m m.stub (packet_of (reply_text reply.NoMemory))) same), refl)
+line_is_answered_no_memory_if_it_lacks false l line mid next goes (inr (s, r, is)) after = inr (inr (s, r, after ∙ ap (λ (m : Link). sent m m.stub (packet_of (reply_text reply.NoMemory))) is), refl)
 
 pub sent_no_memory_reply : (b : Bool) (l : Link) (line : List ℕ) (mid next : Link) (w w' : Option (List ℕ)) → b ≡ false
-    → ((mid ≡ l) ⊎ ((s : Stub) × Responds l.stub line s (λ text. ⊤) × (mid ≡ record l { stub = s }))) → next ≡ sent mid mid.stub
+    → ((mid ≡ l) ⊎ ((s : Stub) × Responds l.stub line s (λ text. ⊤) × (mid ≡ record l { stub = s }))) → next ≡ sent mid mid.stub (packet_of (reply_text reply.NoMemory))
     → Appends w w' (packet_of (reply_text reply.NoMemory)) → Sent (AnswersLine b l line) next w w'
 sent_no_memory_reply b l line mid next w w' goes r after grown = record {
   text = packet_of (reply_text reply.NoMemory);
@@ -154,7 +154,7 @@ pub sent_part_of_no_memory_reply : (b : Bool) (l : Link) (line : List ℕ) (mid 
     → AppendsPrefix w w' (packet_of (reply_text reply.NoMemory)) → SentInPart (AnswersLine b l line) [] w w'
 sent_part_of_no_memory_reply b l line mid w w' goes r grown = record {
   text = packet_of (reply_text reply.NoMemory);
-  is = inl (sent mid mid.stub, line_is_answered_no_memory_if_it_lacks b l line mid (sent mid mid.stub) goes r refl);
+  is = inl (sent mid mid.stub (packet_of (reply_text reply.NoMemory)), line_is_answered_no_memory_if_it_lacks b l line mid (sent mid mid.stub (packet_of (reply_text reply.NoMemory))) goes r refl);
   grown = grown;
 }
 
@@ -185,14 +185,14 @@ text_of_no_reply_is_empty : reply_text reply.Nothing ≡ []
 unfolding reply_text
 text_of_no_reply_is_empty = refl
 
-too_long_packet_is_answered_by_empty_packet : (l next : Link) → next ≡ sent l l.stub → AnswersNew l TooLong (sign l (codes "+") ++ packet_of (reply_text reply.Nothing)) next
+too_long_packet_is_answered_by_empty_packet : (l next : Link) → next ≡ sent l l.stub (packet_of []) → AnswersNew l TooLong (sign l (codes "+") ++ packet_of (reply_text reply.Nothing)) next
 too_long_packet_is_answered_by_empty_packet l next after = (ap (λ (x : List ℕ). sign l (codes "+") ++ packet_of x) text_of_no_reply_is_empty, after)
 
-pub sent_answer_to_too_long_packet : (l next : Link) (w w1 w2 : Option (List ℕ)) → next ≡ sent l l.stub → Appends w w1 (sign l (codes "+"))
+pub sent_answer_to_too_long_packet : (l next : Link) (w w1 w2 : Option (List ℕ)) → next ≡ sent l l.stub (packet_of (reply_text reply.Nothing)) → Appends w w1 (sign l (codes "+"))
     → Appends w1 w2 (packet_of (reply_text reply.Nothing)) → Sent (AnswersNew l TooLong) next w w2
 sent_answer_to_too_long_packet l next w w1 w2 after first rest = record {
   text = sign l (codes "+") ++ packet_of (reply_text reply.Nothing);
-  is = too_long_packet_is_answered_by_empty_packet l next after;
+  is = too_long_packet_is_answered_by_empty_packet l next (after ∙ ap (λ (x : List ℕ). sent l l.stub (packet_of x)) text_of_no_reply_is_empty);
   grown = Appends-trans w w1 w2 (sign l (codes "+")) (packet_of (reply_text reply.Nothing)) first rest;
 }
 
@@ -200,13 +200,13 @@ pub sent_part_of_answer_to_too_long_packet : (l : Link) (w w1 w2 : Option (List 
     → AppendsPrefix w1 w2 (packet_of (reply_text reply.Nothing)) → SentInPart (AnswersNew l TooLong) [] w w2
 sent_part_of_answer_to_too_long_packet l w w1 w2 first rest = record {
   text = sign l (codes "+") ++ packet_of (reply_text reply.Nothing);
-  is = inl (sent l l.stub, too_long_packet_is_answered_by_empty_packet l (sent l l.stub) refl);
+  is = inl (sent l l.stub (packet_of []), too_long_packet_is_answered_by_empty_packet l (sent l l.stub (packet_of [])) refl);
   grown = appends_prefix_of_append_if_first_appended w w1 w2 (sign l (codes "+")) (packet_of (reply_text reply.Nothing)) first rest;
 }
 
 pub sent_part_of_sign_to_too_long_packet : (l : Link) (w w1 : Option (List ℕ)) → AppendsPrefix w w1 (sign l (codes "+")) → SentInPart (AnswersNew l TooLong) [] w w1
 sent_part_of_sign_to_too_long_packet l w w1 first = record {
   text = sign l (codes "+") ++ packet_of (reply_text reply.Nothing);
-  is = inl (sent l l.stub, too_long_packet_is_answered_by_empty_packet l (sent l l.stub) refl);
+  is = inl (sent l l.stub (packet_of []), too_long_packet_is_answered_by_empty_packet l (sent l l.stub (packet_of [])) refl);
   grown = appends_prefix_of_longer_text w w1 (sign l (codes "+")) (packet_of (reply_text reply.Nothing)) first;
 }

@@ -18,7 +18,7 @@ use Rattle.ir_packet.specs.declared.request.Request.{Request}
 use Rattle.ir_packet.specs.declared.request.Request.TheVariants as request
 use Rattle.ir_debug.specs.Machine.{quits}
 use Rattle.ir_gdb.proofs.Answering.{sent_answer_to_packet, sent_part_of_answer_to_packet}
-use Rattle.ir_gdb.specs.Connection.{Link, sent, sign, unacknowledged, is_copy, is_packet, before_new_reply, before_reply_by, before_reply, AnswersLine, AnswersBy, AnswersRequest, AnswersPacket, AnswersNew, AnswersItem, AnswersItemBy, ends_request, ends_by, ends, Sent, SentInPart}
+use Rattle.ir_gdb.specs.Connection.{Link, sent, resent, sign, unacknowledged, is_copy, is_packet, before_new_reply, before_reply_by, before_reply, AnswersLine, AnswersBy, AnswersRequest, AnswersPacket, AnswersNew, AnswersItem, AnswersItemBy, ends_request, ends_by, ends, Sent, SentInPart}
 
 -- ---- requests
 
@@ -125,7 +125,7 @@ module _ (l : Link) (payload : List ℕ) (asked : Request) (next : Link) (w w' :
   console_part is s = subst (λ (r : Request). SentInPart (AnswersRequest l payload r) [] w w') (sym is)
       (record { text = s.text; is = s.is; grown = s.grown })
 
-  pub quiet_sent : asked ≡ request.NoAcknowledgements → next ≡ unacknowledged (sent l l.stub)
+  pub quiet_sent : asked ≡ request.NoAcknowledgements → next ≡ unacknowledged (sent l l.stub (packet_of (reply_text reply.Done)))
       → Appends w w' (packet_of (reply_text reply.Done)) → Sent (AnswersRequest l payload asked) next w w'
   quiet_sent is after grown = subst (λ (r : Request). Sent (AnswersRequest l payload r) next w w') (sym is)
       (record { text = packet_of (reply_text reply.Done); is = (refl, after); grown = grown })
@@ -133,7 +133,7 @@ module _ (l : Link) (payload : List ℕ) (asked : Request) (next : Link) (w w' :
   pub quiet_part : asked ≡ request.NoAcknowledgements → AppendsPrefix w w' (packet_of (reply_text reply.Done))
       → SentInPart (AnswersRequest l payload asked) [] w w'
   quiet_part is grown = subst (λ (r : Request). SentInPart (AnswersRequest l payload r) [] w w') (sym is)
-      (record { text = packet_of (reply_text reply.Done); is = inl (unacknowledged (sent l l.stub), (refl, refl)); grown = grown })
+      (record { text = packet_of (reply_text reply.Done); is = inl (unacknowledged (sent l l.stub (packet_of (reply_text reply.Done))), (refl, refl)); grown = grown })
 
 pub sent_nothing_after_kill : (l : Link) (payload : List ℕ) (asked : Request) (w : Option (List ℕ)) → asked ≡ request.Kill
     → Sent (AnswersRequest l payload asked) l w w
@@ -169,6 +169,15 @@ module _ (l : Link) (payload : List ℕ) (f : Found) (next : Link) (w w' : Optio
   bad_answered_part is grown = subst (λ (x : Found). SentInPart (AnswersNew l (item_found x payload)) (before_new_reply l (item_found x payload)) w w')
       (sym is) (record { text = sign l (codes "-"); is = inl (l, (refl, refl)); grown = grown })
 
+  pub refused_answered : f ≡ found.Refused → next ≡ l → Appends w w' (resent l) → Sent (AnswersNew l (item_found f payload)) next w w'
+  refused_answered is same grown = subst (λ (x : Found). Sent (AnswersNew l (item_found x payload)) next w w') (sym is)
+      (record { text = resent l; is = (refl, same); grown = grown })
+
+  pub refused_answered_part : f ≡ found.Refused → AppendsPrefix w w' (resent l)
+      → SentInPart (AnswersNew l (item_found f payload)) (before_new_reply l (item_found f payload)) w w'
+  refused_answered_part is grown = subst (λ (x : Found). SentInPart (AnswersNew l (item_found x payload)) (before_new_reply l (item_found x payload)) w w')
+      (sym is) (record { text = resent l; is = inl (l, (refl, refl)); grown = grown })
+
 module _ (l : Link) (payload : List ℕ) (f : Found) (next : Link) (w : Option (List ℕ)) where
   pub interrupt_answered : f ≡ found.Interrupt → next ≡ record l { stub = record l.stub { interrupted = true } }
       → Sent (AnswersNew l (item_found f payload)) next w w
@@ -178,10 +187,6 @@ module _ (l : Link) (payload : List ℕ) (f : Found) (next : Link) (w : Option (
   pub acknowledged_answered : f ≡ found.Acknowledged → next ≡ record l { is_owed = false } → Sent (AnswersNew l (item_found f payload)) next w w
   acknowledged_answered is after = subst (λ (x : Found). Sent (AnswersNew l (item_found x payload)) next w w) (sym is)
       (record { text = []; is = (refl, after); grown = Appends-nil w })
-
-  pub refused_answered : f ≡ found.Refused → next ≡ l → Sent (AnswersNew l (item_found f payload)) next w w
-  refused_answered is same = subst (λ (x : Found). Sent (AnswersNew l (item_found x payload)) next w w) (sym is)
-      (record { text = []; is = (refl, same); grown = Appends-nil w })
 
 pub ok_flow_of_request_is_flow_of_found_packet : {E : Type 0} (r : Result Flow E) (payload : List ℕ) (f : Found) → f ≡ found.Packet
     → IfOk r (λ x. x ≡ flow_after (ends_request (request_of payload))) → IfOk r (λ x. x ≡ flow_after (ends_by (item_found f payload)))

@@ -1,5 +1,5 @@
 -- Replies to requests, from what puts them.
-use Rattle.std.proofs.Common.{◌≡◌, ◌⊎◌, ◌∙◌, ◌++◌, ℕ, true, List, length, Option, Some, None, refl, sym, ap, subst}
+use Rattle.std.proofs.Common.{◌≡◌, ◌⊎◌, ◌∙◌, ◌++◌, ℕ, true, false, not, List, length, Option, Some, None, Result, Ok, Err, OnErr, inr, refl, sym, ap, subst}
 use Rattle.std.proofs.lemmas.List.{append_cancel_left}
 use Rattle.ir_runs.specs.Run.{Step}
 use Rattle.ir_fit.specs.Fit.{HasRun}
@@ -200,9 +200,17 @@ module _ (s : Stub) (asked : Request) (next : Stub) (old new : List ℕ) where
   restart_at_put n is p = over (request.RestartAt n) is (p.0, p.1, p.2)
 
 -- out of memory
-pub lacks_if_request_may_lack_and_nothing_is_put : (s : Stub) (asked r : Request) (next : Stub) (old new : List ℕ) → asked ≡ r → may_lack r ≡ true → (next ≡ s) ⊎ (next ≡ spoken s)
+pub lacks_if_request_may_lack_and_nothing_is_put : (s : Stub) (asked r : Request) (next : Stub) (old new : List ℕ) → asked ≡ r → may_lack s r ≡ true → (next ≡ s) ⊎ (next ≡ spoken s)
     → new ≡ old → Lacks s asked next × (new ≡ old)
-lacks_if_request_may_lack_and_nothing_is_put s asked r next old new is may same kept = ((ap may_lack is ∙ may, same), kept)
+lacks_if_request_may_lack_and_nothing_is_put s asked r next old new is may same kept = ((ap (may_lack s) is ∙ may, same), kept)
+
+-- what reads the run at the cut lacks memory only if that isn't in hand
+pub lacks_if_reading_fails : {X E : Type 0} (result : Result X E) (s : Stub) (asked r : Request) (next : Stub) (old new : List ℕ) → asked ≡ r
+    → may_lack s r ≡ not s.desk.fresh → next ≡ spoken s → OnErr result (s.desk.fresh ≡ false) → OnErr result (new ≡ old)
+    → OnErr result (Lacks s asked next × (new ≡ old))
+lacks_if_reading_fails (Ok x) s asked r next old new is may same stale kept = tt
+lacks_if_reading_fails (Err e) s asked r next old new is may same stale kept =
+    lacks_if_request_may_lack_and_nothing_is_put s asked r next old new is (may ∙ ap not stale) (inr same) kept
 
 -- ---- what was put after a request that changes nothing
 

@@ -10,11 +10,7 @@ use Rattle.ir_stream.specs.declared.serving.Fault.{Fault}
 use Rattle.ir_stream.specs.declared.serving.Fault.TheVariants as fault
 use Rattle.ir_debug.specs.Machine.{Desk, Opening, Opens, opening_text}
 use Rattle.ir_debug.specs.Machine as opening
-use Rattle.ir_debug.specs.Debugging.{Debugging}
-use Rattle.ir_debug.specs.Openings.{opening_of}
 use Rattle.ir_debug.specs.Session.{most_input, ended_by, IfServed, IfRefused}
-use Rattle.ir_debug.specs.declared.opening.Opened.{Opened}
-use Rattle.ir_debug.specs.declared.opening.Opened.TheVariants as opened
 use Rattle.ir_debug.specs.declared.ended.Ended.{Ended}
 use Rattle.ir_debug.specs.declared.ended.Ended.TheVariants as ended
 use Rattle.ir_debug.specs.declared.ended.SessionErr.{SessionErr}

@@ -1,7 +1,6 @@
 -- What the stub always holds, with a point more or fewer.
-use Rattle.std.proofs.Common.{◌≡◌, ◌≤◌, ◌<◌, ◌+◌, ℕ, suc, Bool, true, false, cond, not, ltb, leb, List, [], ◌∷◌, ◌++◌, length, refl, arith, length-append, ltb-true, leb-true}
+use Rattle.std.proofs.Common.{◌≡◌, ◌<◌, ◌+◌, Bool, true, false, not, ltb, leb, [], ◌∷◌, ◌++◌, length, refl, arith, ltb-true, leb-true}
 use Rattle.std.specs.Prelude.{◌&&◌}
-use Rattle.std.specs.List.{filter, AllByRecursion}
 use Rattle.ir_lemmas.proofs.CallerLemmas.{all_by_recursion_after_push, length_of_append_item}
 use Rattle.ir_mach.specs.Core.{memory_start, memory_size}
 use Rattle.ir_debug.proofs.CallerLemmas.{filter_keeps_property_of_all, filter_is_not_longer}

@@ -25,8 +25,10 @@ pub record Link : Type 0 where
   pub stub : Stub
   -- whether packets are acknowledged
   pub acknowledges : Bool
-  -- whether the last reply hasn't been acknowledged
+  -- whether a packet has been written, and nothing acknowledged since then
   pub is_owed : Bool
+  -- the packet that was written last, or nothing before the first
+  pub last : List ℕ
 
 -- the connection, what it reads, and the payload of a reply
 pub record Connecting : Type 0 where
@@ -36,18 +38,24 @@ pub record Connecting : Type 0 where
 
 -- before a byte is read
 abbrev pub link_of : Stub → Link
-link_of s = record { stub = s; acknowledges = true; is_owed = false }
+link_of s = record { stub = s; acknowledges = true; is_owed = false; last = [] }
 
--- what is read is a copy: gdb sends a packet again where it has waited for the reply
+-- the reply isn't acknowledged yet: a packet that is read then is a copy, since gdb sends a packet again where it has waited too long,
+-- and no other before it has acknowledged the reply
 abbrev pub is_copy : Link → Bool
 is_copy l = l.acknowledges && l.is_owed
 
--- a packet has been written, and the stub is then so
-abbrev pub sent : Link → Stub → Link
-sent l s = record l { stub = s; is_owed = true }
+-- this packet has been written, and the stub is then so
+abbrev pub sent : Link → Stub → List ℕ → Link
+sent l s packet = record l { stub = s; is_owed = true; last = packet }
 
+-- what is written if packets are acknowledged
 abbrev pub sign : Link → List ℕ → List ℕ
 sign l text = if l.acknowledges then text else []
+
+-- what is written where gdb refuses a packet: the last again
+abbrev pub resent : Link → List ℕ
+resent l = sign l l.last
 
 -- ---- a session's line
 
@@ -82,16 +90,17 @@ Consults l line (Err e) next = (session.quits line ≡ false)
 
 -- what a session answers, and then `OK`; or there was no memory to keep the answer
 abbrev pub AnswersLine : Bool → Link → List ℕ → List ℕ → Link → Type 0
-AnswersLine true l line text next = (text ≡ packet_of (reply_text reply.NotPermitted)) × (next ≡ sent l l.stub)
+AnswersLine true l line text next = (text ≡ packet_of (reply_text reply.NotPermitted)) × (next ≡ sent l l.stub (packet_of (reply_text reply.NotPermitted)))
 AnswersLine false l line text next =
-    ((s : Stub) × Responds l.stub line s (λ answer. text ≡ answer_text answer ++ packet_of (reply_text reply.Done)) × (next ≡ sent l s))
-    ⊎ (((next ≡ sent l l.stub) ⊎ ((s : Stub) × Responds l.stub line s (λ answer. ⊤) × (next ≡ sent l s))) × (text ≡ packet_of (reply_text reply.NoMemory)))
+    ((s : Stub) × Responds l.stub line s (λ answer. text ≡ answer_text answer ++ packet_of (reply_text reply.Done)) × (next ≡ sent l s (packet_of (reply_text reply.Done))))
+    ⊎ (((next ≡ sent l l.stub (packet_of (reply_text reply.NoMemory)))
+    ⊎ ((s : Stub) × Responds l.stub line s (λ answer. ⊤) × (next ≡ sent l s (packet_of (reply_text reply.NoMemory))))) × (text ≡ packet_of (reply_text reply.NoMemory)))
 
 -- ---- packets
 
 -- the reply to a request, as a packet
 abbrev pub AnswersBy : Link → Request → List ℕ → Link → Type 0
-AnswersBy l asked text next = (payload : List ℕ) × (s : Stub) × Replies l.stub asked payload s × (text ≡ packet_of payload) × (next ≡ sent l s)
+AnswersBy l asked text next = (payload : List ℕ) × (s : Stub) × Replies l.stub asked payload s × (text ≡ packet_of payload) × (next ≡ sent l s (packet_of payload))
 
 -- no packet is acknowledged any more
 abbrev pub unacknowledged : Link → Link
@@ -101,7 +110,7 @@ unacknowledged l = record l { acknowledges = false }
 abbrev pub AnswersRequest : Link → List ℕ → Request → List ℕ → Link → Type 0
 AnswersRequest l payload request.Kill text next = (text ≡ []) × (next ≡ l)
 AnswersRequest l payload request.Console text next = AnswersLine (session.quits (console_line payload)) l (console_line payload) text next
-AnswersRequest l payload request.NoAcknowledgements text next = (text ≡ packet_of (reply_text reply.Done)) × (next ≡ unacknowledged (sent l l.stub))
+AnswersRequest l payload request.NoAcknowledgements text next = (text ≡ packet_of (reply_text reply.Done)) × (next ≡ unacknowledged (sent l l.stub (packet_of (reply_text reply.Done))))
 AnswersRequest l payload asked text next = AnswersBy l asked text next
 
 abbrev pub AnswersPacket : Link → List ℕ → List ℕ → Link → Type 0
@@ -111,10 +120,10 @@ AnswersPacket l payload text next = (rest : List ℕ) × AnswersRequest l payloa
 abbrev pub AnswersNew : Link → Item → List ℕ → Link → Type 0
 AnswersNew l (Packet payload) text next = AnswersPacket l payload text next
 AnswersNew l BadSum text next = (text ≡ sign l (codes "-")) × (next ≡ l)
-AnswersNew l TooLong text next = (text ≡ sign l (codes "+") ++ packet_of []) × (next ≡ sent l l.stub)
+AnswersNew l TooLong text next = (text ≡ sign l (codes "+") ++ packet_of []) × (next ≡ sent l l.stub (packet_of []))
 AnswersNew l Interrupt text next = (text ≡ []) × (next ≡ record l { stub = record l.stub { interrupted = true } })
 AnswersNew l Acknowledged text next = (text ≡ []) × (next ≡ record l { is_owed = false })
-AnswersNew l Refused text next = (text ≡ []) × (next ≡ l)
+AnswersNew l Refused text next = (text ≡ resent l) × (next ≡ l)
 
 abbrev pub is_packet : Item → Bool
 is_packet (Packet payload) = true

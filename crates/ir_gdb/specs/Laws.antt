@@ -19,7 +19,7 @@ use Rattle.ir_gdb.specs.Points.{watch_points, break_points}
 use Rattle.ir_gdb.specs.Stops.{position_of, watches_if, upwards_of, downwards_of, is_hit, direction_of}
 use Rattle.ir_gdb.specs.Together.{Halt, halt, Comes, stop_among, AreStops, meets, FirstMet, ContinuesAmong, MovesAmong}
 use Rattle.ir_gdb.specs.Moves.{settled, with_together}
-use Rattle.ir_gdb.specs.Over.{waits, LeadsAlone}
+use Rattle.ir_gdb.specs.Over.{waits, pc_of, OtherHasHit, LeadsAlone}
 
 -- ---- a thread that moves alone
 
@@ -52,10 +52,15 @@ abbrev pub ContinueBackIsSession : Type 0
 ContinueBackIsSession = (run : List Step) (s : Stub) (t : ℕ) (h : Halt) → LeadsLone run s t motion.ContinueBack h
     → (h.thread ≡ t) × SessionGoes run s t (command.Continue t Backwards) h.cut
 
--- `s` ends where `step T 1` does, or nothing moves: where gdb moves the threads together, such a step passes no hit of another
+-- nothing moves, where gdb moves the threads together and another has a hit on its way to where `step T 1` leads
+abbrev pub StaysWhereItIs : List Step → Stub → ℕ → Halt → Type 0
+StaysWhereItIs run s t h = (s.together ≡ true) × (h ≡ halt t s.desk.at reason.Waits)
+    × ((cut : List ℕ) × SessionGoes run s t (command.Move (move.Step t 1)) cut × OtherHasHit true run s (pc_of run s t) cut t)
+
+-- `s` ends where `step T 1` does, or nothing moves
 abbrev pub StepIsSession : Type 0
 StepIsSession = (run : List Step) (s : Stub) (t : ℕ) (h : Halt) → LeadsLone run s t motion.Step h
-    → ((h.thread ≡ t) × SessionGoes run s t (command.Move (move.Step t 1)) h.cut) ⊎ ((s.together ≡ true) × (h ≡ halt t s.desk.at reason.Waits))
+    → ((h.thread ≡ t) × SessionGoes run s t (command.Move (move.Step t 1)) h.cut) ⊎ StaysWhereItIs run s t h
 
 -- `bs` ends where `back T 1` does
 abbrev pub StepBackIsSession : Type 0

@@ -1,5 +1,5 @@
 -- The replies to requests.
-use Rattle.std.specs.Prelude.{◌≡◌, ◌⊎◌, ℕ, Bool, true, false, List, Option, Some, None}
+use Rattle.std.specs.Prelude.{◌≡◌, ◌⊎◌, ℕ, Bool, true, false, not, List, Option, Some, None}
 use Rattle.ir_runs.specs.Run.{Step}
 use Rattle.ir_cut.specs.Positions.{EachRun}
 use Rattle.ir_packet.specs.Replies.{reply_text, piece_text}
@@ -87,21 +87,21 @@ has_reply request.Console = false
 has_reply request.Kill = false
 has_reply asked = true
 
--- whether the reply may want memory
-abbrev pub may_lack : Request → Bool
-may_lack (request.Threads from most) = true
-may_lack request.Reason = true
-may_lack request.Registers = true
-may_lack (request.Register n) = true
-may_lack (request.Memory address size) = true
-may_lack (request.Move m who) = true
-may_lack request.Restart = true
-may_lack (request.RestartAt n) = true
-may_lack asked = false
+-- whether the reply may want memory. What reads the run at the cut wants none before the small machine's first answer, and after a move of it
+abbrev pub may_lack : Stub → Request → Bool
+may_lack s (request.Threads from most) = true
+may_lack s request.Reason = not s.desk.fresh
+may_lack s request.Registers = not s.desk.fresh
+may_lack s (request.Register n) = not s.desk.fresh
+may_lack s (request.Memory address size) = not s.desk.fresh
+may_lack s (request.Move m who) = true
+may_lack s request.Restart = true
+may_lack s (request.RestartAt n) = true
+may_lack s asked = false
 
 -- out of memory: nothing has moved and nothing is set, at most registers and the like are to be read anew as after any command
 abbrev pub Lacks : Stub → Request → Stub → Type 0
-Lacks s asked next = (may_lack asked ≡ true) × ((next ≡ s) ⊎ (next ≡ spoken s))
+Lacks s asked next = (may_lack s asked ≡ true) × ((next ≡ s) ⊎ (next ≡ spoken s))
 
 -- the reply to a request, whichever run with the trace there is
 abbrev pub Replies : Stub → Request → List ℕ → Stub → Type 0

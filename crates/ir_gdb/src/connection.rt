@@ -29,13 +29,13 @@ pub struct Connection {
     reader: Reader,
     // The payload of a reply.
     payload: Vec<u8>,
-    // A reply as it is written.
+    // The last packet as it was written, for gdb to be sent again.
     packet: Vec<u8>,
     // A session's line.
     line: Vec<u8>,
     // Whether packets are acknowledged.
     acknowledges: bool,
-    // Whether the last reply hasn't been acknowledged: what comes then is a copy.
+    // Whether the last reply hasn't been acknowledged: a packet that comes then is a copy.
     is_owed: bool,
 }
 
@@ -46,7 +46,7 @@ impl Model for Connection {
     ghost Value = { Connecting };
 
     ghost view = { λ c. record {
-      link = record { stub = c.remote.stub; acknowledges = c.acknowledges; is_owed = c.is_owed };
+      link = record { stub = c.remote.stub; acknowledges = c.acknowledges; is_owed = c.is_owed; last = c.packet.items };
       reading = c.reader;
       payload = c.payload.items;
     } };

@@ -182,11 +182,15 @@ impl Connection {
                 self.is_owed = false;
                 Ok(Flow::Goes)
             }
-            Found::Refused => Ok(Flow::Goes),
+            Found::Refused => {
+                self.resend(writer)?;
+                Ok(Flow::Goes)
+            }
         }
     }
 
-    // Whether what was found is a copy: gdb sends a packet again where it has waited for the reply.
+    // Whether what was found is a packet before the reply to the last has been acknowledged. It is a copy of that then: gdb sends a
+    // packet again where it has waited for the reply, and no other before.
     fn is_copy(&self, found: Found) -> bool
         ensures { (payload : _) → result ≡ (is_copy self.now.link && is_packet (item_found found payload)) }
     {

@@ -1,10 +1,10 @@
 //! Acknowledgements and packets as they are written.
 
-ghost use Rattle.std.specs.Prelude.{◌≡◌, ◌≤◌, length, IfErr};
+ghost use Rattle.std.specs.Prelude.{◌≡◌, ◌≤◌, ℕ, List, length, IfErr};
 ghost use Rattle.ir_stream.specs.Writing.{WritesText};
 ghost use Rattle.ir_packet.specs.Packets.{packet_of};
 ghost use Rattle.ir_packet.specs.Replies.{reply_text, output_text};
-ghost use Rattle.ir_gdb.specs.Connection.{sent, sign, answer_text};
+ghost use Rattle.ir_gdb.specs.Connection.{sent, resent, sign, answer_text};
 
 use crate::connection::Connection;
 use ir_packet::{Reply, put_output, put_packet, put_text, reply_text};
@@ -36,9 +36,17 @@ impl Connection {
         write(writer, text)
     }
 
+    // Writes the last packet again, if packets are acknowledged.
+    pub fn resend<W: Sink>(&self, writer: &mut W) -> Result<(), Fault>
+        ensures writes { WritesText W.written W.broken writer.old writer.new (resent self.now.link) result }
+        ensures fault { IfErr result (λ f. f ≡ Fault.Write) }
+    {
+        self.acknowledge(self.packet.as_slice(), writer)
+    }
+
     // Writes the payload as a packet.
     pub fn send<W: Sink>(&mut self, writer: &mut W) -> Result<(), Fault>
-        ensures link { self.new.link ≡ sent self.old.link self.old.link.stub }
+        ensures link { self.new.link ≡ sent self.old.link self.old.link.stub (packet_of self.old.payload) }
         ensures reading { self.new.reading ≡ self.old.reading }
         ensures writes { WritesText W.written W.broken writer.old writer.new (packet_of self.old.payload) result }
         ensures fault { IfErr result (λ f. f ≡ Fault.Write) }
@@ -51,7 +59,7 @@ impl Connection {
 
     // Writes a reply that is always the same.
     pub fn send_reply<W: Sink>(&mut self, reply: Reply, writer: &mut W) -> Result<(), Fault>
-        ensures link { self.new.link ≡ sent self.old.link self.old.link.stub }
+        ensures link { self.new.link ≡ sent self.old.link self.old.link.stub (packet_of (reply_text reply)) }
         ensures reading { self.new.reading ≡ self.old.reading }
         ensures writes { WritesText W.written W.broken writer.old writer.new (packet_of (reply_text reply)) result }
         ensures fault { IfErr result (λ f. f ≡ Fault.Write) }
@@ -64,7 +72,7 @@ impl Connection {
     // Writes a piece of a session's answer.
     fn send_piece<W: Sink>(&mut self, piece: &[u8], writer: &mut W) -> Result<(), Fault>
         requires { length piece.now ≤ 500 }
-        ensures link { self.new.link ≡ sent self.old.link self.old.link.stub }
+        ensures link { self.new.link ≡ sent self.old.link self.old.link.stub (packet_of (output_text piece.now)) }
         ensures reading { self.new.reading ≡ self.old.reading }
         ensures writes { WritesText W.written W.broken writer.old writer.new (packet_of (output_text piece.now)) result }
         ensures fault { IfErr result (λ f. f ≡ Fault.Write) }
@@ -74,9 +82,9 @@ impl Connection {
         self.send(writer)
     }
 
-    // Writes what a session answered, a packet for each piece. The link is as if it had been sent.
+    // Writes what a session answered, a packet for each piece. Behind a packet that is written next, the link is as if none of them were.
     pub fn send_answer<W: Sink>(&mut self, answer: &[u8], writer: &mut W) -> Result<(), Fault>
-        ensures link { sent self.new.link self.new.link.stub ≡ sent self.old.link self.old.link.stub }
+        ensures link { (packet : List ℕ) → sent self.new.link self.new.link.stub packet ≡ sent self.old.link self.old.link.stub packet }
         ensures reading { self.new.reading ≡ self.old.reading }
         ensures writes { WritesText W.written W.broken writer.old writer.new (answer_text answer.now) result }
         ensures fault { IfErr result (λ f. f ≡ Fault.Write) }

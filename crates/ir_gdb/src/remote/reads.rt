@@ -1,6 +1,6 @@
 //! Registers and memory of the general thread.
 
-ghost use Rattle.std.specs.Prelude.{◌≡◌, ◌<◌, ◌≤◌, ◌+◌, ◌*◌, ◌++◌, OnOk, OnErr, length, vec_len, vec_capacity};
+ghost use Rattle.std.specs.Prelude.{◌≡◌, ◌<◌, ◌≤◌, ◌+◌, ◌*◌, ◌++◌, false, OnOk, OnErr, length, vec_len, vec_capacity};
 ghost use Rattle.ir_cut.specs.Positions.{EachRun};
 ghost use Rattle.ir_gdb.specs.Stub.{spoken};
 ghost use Rattle.ir_gdb.specs.Reads.{registers_text, register_text, memory_text, bytes_text};
@@ -35,6 +35,7 @@ impl Remote {
         ensures stub { self.new.stub ≡ spoken self.old.stub }
         ensures ok { OnOk result (EachRun self.old.stub.desk.fitted (λ run. out.new.items ≡ out.old.items ++ registers_text run self.old.stub)) }
         ensures err { OnErr result (out.new.items ≡ out.old.items) }
+        ensures lacks { OnErr result (self.old.stub.desk.fresh ≡ false) }
         ensures capacity { vec_capacity out.new ≡ vec_capacity out.old }
     {
         self.bring_here(hands)?;
@@ -57,6 +58,7 @@ impl Remote {
         ensures stub { self.new.stub ≡ spoken self.old.stub }
         ensures ok { OnOk result (EachRun self.old.stub.desk.fitted (λ run. out.new.items ≡ out.old.items ++ register_text run self.old.stub n)) }
         ensures err { OnErr result (out.new.items ≡ out.old.items) }
+        ensures lacks { OnErr result (self.old.stub.desk.fresh ≡ false) }
         ensures capacity { vec_capacity out.new ≡ vec_capacity out.old }
     {
         self.bring_here(hands)?;
@@ -80,6 +82,7 @@ impl Remote {
         ensures stub { self.new.stub ≡ spoken self.old.stub }
         ensures ok { OnOk result (EachRun self.old.stub.desk.fitted (λ run. out.new.items ≡ out.old.items ++ memory_text run self.old.stub address size)) }
         ensures err { OnErr result (out.new.items ≡ out.old.items) }
+        ensures lacks { OnErr result (self.old.stub.desk.fresh ≡ false) }
         ensures capacity { vec_capacity out.new ≡ vec_capacity out.old }
     {
         self.bring_here(hands)?;

@@ -15,7 +15,7 @@ returns-in_err-recorded-clause-stopped g c =
     let told = c.in-Ok-Some.ensures.told in
     let says = subst (λ z. IsUntil c.args.plan.now.image.now c.args.plan.now.explore (map as_condition c.args.plan.now.conditions.now) (option_map (λ s. string_bytes s) z) told.0)
     c.in-Ok-Some.field-0-is told.1 in
-    let stopped = rw c.as_str.ensures.value at (rw c.recording-how.ensures at c.in_err-recorded.ensures.stopped) in
+    let stopped = rw c.as_str-list.ensures.value at (rw c.recording-how.ensures at c.in_err-recorded.ensures.stopped) in
     if_err_holds_if_holds_of_handed_on_error _ c.from_residual.result c.in_err-recorded.field-0.0 p.0 p.1 p.2 (inr (inr (
       stopped.0,
       stopped.1,
@@ -34,7 +34,7 @@ returns-clause-found g c =
     let told = c.in-Ok-Some.ensures.told in
     let says = subst (λ z. IsUntil c.args.plan.now.image.now c.args.plan.now.explore (map as_condition c.args.plan.now.conditions.now) (option_map (λ s. string_bytes s) z) told.0)
     c.in-Ok-Some.field-0-is told.1 in
-    let done = rw c.as_str.ensures.value at (rw c.recording-how.ensures at c.in_ok-recorded.ensures.done) in (
+    let done = rw c.as_str-list.ensures.value at (rw c.recording-how.ensures at c.in_ok-recorded.ensures.done) in (
       told.0,
       list,
       done.0,

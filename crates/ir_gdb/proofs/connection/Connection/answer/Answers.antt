@@ -1,4 +1,5 @@
 use Rattle.std.proofs.Common.{◌∙◌, refl, ap, subst}
+use Rattle.ir_packet.specs.Packets.{packet_of}
 use Rattle.ir_packet.specs.Replies.{reply_text}
 use Rattle.ir_packet.specs.declared.reply.Reply.TheVariants.{NoMemory}
 use Rattle.ir_gdb.specs.Stub.{Stub}
@@ -17,9 +18,10 @@ returns-in-Ok-clause-writes g c =
     (λ grown. sent_reply_packet c.args.self.now.link c.args.request c.reply.new.self.stub c.reply.new.out.items
     (record c.args.self.now.link { stub = c.reply.new.self.stub }) c.send.new.self.link (g.W.Sink.written c.args.writer.now)
     (g.W.Sink.written c.send.new.writer) replies refl (c.send.ensures.link
-    ∙ ap (λ (x : Connecting). sent (record x.link { stub = c.reply.new.self.stub }) c.reply.new.self.stub) c.self.view_is) grown)
+    ∙ ap (λ (x : Connecting). sent (record x.link { stub = c.reply.new.self.stub }) c.reply.new.self.stub (packet_of c.reply.new.out.items)) c.self.view_is) grown)
     (λ grown. sent_part_of_reply_packet c.args.self.now.link c.args.request c.reply.new.self.stub c.reply.new.out.items
-    (record c.args.self.now.link { stub = c.reply.new.self.stub }) (sent (record c.args.self.now.link { stub = c.reply.new.self.stub }) c.reply.new.self.stub)
+    (record c.args.self.now.link { stub = c.reply.new.self.stub })
+    (sent (record c.args.self.now.link { stub = c.reply.new.self.stub }) c.reply.new.self.stub (packet_of c.reply.new.out.items))
     (g.W.Sink.written c.args.writer.now) (g.W.Sink.written c.send.new.writer) replies refl refl grown)
     c.send.ensures.writes
 
@@ -32,8 +34,9 @@ returns-in-Err-clause-writes g c =
     (λ grown. sent_reply_packet c.args.self.now.link c.args.request c.reply.new.self.stub (reply_text NoMemory)
     (record c.args.self.now.link { stub = c.reply.new.self.stub }) c.send_reply.new.self.link (g.W.Sink.written c.args.writer.now)
     (g.W.Sink.written c.send_reply.new.writer) replies refl (c.send_reply.ensures.link
-    ∙ ap (λ (x : Connecting). sent (record x.link { stub = c.reply.new.self.stub }) c.reply.new.self.stub) c.self.view_is) grown)
+    ∙ ap (λ (x : Connecting). sent (record x.link { stub = c.reply.new.self.stub }) c.reply.new.self.stub (packet_of (reply_text NoMemory))) c.self.view_is) grown)
     (λ grown. sent_part_of_reply_packet c.args.self.now.link c.args.request c.reply.new.self.stub (reply_text NoMemory)
-    (record c.args.self.now.link { stub = c.reply.new.self.stub }) (sent (record c.args.self.now.link { stub = c.reply.new.self.stub }) c.reply.new.self.stub)
+    (record c.args.self.now.link { stub = c.reply.new.self.stub })
+    (sent (record c.args.self.now.link { stub = c.reply.new.self.stub }) c.reply.new.self.stub (packet_of (reply_text NoMemory)))
     (g.W.Sink.written c.args.writer.now) (g.W.Sink.written c.send_reply.new.writer) replies refl refl grown)
     c.send_reply.ensures.writes

@@ -1,7 +1,10 @@
 use Rattle.std.proofs.Common.{◌∙◌, ℕ, List, Ok, ap, subst}
 use Rattle.std.specs.Io.KnownBytes.{Appends}
 use Rattle.ir_stream.specs.Answers.{AppendsPrefix}
+use Rattle.ir_packet.specs.Packets.{packet_of}
+use Rattle.ir_packet.specs.Replies.{reply_text}
 use Rattle.ir_packet.specs.Requests.{console_line}
+use Rattle.ir_packet.specs.declared.reply.Reply.TheVariants.{Done}
 use Rattle.ir_debug.specs.Machine.{quits}
 use Rattle.ir_gdb.specs.Connection.{answer_text}
 use Rattle.ir_stream.proofs.CallerLemmas.{writes_or_fails_with_handed_on_error, writes_or_fails_from_earlier_state_if_equally_broken, writes_or_fails_is_monotone}
@@ -30,7 +33,7 @@ returns-in_ok-send_answer-in-Ok-Some-clause-writes g c =
     (λ last. sent_answer_to_line (quits (console_line c.args.self.now.reading.payload)) c.args.self.now.link
     (console_line c.args.self.now.reading.payload) some.1.0 c.in-Ok-Some.answered.bytes.items c.answer_of.new.self.link
     c.send_answer.new.self.link c.send_reply.new.self.link _ (g.W.Sink.written c.send_answer.new.writer) _ some.0 some.1.1 some.1.2
-    c.in_ok-send_answer-in-Ok-Some.ensures.link c.send_reply.ensures.link first last)
+    (c.in_ok-send_answer-in-Ok-Some.ensures.link (packet_of (reply_text Done))) c.send_reply.ensures.link first last)
     (λ last. sent_part_of_done_packet_after_answer (quits (console_line c.args.self.now.reading.payload)) c.args.self.now.link
     (console_line c.args.self.now.reading.payload) some.1.0 c.in-Ok-Some.answered.bytes.items _ (g.W.Sink.written c.send_answer.new.writer) _
     some.0 some.1.1 first last)

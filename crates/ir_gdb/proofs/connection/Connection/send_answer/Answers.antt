@@ -14,6 +14,10 @@ returns-in_err-send_piece-clause-writes g c =
     c.split_at.ensures.front c.split_at.ensures.back)
     c.in_err-send_piece.ensures.writes.prefix) c.in_err-send_piece.ensures.writes.err
 
+pub returns-in_err-send_piece-clause-link : goal.returns-in_err-send_piece-clause-link
+returns-in_err-send_piece-clause-link g c = λ packet.
+    ap (λ (m : Link). sent m m.stub packet) c.in_err-send_piece.ensures.link ∙ c.pieces.invariant.link packet
+
 pub pieces-preserved : goal.pieces-preserved
 pieces-preserved g c =
     let some : 0 < length c.pieces.rest.now = search rules in
@@ -22,7 +26,7 @@ pieces-preserved g c =
           (answer_text_is_packet_of_piece_and_rest c.pieces.rest.now c.split_at.result.0.now c.split_at.result.1.now c.min.result some c.min.ensures
           c.split_at.ensures.front c.split_at.ensures.back)
           c.in_ok-send_piece.ensures.writes.ok;
-      link = ap (λ (m : Link). sent m m.stub) c.in_ok-send_piece.ensures.link ∙ c.pieces.invariant.link;
+      link = λ packet. ap (λ (m : Link). sent m m.stub packet) c.in_ok-send_piece.ensures.link ∙ c.pieces.invariant.link packet;
       reading = c.in_ok-send_piece.ensures.reading ∙ c.pieces.invariant.reading;
       broken = c.in_ok-send_piece.ensures.writes.stays ∙ c.pieces.invariant.broken;
     }

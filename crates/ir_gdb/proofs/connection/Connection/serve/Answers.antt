@@ -28,7 +28,7 @@ pub loop-taken-preserved-in_default : goal.loop-taken-preserved-in_default
 loop-taken-preserved-in_default g c =
     let at : AfterBytes c.args.self.now.link (g.R.Source.left c.args.reader.now) (g.W.Sink.written c.args.writer.now)
     (g.R.Source.left c.loop-taken.reader) (g.W.Sink.written c.loop-taken.writer)
-    (record { stub = c.self.inside.remote.stub; acknowledges = c.self.inside.acknowledges; is_owed = c.self.inside.is_owed })
+    (record { stub = c.self.inside.remote.stub; acknowledges = c.self.inside.acknowledges; is_owed = c.self.inside.is_owed; last = c.self.inside.packet.items })
     c.self.inside.reader.place c.loop-taken.taken =
     subst (λ (x : Connecting). AfterBytes c.args.self.now.link (g.R.Source.left c.args.reader.now) (g.W.Sink.written c.args.writer.now)
     (g.R.Source.left c.loop-taken.reader) (g.W.Sink.written c.loop-taken.writer) x.link x.reading.place c.loop-taken.taken)
@@ -51,7 +51,7 @@ pub returns-in_err-take-clause-write : goal.returns-in_err-take-clause-write
 returns-in_err-take-clause-write g c =
     let at : AfterBytes c.args.self.now.link (g.R.Source.left c.args.reader.now) (g.W.Sink.written c.args.writer.now)
     (g.R.Source.left c.loop-taken.reader) (g.W.Sink.written c.loop-taken.writer)
-    (record { stub = c.self.inside.remote.stub; acknowledges = c.self.inside.acknowledges; is_owed = c.self.inside.is_owed })
+    (record { stub = c.self.inside.remote.stub; acknowledges = c.self.inside.acknowledges; is_owed = c.self.inside.is_owed; last = c.self.inside.packet.items })
     c.self.inside.reader.place c.loop-taken.taken =
     subst (λ (x : Connecting). AfterBytes c.args.self.now.link (g.R.Source.left c.args.reader.now) (g.W.Sink.written c.args.writer.now)
     (g.R.Source.left c.loop-taken.reader) (g.W.Sink.written c.loop-taken.writer) x.link x.reading.place c.loop-taken.taken)
@@ -70,7 +70,7 @@ pub returns-in-Quits-clause-ended : goal.returns-in-Quits-clause-ended
 returns-in-Quits-clause-ended g c =
     let at : AfterBytes c.args.self.now.link (g.R.Source.left c.args.reader.now) (g.W.Sink.written c.args.writer.now)
     (g.R.Source.left c.loop-taken.reader) (g.W.Sink.written c.loop-taken.writer)
-    (record { stub = c.self.inside.remote.stub; acknowledges = c.self.inside.acknowledges; is_owed = c.self.inside.is_owed })
+    (record { stub = c.self.inside.remote.stub; acknowledges = c.self.inside.acknowledges; is_owed = c.self.inside.is_owed; last = c.self.inside.packet.items })
     c.self.inside.reader.place c.loop-taken.taken =
     subst (λ (x : Connecting). AfterBytes c.args.self.now.link (g.R.Source.left c.args.reader.now) (g.W.Sink.written c.args.writer.now)
     (g.R.Source.left c.loop-taken.reader) (g.W.Sink.written c.loop-taken.writer) x.link x.reading.place c.loop-taken.taken)
@@ -80,14 +80,14 @@ returns-in-Quits-clause-ended g c =
     c.self.inside.reader.place c.loop-taken.taken at c.in-Byte.byte c.in-Some.found c.take.new.self.payload c.in-Byte.ensures.bytes
     c.in-Some.ensures.found
     c.args.limit c.loop-taken-test.true c.take-in-loop-taken.new.self.link (g.W.Sink.written c.take-in-loop-taken.new.writer)
-    (quit c.in_ok-take.field-0 (ends (record { stub = c.self.inside.remote.stub; acknowledges = c.self.inside.acknowledges; is_owed = c.self.inside.is_owed })
+    (quit c.in_ok-take.field-0 (ends (record { stub = c.self.inside.remote.stub; acknowledges = c.self.inside.acknowledges; is_owed = c.self.inside.is_owed; last = c.self.inside.packet.items })
     (item_found c.in-Some.found c.take.new.self.payload)) c.in_ok-take.ensures.flow c.in-Quits.is) c.in_ok-take.ensures.writes.ok
 
 pub returns-in-Quits-clause-known : goal.returns-in-Quits-clause-known
 returns-in-Quits-clause-known g c =
     let at : AfterBytes c.args.self.now.link (g.R.Source.left c.args.reader.now) (g.W.Sink.written c.args.writer.now)
     (g.R.Source.left c.loop-taken.reader) (g.W.Sink.written c.loop-taken.writer)
-    (record { stub = c.self.inside.remote.stub; acknowledges = c.self.inside.acknowledges; is_owed = c.self.inside.is_owed })
+    (record { stub = c.self.inside.remote.stub; acknowledges = c.self.inside.acknowledges; is_owed = c.self.inside.is_owed; last = c.self.inside.packet.items })
     c.self.inside.reader.place c.loop-taken.taken =
     subst (λ (x : Connecting). AfterBytes c.args.self.now.link (g.R.Source.left c.args.reader.now) (g.W.Sink.written c.args.writer.now)
     (g.R.Source.left c.loop-taken.reader) (g.W.Sink.written c.loop-taken.writer) x.link x.reading.place c.loop-taken.taken)
@@ -97,14 +97,14 @@ returns-in-Quits-clause-known g c =
     c.self.inside.reader.place c.loop-taken.taken at c.in-Byte.byte c.in-Some.found c.take.new.self.payload c.in-Byte.ensures.bytes
     c.in-Some.ensures.found
     c.args.limit c.loop-taken-test.true c.take-in-loop-taken.new.self.link (g.W.Sink.written c.take-in-loop-taken.new.writer)
-    (quit c.in_ok-take.field-0 (ends (record { stub = c.self.inside.remote.stub; acknowledges = c.self.inside.acknowledges; is_owed = c.self.inside.is_owed })
+    (quit c.in_ok-take.field-0 (ends (record { stub = c.self.inside.remote.stub; acknowledges = c.self.inside.acknowledges; is_owed = c.self.inside.is_owed; last = c.self.inside.packet.items })
     (item_found c.in-Some.found c.take.new.self.payload)) c.in_ok-take.ensures.flow c.in-Quits.is) c.in_ok-take.ensures.writes.ok
 
 pub loop-taken-preserved : goal.loop-taken-preserved
 loop-taken-preserved g c =
     let at : AfterBytes c.args.self.now.link (g.R.Source.left c.args.reader.now) (g.W.Sink.written c.args.writer.now)
     (g.R.Source.left c.loop-taken.reader) (g.W.Sink.written c.loop-taken.writer)
-    (record { stub = c.self.inside.remote.stub; acknowledges = c.self.inside.acknowledges; is_owed = c.self.inside.is_owed })
+    (record { stub = c.self.inside.remote.stub; acknowledges = c.self.inside.acknowledges; is_owed = c.self.inside.is_owed; last = c.self.inside.packet.items })
     c.self.inside.reader.place c.loop-taken.taken =
     subst (λ (x : Connecting). AfterBytes c.args.self.now.link (g.R.Source.left c.args.reader.now) (g.W.Sink.written c.args.writer.now)
     (g.R.Source.left c.loop-taken.reader) (g.W.Sink.written c.loop-taken.writer) x.link x.reading.place c.loop-taken.taken)
@@ -116,7 +116,7 @@ loop-taken-preserved g c =
           c.in-Some.ensures.found
           c.take-in-loop-taken.new.self.link (g.W.Sink.written c.take-in-loop-taken.new.writer) c.take-in-loop-taken.new.self.reading.place
           (ap (λ (r : Reading). r.place) c.in_ok-take.ensures.reading ∙ c.in-Some.ensures.place)
-          (goes c.in_ok-take.field-0 (ends (record { stub = c.self.inside.remote.stub; acknowledges = c.self.inside.acknowledges; is_owed = c.self.inside.is_owed })
+          (goes c.in_ok-take.field-0 (ends (record { stub = c.self.inside.remote.stub; acknowledges = c.self.inside.acknowledges; is_owed = c.self.inside.is_owed; last = c.self.inside.packet.items })
           (item_found c.in-Some.found c.take.new.self.payload)) c.in_ok-take.ensures.flow c.in_default-2.not-Quits) c.in_ok-take.ensures.writes.ok;
       reads = c.in-Byte.ensures.broken ∙ c.loop-taken.invariant.reads;
       writes = c.in_ok-take.ensures.writes.stays ∙ c.loop-taken.invariant.writes;

@@ -1,18 +1,18 @@
-use Rattle.std.proofs.Common.{◌≡◌, ◌∙◌, Bool, true, false, refl, ap}
+use Rattle.std.proofs.Common.{◌≡◌, ◌∙◌, ℕ, List, Bool, true, false, refl, ap}
 use Rattle.ir_gdb.specs.Stub.{Stub}
 use Rattle.ir_packet.specs.Reading.{item_found}
 use Rattle.ir_packet.specs.declared.found.Found.{Found}
 use Rattle.ir_gdb.specs.Connection.{Connecting, Link, ends_by}
 use Rattle.ir_stream.proofs.CallerLemmas.{writes_or_fails_if_all_written, writes_or_fails_with_handed_on_error, writes_or_fails_is_monotone}
-use Rattle.ir_gdb.proofs.Arms.{packet_answered, packet_answered_part, ok_flow_of_request_is_flow_of_found_packet, long_answered, long_answered_part, bad_answered, bad_answered_part, interrupt_answered, acknowledged_answered, refused_answered, ok_flow_of_false_is_flow_of_test_if_test_is_false}
+use Rattle.ir_gdb.proofs.Arms.{packet_answered, packet_answered_part, ok_flow_of_request_is_flow_of_found_packet, long_answered, long_answered_part, bad_answered, bad_answered_part, interrupt_answered, acknowledged_answered, refused_answered, refused_answered_part, ok_flow_of_false_is_flow_of_test_if_test_is_false}
 use Rattle.ir_gdb.proofs.connection.Connection.take_new.Goals as goal
 
-abbrev link_with : Stub → Bool → Bool → Link
-link_with s acknowledges is_owed = record { stub = s; acknowledges = acknowledges; is_owed = is_owed }
+abbrev link_with : Stub → Bool → Bool → List ℕ → Link
+link_with s acknowledges is_owed last = record { stub = s; acknowledges = acknowledges; is_owed = is_owed; last = last }
 
-interrupted_link : (s old : Stub) (acknowledges is_owed : Bool) → s ≡ record old { interrupted = true }
-    → link_with s acknowledges is_owed ≡ link_with (record old { interrupted = true }) acknowledges is_owed
-interrupted_link s old acknowledges is_owed e = ap (λ (x : Stub). link_with x acknowledges is_owed) e
+interrupted_link : (s old : Stub) (acknowledges is_owed : Bool) (last : List ℕ) → s ≡ record old { interrupted = true }
+    → link_with s acknowledges is_owed last ≡ link_with (record old { interrupted = true }) acknowledges is_owed last
+interrupted_link s old acknowledges is_owed last e = ap (λ (x : Stub). link_with x acknowledges is_owed last) e
 
 pub returns-in-Packet-clause-writes : goal.returns-in-Packet-clause-writes
 returns-in-Packet-clause-writes g c = writes_or_fails_is_monotone c.take_packet.result
@@ -51,13 +51,20 @@ returns-in_ok-acknowledge-in-BadSum-clause-writes g c = writes_or_fails_if_all_w
 pub returns-in-Interrupt-clause-writes : goal.returns-in-Interrupt-clause-writes
 returns-in-Interrupt-clause-writes g c = writes_or_fails_if_all_written (interrupt_answered c.args.self.now.link c.args.self.now.reading.payload c.args.found _
     (g.W.Sink.written c.args.writer.now) c.in-Interrupt.is
-    (interrupted_link c.interrupt.new.self.stub c.self.inside.remote.stub c.self.inside.acknowledges c.self.inside.is_owed c.interrupt.ensures
+    (interrupted_link c.interrupt.new.self.stub c.self.inside.remote.stub c.self.inside.acknowledges c.self.inside.is_owed c.self.inside.packet.items c.interrupt.ensures
     ∙ ap (λ (x : Connecting). record x.link { stub = record x.link.stub { interrupted = true } }) c.self.view_is)) refl
 
 pub returns-in-Acknowledged-clause-writes : goal.returns-in-Acknowledged-clause-writes
 returns-in-Acknowledged-clause-writes g c = writes_or_fails_if_all_written (acknowledged_answered c.args.self.now.link c.args.self.now.reading.payload c.args.found _
     (g.W.Sink.written c.args.writer.now) c.in-Acknowledged.is (ap (λ (x : Connecting). record x.link { is_owed = false }) c.self-in-Acknowledged.view_is)) refl
 
-pub returns-in-Refused-clause-writes : goal.returns-in-Refused-clause-writes
-returns-in-Refused-clause-writes g c = writes_or_fails_if_all_written (refused_answered c.args.self.now.link c.args.self.now.reading.payload c.args.found c.args.self.now.link
-    (g.W.Sink.written c.args.writer.now) c.in-Refused.is refl) refl
+pub returns-in_err-resend-in-Refused-clause-writes : goal.returns-in_err-resend-in-Refused-clause-writes
+returns-in_err-resend-in-Refused-clause-writes g c = writes_or_fails_with_handed_on_error _ c.from_residual-in_err-resend-in-Refused.result c.from_residual-in_err-resend-in-Refused.ensures.1
+    (refused_answered_part c.args.self.now.link
+    c.args.self.now.reading.payload c.args.found c.args.self.now.link (g.W.Sink.written c.args.writer.now) (g.W.Sink.written c.resend.new.writer)
+    c.in-Refused.is c.in_err-resend-in-Refused.ensures.writes.prefix) c.in_err-resend-in-Refused.ensures.writes.err
+
+pub returns-in_ok-resend-in-Refused-clause-writes : goal.returns-in_ok-resend-in-Refused-clause-writes
+returns-in_ok-resend-in-Refused-clause-writes g c = writes_or_fails_if_all_written (refused_answered c.args.self.now.link
+    c.args.self.now.reading.payload c.args.found c.args.self.now.link (g.W.Sink.written c.args.writer.now) (g.W.Sink.written c.resend.new.writer)
+    c.in-Refused.is refl c.in_ok-resend-in-Refused.ensures.writes.ok) c.in_ok-resend-in-Refused.ensures.writes.stays

@@ -1,7 +1,7 @@
 use Rattle.std.proofs.Common.{ℕ, List, length, refl, ap, arith, inl, inr}
 use Rattle.ir_packet.specs.declared.request.Request.TheVariants as request
 use Rattle.ir_gdb.proofs.Answering.{on_ok_of_implied, on_err_of_implied}
-use Rattle.ir_gdb.proofs.Replying.{requests_without_plain_reply_are_listed, supported_put, description_put, threads_put, reason_put, registers_put, register_put, memory_put, move_put, restart_put, restart_at_put, lacks_if_request_may_lack_and_nothing_is_put, length_of_supported_text_is_137, length_of_description_text_is_1939}
+use Rattle.ir_gdb.proofs.Replying.{requests_without_plain_reply_are_listed, supported_put, description_put, threads_put, reason_put, registers_put, register_put, memory_put, move_put, restart_put, restart_at_put, lacks_if_request_may_lack_and_nothing_is_put, lacks_if_reading_fails, length_of_supported_text_is_137, length_of_description_text_is_1939}
 use Rattle.ir_gdb.proofs.remote.Remote.put_read.Goals as goal
 
 pub put_text-requires : goal.put_text-requires
@@ -46,16 +46,17 @@ returns-in-Reason-clause-ok g c = on_ok_of_implied c.reason.result _ _ (reason_p
     c.args.out.now.items c.reason.new.out.items c.has_run.ensures c.reason.ensures.stub c.in-Reason.is) c.reason.ensures.ok
 
 pub returns-in-Reason-clause-err : goal.returns-in-Reason-clause-err
-returns-in-Reason-clause-err g c = on_err_of_implied c.reason.result _ _ (lacks_if_request_may_lack_and_nothing_is_put c.args.self.now.stub c.args.request request.Reason
-    c.reason.new.self.stub c.args.out.now.items c.reason.new.out.items c.in-Reason.is refl (inr c.reason.ensures.stub)) c.reason.ensures.err
+returns-in-Reason-clause-err g c = lacks_if_reading_fails c.reason.result c.args.self.now.stub c.args.request request.Reason
+    c.reason.new.self.stub c.args.out.now.items c.reason.new.out.items c.in-Reason.is refl c.reason.ensures.stub c.reason.ensures.lacks
+    c.reason.ensures.err
 
 pub returns-in-Registers-clause-ok : goal.returns-in-Registers-clause-ok
 returns-in-Registers-clause-ok g c = on_ok_of_implied c.registers.result _ _ (registers_put c.args.self.now.stub c.args.request c.registers.new.self.stub
     c.args.out.now.items c.registers.new.out.items c.has_run.ensures c.registers.ensures.stub c.in-Registers.is) c.registers.ensures.ok
 
 pub returns-in-Registers-clause-err : goal.returns-in-Registers-clause-err
-returns-in-Registers-clause-err g c = on_err_of_implied c.registers.result _ _ (lacks_if_request_may_lack_and_nothing_is_put c.args.self.now.stub c.args.request request.Registers
-    c.registers.new.self.stub c.args.out.now.items c.registers.new.out.items c.in-Registers.is refl (inr c.registers.ensures.stub))
+returns-in-Registers-clause-err g c = lacks_if_reading_fails c.registers.result c.args.self.now.stub c.args.request request.Registers
+    c.registers.new.self.stub c.args.out.now.items c.registers.new.out.items c.in-Registers.is refl c.registers.ensures.stub c.registers.ensures.lacks
     c.registers.ensures.err
 
 pub returns-in-Register-clause-ok : goal.returns-in-Register-clause-ok
@@ -64,9 +65,9 @@ returns-in-Register-clause-ok g c = on_ok_of_implied c.register.result _ _ (regi
     c.register.ensures.ok
 
 pub returns-in-Register-clause-err : goal.returns-in-Register-clause-err
-returns-in-Register-clause-err g c = on_err_of_implied c.register.result _ _ (lacks_if_request_may_lack_and_nothing_is_put c.args.self.now.stub c.args.request
-    (request.Register c.in-Register.number) c.register.new.self.stub c.args.out.now.items c.register.new.out.items c.in-Register.is refl
-    (inr c.register.ensures.stub)) c.register.ensures.err
+returns-in-Register-clause-err g c = lacks_if_reading_fails c.register.result c.args.self.now.stub c.args.request (request.Register c.in-Register.number)
+    c.register.new.self.stub c.args.out.now.items c.register.new.out.items c.in-Register.is refl c.register.ensures.stub c.register.ensures.lacks
+    c.register.ensures.err
 
 pub returns-in-Memory-clause-ok : goal.returns-in-Memory-clause-ok
 returns-in-Memory-clause-ok g c = on_ok_of_implied c.memory.result _ _ (memory_put c.args.self.now.stub c.args.request c.memory.new.self.stub
@@ -74,9 +75,9 @@ returns-in-Memory-clause-ok g c = on_ok_of_implied c.memory.result _ _ (memory_p
     c.memory.ensures.ok
 
 pub returns-in-Memory-clause-err : goal.returns-in-Memory-clause-err
-returns-in-Memory-clause-err g c = on_err_of_implied c.memory.result _ _ (lacks_if_request_may_lack_and_nothing_is_put c.args.self.now.stub c.args.request
-    (request.Memory c.in-Memory.address c.in-Memory.size) c.memory.new.self.stub c.args.out.now.items c.memory.new.out.items c.in-Memory.is refl
-    (inr c.memory.ensures.stub)) c.memory.ensures.err
+returns-in-Memory-clause-err g c = lacks_if_reading_fails c.memory.result c.args.self.now.stub c.args.request (request.Memory c.in-Memory.address c.in-Memory.size)
+    c.memory.new.self.stub c.args.out.now.items c.memory.new.out.items c.in-Memory.is refl c.memory.ensures.stub c.memory.ensures.lacks
+    c.memory.ensures.err
 
 pub returns-in-Move-clause-ok : goal.returns-in-Move-clause-ok
 returns-in-Move-clause-ok g c = on_ok_of_implied c.make_move.result _ _ (move_put c.args.self.now.stub c.args.request c.make_move.new.self.stub
