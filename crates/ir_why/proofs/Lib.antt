@@ -4,4 +4,5 @@ mod Gathered
 mod Linked
 mod Said
 mod Within
+mod Waited
 mod FitSaid

@@ -3,6 +3,7 @@
 
 mod before;
 mod chain;
+mod fit_before;
 mod fit_lines;
 mod fit_question;
 mod fit_run;
@@ -17,6 +18,7 @@ mod starts;
 mod tables;
 mod texts;
 mod wait;
+mod waits;
 mod why_err;
 
 pub use before::past_of;
