@@ -5,4 +5,5 @@ mod Linked
 mod Said
 mod Within
 mod Waited
+mod Earlier
 mod FitSaid

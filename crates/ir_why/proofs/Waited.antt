@@ -1,9 +1,9 @@
 -- How many events are before a step, and the chain of waits of a run, wait by wait.
-use Rattle.std.proofs.Common.{◌≡◌, ℕ, zero, suc, ◌+◌, ◌-◌, ◌<◌, ◌≤◌, ◌^◌, ◌⊎◌, ◌==◌, if◌then◌else◌, inl, inr, Option, Some, None, true, false, ltb, ltb-true, ltb-false, List, [], ◌∷◌, ◌++◌, length, get_or, append_assoc, append-nil, refl, sym, ap, ◌∙◌, subst, arith}
+use Rattle.std.proofs.Common.{◌≡◌, ℕ, zero, suc, ◌+◌, ◌-◌, ◌<◌, ◌≤◌, ◌^◌, ◌⊎◌, inl, inr, Option, Some, None, true, false, ltb, ltb-true, ltb-false, List, [], ◌∷◌, ◌++◌, length, get_or, append_assoc, append-nil, refl, sym, ap, ◌∙◌, subst, arith}
 use Rattle.std.specs.Prelude.{slice_get, MatchOption}
 use Rattle.std.specs.List.Sorted.{IsNonDecreasingBy, IsPartitionPoint}
 use Rattle.std.proofs.lemmas.Bool.{cases_lt}
-use Rattle.std.proofs.lemmas.Option.{same_Some, none-some, slice_get_within}
+use Rattle.std.proofs.lemmas.Option.{same_Some, none-some}
 use Rattle.ir_lemmas.proofs.CallerLemmas.{slice_get_of_append_cases, length_of_append_item}
 use Rattle.ir_coherence.proofs.CallerLemmas.{recorded_thread_at_number_is_recorded}
 use Rattle.ir_log.specs.declared.event.Event.TheVariants.{Read, Write}
@@ -19,7 +19,7 @@ use Rattle.ir_fit_run.specs.Positions.{IsInside, IsLeaveOf}
 use Rattle.ir_fit_run.proofs.CallerLemmas.{entering_event_has_leave, leave_is_past_event}
 use Rattle.ir_why.specs.Chain.{IsLink, WaitsForNone}
 use Rattle.ir_why.specs.Needed.{NeedsOther}
-use Rattle.ir_why.specs.Waits.{AreBefore, IsLastBefore, IsWait, IsWaitFrom, AreWaits, IsPastIn, itself}
+use Rattle.ir_why.specs.Waits.{AreBefore, IsLastBefore, IsWait, IsWaitFrom, AreWaits, itself}
 use Rattle.ir_why.specs.declared.link.Link.{Link}
 use Rattle.ir_why.specs.declared.wait.Wait.{Wait}
 use Rattle.ir_why.proofs.Linked.{linked_event_exists}
@@ -60,29 +60,6 @@ entries_fit_32_bits f fitted t l =
 pub partition_point_of_steps_if_by_test : (xs : List ℕ) (step n : ℕ) → IsPartitionPoint (λ (i : ℕ). ltb i step ≡ true) (λ i. ltb i step ≡ false) xs n
     → IsPartitionPoint (λ (i : ℕ). i < step) (λ i. step ≤ i) xs n
 partition_point_of_steps_if_by_test xs step n h = (λ k d low lt. ltb-true _ step (h.0 k d low lt), λ k d low lt. ltb-false _ step (h.1 k d low lt))
-
-pub events_are_before_step_up_to_partition_point : (f : FittedTrace) (t step n : ℕ) (xs : List ℕ) → xs ≡ entries_of f t → n ≤ length xs
-    → IsPartitionPoint (λ (i : ℕ). i < step) (λ i. step ≤ i) xs n → AreBefore f t step n
-events_are_before_step_up_to_partition_point f t step n xs is within point = record {
-  within = subst (λ (z : List ℕ). n ≤ length z) is within;
-  before = λ k l. subst (λ (z : List ℕ). get_or z k 0 < step) is (point.0 k 0 (omega arith) l);
-  rest = λ k from l. subst (λ (z : List ℕ). step ≤ get_or z k 0) is (point.1 k 0 from (subst (λ (z : List ℕ). k < length z) (sym is) l));
-}
-
--- an event before the step is among them
-pub event_before_step_is_counted : (f : FittedTrace) (t i step n : ℕ) → AreBefore f t step n → IsInside f t i → entry_of f t i < step → i < n
-event_before_step_is_counted f t i step n h inside before = elim (cases_lt i n) [
-  | inl less ↦ less
-  | inr past ↦ absurd (let rest = h.rest i (omega (arith, past)) inside.event in omega (arith, rest, before))
-]
-
--- the last of them
-pub last_counted_event_is_last_before : (f : FittedTrace) (t i step n : ℕ) → AreBefore f t step n → IsInside f t i → i < n → IsLastBefore f t step (n - 1)
-last_counted_event_is_last_before f t i step n h inside some = record {
-  inside = record { thread = inside.thread; event = let within = h.within in omega (arith, within, some) };
-  before = h.before (n - 1) (omega (arith, some));
-  last = λ k from l. h.rest k (omega (arith, from, some)) l;
-}
 
 -- ---- the past
 

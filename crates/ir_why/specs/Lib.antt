@@ -7,3 +7,4 @@ pub mod Answers
 pub mod Waits
 pub mod FitLines
 pub mod FitAnswers
+pub mod Laws

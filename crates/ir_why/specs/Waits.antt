@@ -36,14 +36,14 @@ pub record IsWaitFrom (f : FittedTrace) (boxes : List PlacedBox) (t i : ℕ) (w 
   pub is : IsLink f.recorded boxes t i link
   pub wait : IsWait f link w
 
--- the waits from event i of thread t, each from the last event that the thread needed by the wait before it logs before the step that
--- leaves what is needed, until a thread waited for none or there are n
+-- the waits from event i of thread t, until a thread waited for none or there are n: each goes on from the last event that the thread which
+-- the wait before it needed logs before the step that leaves what is needed
 abbrev pub AreWaits : FittedTrace → List PlacedBox → ℕ → ℕ → ℕ → List Wait → Type 0
 AreWaits f boxes n t i [] = (n ≡ 0) ⊎ WaitsForNone f.recorded t i
 AreWaits f boxes n t i (w ∷ ws) = (0 < n) × IsWaitFrom f boxes t i w
     × ((e : ℕ) × IsLastBefore f w.needed.thread w.left e × AreWaits f boxes (n - 1) w.needed.thread e ws)
 
--- how many of a place's events are of thread u
+-- 1 for the thread of an event, and 0 for the others
 abbrev pub itself : Place → ℕ → ℕ
 itself p u = if u == p.thread then 1 else 0
 
