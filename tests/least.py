@@ -1,5 +1,6 @@
 #!/usr/bin/env python3
-"""The least cut that `ir why --image` prints of an event, against where a session of `ir debug` stands after `goto` behind that event.
+"""The least cut that `ir why --image` prints of an event, against where a session of `ir debug` stands after `goto` behind that event, and the
+events that it counts as past, against those whose steps are below that cut.
 
 python3 tests/least.py IR [COUNT]
 
@@ -19,6 +20,7 @@ TOP = Path(__file__).resolve().parent.parent
 EACH = 25
 EVENT = re.compile(r"^thread (\d+) event (\d+) step (\d+) ", re.MULTILINE)
 LEAST = re.compile(r"^least(?: \d+)*$", re.MULTILINE)
+PAST = re.compile(r"^past(?: \d+)*$", re.MULTILINE)
 
 
 def numbers(text):
@@ -52,6 +54,9 @@ class Program:
             assert answer.returncode == 0, (trace, thread, event, answer.stderr)
             assert EVENT.match(answer.stdout).groups() == (thread, event, step), (trace, answer.stdout)
             wanted.append(numbers(LEAST.search(answer.stdout)[0]))
+            below = [sum(int(own) == other and int(at) < position for own, _, at in events) for other, position in enumerate(wanted[-1])]
+            below[int(thread)] -= 1
+            assert numbers(PAST.search(answer.stdout)[0]) == below, (trace, answer.stdout)
             moves += ["start", f"goto {thread} {int(step) + 1}"]
         said = self.run("debug", image, trace, given="\n".join([*moves, "quit", ""])).stdout.splitlines()
         found = [numbers(line) for line in said if line.startswith("at ")]

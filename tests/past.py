@@ -83,6 +83,27 @@ least 11 14
 since thread 1 event 1 step 13 waited for thread 0 event 0 step 10
 """
 
+# Thread 0 holds object 0 while it waits for object 1, which thread 2 holds for long; thread 1 waits for object 0.
+NESTED = ".objects 2\n.thread outer\n.thread last\n.thread slow\n" + "".join((
+    "outer:\n", faults.call(8, "zero, 0"), faults.call(8, "zero, 1"), faults.call(9, "zero, 1"), faults.call(9, "zero, 0"), faults.call(1, "zero, 0"),
+    "last:\n", faults.call(8, "zero, 0"), faults.call(9, "zero, 0"), faults.call(1, "zero, 0"),
+    "slow:\n", faults.call(8, "zero, 1"), "        addi t0, zero, 50\nloop:   addi t0, t0, -1\n        bne t0, zero, loop\n",
+    faults.call(9, "zero, 1"), faults.call(1, "zero, 0")))
+NESTED_ORDER = "2x4,0x8,1x8,2x200,0x50,1x50"
+# A trace has no leaves. With the image the wait within the hold is followed, and what came before thread 0 left is counted.
+NESTED_WHY = b"""thread 1 event 0 write 0 version 1 readers 0
+needs thread 0 event 0 write 0 version 0 readers 0
+past 1 0 0
+since thread 1 event 0 waited for thread 0 event 0
+"""
+NESTED_STEPS = b"""thread 1 event 0 step 2 write 0 version 1 readers 0
+needs thread 0 event 0 write 0 version 0 readers 0 left at step 11
+past 2 0 1
+least 12 3 107
+since thread 1 event 0 step 2 waited for thread 0 event 0 step 11
+since thread 0 event 1 step 5 waited for thread 2 event 0 step 106
+"""
+
 # A coherent trace that no run has: each of two threads reads what the other writes later.
 CIRCLE = bytes.fromhex("49525431 02 02 0000 40420f0000000000"
                        "0900000000000000 01 00000000 02000000" "04 00 01000000" "05 01 00000000 00000000"
@@ -135,6 +156,9 @@ ANSWERS = (
     ("why bad.trc 0 1", WHY_LAST),
     ("why bad.trc 0 1 --lines 1", b"".join(WHY_LAST.splitlines(True)[:4])),
     ("why bad.trc 0 1 --lines 0", b"".join(WHY_LAST.splitlines(True)[:3])),
+    ("why nested.trc 1 0", NESTED_WHY),
+    ("why nested.trc 1 0 --image nested.img", NESTED_STEPS),
+    ("why nested.trc 1 0 --image nested.img --lines 1", b"".join(NESTED_STEPS.splitlines(True)[:5])),
     ("why bad.trc 01 00", b"thread 1 event 0 read 0 version 0\npast 0 0\n"),
     ("diff bad.trc good.trc", DIFF),
     ("diff bad.trc bad.trc", b"common 2 2\nthread 0 same\nthread 1 same\n"),
@@ -456,10 +480,35 @@ def trace_of(folder, name):
     return Recording(written(f"trace {name}.trc", folder))
 
 
+def left_at(folder, name, waiting, need):
+    """Where its thread leaves what an event needs, by the lines of that event."""
+    start = f"needs {need.place()} "
+    lines = written(f"why {name}.trc {waiting[0]} {waiting[1]} --image g.img --lines 0", folder)
+    return int(next(line for line in lines if line.startswith(start)).rpartition(" ")[2])
+
+
+def waits_alike(folder, name, trace, places, thread, event, most):
+    """With the image `past` has the events below the least cut, and each wait goes on from the last event before what is needed is left."""
+    steps = {(int(words[1]), int(words[3])): int(words[5]) for words in map(str.split, written(f"events g.img {name}.trc", folder))}
+    lines = written(f"why {name}.trc {thread} {event} --image g.img --lines {most}", folder)
+    least = [int(number) for line in lines if line.startswith("least ") for number in line.split()[1:]]
+    counts = [sum(own == other and step < position for (own, _), step in steps.items()) - (other == thread) for other, position in enumerate(least)]
+    waits = []
+    for _ in range(most):
+        waiting = [i for i in range(event + 1) if needs_of(trace, thread, i)]
+        if not waiting:
+            break
+        last = min(needs_of(trace, thread, waiting[-1]), key=lambda need: (-places[need.thread, need.event], need.thread, need.event))
+        left = left_at(folder, name, (thread, waiting[-1]), last)
+        waits.append(f"since thread {thread} event {waiting[-1]} step {steps[thread, waiting[-1]]} waited for {last.place()} step {left}")
+        thread, event = last.thread, max(i for (own, i), step in steps.items() if own == last.thread and step < left)
+    wants("past and waits", [line for line in lines if line.startswith(("past ", "since "))], ["past " + " ".join(map(str, counts)), *waits])
+
+
 def read_alike(folder):
     """Over recordings of each guest in random orders: each answer is what the program above makes of the lines of `ir trace`."""
     numbers = random.Random(1)
-    for guest, _ in [*WRONG.values(), *LISTED.values(), *CLEAN.values(), (TWICE, None)]:
+    for guest, _ in [*WRONG.values(), *LISTED.values(), *CLEAN.values(), (TWICE, None), (NESTED, None)]:
         profile, before = made(folder, "g", guest), None
         for turn in range(12):
             threads = list(range((folder / "g.img").read_bytes()[4]))
@@ -480,6 +529,7 @@ def read_alike(folder):
                 most = numbers.choice((0, 1, 3, 20))
                 wants(f"{way}: why {thread} {event}", written(f"why {name}.trc {thread} {event} --lines {most}", folder),
                       why_lines(trace, places, thread, event, most))
+                waits_alike(folder, name, trace, places, thread, event, min(most, 3))
             if before:
                 wants(f"{way}: diff", written(f"diff g{1 - turn % 2}.trc {name}.trc", folder), diff_lines(before, trace))
             before = trace
@@ -589,6 +639,8 @@ def prepare(folder):
     assembled(folder, "readers", READERS)
     for name, order in (("one", "1x6,0x6,2x6"), ("two", "2x6,0x6,1x6")):
         wants(f"recording {name}", run(f"record readers.img {name}.trc --order {order}", folder).returncode, 0)
+    assembled(folder, "nested", NESTED)
+    wants("recording nested", run(f"record nested.img nested.trc --order {NESTED_ORDER}", folder).returncode, 0)
     bad = (folder / "bad.trc").read_bytes()
     (folder / "cut.trc").write_bytes(bad[:-1])
     # Event 1 of thread 0 is a write entry of version 1, with no reader; here of version 0, as event 1 of thread 1.

@@ -17,10 +17,11 @@ A read entry needs the write entry that made its version. A write entry needs th
 version that it writes over. An event is before this event if it is an earlier event of its thread, if it is needed, or if it is
 before an event that is. The chain of waits begins at the last event of T, up to E, that needs other threads. Of what that event
 needs it names the entry that `ir view` places furthest right. Then it continues from there. If a thread waited for a second
-object while it held the first, the chain doesn't follow that wait.
+object while it held the first, the chain follows that wait only with --image.
 With --image each event has the position before its step, as ` step S`. What is needed has where its thread leaves the object,
-as ` left at step S`, and so have what was waited for. There is a line more:
+as ` left at step S`, and so has what was waited for. There is a line more:
   least P P ..                                   the least consistent cut with T just after E: what `goto T S+1` answers
+The past then is the events below that cut, without E. The chain continues from the last event before the object is left.
 With --at P0,P1,.. too, the positions of a consistent cut, what is needed is ` met` if it is left there, or otherwise ` open`.
 If events need each other in a cycle, no run has the trace, and the single line is `circle thread T event E`: the lowest thread
 that is stuck, and its next event. What is refused has the lines that `ir stale` has.
@@ -87,7 +88,7 @@ pub fn with_arguments<'a>(alloc: Global, command: Command<'a>) -> Result<Command
         .arg(lines_arg(alloc))?
         .arg(from_image_arg(
             alloc,
-            "The file with the image: the steps of the events and of the leaves, and the least cut that has the event",
+            "The file with the image: the steps of the events and of the leaves, the least cut that has the event, and waits of threads that held an object",
         ))?
         .arg(at_arg(alloc).requires_arg(FROM_IMAGE)?)
 }

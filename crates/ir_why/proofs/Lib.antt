@@ -4,4 +4,6 @@ mod Gathered
 mod Linked
 mod Said
 mod Within
+mod Waited
+mod Earlier
 mod FitSaid

@@ -1,10 +1,8 @@
 -- Events that are among the steps of a run, and texts put one after the other.
-use Rattle.std.proofs.Common.{◌≡◌, ℕ, zero, suc, ◌+◌, ◌-◌, ◌<◌, ◌≤◌, inl, inr, Some, List, [], ◌∷◌, ◌++◌, get_or, length, map, drop, flat_map, append_assoc, refl, sym, ap, ◌∙◌, subst, arith}
-use Rattle.std.specs.Prelude.{slice_get, replicate}
+use Rattle.std.proofs.Common.{◌≡◌, ℕ, zero, suc, ◌+◌, ◌<◌, inl, inr, List, [], ◌∷◌, ◌++◌, get_or, length, map, drop, flat_map, append_assoc, refl, sym, ap, ◌∙◌, subst, arith}
+use Rattle.std.specs.Prelude.{replicate}
 use Rattle.std.proofs.lemmas.Bool.{cases_lt}
-use Rattle.std.proofs.lemmas.Option.{same_Some, none-some}
 use Rattle.std.proofs.lemmas.List.{get_or_past}
-use Rattle.ir_lemmas.proofs.CallerLemmas.{slice_get_of_append_cases}
 use Rattle.ir_runs.specs.Run.{events}
 use Rattle.ir_log.specs.Logging.{label_of}
 use Rattle.ir_trace.specs.Recorded.{Recorded, RecordedThread, recorded_thread}
@@ -16,13 +14,9 @@ use Rattle.ir_cut.proofs.CallerLemmas.{no_trail_of_missing_thread}
 use Rattle.ir_past.specs.declared.place.Place.{Place}
 use Rattle.ir_picture.specs.Needs.{HasNoCircle, IsCircleAt}
 use Rattle.ir_picture.specs.Runs.{RunsHaveNoCircle}
-use Rattle.ir_picture.specs.declared.placed_box.PlacedBox.{PlacedBox}
 use Rattle.ir_fit_run.specs.Positions.{IsInside}
-use Rattle.ir_why.specs.Chain.{AreLinks}
-use Rattle.ir_why.specs.FitAnswers.{AreInside, IsLinkInside, AreLinksInside, first_cut}
+use Rattle.ir_why.specs.FitAnswers.{AreInside, first_cut}
 use Rattle.ir_why.specs.Tables.{AreThere}
-use Rattle.ir_why.specs.declared.link.Link.{Link}
-use Rattle.ir_why.proofs.Linked.{linked_event_exists}
 
 -- ---- what is inside
 
@@ -43,22 +37,6 @@ inside_event_is_of_trace f h t i inside = (
   (let a = inside.thread in let n = h.whole.0.threads in omega (arith, a, n)),
   (let b = inside.event in let long = event_positions_are_as_many_as_events f h t inside.thread in omega (arith, b, long)),
 )
-
--- the events of a chain
-pub links_are_inside : (f : FittedTrace) → HasRun f → (boxes : List PlacedBox) (n t i : ℕ) (links : List Link)
-    → t < length f.recorded.threads → i < length (recorded_thread f.recorded t).events → AreLinks f.recorded boxes n t i links → AreLinksInside f links
-links_are_inside f h boxes n t i [] a b are k l is = absurd (none-some l is)
-links_are_inside f h boxes n t i (x ∷ xs) a b are zero l is =
-    let there = linked_event_exists f.recorded boxes t i x are.1 in
-    let by = are.1.waiting.by in
-    let same = are.1.thread in
-    subst (λ (z : Link). IsLinkInside f z) (same_Some x l is) (record {
-      waiting = subst (λ z. IsInside f z x.waiting.event) (sym same) (trace_event_is_inside f h t x.waiting.event a (omega (arith, by, b)));
-      needed = trace_event_is_inside f h x.needed.thread x.needed.event there.0 there.1;
-    })
-links_are_inside f h boxes n t i (x ∷ xs) a b are (suc k) l is =
-    let there = linked_event_exists f.recorded boxes t i x are.1 in
-    links_are_inside f h boxes (n - 1) x.needed.thread x.needed.event xs there.0 there.1 are.2 k l is
 
 -- ---- the first cut
 

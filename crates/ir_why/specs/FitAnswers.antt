@@ -23,13 +23,11 @@ use Rattle.ir_fit_run.specs.Answers.{IsAnswerOf}
 use Rattle.ir_fit_run.specs.Opened.{IsFit}
 use Rattle.ir_fit_run.specs.Positions.{IsInside, IsLeft}
 use Rattle.ir_why.specs.Answers.{event_asked, IsThere, IsAbsent}
-use Rattle.ir_why.specs.Before.{IsPast}
-use Rattle.ir_why.specs.Chain.{AreLinks}
 use Rattle.ir_why.specs.FitLines.{here_line, fit_text}
 use Rattle.ir_why.specs.Needed.{AreNeeds}
+use Rattle.ir_why.specs.Waits.{AreWaits, IsPastIn}
 use Rattle.ir_fit_run.specs.Paired.{ArePaired}
 use Rattle.ir_why.specs.declared.fit_question.FitQuestion.{FitQuestion}
-use Rattle.ir_why.specs.declared.link.Link.{Link}
 use Rattle.ir_why.specs.declared.need.Need.{Need}
 use Rattle.ir_why.specs.declared.wait.Wait.{Wait}
 use Rattle.ir_why.specs.declared.why_err.WhyErr.{WhyErr}
@@ -39,39 +37,17 @@ use Rattle.ir_why.specs.declared.why_err.WhyErr.TheVariants as why
 abbrev pub AreInside : FittedTrace → List Place → Type 0
 AreInside f places = (k : ℕ) (p : Place) → slice_get places k ≡ Some p → IsInside f p.thread p.event
 
--- so are the events of a link
-pub record IsLinkInside (f : FittedTrace) (l : Link) : Type 0 where
-  pub waiting : IsInside f l.waiting.thread l.waiting.event
-  pub needed : IsInside f l.needed.thread l.needed.event
-
--- and of each of these
-abbrev pub AreLinksInside : FittedTrace → List Link → Type 0
-AreLinksInside f links = (k : ℕ) (l : Link) → slice_get links k ≡ Some l → IsLinkInside f l
-
 -- an event that is needed: what it logged, and where its thread leaves what it entered
 pub record IsNeed (f : FittedTrace) (p : Place) (x : Need) : Type 0 where
   pub place : x.place ≡ p
   pub logged : event_at f.recorded p.thread p.event ≡ Some x.event
   pub left : IsLeft f p.thread p.event x.left
 
--- a wait of a chain: the step that logs the event that waits, and where what it needs is left
-pub record IsWait (f : FittedTrace) (l : Link) (w : Wait) : Type 0 where
-  pub waiting : w.waiting ≡ l.waiting
-  pub step : w.step ≡ entry_of f l.waiting.thread l.waiting.event
-  pub needed : w.needed ≡ l.needed
-  pub left : IsLeft f l.needed.thread l.needed.event w.left
-
 -- what an event needs of other threads, in its order
 pub record AreNeedsOf (f : FittedTrace) (p : Place) (xs : List Need) : Type 0 where
   pub needs : List Place
   pub are : AreNeeds f.recorded p.thread p.event needs
   pub each : ArePaired (IsNeed f) needs xs
-
--- the chain of at most this many waits that led to an event, by the places of a picture
-pub record AreWaitsOf (f : FittedTrace) (boxes : List PlacedBox) (most : ℕ) (p : Place) (ws : List Wait) : Type 0 where
-  pub links : List Link
-  pub are : AreLinks f.recorded boxes most p.thread p.event links
-  pub each : ArePaired (IsWait f) links ws
 
 -- the line of an event, with what it logged and its step
 pub record IsHereLine (f : FittedTrace) (p : Place) (line : List ℕ) : Type 0 where
@@ -87,22 +63,22 @@ first_cut f = replicate (length f.guest.entries) 0
 abbrev pub IsLeastFor : FittedTrace → Place → List ℕ → Type 0
 IsLeastFor f p cut = IsLeastCut f (first_cut f) p.thread (entry_of f p.thread p.event + 1) cut
 
--- the lines about an event of a run: the event, what it needs of other threads, how much is before it, the least cut that has it, and the
--- chain of at most this many waits that led to it; what is needed is held against a cut, if there is one
+-- the lines about an event of a run: the event, what it needs of other threads, how much of the least cut that has it is before it, that cut,
+-- and the chain of at most this many waits that led to it; what is needed is held against a cut, if there is one
 pub record IsReasonIn (f : FittedTrace) (p : Place) (most : ℕ) (at : Option (List ℕ)) (text : List ℕ) : Type 0 where
   pub here : List ℕ
   pub is_here : IsHereLine f p here
   pub needs : List Need
   pub needed : AreNeedsOf f p needs
-  pub counts : List ℕ
-  pub past : IsPast f.recorded p.thread p.event counts
   pub least : List ℕ
   pub is_least : IsLeastFor f p least
+  pub counts : List ℕ
+  pub past : IsPastIn f p least counts
   pub boxes : List PlacedBox
   pub ends : List Point
   pub placed : ArePlaced f.recorded boxes ends
   pub waits : List Wait
-  pub chain : AreWaitsOf f boxes most p waits
+  pub chain : AreWaits f boxes most p.thread p.event waits
   pub lines : text ≡ fit_text at here needs counts least waits
 
 -- the positions that are asked about, if they are

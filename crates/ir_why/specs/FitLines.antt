@@ -6,7 +6,7 @@ use Rattle.ir_text.specs.Texts.{event_text}
 use Rattle.ir_cut.specs.Positions.{cut_of}
 use Rattle.ir_past.specs.Naming.{place_text}
 use Rattle.ir_past.specs.declared.place.Place.{Place}
-use Rattle.ir_fit_run.specs.Positions.{step_part, step_if}
+use Rattle.ir_fit_run.specs.Positions.{step_part}
 use Rattle.ir_why.specs.Lines.{past_line}
 use Rattle.ir_why.specs.declared.need.Need.{Need}
 use Rattle.ir_why.specs.declared.wait.Wait.{Wait}
@@ -37,7 +37,7 @@ least_line cut = codes "least" ++ (flat_map (λ n. codes " " ++ decimal n) cut +
 -- the line of a wait
 abbrev pub wait_line : Wait → List ℕ
 wait_line w = codes "since " ++ (place_text w.waiting ++ (step_part w.step ++ (codes " waited for " ++ (place_text w.needed
-    ++ (step_if w.left ++ 10 ∷ [])))))
+    ++ (step_part w.left ++ 10 ∷ [])))))
 
 -- all lines: the event, what it needs, how much is before it, the least cut, and the waits
 abbrev pub fit_text : Option (List ℕ) → List ℕ → List Need → List ℕ → List ℕ → List Wait → List ℕ

@@ -4,5 +4,7 @@ pub mod Chain
 pub mod Tables
 pub mod Lines
 pub mod Answers
+pub mod Waits
 pub mod FitLines
 pub mod FitAnswers
+pub mod Laws

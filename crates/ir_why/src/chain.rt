@@ -53,9 +53,12 @@ fn latest(boxes: &[PlacedBox], needs: &[Place]) -> Option<Place>
     Some(best)
 }
 
-// What the thread of an event waited for last, up to that event.
+/// What the thread of an event waited for last, up to that event. Time is linear in its events up to there.
+///
+/// # Errors
+/// Out of memory.
 #[tactic(auto, using(ir_picture::proofs::CallerLemmas::boxes_are_apart, crate::proofs::Linked::needed_events_have_boxes))]
-fn link_from(
+pub fn link_from(
     alloc: Global,
     trace: &Trace,
     tables: &Tables,

@@ -12,7 +12,7 @@ use crate::need::Need;
 use crate::wait::Wait;
 use ir_cut::Cut;
 use ir_fit::Fitted;
-use ir_fit_run::{step_of, step_text};
+use ir_fit_run::step_of;
 use ir_log::Event;
 use ir_past::{Place, event_of, place_text};
 use ir_text::{Text, put_event_text};
@@ -138,9 +138,9 @@ fn wait_line(alloc: Global, wait: &Wait) -> Result<String, AllocError>
 {
     let waiting = place_text(alloc, &wait.waiting)?;
     let needed = place_text(alloc, &wait.needed)?;
-    let left = step_text(alloc, wait.left)?;
     let step = wait.step;
-    format!(in alloc; "since {waiting} step {step} waited for {needed}{left}\n")
+    let left = wait.left;
+    format!(in alloc; "since {waiting} step {step} waited for {needed} step {left}\n")
 }
 
 /// Adds the lines of a chain.

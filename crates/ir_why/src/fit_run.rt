@@ -120,12 +120,12 @@ fn show<O: Sink>(
 }
 
 /// Writes why an event of the run of an image's guest with a trace came when it did: the event, what it needs of other threads and where that
-/// is left, how many events of each thread are before it, the least consistent cut that has it, and the chain of waits that led to it. Where
-/// positions are asked about, what is needed is met if they are past the step that leaves it, else open. The exit status is `Done` if these
-/// lines were written, `Refused` if the bytes are no image or no trace, and `NotFit` if no run of the guest has the trace; then the line or the
-/// lines that say so were written. It is `BadArguments` if the trace has no such event or the positions are no consistent cut; nothing was
-/// written then. It is `Failed` if memory ran out or the writer failed, with a prefix written at most. In both cases the fault is reported in
-/// one line.
+/// is left, how many other events of each thread are steps of the least consistent cut that has it, that cut, and the chain of waits that led
+/// to it, which goes on from what a thread logged before it left the object that was waited for. Where positions are asked about, what is
+/// needed is met if they are past the step that leaves it, else open. The exit status is `Done` if these lines were written, `Refused` if the
+/// bytes are no image or no trace, and `NotFit` if no run of the guest has the trace; then the line or the lines that say so were written. It
+/// is `BadArguments` if the trace has no such event or the positions are no consistent cut; nothing was written then. It is `Failed` if memory
+/// ran out or the writer failed, with a prefix written at most. In both cases the fault is reported in one line.
 pub fn why_fit_run<O: Sink, E: Sink>(
     alloc: Global,
     image: &[u8],

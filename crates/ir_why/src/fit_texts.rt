@@ -8,11 +8,12 @@ ghost use Rattle.ir_picture.specs.declared.placed_box.Point.{Point};
 ghost use Rattle.ir_fit_run.specs.Positions.{IsInside};
 ghost use Rattle.ir_why.specs.FitAnswers.{IsReasonIn};
 
-use crate::before::past_of;
+use crate::fit_before::past_in;
 use crate::fit_lines::{here_line, least_line, push_needs, push_waits};
-use crate::leaves::{least_for, needs_of, waits_of};
+use crate::leaves::{least_for, needs_of};
 use crate::lines::past_line;
 use crate::tables::tables_of;
+use crate::waits::waits_of;
 use ir_cut::Cut;
 use ir_fit::Fitted;
 use ir_past::Place;
@@ -38,8 +39,8 @@ pub fn reason_in(
     fitted.known();
     let tables = tables_of(alloc, fitted.trace())?;
     let needs = needs_of(alloc, fitted, &tables, here)?;
-    let past = past_of(alloc, fitted.trace(), &tables, here)?;
     let least = least_for(alloc, fitted, here)?;
+    let past = past_in(alloc, fitted, here, &least)?;
     let waits = waits_of(alloc, fitted, &tables, boxes, here, most)?;
     let mut text = here_line(alloc, fitted, here)?;
     push_needs(alloc, &mut text, at, &needs)?;

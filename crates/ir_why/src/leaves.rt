@@ -1,24 +1,18 @@
-//! Where what is needed and what waits is among the steps of a run.
+//! Where what is needed is among the steps of a run.
 
 ghost use Rattle.std.specs.Prelude.{◌≡◌, IfOk};
-ghost use Rattle.ir_picture.specs.Boxes.{AreBoxes};
-ghost use Rattle.ir_picture.specs.Placing.{events_of_all};
 ghost use Rattle.ir_fit_run.specs.Positions.{IsInside, IsLeft};
 ghost use Rattle.ir_cut.specs.Positions.{IsConsistentCut};
-ghost use Rattle.ir_why.specs.FitAnswers.{AreInside, IsNeed, IsWait, AreLinksInside, AreNeedsOf, AreWaitsOf, IsLeastFor, first_cut};
+ghost use Rattle.ir_why.specs.FitAnswers.{AreInside, IsNeed, AreNeedsOf, IsLeastFor, first_cut};
 ghost use Rattle.ir_fit_run.specs.Paired.{ArePaired};
 ghost use Rattle.ir_why.specs.Tables.{HasTables};
 
-use crate::chain::chain_of;
-use crate::link::Link;
 use crate::need::Need;
 use crate::tables::Tables;
-use crate::wait::Wait;
 use ir_cut::{Cut, least};
 use ir_fit::Fitted;
 use ir_fit_run::{leave_of, step_of};
 use ir_past::{Place, event_of};
-use ir_picture::PlacedBox;
 use std::alloc::{AllocError, Global};
 
 // Where a thread leaves what an event entered.
@@ -69,57 +63,6 @@ pub fn needs_of(
     fitted.known();
     let places = tables.needs_of(alloc, fitted.trace(), here)?;
     needs_left(alloc, fitted, &places)
-}
-
-// A wait, with its steps.
-fn wait_of(fitted: &Fitted, link: &Link) -> Wait
-    requires waiting { IsInside fitted.now link.now.waiting.thread link.now.waiting.event }
-    requires needed { IsInside fitted.now link.now.needed.thread link.now.needed.event }
-    ensures { IsWait fitted.now link.now result }
-{
-    let Link { waiting, needed } = *link;
-    let step = step_of(fitted, waiting);
-    let left = left_of(fitted, needed);
-    Wait {
-        waiting,
-        step,
-        needed,
-        left,
-    }
-}
-
-// The waits of a chain, each with its steps.
-fn waits_left(alloc: Global, fitted: &Fitted, links: &[Link]) -> Result<Vec<Wait>, AllocError>
-    requires { AreLinksInside fitted.now links.now }
-    ensures { IfOk result (λ waits. ArePaired (IsWait fitted.now) links.now waits.items) }
-{
-    let mut waits = Vec::new(alloc);
-    for link in links {
-        waits.push(wait_of(fitted, link))?;
-    }
-    Ok(waits)
-}
-
-/// The chain of waits that led to an event of a run, of at most this many.
-///
-/// # Errors
-/// Out of memory.
-pub fn waits_of(
-    alloc: Global,
-    fitted: &Fitted,
-    tables: &Tables,
-    boxes: &[PlacedBox],
-    here: Place,
-    most: u32,
-) -> Result<Vec<Wait>, AllocError>
-    requires tables { HasTables fitted.now.recorded tables.now }
-    requires boxes { AreBoxes fitted.now.recorded (events_of_all boxes.now) }
-    requires inside { IsInside fitted.now here.thread here.event }
-    ensures { IfOk result (λ waits. AreWaitsOf fitted.now boxes.now most here waits.items) }
-{
-    fitted.known();
-    let links = chain_of(alloc, fitted.trace(), tables, boxes, here, most)?;
-    waits_left(alloc, fitted, &links)
 }
 
 // All threads at 0.

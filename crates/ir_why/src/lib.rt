@@ -3,10 +3,12 @@
 
 mod before;
 mod chain;
+mod fit_before;
 mod fit_lines;
 mod fit_question;
 mod fit_run;
 mod fit_texts;
+mod laws;
 mod leaves;
 mod lines;
 mod link;
@@ -17,12 +19,14 @@ mod starts;
 mod tables;
 mod texts;
 mod wait;
+mod waits;
 mod why_err;
 
 pub use before::past_of;
 pub use chain::chain_of;
 pub use fit_question::FitQuestion;
 pub use fit_run::why_fit_run;
+pub use laws::{needs_left_before, waits_before};
 pub use link::Link;
 pub use question::Question;
 pub use run::why_run;

@@ -11,6 +11,6 @@ pub struct Wait {
     pub step: u64,
     /// The event of another thread that it needed.
     pub needed: Place,
-    /// How many steps that thread takes before it leaves what the event entered, if it does.
-    pub left: Option<u64>,
+    /// How many steps that thread takes before it leaves what the event entered.
+    pub left: u64,
 }

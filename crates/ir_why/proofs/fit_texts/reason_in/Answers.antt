@@ -1,19 +1,14 @@
-use Rattle.std.proofs.Common.{◌++◌, ◌∙◌, sym, ap, subst, flat_map}
+use Rattle.std.proofs.Common.{◌++◌, ◌∙◌, ap, arith, flat_map}
 use Rattle.ir_lemmas.proofs.CallerLemmas.{four_appends_nest_to_the_right}
-use Rattle.ir_past.specs.Answers.{AreCoherent}
-use Rattle.ir_trace.specs.Recorded.{Recorded}
-use Rattle.ir_why.specs.Before.{IsPast}
 use Rattle.ir_why.specs.Lines.{past_line}
 use Rattle.ir_why.specs.FitLines.{need_line, least_line, wait_line}
-use Rattle.ir_fit_run.proofs.CallerLemmas.{run_trace_is_coherent, inside_event_number_is_below_event_count}
 use Rattle.ir_why.proofs.fit_texts.reason_in.Goals as goal
 
-pub past_of-requires-clause-coherent : goal.past_of-requires-clause-coherent
-past_of-requires-clause-coherent c = subst AreCoherent (sym c.trace-2.ensures.value) (run_trace_is_coherent c.args.fitted.now c.known.ensures.run)
-
-pub past_of-requires-clause-event : goal.past_of-requires-clause-event
-past_of-requires-clause-event c = inside_event_number_is_below_event_count c.args.fitted.now c.known.ensures.run c.args.here.thread c.args.here.event c.requires.inside
-    c.trace-2.result.now c.trace-2.ensures.value
+pub past_in-requires-clause-has : goal.past_in-requires-clause-has
+past_in-requires-clause-has c =
+    let known = c.known.ensures.run in
+    let reaches = (c.in_ok-least.ensures.1 known.run known.whole).reaches in
+    omega (arith, reaches)
 
 pub returns : goal.returns
 returns c = λ ends placed. record {
@@ -21,10 +16,10 @@ returns c = λ ends placed. record {
   is_here = c.in_ok-text.ensures;
   needs = c.in_ok-needs.needs.items;
   needed = c.in_ok-needs.ensures;
-  counts = c.in_ok-past.past.items;
-  past = subst (λ (r : Recorded). IsPast r c.args.here.thread c.args.here.event c.in_ok-past.past.items) c.trace-2.ensures.value c.in_ok-past.ensures;
   least = c.in_ok-least.least;
   is_least = c.in_ok-least.ensures;
+  counts = c.in_ok-past.past.items;
+  past = c.in_ok-past.ensures;
   boxes = c.args.boxes.now;
   ends = ends;
   placed = placed;

@@ -1,6 +1,0 @@
-use Rattle.ir_why.specs.FitAnswers.{IsWait}
-use Rattle.ir_fit_run.proofs.CallerLemmas.{ArePairedTo}
-use Rattle.ir_why.proofs.leaves.waits_left.Given as goal
-
-abbrev pub invariant-loop-link : goal.invariant-loop-link
-invariant-loop-link l = ArePairedTo (IsWait l.fitted) l.links l.link-index l.waits.items
