@@ -1,5 +1,6 @@
 #!/usr/bin/env python3
-"""Makes docs/internals/headline.md of the definitions in specs/: the relations by which the main theorem is read, as they are.
+"""Makes docs/internals/headline.md and claims.md of the definitions in specs/: the relations by which the main theorem is read, as they are, and the files
+on which exploring, hunting, gdb and insight rest.
 
 python3 scripts/definitions.py [--check | --index]
 
@@ -42,13 +43,103 @@ PARTS = [
     ("`advance`, beside these", "### Advance", {"ir_replay/src/moves.rt": ["advance", "advance_in_order"]}),
 ]
 
-# Other calls, of which theorem.md only counts what they rest on beside the headline.
-FURTHER = [
-    ("`explore_run`", {"ir_explore_run/src/run.rt": ["explore_run"]}),
-    ("`explore_until`", {"ir_explore_run/src/until.rt": ["explore_until"]}),
-    ("`hunt_run`", {"ir_hunt/src/hunting.rt": ["hunt_run"]}),
-    ("`connect` of `ir gdb`", {"ir_gdb/src/session.rt": ["connect"]}),
+
+@dataclass
+class Claim:
+    """What other calls say: a heading, what it is about, the contracts, the files to read first with the names on which most turns, and the most
+    lines of its files and of its definitions, beside the headline and the claims before it."""
+
+    title: str
+    says: str
+    contracts: dict
+    first: list
+    most: tuple
+
+
+CLAIMS = [
+    Claim("Exploring", "`ir explore` lists outcomes, and says how its search ended.", {"ir_explore_run/src/run.rt": ["explore_run"]}, [
+        ("ir_sources", "Sources", "`given`: what answers CLOCK, RANDOM and INPUT"),
+        ("ir_graph", "Setup", "`Setup`, `IsCountedOf`: which complete runs count"),
+        ("ir_seen", "Seen", "`IsCounted`"),
+        ("ir_graph", "Outcomes", "`Outcome`, `outcome_of`"),
+        ("ir_outcomes", "Explored", "`IsOutcomeOf`, `AreExplored`, `AreAll`, `AreHangs`"),
+        ("ir_outcomes", "Shown", "`IsShown`: what LIST leads to"),
+        ("ir_graph", "Hangs", "`IsCounting`, `CanEnd`, `IsHangOf`"),
+        ("ir_graph", "Times", "`HasTimedRun`: where `clock counted` is said"),
+        ("ir_explore_run", "Texts", "`AreKnown`, `IsAnswerAbout`: what is printed of it"),
+    ], (2500, 720)),
+    Claim("Recordings of an explored guest", "What the lists of `ir explore` say of recordings, by real threads too.", {
+        "ir_explore_run/src/laws.rt": ["recordings_have_outcomes", "recordings_are_listed", "recordings_are_untimed", "untimed_recordings_are_listed",
+                                       "recordings_never_fulfil", "hangs_never_complete"],
+    }, [
+        ("ir_record_run", "Recording", "`IsRecordedOf`: what a recording is"),
+        ("ir_order", "Recording", "`IsOfRun`: the run that a trace and outputs are of"),
+        ("ir_explore_run", "Recorded", "the laws"),
+    ], (400, 150)),
+    Claim("Exploring up to conditions", "`ir explore --until` records an outcome that fulfils them.", {"ir_explore_run/src/until.rt": ["explore_until"]}, [
+        ("ir_explore_run", "Conditions", "`IsFirst`, `NeverFulfils`"),
+        ("ir_explore_run", "Until", "`IsSought`, `IsVain`"),
+    ], (320, 210)),
+    Claim("Hunting", "`ir hunt` says which seeds it tried, and which is the lowest that it found.", {"ir_hunt/src/hunting.rt": ["hunt_run"]}, [
+        ("ir_chaos", "Schedules", "`IsSchedule`: the run by a chooser"),
+        ("ir_hunt", "Hunt", "`Hunt`: what is hunted"),
+        ("ir_hunt", "Finding", "`IsOfSeed`, `IsFound`"),
+        ("ir_hunt", "Tried", "`Fails`, `AreTried`, `IsLowest`"),
+        ("ir_hunt", "Hunted", "`IsNoneIn`, `IsFoundIn`"),
+        ("ir_hunt", "Stopping", "`IsHuntLine`: what is printed of it"),
+    ], (1450, 530)),
+    Claim("gdb", "`ir gdb` answers gdb, and its moves are a session's.", {
+        "ir_gdb/src/session.rt": ["connect"],
+        "ir_gdb/src/laws.rt": ["alone_is_session", "no_hit_is_passed", "none_is_blocked", "each_hit_is_shown_once"],
+    }, [
+        ("ir_gdb", "Stub", "`Stub`: the small machine, and what gdb has set"),
+        ("ir_gdb", "Stops", "where a thread stops"),
+        ("ir_gdb", "Together", "`ContinuesAmong`, `FirstMet`: how all threads move"),
+        ("ir_gdb", "Over", "`LeadsAlone`: how a thread moves by itself"),
+        ("ir_gdb", "Replies", "`Replies`: the reply to each request"),
+        ("ir_gdb", "Connection", "`Answers`: the bytes of packets and acknowledgements"),
+        ("ir_gdb", "Laws", "the laws"),
+    ], (2250, 1170)),
+    Claim("Insight", "The lines of `ir stale`, `who`, `why`, `diff` and `view`.", {
+        "ir_past/src/run.rt": ["stale_run"],
+        "ir_rests/src/run.rt": ["rests_run"],
+        "ir_who/src/run.rt": ["who_run"],
+        "ir_who/src/fit_run.rt": ["who_fit_run"],
+        "ir_word/src/run.rt": ["word_fit_run"],
+        "ir_why/src/run.rt": ["why_run"],
+        "ir_why/src/fit_run.rt": ["why_fit_run"],
+        "ir_why/src/laws.rt": ["needs_left_before", "waits_before"],
+        "ir_diff/src/run.rt": ["diff_run"],
+        "ir_picture/src/run.rt": ["view_run"],
+        "ir_picture/src/laws.rt": ["needs_are_left", "runs_have_no_circle"],
+        "ir_picture_run/src/run.rt": ["view_fit_run"],
+    }, [
+        ("ir_past", "Past", "`event_at`, `IsMadeBy`: what made a version"),
+        ("ir_rests", "Rests", "when a write rests on what was read"),
+        ("ir_why", "Needed", "`AreNeeds`: what an event needs"),
+        ("ir_why", "Waits", "`AreWaits`: the chain of a run"),
+        ("ir_why", "FitAnswers", "`IsReasonIn`"),
+        ("ir_diff", "Common", "`AreCommon`, `IsReady`"),
+        ("ir_picture", "Places", "`ArePlaced`: where boxes stand"),
+    ], (2550, 1200)),
 ]
+
+# The most names that two of all these files define.
+MOST_DOUBLED = 131
+
+CLAIMS_PAGE = PAGES / "claims.md"
+
+CLAIMS_HEAD = """# What the other claims rest on
+
+[The theorem](theorem.md) names the definitions on which a session, a recording, `fit` and `advance` rest.
+Here are those of exploring, hunting, gdb and insight.
+Each part has only the files that neither the theorem nor the parts before it have.
+What its contracts promise in words is in [contracts](contracts.md), and how to read definitions in [the theorem](theorem.md#how-to-read-it).
+`python3 scripts/definitions.py` makes this page, and refuses a part with more lines than it may have.
+
+In a table the last two columns count the definitions to which the contracts lead, and their lines without comments, imports and blank lines.
+The other definitions of a file needn't be read.
+"""
 
 # The page: its parts, each with what comes before the definitions and their places.
 FIRST = [
@@ -316,18 +407,84 @@ def counts():
     return table(rows())
 
 
-def further():
-    """The table of what the other calls rest on, each beside the headline and the calls before it."""
+def claims():
+    """Each claim with the definitions that it adds to the headline and to the claims before it, by file, and the files that are new."""
     known = {definition for _, _, _, definitions in parts() for definition in definitions}
     files = {(crate, name) for crate, name, _ in known}
-    found = []
-    for title, contracts in FURTHER:
-        more = led_to(contracts) - known
-        added = {(crate, name) for crate, name, _ in more} - files
-        found.append((title, count(added, more)))
+    for claim in CLAIMS:
+        more = led_to(claim.contracts) - known
+        by_file = {}
+        for crate, name, item in more:
+            by_file.setdefault((crate, name), set()).add((crate, name, item))
+        yield claim, by_file, by_file.keys() - files
         known |= more
-        files |= added
+        files |= by_file.keys()
+
+
+def added_by(by_file, new):
+    """How many files a claim adds, their lines, how many definitions, and the lines of these."""
+    return count(new, set().union(*by_file.values()))
+
+
+def further():
+    """The table of what the other claims rest on, each beside the headline and the claims before it."""
+    found = [(claim.title, added_by(by_file, new)) for claim, by_file, new in claims()]
     return table([*found, ("in all", [sum(row[i] for _, row in found) for i in range(4)])])
+
+
+def link(crate, name):
+    """A file of definitions, as a link on a page."""
+    return f"[{name}](../../crates/{crate}/specs/{name.replace('.', '/')}.antt) of {crate}"
+
+
+def claim_text(claim, by_file, new):
+    """The part of the page of a claim."""
+    calls = [f"`{item}` in [{Path(file).name}](../../crates/{file})" for file, items in claim.contracts.items() for item in items]
+    text = f"\n## {claim.title}\n\n{claim.says}\nThe contracts are of {', '.join(calls)}.\n\nRead first, in this order:\n\n"
+    text += "".join(f"{place}. {link(crate, name)}: {says}\n" for place, (crate, name, says) in enumerate(claim.first, 1))
+    files, lines, definitions, needed = added_by(by_file, new)
+    text += f"\n{files} files of {lines:,} lines (at most {claim.most[0]:,}), {definitions:,} definitions of {needed:,} lines (at most {claim.most[1]:,}):\n\n"
+    text += "| File | Says | Lines | Definitions | Their lines |\n|---|---|---|---|---|\n"
+    order = list(crates())
+    for crate, name in sorted(by_file, key=lambda file: (order.index(file[0]), file[1])):
+        row = count({(crate, name)}, by_file[crate, name])
+        also = "" if (crate, name) in new else " (a file that is named before)"
+        text += f"| {link(crate, name)} | {module(crate, name).lines[0].removeprefix('--').strip()}{also} | {row[1]} | {row[2]} | {row[3]} |\n"
+    return text
+
+
+def doubled():
+    """The names that two files of the headline and the claims define, with these files."""
+    every = {file for _, _, files, _ in parts() for file in files} | {file for _, by_file, _ in claims() for file in by_file}
+    defined = {}
+    for crate, name in sorted(every):
+        for item in module(crate, name).definitions:
+            defined.setdefault(item, []).append((crate, name))
+    return {item: files for item, files in sorted(defined.items()) if len(files) > 1}
+
+
+def claims_page():
+    """The page of the claims as it has to be."""
+    text = CLAIMS_HEAD + "".join(claim_text(*found) for found in claims())
+    text += "\n## Names with several meanings\n\nA file names which it means in its `use` lines.\n\n"
+    return text + "".join(f"- `{item}`: {', '.join(f'{name} of {crate}' for crate, name in files)}\n" for item, files in doubled().items())
+
+
+def claim_faults():
+    """Whether a claim rests on more lines than it may, and names that it shouldn't."""
+    for claim, by_file, new in claims():
+        row = added_by(by_file, new)
+        if row[1] > claim.most[0] or row[3] > claim.most[1]:
+            yield f"{claim.title} rests on {row[1]} lines of files and {row[3]} of definitions: at most {claim.most[0]} and {claim.most[1]}"
+        for crate, name, says in claim.first:
+            where = module(crate, name)
+            if where is None:
+                yield f"scripts/definitions.py: no file {crate}/specs/{name}"
+                continue
+            yield from (f"scripts/definitions.py: {crate}/specs/{name} has no {item}" for item in re.findall(r"`(\w+)`", says)
+                        if item not in where.definitions and not item.isupper() and item != "clock")
+    if len(doubled()) > MOST_DOUBLED:
+        yield f"{len(doubled())} names are defined in two files of the claims: at most {MOST_DOUBLED}"
 
 
 def aim_faults():
@@ -474,6 +631,9 @@ def faults():
     """What differs on the pages, a line each."""
     if not PAGE.exists() or PAGE.read_text(encoding="utf-8") != page():
         yield f"{PAGE.relative_to(TOP)}: isn't what specs/ says: run python3 scripts/definitions.py"
+    if not CLAIMS_PAGE.exists() or CLAIMS_PAGE.read_text(encoding="utf-8") != claims_page():
+        yield f"{CLAIMS_PAGE.relative_to(TOP)}: isn't what specs/ says: run python3 scripts/definitions.py"
+    yield from claim_faults()
     yield from table_faults()
     yield from double_faults()
     yield from name_faults()
@@ -492,6 +652,7 @@ def main():
         print(__doc__)
         return 2
     PAGE.write_text(page(), encoding="utf-8")
+    CLAIMS_PAGE.write_text(claims_page(), encoding="utf-8")
     return 0
 
 
