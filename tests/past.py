@@ -104,6 +104,36 @@ since thread 1 event 0 step 2 waited for thread 0 event 0 step 11
 since thread 0 event 1 step 5 waited for thread 2 event 0 step 106
 """
 
+# Thread 0 enters three objects, one in the other, before it leaves the first, for which thread 1 waits: all three entries come before.
+DEEP = ".objects 3\n.thread outer\n.thread last\n" + "".join((
+    "outer:\n", *(faults.call(8, f"zero, {thing}") for thing in (0, 1, 2)), *(faults.call(9, f"zero, {thing}") for thing in (2, 1, 0)), faults.call(1, "zero, 0"),
+    "last:\n", faults.call(8, "zero, 0"), faults.call(9, "zero, 0"), faults.call(1, "zero, 0")))
+DEEP_STEPS = b"""thread 1 event 0 step 2 write 0 version 1 readers 0
+needs thread 0 event 0 write 0 version 0 readers 0 left at step 17
+past 3 0
+least 18 3
+since thread 1 event 0 step 2 waited for thread 0 event 0 step 17
+"""
+
+# Threads 0 and 2 part at object 1. Thread 0 writes what it read there into object 0, which it has held before, so thread 1 follows though it is ready.
+HOLDS = ".objects 4\n.thread copies\n.thread follows\n.thread writes\n" + "".join((
+    "copies:\n", faults.call(8, "zero, 0"), faults.call(8, "zero, 1"), faults.call(10, "zero, 1", "zero, 0"), "        addi a2, a0, 0\n",
+    faults.call(11, "zero, 0", "zero, 0"), faults.call(9, "zero, 1"), faults.call(9, "zero, 0"), faults.call(1, "zero, 0"),
+    "follows:\n", faults.call(7, "zero, 0"), faults.call(10, "zero, 0", "zero, 0"), "        addi s0, a0, 2\n", faults.call(9, "zero, 0"),
+    faults.call(8, "s0, 0"), faults.call(9, "s0, 0"), faults.call(1, "zero, 0"),
+    "writes:\n", faults.call(8, "zero, 1"), "        addi a2, zero, 1\n", faults.call(11, "zero, 1", "zero, 0"), faults.call(9, "zero, 1"), faults.call(1, "zero, 0")))
+HELD = b"""common 1 1 0
+thread 0 differs event 1 ready in 1
+1 write 1 version 0 readers 0 by first words
+2 write 1 version 1 readers 0 by thread 2 event 0
+thread 1 differs event 1 ready in 1 and 2
+1 write 2 version 0 readers 0 by first words
+2 write 3 version 0 readers 0 by first words
+thread 2 differs event 0 ready in 2
+1 write 1 version 1 readers 0 by thread 0 event 1
+2 write 1 version 0 readers 0 by first words
+"""
+
 # A coherent trace that no run has: each of two threads reads what the other writes later.
 CIRCLE = bytes.fromhex("49525431 02 02 0000 40420f0000000000"
                        "0900000000000000 01 00000000 02000000" "04 00 01000000" "05 01 00000000 00000000"
@@ -159,6 +189,8 @@ ANSWERS = (
     ("why nested.trc 1 0", NESTED_WHY),
     ("why nested.trc 1 0 --image nested.img", NESTED_STEPS),
     ("why nested.trc 1 0 --image nested.img --lines 1", b"".join(NESTED_STEPS.splitlines(True)[:5])),
+    ("why deep.trc 1 0 --image deep.img", DEEP_STEPS),
+    ("diff copied.trc written.trc", HELD),
     ("why bad.trc 01 00", b"thread 1 event 0 read 0 version 0\npast 0 0\n"),
     ("diff bad.trc good.trc", DIFF),
     ("diff bad.trc bad.trc", b"common 2 2\nthread 0 same\nthread 1 same\n"),
@@ -641,6 +673,11 @@ def prepare(folder):
         wants(f"recording {name}", run(f"record readers.img {name}.trc --order {order}", folder).returncode, 0)
     assembled(folder, "nested", NESTED)
     wants("recording nested", run(f"record nested.img nested.trc --order {NESTED_ORDER}", folder).returncode, 0)
+    assembled(folder, "deep", DEEP)
+    wants("recording deep", run("record deep.img deep.trc --order 0x100,1x100", folder).returncode, 0)
+    assembled(folder, "holds", HOLDS)
+    for name, order in (("copied", "0x80,1x80,2x80"), ("written", "2x80,0x80,1x80")):
+        wants(f"recording {name}", run(f"record holds.img {name}.trc --order {order}", folder).returncode, 0)
     bad = (folder / "bad.trc").read_bytes()
     (folder / "cut.trc").write_bytes(bad[:-1])
     # Event 1 of thread 0 is a write entry of version 1, with no reader; here of version 0, as event 1 of thread 1.
