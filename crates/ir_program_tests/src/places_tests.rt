@@ -60,7 +60,10 @@ fn a_pinned_file_is_read_and_stays(rt: HostRuntime) -> Result<(), Fail> {
     assert!(rt; folder.found_at("pinned") != Found::Nothing);
     for _ in 0..2 {
         let read = read_file(rt.alloc(), &folder, "pinned", 4);
-        assert!(rt; matches!(read, Ok(bytes) if bytes.as_slice() == b"abcd".as_slice()));
+        match read {
+            Ok(bytes) => assert_eq!(rt; bytes.as_slice(), b"abcd".as_slice()),
+            Err(_why) => assert!(rt; false),
+        }
     }
     Ok(())
 }
