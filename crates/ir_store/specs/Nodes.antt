@@ -1,5 +1,5 @@
 -- States whose threads, beside what answers them, and words are kept in tables.
-use Rattle.std.specs.Prelude.{◌≡◌, ◌<◌, ◌+◌, ◌*◌, ◌^◌, ℕ, List, [], length, map, Some, slice_get, slice_set}
+use Rattle.std.specs.Prelude.{◌≡◌, ◌≢◌, ◌<◌, ◌+◌, ◌*◌, ◌^◌, ℕ, List, [], length, map, Some, slice_get, slice_set}
 use Rattle.std.specs.List.{AllByRecursion, slice_index_or}
 use Rattle.ir_image.specs.declared.form.ImageForm.{ImageForm}
 use Rattle.ir_thread.specs.State.{ThreadState}
@@ -30,6 +30,11 @@ sourced_thread s t = (thread_of s.flat t, source_of s t)
 -- another thread t beside what answers it, and another object o
 abbrev pub with_turn : SourcedFlat → ℕ → ThreadState × Source → ℕ → Cell → SourcedFlat
 with_turn s t x o c = record { flat = with_object (with_thread s.flat t x.0) o c; sources = slice_set s.sources t x.1 }
+
+-- u has the threads of s beside what answers them, but perhaps for thread t
+pub record HasOthersOf (s u : SourcedFlat) (t : ℕ) : Type 0 where
+  pub each : length u.flat.threads ≡ length s.flat.threads
+  pub others : (v : ℕ) → v ≢ t → sourced_thread u v ≡ sourced_thread s v
 
 -- a guest's state, in which each thread has what answers it
 pub record IsSourced (s : SourcedFlat) : Type 0 where
