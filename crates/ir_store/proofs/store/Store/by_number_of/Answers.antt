@@ -1,9 +1,8 @@
-use Rattle.std.proofs.Common.{◌≡◌, ◌<◌, length, get_or, refl, sym, ap, ◌∙◌, subst, arith, Some}
+use Rattle.std.proofs.Common.{◌≡◌, ◌<◌, length, get_or, refl, sym, ap, ◌∙◌, subst, Some}
 use Rattle.std.specs.Prelude.{slice_get, slice_set}
-use Rattle.ir_lemmas.proofs.CallerLemmas.{length_of_map}
 use Rattle.ir_store.specs.Nodes.{SourcedFlat, HasOthersOf, IsSourced, Shared, Node, Stored, sourced_in}
 use Rattle.ir_store.specs.Places.{no_node}
-use Rattle.ir_store.specs.Table.{idle_beside, threads_at, sources_at}
+use Rattle.ir_store.specs.Table.{threads_at, sources_at}
 use Rattle.ir_store.proofs.Numbered.{nodes_found_kept}
 use Rattle.ir_store.proofs.Shared.{nodes_grown, states_grown}
 use Rattle.ir_store.proofs.Stored.{slice_get_of_mapped_nodes_is_sourced_node, node_is, threads_set, sources_set}
