@@ -26,3 +26,4 @@ mod Both
 mod Ticks
 mod Times
 mod Timed
+mod Hand

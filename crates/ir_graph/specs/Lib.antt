@@ -14,3 +14,4 @@ pub mod Hangs
 pub mod Stops
 pub mod Standing
 pub mod Times
+pub mod Hand
