@@ -1,10 +1,15 @@
 -- Several objects in place of others.
-use Rattle.std.proofs.Common.{◌≡◌, ◌≢◌, ◌<◌, ℕ, zero, suc, List, [], ◌∷◌, length, get_or, set, map, refl, sym, ap, ◌∙◌, subst, arith}
+use Rattle.std.proofs.Common.{◌≡◌, ◌<◌, ℕ, zero, suc, List, [], ◌∷◌, length, get_or, set, map, refl, sym, ap, ◌∙◌, subst, arith}
 use Rattle.std.specs.List.{AllByRecursion}
 use Rattle.std.proofs.lemmas.List.{set-set, set_comm, set-get_or, get_or-set_same, get_or-set_other, length-set}
+use Rattle.ir_flat.specs.Flat.{idle}
 use Rattle.ir_flat.specs.Room.{empty}
+use Rattle.ir_sources.specs.Sources.{Source}
+use Rattle.ir_thread.specs.State.{ThreadState}
+use Rattle.ir_store.specs.Nodes.{SourcedFlat, sourced_thread, with_turn}
+use Rattle.ir_store.specs.Table.{no_source}
 use Rattle.ir_object.specs.Cell.{Cell}
-use Rattle.ir_graph.specs.Hand.{with_cells, IsNoneOf, EachOnce}
+use Rattle.ir_graph.specs.Hand.{with_cells, with_hand, IsHandOf, IsNoneOf, EachOnce}
 
 pub with_cells_as_many : (objects : List Cell) (numbers : List ℕ) (cells : List Cell) → length (with_cells objects numbers cells) ≡ length objects
 with_cells_as_many objects [] cells = refl
@@ -66,3 +71,38 @@ with_cells_twice objects (o ∷ numbers) (c ∷ cells) (d ∷ later) once each t
     ap (λ l. with_cells l numbers later) (set_before_with_cells (set objects o c) numbers cells o d once.0
     ∙ ap (λ l. with_cells l numbers cells) (set-set objects o c d))
     ∙ with_cells_twice (set objects o d) numbers cells later once.1 (omega (arith, each)) (omega (arith, too))
+
+-- a state with its own thread and objects is the state
+pub with_own_hand : (s : SourcedFlat) (t : ℕ) (numbers : List ℕ) (cells : List Cell) → IsHandOf s numbers cells
+    → with_hand s t (sourced_thread s t) numbers cells ≡ s
+with_own_hand s t numbers cells is = λ i. record {
+  flat = record s.flat {
+    threads = set-get_or s.flat.threads t idle i;
+    objects = (ap (with_cells s.flat.objects numbers) is.own ∙ with_own_cells s.flat.objects numbers) i;
+  };
+  sources = set-get_or s.sources t no_source i;
+}
+
+-- a step of the thread about the object at place k
+pub with_turn_after_hand : (s : SourcedFlat) (t : ℕ) (x y : ThreadState × Source) (numbers : List ℕ) (cells : List Cell) (k : ℕ) (c : Cell)
+    → EachOnce numbers → k < length numbers → length cells ≡ length numbers
+    → with_turn (with_hand s t x numbers cells) t y (get_or numbers k 0) c ≡ with_hand s t y numbers (set cells k c)
+with_turn_after_hand s t x y numbers cells k c once less each = λ i. record {
+  flat = record s.flat {
+    threads = set-set s.flat.threads t x.0 y.0 i;
+    objects = set_after_with_cells s.flat.objects numbers cells k c once less each i;
+  };
+  sources = set-set s.sources t x.1 y.1 i;
+}
+
+-- of two hands put one after the other the later stays
+pub with_hand_twice : (s : SourcedFlat) (t : ℕ) (x y : ThreadState × Source) (numbers : List ℕ) (cells later : List Cell) → EachOnce numbers
+    → length cells ≡ length numbers → length later ≡ length numbers
+    → with_hand (with_hand s t x numbers cells) t y numbers later ≡ with_hand s t y numbers later
+with_hand_twice s t x y numbers cells later once each too = λ i. record {
+  flat = record s.flat {
+    threads = set-set s.flat.threads t x.0 y.0 i;
+    objects = with_cells_twice s.flat.objects numbers cells later once each too i;
+  };
+  sources = set-set s.sources t x.1 y.1 i;
+}
