@@ -2,4 +2,5 @@ mod Pushed
 mod Kept
 mod Circles
 mod Lasts
+mod Going
 mod Shown

@@ -76,6 +76,6 @@ pub record AreHeld (f : FittedTrace) (boxes : List PlacedBox) (spans : List Span
   pub all : AreRunBoxes f (events_of_all boxes)
   pub go : ArePaired (λ (b : PlacedBox) (s : Span). IsSpan f b.events s) boxes spans
   pub placed : (k : ℕ) (b : PlacedBox) (own : Span) → slice_get boxes k ≡ Some b → slice_get spans k ≡ Some own → IsHeld f boxes spans b own
-  pub rows : AreRows spans rows
+  pub levels : AreRows spans rows
   pub threads : length ends ≡ length f.recorded.threads
   pub last : (t : ℕ) (p : Point) → slice_get ends t ≡ Some p → IsHeldEnd f boxes spans t p

@@ -1,5 +1,5 @@
 -- From which step to which a box of a run goes, and in which row it is drawn.
-use Rattle.std.specs.Prelude.{◌≡◌, ℕ, ◌+◌, ◌-◌, ◌<◌, List, length, Some, ⊥}
+use Rattle.std.specs.Prelude.{◌≡◌, ℕ, ◌+◌, ◌-◌, ◌<◌, List, length, Some}
 use Rattle.std.specs.List.{slice_get}
 use Rattle.ir_fit.specs.Fit.{FittedTrace}
 use Rattle.ir_past.specs.Past.{event_at}
@@ -10,7 +10,7 @@ use Rattle.ir_picture_run.specs.declared.span.Span.{Span}
 
 -- the last event of a box, by its place in the thread's log
 abbrev pub last_event : EventBox → ℕ
-last_event b = b.event + b.count - 1
+last_event b = b.event + (b.count - 1)
 
 -- a box goes from the step that logs its first event to the last step of its last event
 pub record IsSpan (f : FittedTrace) (b : EventBox) (s : Span) : Type 0 where
@@ -22,7 +22,7 @@ pub record IsSpan (f : FittedTrace) (b : EventBox) (s : Span) : Type 0 where
 pub record IsOver (a b : Span) : Type 0 where
   pub thread : a.thread ≡ b.thread
   pub begun : a.first < b.first
-  pub open : b.first < a.last
+  pub held : b.first < a.last
 
 -- of the boxes before box n, one that hasn't ended where box n begins has row y
 pub record IsTaken (spans : List Span) (rows : List ℕ) (n : ℕ) (own : Span) (y : ℕ) : Type 0 where

@@ -1,6 +1,6 @@
 //! The rows in which the boxes of a run are drawn.
 
-ghost use Rattle.std.specs.Prelude.{◌≡◌, ◌<◌, ◌≤◌, ◌↔◌, ℕ, Some, IfOk, IsTrue, length, ⊥};
+ghost use Rattle.std.specs.Prelude.{◌≡◌, ◌<◌, ◌≤◌, ◌↔◌, ℕ, Some, IfOk, IsTrue, length};
 ghost use Rattle.std.specs.List.{slice_get};
 ghost use Rattle.ir_picture_run.specs.Spans.{IsOver, IsTaken, IsFreeRow, AreRows};
 

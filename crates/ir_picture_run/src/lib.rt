@@ -5,6 +5,7 @@ mod data;
 mod drawing;
 mod drawn;
 mod keeping;
+mod laws;
 mod levels;
 mod pictures;
 mod resting;
@@ -16,6 +17,7 @@ mod spans;
 mod view;
 
 pub use drawn::Drawn;
+pub use laws::rows_do_not_overlap;
 pub use levels::rows_of;
 pub use resting::Resting;
 pub use run::view_fit_run;
