@@ -1,6 +1,6 @@
 //! The rows in which the boxes of a run are drawn.
 
-ghost use Rattle.std.specs.Prelude.{◌≡◌, ◌<◌, ◌≤◌, ◌↔◌, ℕ, Some, IfOk, IsTrue, length};
+ghost use Rattle.std.specs.Prelude.{◌≡◌, ◌<◌, ◌≤◌, ◌↔◌, ℕ, Some, IfOk, IsTrue, true, false, length};
 ghost use Rattle.std.specs.List.{slice_get};
 ghost use Rattle.ir_picture_run.specs.Spans.{IsOver, IsTaken, IsFreeRow, AreRows};
 
@@ -17,7 +17,8 @@ fn is_over(one: &Span, other: &Span) -> bool
 // Whether a row is taken where the next box begins.
 fn is_taken(spans: &[Span], rows: &[usize], own: &Span, row: usize) -> bool
     requires { length rows.now ≤ length spans.now }
-    ensures { IsTrue result ↔ IsTaken spans.now rows.now (length rows.now) own.now row }
+    ensures taken { result ≡ true → IsTaken spans.now rows.now (length rows.now) own.now row }
+    ensures free { result ≡ false → IsTaken spans.now rows.now (length rows.now) own.now row → ⊥ }
 {
     for number in 0..rows.len() {
         if rows[number] == row && is_over(&spans[number], own) {
@@ -42,7 +43,7 @@ fn free_row(spans: &[Span], rows: &[usize], own: &Span) -> usize
     rows.len()
 }
 
-/// The rows of boxes that go so. Time is quadratic in the boxes for each row.
+/// The rows of boxes that go so. Time is quadratic in the boxes, times the rows.
 ///
 /// # Errors
 /// Out of memory.
