@@ -3,4 +3,5 @@ mod Kept
 mod Circles
 mod Lasts
 mod Going
+mod Behind
 mod Shown

@@ -17,7 +17,7 @@ mod spans;
 mod view;
 
 pub use drawn::Drawn;
-pub use laws::rows_do_not_overlap;
+pub use laws::{behind_is_left, rows_do_not_overlap};
 pub use levels::rows_of;
 pub use resting::Resting;
 pub use run::view_fit_run;
