@@ -4,4 +4,5 @@ mod Circles
 mod Lasts
 mod Going
 mod Behind
+mod Marks
 mod Shown

@@ -79,3 +79,7 @@ pub record AreHeld (f : FittedTrace) (boxes : List PlacedBox) (spans : List Span
   pub levels : AreRows spans rows
   pub threads : length ends ≡ length f.recorded.threads
   pub last : (t : ℕ) (p : Point) → slice_get ends t ≡ Some p → IsHeldEnd f boxes spans t p
+
+-- box b, which goes so, starts or ends before step k of thread t, and there its x is z
+abbrev pub PassesBefore : PlacedBox → Span → ℕ → ℕ → ℕ → Type 0
+PassesBefore b s t k z = (s.thread ≡ t) × (((s.first < k) × (b.start.x ≡ z)) ⊎ ((s.last < k) × (b.end.x ≡ z)))

@@ -1,12 +1,14 @@
 //! A picture of a run: that of its trace, with the steps of its boxes, and with the stale writes that rest on what was read.
 #![tactic(auto)]
 
+mod brief;
 mod data;
 mod drawing;
 mod drawn;
 mod keeping;
 mod laws;
 mod levels;
+mod passing;
 mod pictures;
 mod resting;
 mod rows;
@@ -16,9 +18,11 @@ mod span;
 mod spans;
 mod view;
 
+pub use brief::is_brief;
 pub use drawn::Drawn;
 pub use laws::{behind_is_left, rows_do_not_overlap};
 pub use levels::rows_of;
+pub use passing::past_marks;
 pub use resting::Resting;
 pub use run::view_fit_run;
 pub use run_picture::RunPicture;
