@@ -1,5 +1,5 @@
 -- The least number that is past the starts and ends of boxes.
-use Rattle.std.proofs.Common.{◌≡◌, ℕ, ◌+◌, ◌<◌, ◌≤◌, ◌⊎◌, inl, inr, Some, List, refl, sym, ap, ◌∙◌, subst, arith}
+use Rattle.std.proofs.Common.{◌≡◌, Bool, true, ℕ, ◌+◌, ◌<◌, ◌≤◌, ◌⊎◌, inl, inr, Some, List, refl, sym, ap, ◌∙◌, subst, arith}
 use Rattle.std.specs.List.{slice_get}
 use Rattle.std.proofs.lemmas.Bool.{cases_lt}
 use Rattle.std.proofs.lemmas.Option.{same_Some, slice_get_within}
@@ -96,3 +96,17 @@ least_above_all_marks boxes spans t k from n y h all = record {
         x = last.1;
       }
     ]
+
+-- the least number past the start of a box, and then past its end, as far as each counts
+pub least_above_box_in_two_steps : (b : PlacedBox) (s : Span) (t k least mid y : ℕ) (begun ended : Bool) → (begun ≡ true → (s.thread ≡ t) × (s.first < k))
+    → (s.thread ≡ t → s.first < k → begun ≡ true) → (ended ≡ true → (s.thread ≡ t) × (s.last < k)) → (s.thread ≡ t → s.last < k → ended ≡ true) → least ≤ mid
+    → (begun ≡ true → b.start.x < mid) → ((w : ℕ) → least ≤ w → (begun ≡ true → b.start.x < w) → mid ≤ w) → mid ≤ y → (ended ≡ true → b.end.x < y)
+    → ((w : ℕ) → mid ≤ w → (ended ≡ true → b.end.x < w) → y ≤ w) → IsLeastAbove least (PassesBefore b s t k) y
+least_above_box_in_two_steps b s t k least mid y begun ended begins begun_if ends ended_if low past lowest more far last = record {
+  start = omega (arith, low, more);
+  above = λ z p. elim p.1 [
+    | inl first ↦ let right = past (begun_if p.0 first.0) in let same = first.1 in omega (arith, right, more, same)
+    | inr end ↦ let right = far (ended_if p.0 end.0) in let same = end.1 in omega (arith, right, same)
+  ];
+  least = λ w from all. last w (lowest w from (λ is. all b.start.x ((begins is).0, inl ((begins is).1, refl)))) (λ is. all b.end.x ((ends is).0, inr ((ends is).1, refl)));
+}
