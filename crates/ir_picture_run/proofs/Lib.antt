@@ -5,4 +5,5 @@ mod Lasts
 mod Going
 mod Behind
 mod Marks
+mod Coming
 mod Shown

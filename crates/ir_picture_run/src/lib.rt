@@ -2,6 +2,7 @@
 #![tactic(auto)]
 
 mod brief;
+mod coming_by;
 mod data;
 mod drawing;
 mod drawn;
@@ -19,6 +20,7 @@ mod spans;
 mod view;
 
 pub use brief::is_brief;
+pub use coming_by::come_from_marks;
 pub use drawn::Drawn;
 pub use laws::{behind_is_left, rows_do_not_overlap};
 pub use levels::rows_of;

@@ -19,8 +19,8 @@ fn past_if(least: u64, counts: bool, x: u64) -> u64
     if counts && least <= x { x + 1 } else { least }
 }
 
-// Whether a step of a thread is before a step of this thread.
-fn is_before(span: &Span, at: u64, thread: u8, step: u64) -> bool
+/// Whether a step of a thread is before a step of this thread.
+pub fn is_before(span: &Span, at: u64, thread: u8, step: u64) -> bool
     ensures yes { result ≡ true → (span.now.thread ≡ thread) × (at < step) }
     ensures sure { span.now.thread ≡ thread → at < step → result ≡ true }
 {
