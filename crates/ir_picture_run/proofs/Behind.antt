@@ -1,5 +1,5 @@
 -- What an event needs behind a leave is drawn left of it.
-use Rattle.std.proofs.Common.{◌≡◌, ℕ, suc, ◌+◌, ◌-◌, ◌<◌, ◌≤◌, ◌⊎◌, inl, inr, Option, Some, None, List, length, map, get_or, refl, sym, ap, ◌∙◌, subst, arith}
+use Rattle.std.proofs.Common.{◌≡◌, ℕ, suc, ◌+◌, ◌<◌, ◌≤◌, inl, inr, Option, Some, None, List, length, get_or, refl, sym, ap, ◌∙◌, subst, arith}
 use Rattle.std.specs.List.{slice_get}
 use Rattle.std.specs.Option.{option_map}
 use Rattle.std.proofs.lemmas.Bool.{cases_lt}
@@ -18,7 +18,6 @@ use Rattle.ir_picture.specs.Needs.{Needs}
 use Rattle.ir_picture.specs.Boxes.{IsInBox, HasBox}
 use Rattle.ir_picture.specs.Places.{EndsNeeded}
 use Rattle.ir_picture.specs.Placing.{events_of_all}
-use Rattle.ir_picture.specs.Shown.{StartsAt}
 use Rattle.ir_picture.specs.declared.event_box.EventBox.{EventBox}
 use Rattle.ir_picture.specs.declared.placed_box.Point.{Point}
 use Rattle.ir_picture.specs.declared.placed_box.PlacedBox.{PlacedBox}
@@ -26,7 +25,7 @@ use Rattle.ir_picture_run.specs.Steps.{IsLastStep}
 use Rattle.ir_picture_run.specs.Spans.{last_event, IsSpan}
 use Rattle.ir_picture_run.specs.Brief.{IsRunBox}
 use Rattle.ir_picture_run.specs.Held.{AreHeld, IsMark, MarkedBefore}
-use Rattle.ir_picture_run.specs.Laws.{NeedsLeave, NeedsBehind, BehindIsLeft}
+use Rattle.ir_picture_run.specs.Laws.{BehindIsLeft}
 use Rattle.ir_picture_run.specs.declared.span.Span.{Span}
 
 -- ---- steps of events

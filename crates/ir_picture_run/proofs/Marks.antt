@@ -2,10 +2,10 @@
 use Rattle.std.proofs.Common.{◌≡◌, Bool, true, ℕ, ◌+◌, ◌<◌, ◌≤◌, ◌⊎◌, inl, inr, Some, List, refl, sym, ap, ◌∙◌, subst, arith}
 use Rattle.std.specs.List.{slice_get}
 use Rattle.std.proofs.lemmas.Bool.{cases_lt}
-use Rattle.std.proofs.lemmas.Option.{same_Some, slice_get_within}
+use Rattle.std.proofs.lemmas.Option.{same_Some}
 use Rattle.ir_picture.specs.Places.{IsLeastAbove}
 use Rattle.ir_picture.specs.declared.placed_box.PlacedBox.{PlacedBox}
-use Rattle.ir_picture_run.specs.Held.{IsMark, PassesBefore, MarkedBefore}
+use Rattle.ir_picture_run.specs.Held.{PassesBefore, MarkedBefore}
 use Rattle.ir_picture_run.specs.declared.span.Span.{Span}
 
 -- one of the first n boxes does so

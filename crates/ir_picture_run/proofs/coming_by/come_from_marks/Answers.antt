@@ -1,4 +1,4 @@
-use Rattle.std.proofs.Common.{ℕ, ◌<◌, length, arith}
+use Rattle.std.proofs.Common.{arith}
 use Rattle.std.proofs.lemmas.Option.{slice_get-get_or, slice_get_within}
 use Rattle.ir_picture_run.proofs.Coming.{least_from_next_box, least_from_all_marks}
 use Rattle.ir_picture_run.proofs.coming_by.come_from_marks.Goals as goal
