@@ -4,6 +4,7 @@ mod Circles
 mod Lasts
 mod Going
 mod Behind
+mod InCut
 mod Marks
 mod Coming
 mod Shown

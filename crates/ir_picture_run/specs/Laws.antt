@@ -56,7 +56,12 @@ abbrev pub BehindComesFirst : Type 0
 BehindComesFirst = (f : FittedTrace) → HasRun f → (t i u k : ℕ) → NeedsBehind f t i u k
     → EachRun f (λ run. (m n : ℕ) → IsStepAt run m u (entry_of f u k) → IsStepAt run n t (entry_of f t i) → m < n)
 
--- the law: and is drawn further left
+-- the law: a consistent cut that has the step of an event has what the event needs behind a leave
+abbrev pub BehindIsInCut : Type 0
+BehindIsInCut = (f : FittedTrace) → HasRun f → (t i u k : ℕ) → NeedsBehind f t i u k → (cut : List ℕ) → IsConsistentCut f cut
+    → entry_of f t i < cut_of cut t → entry_of f u k < cut_of cut u
+
+-- the law: what an event needs behind a leave is drawn further left than the event
 abbrev pub BehindIsLeft : Type 0
 BehindIsLeft = (f : FittedTrace) → HasRun f → (boxes : List PlacedBox) (spans : List Span) (rows : List ℕ) (ends : List Point) → AreHeld f boxes spans rows ends
     → (t i u k x z : ℕ) → NeedsBehind f t i u k → StartsAt boxes u k z → StartsAt boxes t i x → z < x

@@ -1,6 +1,11 @@
 //! What holds of the places and rows of the boxes of a run. The functions do nothing: their contracts are the laws.
 
-ghost use Rattle.ir_picture_run.specs.Laws.{BehindIsLeft, RowsDontOverlap};
+ghost use Rattle.ir_picture_run.specs.Laws.{BehindIsInCut, BehindIsLeft, RowsDontOverlap};
+
+/// A consistent cut that has the step of an event has what the thread of an event that it needs logged before it left what is needed.
+pub fn behind_is_in_cut()
+    ensures { BehindIsInCut }
+{}
 
 /// What an event needs, and what the thread of that logged before it left what is needed, is drawn left of the event.
 pub fn behind_is_left()

@@ -22,7 +22,7 @@ mod view;
 pub use brief::is_brief;
 pub use coming_by::come_from_marks;
 pub use drawn::Drawn;
-pub use laws::{behind_is_left, rows_do_not_overlap};
+pub use laws::{behind_is_in_cut, behind_is_left, rows_do_not_overlap};
 pub use levels::rows_of;
 pub use passing::past_marks;
 pub use resting::Resting;
