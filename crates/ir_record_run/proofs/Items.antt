@@ -5,7 +5,7 @@ use Rattle.std.specs.Option.{is_some, is_none}
 use Rattle.std.specs.Char.{is_ascii_digit}
 use Rattle.std.specs.List.{slice_split, join_with_byte, list_all}
 use Rattle.std.specs.Str.{all_ascii_digits}
-use Rattle.std.proofs.lemmas.Bool.{cases_Bool, false≢true}
+use Rattle.std.proofs.lemmas.Bool.{cases_Bool, false≢true, le-leb}
 use Rattle.std.proofs.lemmas.List.Splits.{join_with_byte-slice_split, length-slice_split}
 use Rattle.std.proofs.lemmas.Str.Parse.{not_in_digits}
 use Rattle.ir_record_run.specs.Numerals.{number_within}
@@ -100,6 +100,11 @@ pub digit_bytes_are_all_ascii_digits : (text : List ℕ) → list_all is_ascii_d
 digit_bytes_are_all_ascii_digits [] = refl
 digit_bytes_are_all_ascii_digits (c ∷ cs) = ap (λ (z : Bool). is_ascii_digit c && z) (digit_bytes_are_all_ascii_digits cs)
 
+pub digits_if_nonempty_and_all_are : (text : List ℕ) → (length text == 0) ≡ false → list_all is_ascii_digit text ≡ is_digits text
+digits_if_nonempty_and_all_are [] some = absurd (false≢true (sym some))
+digits_if_nonempty_and_all_are (c ∷ cs) some = digit_bytes_are_all_ascii_digits (c ∷ cs)
+    ∙ sym (ap (λ (z : Bool). z && all_ascii_digits (c ∷ cs)) (le-leb 1 (length (c ∷ cs)) (omega arith)))
+
 -- a text without the mark
 pub is_turn_of_unmarked_part : (text thread : List ℕ) → slice_split (λ b. b == 33) text ≡ thread ∷ [] → is_turn text ≡ is_digits thread
 is_turn_of_unmarked_part text thread e = ap is_turn_by e
@@ -134,9 +139,9 @@ is_digits_is_false_if_not_all_are text other = ap (λ (z : Bool). nat_le 1 (leng
 -- the parts of what isn't all digits are none of an item
 is_item_by_of_other_parts : (one bs : List ℕ) (parts : List (List ℕ)) → is_digits bs ≡ false → join_with_byte 120 parts ≡ bs → 1 ≤ length parts
     → is_item_by (one ∷ parts) ≡ (is_turn one && is_digits bs)
-is_item_by_of_other_parts one bs [] no e some = absurd (omega (arith, some))
-is_item_by_of_other_parts one bs (a ∷ []) no e some = ap (λ (z : List ℕ). is_turn one && is_digits z) e
-is_item_by_of_other_parts one bs (a ∷ b ∷ parts) no e some = sym (ap (λ (z : Bool). is_turn one && z) no ∙ and_with_false_is_false (is_turn one))
+is_item_by_of_other_parts one bs [] other e some = absurd (omega (arith, some))
+is_item_by_of_other_parts one bs (a ∷ []) other e some = ap (λ (z : List ℕ). is_turn one && is_digits z) e
+is_item_by_of_other_parts one bs (a ∷ b ∷ parts) other e some = sym (ap (λ (z : Bool). is_turn one && z) other ∙ and_with_false_is_false (is_turn one))
 
 -- an item with a letter x
 pub is_item_of_counted_parts : (item one count : List ℕ) → slice_split (λ b. b == 120) item ≡ one ∷ slice_split (λ b. b == 120) count
@@ -164,9 +169,9 @@ some_is_not_none : {A : Type 0} (a : A) → ◌≡◌ {A = Option A} (Some a) No
 some_is_not_none a e = absurd (false≢true (sym (ap is_some e)))
 
 joined_of_spelled_is_spelled : (threads : ℕ) (first : Option (List Turn)) (rest : Option (List Turn)) → is_none first ≡ false → joined first rest ≡ None → rest ≡ None
-joined_of_spelled_is_spelled threads None rest no e = absurd (false≢true (sym no))
-joined_of_spelled_is_spelled threads (Some first) None no e = refl
-joined_of_spelled_is_spelled threads (Some first) (Some rest) no e = absurd (some_is_not_none _ e)
+joined_of_spelled_is_spelled threads None rest is e = absurd (false≢true (sym is))
+joined_of_spelled_is_spelled threads (Some first) None is e = refl
+joined_of_spelled_is_spelled threads (Some first) (Some rest) is e = absurd (some_is_not_none _ e)
 
 pub unspelled_items_have_first_bad : (threads : ℕ) (items : List (List ℕ)) → items_of threads items ≡ None → first_bad threads items ≢ None
 unspelled_items_have_first_bad threads [] e = λ _. absurd (some_is_not_none _ e)
