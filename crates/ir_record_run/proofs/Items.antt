@@ -10,7 +10,7 @@ use Rattle.std.proofs.lemmas.List.Splits.{join_with_byte-slice_split, length-sli
 use Rattle.std.proofs.lemmas.Str.Parse.{not_in_digits}
 use Rattle.ir_record_run.specs.Numerals.{number_within}
 use Rattle.ir_record.specs.Refusing.{Turn}
-use Rattle.ir_record_run.specs.Order.{most_turns, turn, turn_by, turn_of, turns, item_by, item_of, joined, items_of, first_bad, is_digits, is_turn_by, is_turn, is_item_by, is_item, names_thread_by, names_thread}
+use Rattle.ir_record_run.specs.Order.{most_turns, turn, turn_by, turn_of, turns, item_by, item_of, joined, items_of, order_of, first_bad, is_digits, is_turn_by, is_turn, is_item_by, is_item, names_thread_by, names_thread}
 use Rattle.ir_record_run.proofs.Numerals.{all_digits_and_digits_value_are_numeral_model, number_within_none_unless_digits}
 use Rattle.ir_record_run.proofs.Parts.{split_without_mark_is_one_part}
 
@@ -173,7 +173,7 @@ joined_of_spelled_is_spelled threads None rest is e = absurd (false≢true (sym 
 joined_of_spelled_is_spelled threads (Some first) None is e = refl
 joined_of_spelled_is_spelled threads (Some first) (Some rest) is e = absurd (some_is_not_none _ e)
 
-pub unspelled_items_have_first_bad : (threads : ℕ) (items : List (List ℕ)) → items_of threads items ≡ None → first_bad threads items ≢ None
+unspelled_items_have_first_bad : (threads : ℕ) (items : List (List ℕ)) → items_of threads items ≡ None → first_bad threads items ≢ None
 unspelled_items_have_first_bad threads [] e = λ _. absurd (some_is_not_none _ e)
 unspelled_items_have_first_bad threads (item ∷ items) e = elim (cases_Bool (is_none (item_of threads item))) [
   | inl bad ↦ λ h. absurd (some_is_not_none _ (sym (ap (λ (z : Bool). if z then Some item else first_bad threads items) bad) ∙ h))
@@ -181,3 +181,6 @@ unspelled_items_have_first_bad threads (item ∷ items) e = elim (cases_Bool (is
       (joined_of_spelled_is_spelled threads (item_of threads item) (items_of threads items) good e)
       (sym (ap (λ (z : Bool). if z then Some item else first_bad threads items) good) ∙ h)
 ]
+
+pub unspelled_list_has_first_bad : (threads : ℕ) (list : List ℕ) → order_of threads list ≡ None → first_bad threads (slice_split (λ b. b == 44) list) ≢ None
+unspelled_list_has_first_bad threads list e = unspelled_items_have_first_bad threads (slice_split (λ b. b == 44) list) e
