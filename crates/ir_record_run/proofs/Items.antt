@@ -1,6 +1,6 @@
 -- The items of an order.
 use Rattle.std.proofs.Common.{◌≡◌, ◌≤◌, ℕ, ◌-◌, Bool, false, List, [], ◌∷◌, length, refl, sym, ap, ◌∙◌, arith, inl, inr, Bor, ◌+◌}
-use Rattle.std.specs.Prelude.{◌≢◌, ◌==◌, ◌&&◌, nat_le, true, if◌then◌else◌, Option, Some, None, MatchOption, replicate}
+use Rattle.std.specs.Prelude.{◌≢◌, ◌==◌, ◌&&◌, nat_le, true, if◌then◌else◌, Option, Some, None, replicate}
 use Rattle.std.specs.Option.{is_some, is_none}
 use Rattle.std.specs.Char.{is_ascii_digit}
 use Rattle.std.specs.List.{slice_split, join_with_byte, list_all}
@@ -10,7 +10,7 @@ use Rattle.std.proofs.lemmas.List.Splits.{join_with_byte-slice_split, length-sli
 use Rattle.std.proofs.lemmas.Str.Parse.{not_in_digits}
 use Rattle.ir_record_run.specs.Numerals.{number_within}
 use Rattle.ir_record.specs.Refusing.{Turn}
-use Rattle.ir_record_run.specs.Order.{most_turns, turn, turn_by, turn_of, turns, item_by, item_of, joined, items_of, order_of, first_bad, is_digits, is_turn_by, is_turn, is_item_by, is_item, names_thread_by, names_thread}
+use Rattle.ir_record_run.specs.Order.{most_turns, turn, turn_by, turn_of, turns, item_by, item_of, joined, items_of, order_of, first_bad, is_digits, is_turn_by, is_item_by}
 use Rattle.ir_record_run.proofs.Numerals.{all_digits_and_digits_value_are_numeral_model, number_within_none_unless_digits}
 use Rattle.ir_record_run.proofs.Parts.{split_without_mark_is_one_part}
 
@@ -105,15 +105,6 @@ digits_if_nonempty_and_all_are [] some = absurd (false≢true (sym some))
 digits_if_nonempty_and_all_are (c ∷ cs) some = digit_bytes_are_all_ascii_digits (c ∷ cs)
     ∙ sym (ap (λ (z : Bool). z && all_ascii_digits (c ∷ cs)) (le-leb 1 (length (c ∷ cs)) (omega arith)))
 
--- a text without the mark
-pub is_turn_of_unmarked_part : (text thread : List ℕ) → slice_split (λ b. b == 33) text ≡ thread ∷ [] → is_turn text ≡ is_digits thread
-is_turn_of_unmarked_part text thread e = ap is_turn_by e
-
--- a text with the mark at its end
-pub is_turn_of_marked_part : (text thread rest : List ℕ) → slice_split (λ b. b == 33) text ≡ thread ∷ slice_split (λ b. b == 33) rest → rest ≡ []
-    → is_turn text ≡ is_digits thread
-is_turn_of_marked_part text thread rest e none = ap is_turn_by (e ∙ ap (λ z. thread ∷ slice_split (λ b. b == 33) z) none)
-
 is_turn_by_is_false_if_more_follows_mark : (thread bs : List ℕ) (parts : List (List ℕ)) → bs ≢ [] → join_with_byte 33 parts ≡ bs → 1 ≤ length parts
     → is_turn_by (thread ∷ parts) ≡ false
 is_turn_by_is_false_if_more_follows_mark thread bs [] some e long = absurd (omega (arith, long))
@@ -124,7 +115,7 @@ is_turn_by_is_false_if_more_follows_mark thread bs ((b ∷ part) ∷ next ∷ pa
 
 -- a text with the mark before something else
 pub is_turn_is_false_if_more_follows_mark : (text thread rest : List ℕ) → slice_split (λ b. b == 33) text ≡ thread ∷ slice_split (λ b. b == 33) rest
-    → rest ≢ [] → is_turn text ≡ false
+    → rest ≢ [] → is_turn_by (slice_split (λ b. b == 33) text) ≡ false
 is_turn_is_false_if_more_follows_mark text thread rest e some = ap is_turn_by e
     ∙ is_turn_by_is_false_if_more_follows_mark thread rest (slice_split (λ b. b == 33) rest) some (join_with_byte-slice_split 33 rest)
     (omega (arith, length-slice_split (λ b. b == 33) rest))
@@ -138,31 +129,20 @@ is_digits_is_false_if_not_all_are text other = ap (λ (z : Bool). nat_le 1 (leng
 
 -- the parts of what isn't all digits are none of an item
 is_item_by_of_other_parts : (one bs : List ℕ) (parts : List (List ℕ)) → is_digits bs ≡ false → join_with_byte 120 parts ≡ bs → 1 ≤ length parts
-    → is_item_by (one ∷ parts) ≡ (is_turn one && is_digits bs)
+    → is_item_by (one ∷ parts) ≡ (is_turn_by (slice_split (λ b. b == 33) one) && is_digits bs)
 is_item_by_of_other_parts one bs [] other e some = absurd (omega (arith, some))
-is_item_by_of_other_parts one bs (a ∷ []) other e some = ap (λ (z : List ℕ). is_turn one && is_digits z) e
-is_item_by_of_other_parts one bs (a ∷ b ∷ parts) other e some = sym (ap (λ (z : Bool). is_turn one && z) other ∙ and_with_false_is_false (is_turn one))
+is_item_by_of_other_parts one bs (a ∷ []) other e some = ap (λ (z : List ℕ). is_turn_by (slice_split (λ b. b == 33) one) && is_digits z) e
+is_item_by_of_other_parts one bs (a ∷ b ∷ parts) other e some = sym (ap (λ (z : Bool). is_turn_by (slice_split (λ b. b == 33) one) && z) other ∙ and_with_false_is_false (is_turn_by (slice_split (λ b. b == 33) one)))
 
 -- an item with a letter x
 pub is_item_of_counted_parts : (item one count : List ℕ) → slice_split (λ b. b == 120) item ≡ one ∷ slice_split (λ b. b == 120) count
-    → is_item item ≡ (is_turn one && is_digits count)
+    → is_item_by (slice_split (λ b. b == 120) item) ≡ (is_turn_by (slice_split (λ b. b == 33) one) && is_digits count)
 is_item_of_counted_parts item one count e = ap is_item_by e ∙ elim (cases_Bool (all_ascii_digits count)) [
   | inl all ↦ ap (λ (z : List (List ℕ)). is_item_by (one ∷ z))
       (split_without_mark_is_one_part 120 count (not_in_digits all_digits_and_digits_value_are_numeral_model count 120 all (λ r. omega (arith, r))))
   | inr other ↦ is_item_by_of_other_parts one count (slice_split (λ b. b == 120) count) (is_digits_is_false_if_not_all_are count other)
       (join_with_byte-slice_split 120 count) (omega (arith, length-slice_split (λ b. b == 120) count))
 ]
-
--- an item without
-pub is_item_of_uncounted_part : (item one : List ℕ) → slice_split (λ b. b == 120) item ≡ one ∷ [] → is_item item ≡ is_turn one
-is_item_of_uncounted_part item one e = ap is_item_by e
-
--- the first part of an item is its turn
-pub thread_is_named_by_first_part : (threads : ℕ) (item one : List ℕ) (rest : Option (Bor (List ℕ)))
-    → MatchOption rest (slice_split (λ b. b == 120) item ≡ one ∷ []) (λ r. slice_split (λ b. b == 120) item ≡ one ∷ slice_split (λ b. b == 120) r.now)
-    → names_thread threads item ≡ is_some (turn_of threads one)
-thread_is_named_by_first_part threads item one None e = ap (names_thread_by threads) e
-thread_is_named_by_first_part threads item one (Some rest) e = ap (names_thread_by threads) e
 
 -- a list without a bad item spells an order
 some_is_not_none : {A : Type 0} (a : A) → ◌≡◌ {A = Option A} (Some a) None → ⊥

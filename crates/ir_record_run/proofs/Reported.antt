@@ -26,5 +26,5 @@ fault_without_name_is_reported_if_its_words_are e image plan trace output w (inr
 -- the line of an item of the plan's list reports the fault of that list
 pub order_is_reported_if_its_item_is : (threads : ℕ) (image list : List ℕ) (plan : Plan) (w : Writer) → Refuses (Order threads) image plan → plan.order ≡ Some list
     → IsItemReported threads list w → IsOrderReported image plan w
-order_is_reported_if_its_item_is threads image list plan w (guest, listed, is, fits, allowed, count, order, bad) e r =
+order_is_reported_if_its_item_is threads image list plan w (guest, listed, is, allowed, count, some, few, order, bad) e r =
     (guest, list, is, e, subst (λ (n : ℕ). IsItemReported n list w) count r)

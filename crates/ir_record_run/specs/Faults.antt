@@ -1,8 +1,7 @@
 -- Why there is no recording, and what that leaves.
-use Rattle.std.specs.Prelude.{◌≡◌, ℕ, ◌==◌, List, [], length, codes, ⊤, ◌⊎◌, Some, None, Ok, Err}
+use Rattle.std.specs.Prelude.{◌≡◌, ◌≤◌, ℕ, ◌==◌, List, [], length, codes, ⊤, ◌⊎◌, Some, None, Ok, Err}
 use Rattle.std.specs.List.{slice_split}
-use Rattle.ir_image.specs.Guest.{Guest, guest_at}
-use Rattle.ir_image.specs.Bounds.{IsGuest}
+use Rattle.ir_image.specs.Guest.{Guest, guest_at, most_threads}
 use Rattle.ir_image.specs.declared.image_err.ImageErr.{ImageErr}
 use Rattle.ir_image.specs.declared.image_err.ImageErr.TheVariants as image
 use Rattle.ir_thread.specs.State.{IsAllowed}
@@ -106,8 +105,8 @@ of_order threads order_err.NoMem = NoMem
 abbrev pub Refuses : RecordFault → List ℕ → Plan → Type 0
 Refuses (Image e) image plan = guest_at image ≡ Err e
 Refuses TooLarge image plan = (guest : Guest) × (guest_at image ≡ Ok guest) × (IsAllowed plan.profile guest → ⊥)
-Refuses (Order threads) image plan = (guest : Guest) × (list : List ℕ) × (guest_at image ≡ Ok guest) × IsGuest guest × IsAllowed plan.profile guest
-    × (threads ≡ length guest.entries) × (plan.order ≡ Some list) × (order_of threads list ≡ None)
+Refuses (Order threads) image plan = (guest : Guest) × (list : List ℕ) × (guest_at image ≡ Ok guest) × IsAllowed plan.profile guest
+    × (threads ≡ length guest.entries) × (1 ≤ threads) × (threads ≤ most_threads) × (plan.order ≡ Some list) × (order_of threads list ≡ None)
 Refuses Clock image plan = (guest : Guest) × (guest_at image ≡ Ok guest) × IsAllowed plan.profile guest × (plan.order ≡ None)
 Refuses NoMem image plan = ⊤
 Refuses Trace image plan = ⊥

@@ -68,28 +68,19 @@ is_turn_by (thread ∷ []) = is_digits thread
 is_turn_by (thread ∷ [] ∷ []) = is_digits thread
 is_turn_by parts = false
 
-abbrev pub is_turn : List ℕ → Bool
-is_turn text = is_turn_by (slice_split (λ b. b == 33) text)
-
 -- whether an item is written as a turn, or as a turn, an x and digits, by its parts around the letter x
 abbrev pub is_item_by : List (List ℕ) → Bool
-is_item_by (one ∷ []) = is_turn one
-is_item_by (one ∷ count ∷ []) = is_turn one && is_digits count
+is_item_by (one ∷ []) = is_turn_by (slice_split (λ b. b == 33) one)
+is_item_by (one ∷ count ∷ []) = is_turn_by (slice_split (λ b. b == 33) one) && is_digits count
 is_item_by parts = false
-
-abbrev pub is_item : List ℕ → Bool
-is_item item = is_item_by (slice_split (λ b. b == 120) item)
 
 -- whether the turn of an item, which is its first part around the letter x, is of a thread of the guest
 abbrev pub names_thread_by : ℕ → List (List ℕ) → Bool
 names_thread_by threads [] = false
 names_thread_by threads (one ∷ parts) = is_some (turn_of threads one)
 
-abbrev pub names_thread : ℕ → List ℕ → Bool
-names_thread threads item = names_thread_by threads (slice_split (λ b. b == 120) item)
-
 -- why an item that spells no steps spells none, in words: it isn't written as an item, or its thread isn't of the guest, or else its count is over the limit or 0
 abbrev pub item_why : ℕ → List ℕ → List ℕ
-item_why threads item = if is_item item
-    then (if names_thread threads item then codes "has an N that is not from 1 to 1000000" else codes "names no thread of the image")
+item_why threads item = if is_item_by (slice_split (λ b. b == 120) item)
+    then (if names_thread_by threads (slice_split (λ b. b == 120) item) then codes "has an N that is not from 1 to 1000000" else codes "names no thread of the image")
     else codes "is none of T, TxN, T! and T!xN"

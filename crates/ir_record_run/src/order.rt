@@ -6,7 +6,7 @@ ghost use Rattle.std.specs.Option.{is_some};
 ghost use Rattle.std.specs.Char.{is_ascii_digit};
 ghost use Rattle.ir_image.specs.Guest.{most_threads};
 ghost use Rattle.ir_record.specs.Recording.{turns_of_items};
-ghost use Rattle.ir_record_run.specs.Order.{turn_of, item_of, order_of, first_bad, is_digits, is_turn, is_item, item_why};
+ghost use Rattle.ir_record_run.specs.Order.{turn_of, item_of, order_of, first_bad, is_digits, is_turn_by, is_item_by, item_why};
 ghost use Rattle.ir_record_run.specs.Numerals.{number_within};
 ghost use Rattle.ir_record_run.specs.declared.order.OrderErr.TheVariants.{Bad, NoMem};
 
@@ -115,7 +115,7 @@ fn is_digits(text: &str) -> bool
 
 // Whether a turn is written as such, whatever its thread is.
 fn is_turn(text: &str) -> bool
-    ensures { result ≡ is_turn text.now }
+    ensures { result ≡ is_turn_by (slice_split (λ b. b == 33) text.now) }
 {
     let (thread, mark) = first_part(text, '!');
     match mark {
@@ -126,7 +126,7 @@ fn is_turn(text: &str) -> bool
 
 // Whether an item is written as such, whatever its thread and its count are.
 fn is_item(item: &str) -> bool
-    ensures { result ≡ is_item item.now }
+    ensures { result ≡ is_item_by (slice_split (λ b. b == 120) item.now) }
 {
     let (turn, count) = first_part(item, 'x');
     match count {
