@@ -37,6 +37,21 @@ for t, th in enumerate(run['threads']):
     print(f"thread {t} ends x {max([0] + [x + 1 for k, x, u in marks])} u {max([th['steps'] + 1] + [u + th['steps'] - k for k, x, u in marks])}")
 for n, b in enumerate(boxes):      # the law of rows
     for a in boxes[:n]: assert not (a['t'] == b['t'] and a['row'] == b['row'] and a['first'] < b['first'] < a['last'])
+def goes(way):                     # the objects' rules along an order of marks: entries and leaves alone
+    version, left, inside = {}, {}, {}
+    for x, late, _, k, b in way:
+        o = b['o']; v, n, who = version.get(o, 0), left.get(o, 0), inside.setdefault(o, {})
+        if b['k'] not in (4, 5): continue
+        if not late:
+            if v != b['v'] or (b['k'] == 5 and (who or n != b['r'])) or (b['k'] == 4 and 'w' in who.values()): return False
+            who[b['t']] = 'r' if b['k'] == 4 else 'w'
+        else:
+            del who[b['t']]
+            if b['k'] == 4: left[o] = n + 1
+            else: version[o], left[o] = v + 1, 0
+    return True
+marks = [(b['p']['s'], 0, b['t'], b['first'], b) for b in boxes] + [(b['p']['e'], 1, b['t'], b['last'], b) for b in boxes if b['first'] < b['last']]
+for turn in (1, -1): print('the objects allow the order of x:', goes(sorted(marks, key=lambda m: (m[0], turn * m[2], m[3]))))
 moments = sorted([(b['p']['s'], b['t'], b['first']) for b in boxes] + [(b['p']['e'], b['t'], b['last']) for b in boxes if b['first'] < b['last']])
 for way in (moments, sorted(moments, key=lambda m: (m[0], -m[1], m[2]))):
     at, order = {}, []
