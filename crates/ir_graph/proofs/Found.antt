@@ -9,13 +9,14 @@ use Rattle.ir_states.specs.Nodes.{LeadsTo}
 use Rattle.ir_thread.specs.State.{ask_of}
 use Rattle.ir_flat.specs.Flat.{tables, machine, thread_of}
 use Rattle.ir_store.specs.Nodes.{SourcedFlat}
+use Rattle.ir_store.specs.Others.{HasOthersOf}
 use Rattle.ir_store.specs.Table.{HaveNoTicks}
 use Rattle.ir_graph.specs.Nodes.{Alike, seen_by, answered_by, seen_of, LookAlike, AllRest, AreNodes, Stay, LeadsFrom, IsStepBy, HasStepBy}
 use Rattle.ir_graph.specs.Plain.{GoesPlain, IsLike, MayGo, OthersStay, Rests, result_by}
 use Rattle.ir_graph.specs.Times.{AlikeTickless, LeadsTickless}
 use Rattle.ir_graph.proofs.Alike.{look_alike_symmetric}
 use Rattle.ir_graph.proofs.Leads.{look_alike_reflexive, no_seen_step_if_no_step, no_seen_refusal_unless_try, way_leads_to_alike_node, way_leads_to_tickless_node}
-use Rattle.ir_graph.proofs.Plain.{TakesStep, like_reflexive, like_transitive, like_symmetric, flat_after_plain_steps_is_like_flat_before, flat_after_step_is_like_flat_before, others_stay_after_step}
+use Rattle.ir_graph.proofs.Plain.{TakesStep, like_reflexive, like_transitive, like_symmetric, flat_after_plain_steps_is_like_flat_before, flat_after_step_is_like_flat_before, others_stay_after_step, others_stay_transitive}
 
 pub are_nodes_after_node_added : (states : List SourcedFlat) (new : SourcedFlat) → AreNodes states → length new.sources ≡ length new.flat.threads
     → ((v : ℕ) (s : SourcedFlat) → slice_get states v ≡ Some s → IsLike new.flat s.flat) → AllRest new.flat
@@ -99,6 +100,16 @@ module _ (states : List SourcedFlat) (s u w : SourcedFlat) (t r v : ℕ) (nodes 
 
   pub reached_each : length w.sources ≡ length w.flat.threads
   reached_each = goes.sources ∙ step.sources ∙ nodes.each v s at ∙ sym step.threads ∙ sym goes.threads
+
+  pub reached_thread : t < length w.flat.threads
+  reached_thread = subst (λ k. t < k) (sym (goes.threads ∙ step.threads)) less
+
+  pub reached_others : OthersStay u w t → HasOthersOf s w t
+  reached_others others =
+      let stay = others_stay_transitive s u w t (others_stay_after_step s u t r step.is) others in record {
+        each = goes.threads ∙ step.threads;
+        others = λ p ne i. (stay.threads p ne i, stay.sources p ne i);
+      }
 
   pub reached_rests : OthersStay u w t → Rests (ask_of w.flat.code (thread_of w.flat t)) → AllRest w.flat
   reached_rests = all_rest_after_turn s u w t r (nodes.rest v s at) step goes

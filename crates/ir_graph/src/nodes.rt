@@ -144,7 +144,7 @@ fn node_by_steps<'a>(
     if let Err(stop) = run_to_rest(&mut state, way.thread, bounds.private) {
         return Err(stop);
     }
-    let new = flats.by_numbers(&state)?;
+    let new = flats.by_number_of(way.node, way.thread, &state)?;
     match node_of(flats, timed, new, bounds.nodes) {
         Ok(next) => Ok(Some(next)),
         Err(stop) => Err(stop),

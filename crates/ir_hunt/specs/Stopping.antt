@@ -13,7 +13,7 @@ use Rattle.ir_hunt.specs.declared.plan.HuntPlan.{HuntPlan}
 pub record RefusesHunt (e : RecordFault) (image : List ℕ) (plan : Plan) : Type 0 where
   pub refused : Refuses e image plan
   pub no_clock : e ≢ Clock
-  pub no_list : e ≢ Order
+  pub no_list : (n : ℕ) → e ≢ Order n
 
 -- a fault is reported in its own words
 abbrev pub IsTold : RecordFault → Writer → Type 0

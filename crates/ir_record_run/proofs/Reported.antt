@@ -1,11 +1,11 @@
 -- Faults that are reported by their own words.
-use Rattle.std.proofs.Common.{◌≡◌, ℕ, List, ◌⊎◌, inl, inr, sym, subst}
+use Rattle.std.proofs.Common.{◌≡◌, Some, ℕ, List, ◌⊎◌, inl, inr, sym, subst}
 use Rattle.ir_image.specs.declared.image_err.ImageErr.{ImageErr}
 use Rattle.ir_files.specs.Writers.{Writer, Reports, fault_text}
 use Rattle.ir_record_run.specs.Plan.{Plan}
-use Rattle.ir_record_run.specs.Faults.{Unwritten, fault_words, IsReported}
+use Rattle.ir_record_run.specs.Faults.{Unwritten, fault_words, Refuses, IsItemReported, IsOrderReported, IsReported}
 use Rattle.ir_record_run.specs.declared.record_fault.RecordFault.{RecordFault}
-use Rattle.ir_record_run.specs.declared.record_fault.RecordFault.TheVariants.{Clock, Image, TooLarge, NoMem, Lines}
+use Rattle.ir_record_run.specs.declared.record_fault.RecordFault.TheVariants.{Clock, Image, TooLarge, Order, NoMem, Lines}
 
 reported_of_equal_fault : (e f : RecordFault) (image : List ℕ) (plan : Plan) (trace output : Unwritten) (w : Writer) → e ≡ f
     → (Reports w (fault_text (fault_words f)) → IsReported f image plan trace output w) → Reports w (fault_text (fault_words e))
@@ -22,3 +22,9 @@ fault_without_name_is_reported_if_its_words_are e image plan trace output w (inr
 fault_without_name_is_reported_if_its_words_are e image plan trace output w (inr (inr (inl is))) = reported_of_equal_fault e NoMem image plan trace output w is (λ h. h)
 fault_without_name_is_reported_if_its_words_are e image plan trace output w (inr (inr (inr (inl is)))) = reported_of_equal_fault e Clock image plan trace output w is (λ h. h)
 fault_without_name_is_reported_if_its_words_are e image plan trace output w (inr (inr (inr (inr is)))) = reported_of_equal_fault e Lines image plan trace output w is (λ h. h)
+
+-- the line of an item of the plan's list reports the fault of that list
+pub order_is_reported_if_its_item_is : (threads : ℕ) (image list : List ℕ) (plan : Plan) (w : Writer) → Refuses (Order threads) image plan → plan.order ≡ Some list
+    → IsItemReported threads list w → IsOrderReported image plan w
+order_is_reported_if_its_item_is threads image list plan w (guest, listed, is, allowed, count, some, few, order, bad) e r =
+    (guest, list, is, e, subst (λ (n : ℕ). IsItemReported n list w) count r)

@@ -1,13 +1,13 @@
 -- Why there is no recording, and what that leaves.
-use Rattle.std.specs.Prelude.{◌≡◌, ℕ, ◌==◌, List, [], length, codes, ⊤, ◌⊎◌, Some, None, Ok, Err}
+use Rattle.std.specs.Prelude.{◌≡◌, ◌≤◌, ℕ, ◌==◌, List, [], length, codes, ⊤, ◌⊎◌, Some, None, Ok, Err}
 use Rattle.std.specs.List.{slice_split}
-use Rattle.ir_image.specs.Guest.{Guest, guest_at}
+use Rattle.ir_image.specs.Guest.{Guest, guest_at, most_threads}
 use Rattle.ir_image.specs.declared.image_err.ImageErr.{ImageErr}
 use Rattle.ir_image.specs.declared.image_err.ImageErr.TheVariants as image
 use Rattle.ir_thread.specs.State.{IsAllowed}
 use Rattle.ir_trace.specs.Recorded.{Recorded}
 use Rattle.ir_trace.specs.Encoding.{encoding}
-use Rattle.ir_record_run.specs.Order.{order_of, first_bad, IsItemFault}
+use Rattle.ir_record_run.specs.Order.{order_of, first_bad, item_why}
 use Rattle.ir_record_run.specs.Plan.{Plan}
 use Rattle.ir_record_run.specs.Recording.{IsRecordedOf, lines_of}
 use Rattle.ir_files.specs.Outputs.{OutputWriter, TookEach, FailedAtOne}
@@ -27,7 +27,7 @@ Allows image plan = (guest : Guest) → guest_at image ≡ Ok guest → IsAllowe
 abbrev pub fault_status : RecordFault → ExitStatus
 fault_status (Image e) = status.Refused
 fault_status TooLarge = status.Refused
-fault_status Order = status.Refused
+fault_status (Order threads) = status.Refused
 fault_status NoMem = status.Failed
 fault_status Clock = status.Failed
 fault_status Trace = status.Failed
@@ -47,7 +47,7 @@ image_words image.NoMem = codes "memory ran out"
 abbrev pub fault_words : RecordFault → List ℕ
 fault_words (Image e) = image_words e
 fault_words TooLarge = codes "the first profile takes at most 8 threads and 16 objects, and --profile 2 takes more"
-fault_words Order = codes "LIST is no order of this image's threads"
+fault_words (Order threads) = codes "LIST is no order of this image's threads"
 fault_words NoMem = codes "memory ran out"
 fault_words Clock = codes "the clock can't be read"
 fault_words Trace = codes "the trace can't be written"
@@ -65,12 +65,15 @@ unwritten_of called cause = record { called = called; cause = cause }
 abbrev pub unwritten_words : Unwritten → List ℕ
 unwritten_words u = named_fault [] u.called (codes " can't be written: ") u.cause
 
--- the line of the first item of the plan's list that spells no steps, or that of the list as a whole
+-- the line of the first item of a list that spells no steps for a guest of so many threads, with the item's own reason
+abbrev pub IsItemReported : ℕ → List ℕ → Writer → Type 0
+IsItemReported threads list faults = (item : List ℕ) × (first_bad threads (slice_split (λ b. b == 44) list) ≡ Some item)
+    × Reports faults (fault_text (named_fault (codes "LIST: the item '") item (codes "' ") (item_why threads item)))
+
+-- the line of the first item of the plan's list that spells no steps for the image's guest
 abbrev pub IsOrderReported : List ℕ → Plan → Writer → Type 0
-IsOrderReported image plan faults = Reports faults (fault_text (fault_words Order))
-    ⊎ ((guest : Guest) × (list item why : List ℕ) × (guest_at image ≡ Ok guest) × (plan.order ≡ Some list)
-    × (first_bad (length guest.entries) (slice_split (λ b. b == 44) list) ≡ Some item) × IsItemFault why
-    × Reports faults (fault_text (named_fault (codes "LIST: the item '") item (codes "' ") why)))
+IsOrderReported image plan faults = (guest : Guest) × (list : List ℕ) × (guest_at image ≡ Ok guest) × (plan.order ≡ Some list)
+    × IsItemReported (length guest.entries) list faults
 
 -- a fault is reported by one line, which says what can't be written, which item of the list spells no steps, or else the fault's own words
 abbrev pub IsReported : RecordFault → List ℕ → Plan → Unwritten → Unwritten → Writer → Type 0
@@ -79,7 +82,7 @@ IsReported TooLarge image plan trace output faults = Reports faults (fault_text 
 IsReported NoMem image plan trace output faults = Reports faults (fault_text (fault_words NoMem))
 IsReported Clock image plan trace output faults = Reports faults (fault_text (fault_words Clock))
 IsReported Lines image plan trace output faults = Reports faults (fault_text (fault_words Lines))
-IsReported Order image plan trace output faults = IsOrderReported image plan faults
+IsReported (Order threads) image plan trace output faults = IsOrderReported image plan faults
 IsReported Trace image plan trace output faults = Reports faults (fault_text (unwritten_words trace))
 IsReported Output image plan trace output faults = Reports faults (fault_text (unwritten_words output))
 
@@ -92,18 +95,18 @@ of_image image.Entry = Image image.Entry
 of_image image.Trailing = Image image.Trailing
 of_image image.NoMem = NoMem
 
--- the fault that a refusal of the list is
-abbrev pub of_order : OrderErr → RecordFault
-of_order order_err.Bad = Order
-of_order order_err.NoMem = NoMem
+-- the fault that a refusal of the list is, for a guest of so many threads
+abbrev pub of_order : ℕ → OrderErr → RecordFault
+of_order threads order_err.Bad = Order threads
+of_order threads order_err.NoMem = NoMem
 
 -- why nothing is recorded: the image's first fault; more threads or objects than the profile allows; of a guest that it allows, a list
 -- that spells no order, or without a list a clock that can't be read. That memory ran out says nothing of them
 abbrev pub Refuses : RecordFault → List ℕ → Plan → Type 0
 Refuses (Image e) image plan = guest_at image ≡ Err e
 Refuses TooLarge image plan = (guest : Guest) × (guest_at image ≡ Ok guest) × (IsAllowed plan.profile guest → ⊥)
-Refuses Order image plan = (guest : Guest) × (list : List ℕ) × (guest_at image ≡ Ok guest) × IsAllowed plan.profile guest
-    × (plan.order ≡ Some list) × (order_of (length guest.entries) list ≡ None)
+Refuses (Order threads) image plan = (guest : Guest) × (list : List ℕ) × (guest_at image ≡ Ok guest) × IsAllowed plan.profile guest
+    × (threads ≡ length guest.entries) × (1 ≤ threads) × (threads ≤ most_threads) × (plan.order ≡ Some list) × (order_of threads list ≡ None)
 Refuses Clock image plan = (guest : Guest) × (guest_at image ≡ Ok guest) × IsAllowed plan.profile guest × (plan.order ≡ None)
 Refuses NoMem image plan = ⊤
 Refuses Trace image plan = ⊥
@@ -119,7 +122,7 @@ WriteFails Lines bytes printed lines trace outputs out later last = Took trace b
 WriteFails Clock bytes printed lines trace outputs out later last = ⊥
 WriteFails (Image e) bytes printed lines trace outputs out later last = ⊥
 WriteFails TooLarge bytes printed lines trace outputs out later last = ⊥
-WriteFails Order bytes printed lines trace outputs out later last = ⊥
+WriteFails (Order threads) bytes printed lines trace outputs out later last = ⊥
 WriteFails NoMem bytes printed lines trace outputs out later last = ⊥
 
 -- a fault: nothing was written (all writers are as before), or there is a recording, the trace and the outputs of one run, and

@@ -1,7 +1,8 @@
 -- Lists that say which thread takes each next step.
-use Rattle.std.specs.Prelude.{◌≡◌, ◌⊎◌, codes, if◌then◌else◌, ℕ, ◌-◌, ◌==◌, Bool, true, false, List, [], ◌∷◌, ◌++◌, replicate, Option, Some, None}
+use Rattle.std.specs.Prelude.{codes, if◌then◌else◌, ℕ, ◌-◌, ◌==◌, ◌&&◌, nat_le, length, Bool, true, false, List, [], ◌∷◌, ◌++◌, replicate, Option, Some, None}
 use Rattle.std.specs.List.{slice_split}
-use Rattle.std.specs.Option.{is_none}
+use Rattle.std.specs.Option.{is_none, is_some}
+use Rattle.std.specs.Str.{all_ascii_digits}
 use Rattle.ir_record.specs.Refusing.{Turn}
 use Rattle.ir_record_run.specs.Numerals.{number_within}
 
@@ -57,7 +58,29 @@ abbrev pub first_bad : ℕ → List (List ℕ) → Option (List ℕ)
 first_bad threads [] = None
 first_bad threads (item ∷ items) = if is_none (item_of threads item) then Some item else first_bad threads items
 
--- why an item spells no steps, in words
-abbrev pub IsItemFault : List ℕ → Type 0
-IsItemFault why = (why ≡ codes "is none of T, TxN, T! and T!xN") ⊎ (why ≡ codes "names no thread of the image")
-    ⊎ (why ≡ codes "has an N that is not from 1 to 1000000")
+-- one decimal digit or more, and nothing else
+abbrev pub is_digits : List ℕ → Bool
+is_digits text = nat_le 1 (length text) && all_ascii_digits text
+
+-- whether a turn is written as T or T!, with digits for T, by its parts around the mark !
+abbrev pub is_turn_by : List (List ℕ) → Bool
+is_turn_by (thread ∷ []) = is_digits thread
+is_turn_by (thread ∷ [] ∷ []) = is_digits thread
+is_turn_by parts = false
+
+-- whether an item is written as a turn, or as a turn, an x and digits, by its parts around the letter x
+abbrev pub is_item_by : List (List ℕ) → Bool
+is_item_by (one ∷ []) = is_turn_by (slice_split (λ b. b == 33) one)
+is_item_by (one ∷ count ∷ []) = is_turn_by (slice_split (λ b. b == 33) one) && is_digits count
+is_item_by parts = false
+
+-- whether the turn of an item, which is its first part around the letter x, is of a thread of the guest
+abbrev pub names_thread_by : ℕ → List (List ℕ) → Bool
+names_thread_by threads [] = false
+names_thread_by threads (one ∷ parts) = is_some (turn_of threads one)
+
+-- why an item that spells no steps spells none, in words: it isn't written as an item, or its thread isn't of the guest, or else its count is over the limit or 0
+abbrev pub item_why : ℕ → List ℕ → List ℕ
+item_why threads item = if is_item_by (slice_split (λ b. b == 120) item)
+    then (if names_thread_by threads (slice_split (λ b. b == 120) item) then codes "has an N that is not from 1 to 1000000" else codes "names no thread of the image")
+    else codes "is none of T, TxN, T! and T!xN"

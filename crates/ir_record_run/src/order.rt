@@ -1,11 +1,12 @@
 //! Lists that say which thread takes each next step.
 
 ghost use Rattle.std.specs.Prelude.{◌≡◌, ◌<◌, ◌-◌, ◌≤◌, [], ◌∷◌, length, MatchOption, IfOk, IfSome, Some, None, Err, option_map, replicate, ◌==◌, true};
-ghost use Rattle.std.specs.List.{slice_split};
+ghost use Rattle.std.specs.List.{slice_split, list_all};
 ghost use Rattle.std.specs.Option.{is_some};
+ghost use Rattle.std.specs.Char.{is_ascii_digit};
 ghost use Rattle.ir_image.specs.Guest.{most_threads};
 ghost use Rattle.ir_record.specs.Recording.{turns_of_items};
-ghost use Rattle.ir_record_run.specs.Order.{turn_of, item_of, order_of, first_bad, IsItemFault};
+ghost use Rattle.ir_record_run.specs.Order.{turn_of, item_of, order_of, first_bad, is_digits, is_turn_by, is_item_by, item_why};
 ghost use Rattle.ir_record_run.specs.Numerals.{number_within};
 ghost use Rattle.ir_record_run.specs.declared.order.OrderErr.TheVariants.{Bad, NoMem};
 
@@ -98,28 +99,67 @@ fn turns_of(item: &str, threads: usize) -> Option<Item>
     })
 }
 
+// Whether all bytes are decimal digits.
+fn all_are_digits(text: &[u8]) -> bool
+    ensures { result ≡ list_all is_ascii_digit text.now }
+{
+    text.iter().all(|byte| byte.is_ascii_digit())
+}
+
 // Whether a text is decimal digits.
-fn is_digits(text: &str) -> bool {
-    !text.is_empty() && text.bytes().all(|byte| byte.is_ascii_digit())
+fn is_digits(text: &str) -> bool
+    ensures { result ≡ is_digits text.now }
+{
+    !text.is_empty() && all_are_digits(text.as_bytes())
+}
+
+// Whether a turn is written as such, whatever its thread is.
+fn is_turn(text: &str) -> bool
+    ensures { result ≡ is_turn_by (slice_split (λ b. b == 33) text.now) }
+{
+    let (thread, mark) = first_part(text, '!');
+    match mark {
+        None => is_digits(thread),
+        Some(rest) => rest.is_empty() && is_digits(thread),
+    }
+}
+
+// Whether an item is written as such, whatever its thread and its count are.
+fn is_item(item: &str) -> bool
+    ensures { result ≡ is_item_by (slice_split (λ b. b == 120) item.now) }
+{
+    let (turn, count) = first_part(item, 'x');
+    match count {
+        None => is_turn(turn),
+        Some(count) => is_turn(turn) && is_digits(count),
+    }
+}
+
+// Why an item that spells no steps spells none, in words.
+fn item_why(item: &str, threads: usize) -> &'static str
+    requires some { 1 ≤ threads }
+    requires few { threads ≤ most_threads }
+    ensures { result.now ≡ item_why threads item.now }
+{
+    let (turn, _) = first_part(item, 'x');
+    if !is_item(item) {
+        "is none of T, TxN, T! and T!xN"
+    } else if turn_of(turn, threads).is_none() {
+        "names no thread of the image"
+    } else {
+        "has an N that is not from 1 to 1000000"
+    }
 }
 
 // Why an item spells no steps, in words, where it spells none.
 fn item_fault(item: &str, threads: usize) -> Option<&'static str>
     requires some { 1 ≤ threads }
     requires few { threads ≤ most_threads }
-    ensures { MatchOption result (is_some (item_of threads item.now) ≡ true) (λ why. (item_of threads item.now ≡ None) × IsItemFault why.now) }
+    ensures { MatchOption result (is_some (item_of threads item.now) ≡ true) (λ why. (item_of threads item.now ≡ None) × (why.now ≡ item_why threads item.now)) }
 {
-    if turns_of(item, threads).is_some() {
-        return None;
-    }
-    let (turn, count) = first_part(item, 'x');
-    let (thread, mark) = first_part(turn, '!');
-    if !is_digits(thread) || !mark.unwrap_or("").is_empty() || !is_digits(count.unwrap_or("1")) {
-        Some("is none of T, TxN, T! and T!xN")
-    } else if thread_of(thread, threads).is_none() {
-        Some("names no thread of the image")
-    } else {
-        Some("has an N that is not from 1 to 1000000")
+    match turns_of(item, threads) {
+        Some(_) => None,
+        None => Some(item_why(item, threads)),
     }
 }
 
@@ -127,7 +167,7 @@ fn item_fault(item: &str, threads: usize) -> Option<&'static str>
 pub fn bad_item(list: &str, threads: usize) -> Option<(&str, &'static str)>
     requires some { 1 ≤ threads }
     requires few { threads ≤ most_threads }
-    ensures { MatchOption result (first_bad threads (slice_split (λ b. b == 44) list.now) ≡ None) (λ found. (first_bad threads (slice_split (λ b. b == 44) list.now) ≡ Some found.0.now) × IsItemFault found.1.now) }
+    ensures { MatchOption result (first_bad threads (slice_split (λ b. b == 44) list.now) ≡ None) (λ found. (first_bad threads (slice_split (λ b. b == 44) list.now) ≡ Some found.0.now) × (found.1.now ≡ item_why threads found.0.now)) }
 {
     let mut rest = Some(list);
     'items: while let Some(text) = rest {

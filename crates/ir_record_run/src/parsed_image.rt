@@ -73,7 +73,7 @@ impl<'a> ParsedImage<'a> {
         ensures allowed { IfOk result (λ guest. IsAllowed plan.now.profile guest.now) }
         ensures allows { OnOk result (Allows self.now plan.now) }
         ensures refused { IfErr result (λ e. Refuses e self.now plan.now) }
-        ensures only { IfErr result (λ e. (e ≢ Order) × (e ≢ Clock)) }
+        ensures only { IfErr result (λ e. ((n : ℕ) → e ≢ Order n) × (e ≢ Clock)) }
     {
         match &self.guest {
             Ok(guest) if plan.profile.allows(guest) => Ok(guest),

@@ -15,8 +15,8 @@ pub enum RecordFault {
     Image(ImageErr),
     /// The guest has more threads or objects than the profile allows. Only the first allows fewer than an image may have.
     TooLarge,
-    /// The list spells no order of the guest's threads.
-    Order,
+    /// The list spells no order of the guest's threads, of which there are so many.
+    Order(usize),
     /// Out of memory.
     NoMem,
     /// The clock can't be read.
@@ -30,7 +30,7 @@ pub enum RecordFault {
 }
 
 impl RecordFault {
-    ghost use Rattle.ir_record_run.specs.Faults.{fault_status, fault_words, of_image};
+    ghost use Rattle.ir_record_run.specs.Faults.{fault_status, fault_words, of_image, of_order};
 
     /// The fault that a refusal of the image is.
     pub fn of_image(why: &ImageErr) -> RecordFault
@@ -46,12 +46,22 @@ impl RecordFault {
         }
     }
 
+    /// The fault that a refusal of the list is, for a guest of `threads` threads.
+    pub fn of_order(why: &OrderErr, threads: usize) -> RecordFault
+        ensures { result ≡ of_order threads why.now }
+    {
+        match why {
+            OrderErr::Bad => RecordFault::Order(threads),
+            OrderErr::NoMem => RecordFault::NoMem,
+        }
+    }
+
     /// The exit status.
     pub fn status(&self) -> ExitStatus
         ensures { result ≡ fault_status self.now }
     {
         match self {
-            RecordFault::Image(_) | RecordFault::TooLarge | RecordFault::Order => {
+            RecordFault::Image(_) | RecordFault::TooLarge | RecordFault::Order(_) => {
                 ExitStatus::Refused
             }
             RecordFault::NoMem | RecordFault::Clock => ExitStatus::Failed,
@@ -67,7 +77,7 @@ impl RecordFault {
             RecordFault::Image(why) => image_words(why),
             RecordFault::TooLarge =>
                 "the first profile takes at most 8 threads and 16 objects, and --profile 2 takes more",
-            RecordFault::Order => "LIST is no order of this image's threads",
+            RecordFault::Order(_) => "LIST is no order of this image's threads",
             RecordFault::NoMem => "memory ran out",
             RecordFault::Clock => "the clock can't be read",
             RecordFault::Trace => "the trace can't be written",
@@ -87,19 +97,6 @@ fn image_words(why: &ImageErr) -> &'static str
         ImageErr::Entry => "the image is refused, 4: an entry is no place in the code",
         ImageErr::Trailing => "the image is refused, 5: bytes stand after the end",
         ImageErr::NoMem => "memory ran out",
-    }
-}
-
-impl From<OrderErr> for RecordFault {
-    ghost use Rattle.ir_record_run.specs.Faults.{of_order};
-
-    ghost from_gives = { λ e f. f ≡ of_order e };
-
-    fn from(e: OrderErr) -> RecordFault {
-        match e {
-            OrderErr::Bad => RecordFault::Order,
-            OrderErr::NoMem => RecordFault::NoMem,
-        }
     }
 }
 

@@ -1,17 +1,19 @@
 //! An image in, the trace of a run of its guest, what each thread printed and a line for each thread out.
 
-ghost use Rattle.std.specs.Prelude.{◌≡◌, ◌≢◌, ◌<◌, ◌+◌, ℕ, List, Some, None, Ok, Err, true, false, IfOk, IfErr, OnOk, OnErr, ◌⊎◌, [], length, map, replicate};
+ghost use Rattle.std.specs.Prelude.{◌≡◌, ◌≢◌, ◌<◌, ◌≤◌, ◌+◌, ℕ, List, Some, None, Ok, Err, true, false, IfOk, IfErr, OnOk, OnErr, ◌⊎◌, [], length, map, replicate};
 ghost use Rattle.std.specs.String.{string_bytes};
 ghost use Rattle.std.specs.Io.KnownBytes.{Appends};
+ghost use Rattle.ir_image.specs.Guest.{most_threads};
+ghost use Rattle.ir_record_run.specs.Order.{order_of};
 ghost use Rattle.ir_trace.specs.Recorded.{Recorded};
 ghost use Rattle.ir_trace.specs.Encoding.{encoding};
 ghost use Rattle.ir_record.specs.Recording.{printed_by};
 ghost use Rattle.ir_record_run.specs.Recording.{IsRecordedOf, line_by, thread_line, lines_of};
 ghost use Rattle.ir_files.specs.Outputs.{output_writer_of, TookEach, FailedAtOne};
 ghost use Rattle.ir_files.specs.Writers.{writer_of};
-ghost use Rattle.ir_record_run.specs.Faults.{Allows, fault_status, Refuses, WriteFails, Stops, IsOrderReported, IsReported, unwritten_of};
+ghost use Rattle.ir_record_run.specs.Faults.{Allows, fault_status, Refuses, WriteFails, Stops, IsItemReported, IsReported, unwritten_of};
 ghost use Rattle.ir_record_run.specs.declared.record_fault.RecordFault.{RecordFault};
-ghost use Rattle.ir_record_run.specs.declared.record_fault.RecordFault.TheVariants.{NoMem, Clock};
+ghost use Rattle.ir_record_run.specs.declared.record_fault.RecordFault.TheVariants.{NoMem, Clock, Order};
 
 use crate::files::{RecordFiles, Recording};
 use crate::order::{bad_item, read_order};
@@ -70,7 +72,10 @@ fn recorded_in_order<C: Clock>(
 {
     let guest = image.allowed(plan)?;
     let threads = guest.entries().len();
-    let order = read_order(alloc, list, threads)?;
+    let order = match read_order(alloc, list, threads) {
+        Ok(order) => order,
+        Err(why) => return Err(RecordFault::of_order(&why, threads)),
+    };
     let worlds = worlds(
         alloc,
         clock,
@@ -247,19 +252,18 @@ fn kept<W: WholeSink, P: OutputSink, O: Sink>(
     }
 }
 
-// Reports that a plan's list spells no order of an image's threads: which item doesn't, and why.
-#[tactic(auto, using(ir_image::proofs::CallerLemmas::guest_threads_at_most_limit))]
-fn tell_order<E: Sink>(faults: &mut E, image: &ParsedImage<'_>, plan: &RecordPlan<'_>)
-    requires { E.broken faults.old ≡ false }
-    ensures { IsOrderReported image.now plan.now (writer_of (E.written faults.old) (E.written faults.new) (E.broken faults.new)) }
+// Reports that a list spells no order of a guest's threads: which item doesn't, and why.
+fn tell_order<E: Sink>(faults: &mut E, list: &str, threads: usize)
+    requires works { E.broken faults.old ≡ false }
+    requires some { 1 ≤ threads }
+    requires few { threads ≤ most_threads }
+    requires bad { order_of threads list.now ≡ None }
+    ensures { IsItemReported threads list.now (writer_of (E.written faults.old) (E.written faults.new) (E.broken faults.new)) }
 {
-    if let (Some(guest), Some(list)) = (image.guest(), plan.order) {
-        if let Some((item, why)) = bad_item(list, guest.entries().len()) {
-            tell_of(faults, "LIST: the item '", item, "' ", why);
-            return;
-        }
+    match bad_item(list, threads) {
+        Some((item, why)) => tell_of(faults, "LIST: the item '", item, "' ", why),
+        None => unreachable!(),
     }
-    tell(faults, RecordFault::Order.words());
 }
 
 // Reports why nothing was recorded, or not all of it written.
@@ -271,13 +275,17 @@ fn tell_fault<W: WholeSink, P: OutputSink, E: Sink>(
     trace: &W,
     outputs: &P,
 )
-    requires { E.broken faults.old ≡ false }
+    requires works { E.broken faults.old ≡ false }
+    requires listed { (threads : ℕ) → why.now ≡ Order threads → Refuses (Order threads) image.now plan.now }
     ensures { IsReported why.now image.now plan.now (unwritten_of (W.called trace.now) (W.cause trace.now)) (unwritten_of (P.called outputs.now) (P.cause outputs.now))
         (writer_of (E.written faults.old) (E.written faults.new) (E.broken faults.new)) }
 {
     const UNWRITTEN: &str = " can't be written: ";
     match why {
-        RecordFault::Order => tell_order(faults, image, plan),
+        RecordFault::Order(threads) => match plan.order {
+            Some(list) => tell_order(faults, list, *threads),
+            None => unreachable!(),
+        },
         RecordFault::Trace => tell_of(faults, "", trace.name(), UNWRITTEN, trace.why()),
         RecordFault::Output => tell_of(faults, "", outputs.name(), UNWRITTEN, outputs.why()),
         RecordFault::Image(_)

@@ -1,8 +1,8 @@
 -- Lists that are compared, and numbers in a table.
-use Rattle.std.proofs.Common.{◌≡◌, ◌⊎◌, inl, inr, ◌<◌, ◌≤◌, ◌+◌, ℕ, zero, suc, List, [], ◌∷◌, ◌++◌, length, take, get_or, map, refl, sym, ap, ◌∙◌, subst, arith}
+use Rattle.std.proofs.Common.{◌≡◌, ◌⊎◌, inl, inr, ◌<◌, ◌≤◌, ◌+◌, ℕ, zero, suc, List, [], ◌∷◌, ◌++◌, length, take, get_or, map, set, refl, sym, ap, ◌∙◌, subst, arith}
 use Rattle.std.specs.Prelude.{Result, Ok, Err, OnErr, drop}
 use Rattle.std.specs.List.{AllByRecursion}
-use Rattle.std.proofs.lemmas.List.{take_more, take_all, map_push}
+use Rattle.std.proofs.lemmas.List.{take_more, take_all, map_push, ext_get_or}
 use Rattle.std.proofs.lemmas.Option.{slice_get-get_or, get_or_from_slice_get, slice_get_within}
 use Rattle.ir_lemmas.proofs.CallerLemmas.{all_by_recursion_after_push}
 use Rattle.ir_store.specs.Table.{Keeps}
@@ -67,3 +67,14 @@ drop_begins_with_element (x ∷ xs) (suc i) d lt = drop_begins_with_element xs i
 pub on_err_weaker : {A E P Q : Type 0} (result : Result A E) → (P → Q) → OnErr result P → OnErr result Q
 on_err_weaker (Ok x) f h = tt
 on_err_weaker (Err e) f h = f h
+
+-- a list whose elements but that at place t are those of another is the other with this element
+pub set_is_list_with_equal_others : {X : Type 0} (xs ys : List X) (d : X) (t : ℕ) (y : X) → length ys ≡ length xs → t < length ys → y ≡ get_or ys t y
+    → ((v : ℕ) → (v ≡ t → ⊥) → get_or ys v d ≡ get_or xs v d) → set xs t y ≡ ys
+set_is_list_with_equal_others [] ys d t y each less is same = absurd (omega (arith, each, less))
+set_is_list_with_equal_others (x ∷ xs) [] d t y each less is same = absurd (omega (arith, less))
+set_is_list_with_equal_others (x ∷ xs) (z ∷ ys) d zero y each less is same = λ i.
+    is i ∷ ext_get_or d xs ys (omega (arith, each)) (λ k lt. sym (same (suc k) (λ e. absurd (omega (arith, e))))) i
+set_is_list_with_equal_others (x ∷ xs) (z ∷ ys) d (suc t) y each less is same = λ i.
+    sym (same zero (λ e. absurd (omega (arith, e)))) i
+    ∷ set_is_list_with_equal_others xs ys d t y (omega (arith, each)) (omega (arith, less)) is (λ k ne. same (suc k) (λ e. ne (omega (arith, e)))) i

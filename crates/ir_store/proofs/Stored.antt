@@ -10,9 +10,11 @@ use Rattle.ir_flat.specs.Room.{empty}
 use Rattle.ir_sources.specs.Sources.{Source}
 use Rattle.ir_thread.specs.State.{ThreadState}
 use Rattle.ir_store.specs.declared.spot.Spot.{Spot}
-use Rattle.ir_store.specs.Nodes.{SourcedFlat, sourced_thread, with_turn, Shared, Node, cell_in, sourced_in, IsNode, AreKept}
+use Rattle.ir_store.specs.Nodes.{SourcedFlat, sourced_thread, with_turn, IsSourced, Shared, Node, cell_in, sourced_in, IsNode, AreKept}
+use Rattle.ir_store.specs.Others.{HasOthersOf}
 use Rattle.ir_store.specs.Places.{no_node}
 use Rattle.ir_store.specs.Table.{no_source, idle_beside, beside_at}
+use Rattle.ir_store.proofs.Lists.{set_is_list_with_equal_others}
 
 -- what is at a place of a list of what elements give
 pub element_of_map_is_function_of_element : {X Y : Type 0} (f : X → Y) (xs : List X) (i : ℕ) (x d : X) (y : Y) → i < length xs → x ≡ get_or xs i d
@@ -81,3 +83,13 @@ module _ (shared : Shared) (nodes : List Node) (kept : AreKept shared nodes) (v 
         sources = map-set (λ k. (get_or shared.threads k idle_beside).1) node.threads t n i;
       })
       ∙ ap (λ (z : SourcedFlat). with_turn z t (get_or shared.threads n idle_beside) o (cell_in shared.words spot)) state_is
+
+-- a state that has the others of s is s with its own thread t beside what answers it
+module _ (s u : SourcedFlat) (t : ℕ) (was : IsSourced s) (is : IsSourced u) (have : HasOthersOf s u t) (less : t < length u.flat.threads) where
+  pub threads_set : (x : ThreadState) → x ≡ get_or u.flat.threads t x → set s.flat.threads t x ≡ u.flat.threads
+  threads_set x at = set_is_list_with_equal_others s.flat.threads u.flat.threads idle t x have.each less at
+      (λ v ne. ap (λ (z : ThreadState × Source). z.0) (have.others v ne))
+
+  pub sources_set : (y : Source) → y ≡ get_or u.sources t y → set s.sources t y ≡ u.sources
+  sources_set y at = set_is_list_with_equal_others s.sources u.sources no_source t y (is.each ∙ have.each ∙ sym was.each)
+      (subst (λ k. t < k) (sym is.each) less) at (λ v ne. ap (λ (z : ThreadState × Source). z.1) (have.others v ne))

@@ -5,6 +5,7 @@ ghost use Rattle.std.specs.List.{slice_index_or};
 ghost use Rattle.ir_flat.specs.Flat.{cell_of};
 ghost use Rattle.ir_freeze.specs.Frozen.{is_over};
 ghost use Rattle.ir_store.specs.Nodes.{SourcedFlat, sourced_thread, with_turn, IsSourced, cell_in, sourced_in, AreKept, AreSameLooks, AreSameNumbers, AreMoments, AreNodesFound, Grows, IsNode, IsWithin, Stored};
+ghost use Rattle.ir_store.specs.Others.{HasOthersOf};
 ghost use Rattle.ir_store.specs.Places.{no_node};
 ghost use Rattle.ir_store.specs.Table.{HaveForm, HaveTicks, HaveNoTicks, all_over, idle_beside, AreIn};
 
@@ -281,6 +282,42 @@ impl<'a> Store<'a> {
         let threads = self
             .table
             .add_all(flat.threads(), state.sources.as_slice())?;
+        let objects = spots_of(self.alloc, &mut self.words, flat.objects())?;
+        Ok(Node {
+            code: flat.code(),
+            threads,
+            objects,
+        })
+    }
+
+    /// A state by numbers, whose threads are those of the state of a number, but for one thread or what answers it. That thread and the
+    /// objects are added if they are new.
+    ///
+    /// # Errors
+    /// Out of memory.
+    pub fn by_number_of(
+        &mut self,
+        v: usize,
+        t: usize,
+        state: &SourcedFlat<'a>,
+    ) -> Result<Node<'a>, AllocError>
+        requires node { v < length self.old.items }
+        requires thread { t < length state.now.flat.threads }
+        requires form { HaveForm self.old.form state.now.flat.threads }
+        requires sourced { IsSourced state.now }
+        requires others { (s : SourcedFlat) → slice_get self.old.items v ≡ Some s → HasOthersOf s state.now t }
+        ensures items { self.new.items ≡ self.old.items }
+        ensures form { self.new.form ≡ self.old.form }
+        ensures code { self.new.code ≡ self.old.code }
+        ensures grows { Grows self.old.shared self.new.shared }
+        ensures node { IfOk result (λ node. IsNode self.new.shared node) }
+        ensures state { IfOk result (λ node. sourced_in self.new.shared node ≡ state.now) }
+    {
+        let flat = &state.flat;
+        self.table.each();
+        let numbers = self.nodes.threads(v);
+        let thread = &flat.threads()[t];
+        let threads = self.table.add_at(numbers, t, thread, &state.sources[t])?;
         let objects = spots_of(self.alloc, &mut self.words, flat.objects())?;
         Ok(Node {
             code: flat.code(),

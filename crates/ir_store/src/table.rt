@@ -1,6 +1,6 @@
 //! Threads beside what answers them, by their numbers, each of which is kept once.
 
-ghost use Rattle.std.specs.Prelude.{◌≡◌, ◌≢◌, ◌⊎◌, ◌<◌, ℕ, List, [], ◌∷◌, length, true, false, Some, None, slice_get, IfOk, IfSome};
+ghost use Rattle.std.specs.Prelude.{◌≡◌, ◌≢◌, ◌⊎◌, ◌<◌, ℕ, List, [], ◌∷◌, length, true, false, Some, None, slice_get, slice_set, IfOk, IfSome};
 ghost use Rattle.std.specs.List.{slice_index_or, AllByRecursion};
 ghost use Rattle.ir_freeze.specs.Basis.{Basis, IsBasis};
 ghost use Rattle.ir_freeze.specs.Frozen.{frozen, is_over};
@@ -253,6 +253,35 @@ impl<'a> Table<'a> {
             numbers.push(number)?;
         }
         Ok(numbers)
+    }
+
+    /// These numbers, with another thread beside what answers it at one place, which is added if it is new.
+    ///
+    /// # Errors
+    /// Out of memory.
+    pub fn add_at(
+        &mut self,
+        numbers: &[u32],
+        t: usize,
+        thread: &Thread,
+        source: &Sources<'a>,
+    ) -> Result<Vec<u32>, AllocError>
+        requires form { thread.now.form ≡ self.old.form }
+        requires numbers { AreIn self.old.items numbers.now }
+        requires place { t < length numbers.now }
+        ensures keeps { Keeps self.old.items self.new.items }
+        ensures looks { Keeps self.old.looks self.new.looks }
+        ensures form { self.new.form ≡ self.old.form }
+        ensures basis { self.new.basis ≡ self.old.basis }
+        ensures within { IfOk result (λ changed. AreIn self.new.items changed.items) }
+        ensures threads { IfOk result (λ changed. threads_at self.new.items changed.items ≡ slice_set (threads_at self.old.items numbers.now) t thread.now) }
+        ensures sources { IfOk result (λ changed. sources_at self.new.items changed.items ≡ slice_set (sources_at self.old.items numbers.now) t source.now) }
+    {
+        let n = self.add(thread, source)?;
+        let number = short(n)?;
+        let mut changed = Vec::from_slice(self.alloc, numbers)?;
+        changed[t] = number;
+        Ok(changed)
     }
 
     /// The thread of a number, beside what answers it.

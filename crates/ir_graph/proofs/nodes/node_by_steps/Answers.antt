@@ -3,6 +3,7 @@ use Rattle.std.specs.Prelude.{slice_get}
 use Rattle.ir_runs.specs.Run.{Can}
 use Rattle.ir_flat.specs.Flat.{machine, tables}
 use Rattle.ir_store.specs.Nodes.{SourcedFlat}
+use Rattle.ir_store.specs.Others.{HasOthersOf}
 use Rattle.std.proofs.lemmas.Option.{same_Some}
 use Rattle.ir_store.specs.Table.{HaveForm, HaveTicks, HaveNoTicks}
 use Rattle.ir_graph.specs.Times.{LeadsTickless}
@@ -12,7 +13,7 @@ use Rattle.ir_graph.specs.Plain.{sourced_flat, IsLike, MayGo}
 use Rattle.ir_graph.specs.Reached.{IsReached, AllReached}
 use Rattle.ir_graph.proofs.Reached.{step_of_reached_is_reached}
 use Rattle.ir_graph.proofs.Stops.{is_stop_if_stops_after_entry_from_reached_state, may_stop_by_thread_stop}
-use Rattle.ir_graph.proofs.Found.{leads_nowhere_if_no_step, reached_like, reached_each, reached_rests, leads_to_node_if_reached_state_looks_alike, leads_tickless_if_reached_state_is}
+use Rattle.ir_graph.proofs.Found.{leads_nowhere_if_no_step, reached_like, reached_each, reached_others, reached_thread, reached_rests, leads_to_node_if_reached_state_looks_alike, leads_tickless_if_reached_state_is}
 use Rattle.ir_graph.proofs.Forms.{have_form_of_like_moment}
 use Rattle.ir_graph.proofs.Plain.{TakesStep, takes_step_at_rest_if_tables_step, like_transitive, flat_after_step_is_like_flat_before, flat_after_plain_steps_is_like_flat_before}
 use Rattle.ir_graph.proofs.nodes.node_by_steps.Goals as goal
@@ -23,8 +24,8 @@ run_to_rest-requires-clause-source c =
     let at = subst (λ z. slice_get c.args.flats.now.items c.args.way.node ≡ Some z) (sym c.state.view_is) c.in_ok-state.ensures.found in
     subst (λ n. c.args.way.thread < n) (sym (c.requires.nodes.each c.args.way.node s at)) (c.requires.thread s at)
 
-pub by_numbers-requires-clause-sourced : goal.by_numbers-requires-clause-sourced
-by_numbers-requires-clause-sourced c =
+pub by_number_of-requires-clause-sourced : goal.by_number_of-requires-clause-sourced
+by_number_of-requires-clause-sourced c =
     let f = c.state.inside.flat in
     let g = c.take.new.self in
     let sources = c.state.inside.sources.items in
@@ -45,8 +46,8 @@ by_numbers-requires-clause-sourced c =
       each = reached_each c.args.flats.now.items s u w t c.in-Some.answer c.args.way.node c.requires.nodes at less step goes;
     }
 
-pub by_numbers-requires-clause-form : goal.by_numbers-requires-clause-form
-by_numbers-requires-clause-form c =
+pub by_number_of-requires-clause-form : goal.by_number_of-requires-clause-form
+by_number_of-requires-clause-form c =
     let f = c.state.inside.flat in
     let g = c.take.new.self in
     let sources = c.state.inside.sources.items in
@@ -66,6 +67,45 @@ by_numbers-requires-clause-form c =
     have_form_of_like_moment c.args.flats.now.form f w.flat
     (like_transitive f g w.flat (flat_after_step_is_like_flat_before s u t c.in-Some.answer step) (flat_after_plain_steps_is_like_flat_before u w goes)) form
 
+pub by_number_of-requires-clause-thread : goal.by_number_of-requires-clause-thread
+by_number_of-requires-clause-thread c =
+    let f = c.state.inside.flat in
+    let g = c.take.new.self in
+    let sources = c.state.inside.sources.items in
+    let s = sourced_flat f sources in
+    let u = sourced_flat g sources in
+    let t = c.args.way.thread in
+    let at = subst (λ z. slice_get c.args.flats.now.items c.args.way.node ≡ Some z) (sym c.state.view_is) c.in_ok-state.ensures.found in
+    let less = c.requires.thread s at in
+    let rests = c.requires.nodes.rest c.args.way.node s at t less in
+    let one = c.in_default-take.ensures in
+    let step : TakesStep (sourced_flat c.state.inside.flat c.state.inside.sources.items) (sourced_flat c.take.new.self c.state.inside.sources.items)
+    c.args.way.thread c.in-Some.answer =
+    takes_step_at_rest_if_tables_step f g sources t c.in-Some.answer rests one.admitted one.taken one.code one.threads one.objects in
+    let w = c.run_to_rest.new.state in
+    let goes = c.run_to_rest.ensures.goes in
+    reached_thread c.args.flats.now.items s u w t c.in-Some.answer c.args.way.node c.requires.nodes at less step goes
+
+pub by_number_of-requires-clause-others : goal.by_number_of-requires-clause-others
+by_number_of-requires-clause-others c = λ k is.
+    let f = c.state.inside.flat in
+    let g = c.take.new.self in
+    let sources = c.state.inside.sources.items in
+    let s = sourced_flat f sources in
+    let u = sourced_flat g sources in
+    let t = c.args.way.thread in
+    let at = subst (λ z. slice_get c.args.flats.now.items c.args.way.node ≡ Some z) (sym c.state.view_is) c.in_ok-state.ensures.found in
+    let less = c.requires.thread s at in
+    let rests = c.requires.nodes.rest c.args.way.node s at t less in
+    let one = c.in_default-take.ensures in
+    let step : TakesStep (sourced_flat c.state.inside.flat c.state.inside.sources.items) (sourced_flat c.take.new.self c.state.inside.sources.items)
+    c.args.way.thread c.in-Some.answer =
+    takes_step_at_rest_if_tables_step f g sources t c.in-Some.answer rests one.admitted one.taken one.code one.threads one.objects in
+    let w = c.run_to_rest.new.state in
+    let goes = c.run_to_rest.ensures.goes in
+    subst (λ z. HasOthersOf z w t) (same_Some s k (sym at ∙ is))
+    (reached_others c.args.flats.now.items s u w t c.in-Some.answer c.args.way.node c.requires.nodes at less step goes c.run_to_rest.ensures.others)
+
 pub returns-in-Err-clause-leads : goal.returns-in-Err-clause-leads
 returns-in-Err-clause-leads c =
     let f = c.state.inside.flat in
@@ -83,7 +123,7 @@ node_of-requires-clause-code c =
     let w = c.run_to_rest.new.state in
     let at = subst (λ z. slice_get c.args.flats.now.items c.args.way.node ≡ Some z) (sym c.state.view_is) c.in_ok-state.ensures.found in
     let same : w.flat.code ≡ s.flat.code = c.run_to_rest.ensures.goes.code ∙ c.in_default-take.ensures.code in
-    c.by_numbers.ensures.code ∙ c.requires.code s at ∙ sym same ∙ sym (ap (λ (z : SourcedFlat). z.flat.code) c.in_ok-new.ensures.state)
+    c.by_number_of.ensures.code ∙ c.requires.code s at ∙ sym same ∙ sym (ap (λ (z : SourcedFlat). z.flat.code) c.in_ok-new.ensures.state)
 
 pub node_of-requires-clause-like : goal.node_of-requires-clause-like
 node_of-requires-clause-like c = λ v k is.
@@ -104,7 +144,7 @@ node_of-requires-clause-like c = λ v k is.
     let goes = c.run_to_rest.ensures.goes in
     subst (λ (z : SourcedFlat). IsLike z.flat k.flat) (sym c.in_ok-new.ensures.state)
     (reached_like c.args.flats.now.items s u w t c.in-Some.answer c.args.way.node c.requires.nodes at less step goes v k
-    (subst (λ z. slice_get z v ≡ Some k) c.by_numbers.ensures.items is))
+    (subst (λ z. slice_get z v ≡ Some k) c.by_number_of.ensures.items is))
 
 pub node_of-requires-clause-rest : goal.node_of-requires-clause-rest
 node_of-requires-clause-rest c =
@@ -149,7 +189,7 @@ returns-in-Ok-clause-leads c =
     leads_to_node_if_reached_state_looks_alike c.args.flats.now.items s u w t c.args.way.refused c.args.way.node c.requires.nodes at less may
     (subst (TakesStep (sourced_flat c.state.inside.flat c.state.inside.sources.items) (sourced_flat c.take.new.self c.state.inside.sources.items)
     c.args.way.thread) r step) goes c.node_of.new.flats.items c.in-Ok.next
-    (subst (λ z. Stay z c.node_of.new.flats.items) c.by_numbers.ensures.items c.node_of.ensures.stay)
+    (subst (λ z. Stay z c.node_of.new.flats.items) c.by_number_of.ensures.items c.node_of.ensures.stay)
     (λ k is. subst (λ z. LookAlike z k) c.in_ok-new.ensures.state (c.in-Ok.ensures.alike k is))
 
 pub returns-in-Ok-clause-reached : goal.returns-in-Ok-clause-reached
@@ -169,7 +209,7 @@ returns-in-Ok-clause-reached c = λ x all.
     takes_step_at_rest_if_tables_step f g sources t c.in-Some.answer rests one.admitted one.taken one.code one.threads one.objects in
     let w = c.run_to_rest.new.state in
     let goes = c.run_to_rest.ensures.goes in
-    c.node_of.ensures.reached x (subst (AllReached x) (sym c.by_numbers.ensures.items) all)
+    c.node_of.ensures.reached x (subst (AllReached x) (sym c.by_number_of.ensures.items) all)
     (subst (IsReached x) (sym c.in_ok-new.ensures.state)
     (step_of_reached_is_reached x s u w t c.in-Some.answer (all c.args.way.node s at) rests step goes))
 
@@ -190,7 +230,7 @@ returns-clause-reached c = λ x all.
     takes_step_at_rest_if_tables_step f g sources t c.in-Some.answer rests one.admitted one.taken one.code one.threads one.objects in
     let w = c.run_to_rest.new.state in
     let goes = c.run_to_rest.ensures.goes in
-    c.node_of.ensures.reached x (subst (AllReached x) (sym c.by_numbers.ensures.items) all)
+    c.node_of.ensures.reached x (subst (AllReached x) (sym c.by_number_of.ensures.items) all)
     (subst (IsReached x) (sym c.in_ok-new.ensures.state)
     (step_of_reached_is_reached x s u w t c.in-Some.answer (all c.args.way.node s at) rests step goes))
 
@@ -216,13 +256,13 @@ returns-in-Err-run_to_rest-clause-stopped c = λ x all.
     c.in-Err-run_to_rest.ensures.stopped)
 
 pub returns-in_err-new-clause-reached : goal.returns-in_err-new-clause-reached
-returns-in_err-new-clause-reached c = λ x all. subst (AllReached x) (sym c.by_numbers.ensures.items) all
+returns-in_err-new-clause-reached c = λ x all. subst (AllReached x) (sym c.by_number_of.ensures.items) all
 
 pub returns-in-Ok-clause-stay : goal.returns-in-Ok-clause-stay
-returns-in-Ok-clause-stay c = subst (λ z. Stay z c.node_of.new.flats.items) c.by_numbers.ensures.items c.node_of.ensures.stay
+returns-in-Ok-clause-stay c = subst (λ z. Stay z c.node_of.new.flats.items) c.by_number_of.ensures.items c.node_of.ensures.stay
 
 pub returns-clause-stay : goal.returns-clause-stay
-returns-clause-stay c = subst (λ z. Stay z c.node_of.new.flats.items) c.by_numbers.ensures.items c.node_of.ensures.stay
+returns-clause-stay c = subst (λ z. Stay z c.node_of.new.flats.items) c.by_number_of.ensures.items c.node_of.ensures.stay
 
 pub returns-in-Ok-clause-has : goal.returns-in-Ok-clause-has
 returns-in-Ok-clause-has c = λ x all was new.
@@ -291,6 +331,6 @@ returns-in-Ok-clause-tickless c = λ p is none.
     (leads_tickless_if_reached_state_is c.args.flats.now.items s u w t c.args.way.refused c.args.way.node c.requires.nodes at less may
     (subst (TakesStep (sourced_flat c.state.inside.flat c.state.inside.sources.items) (sourced_flat c.take.new.self c.state.inside.sources.items)
     c.args.way.thread) r step) goes c.node_of.new.flats.items c.in-Ok.next
-    (subst (λ z. Stay z c.node_of.new.flats.items) c.by_numbers.ensures.items c.node_of.ensures.stay)
+    (subst (λ z. Stay z c.node_of.new.flats.items) c.by_number_of.ensures.items c.node_of.ensures.stay)
     (λ k is. subst (λ z. LookAlike z k) c.in_ok-new.ensures.state (c.in-Ok.ensures.alike k is))
     (subst (λ (z : SourcedFlat). HaveNoTicks z.sources) c.in_ok-new.ensures.state (c.node_of.ensures.tickless none).1))

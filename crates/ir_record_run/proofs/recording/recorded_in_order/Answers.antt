@@ -16,16 +16,16 @@ record_with_refusals-requires-clause-each g c =
     ap (λ (z : List ℕ). length z) c.entries-threads.ensures.value in
     omega (arith, count, same, c.in_ok-worlds.worlds.ok)
 
-pub returns-in-Ok-clause-recorded : goal.returns-in-Ok-clause-recorded
-returns-in-Ok-clause-recorded g c = subst (λ (z : List (List ℕ)). IsRecordedOf c.args.image.now c.args.plan.now
-    c.in-Ok.trace z) (sym c.in_ok-printed-in-Ok.ensures)
-    (subst (λ (p : Plan). IsRecordedOf c.args.image.now p c.in-Ok.trace (map (λ o. o.bytes.items) c.in-Ok.outputs.each.items)) c.plan.view_is
+pub returns-in-Ok-record_with_refusals-clause-recorded : goal.returns-in-Ok-record_with_refusals-clause-recorded
+returns-in-Ok-record_with_refusals-clause-recorded g c = subst (λ (z : List (List ℕ)). IsRecordedOf c.args.image.now c.args.plan.now
+    c.in-Ok-record_with_refusals.trace z) (sym c.in_ok-printed-in-Ok-record_with_refusals.ensures)
+    (subst (λ (p : Plan). IsRecordedOf c.args.image.now p c.in-Ok-record_with_refusals.trace (map (λ o. o.bytes.items) c.in-Ok-record_with_refusals.outputs.each.items)) c.plan.view_is
     (fresh_recording_by_order_is_recorded c.args.image.now c.args.list.now _ c.in_ok-guest.guest.now
-    c.entries-threads.result.now (turns_of_items c.in_ok-order.order.items) (turns_of_items c.as_slice.result.now)
-    (map (λ w. w.answers.items) c.in_ok-worlds.worlds.items) c.in-Ok.trace
-    (map (λ o. o.bytes.items) c.in-Ok.outputs.each.items) (map (λ o. o.world.answers.items) c.in-Ok.outputs.each.items)
-    (ap (λ (p : Plan). p.order) c.plan.view_is ∙ c.requires) c.in_ok-guest.ensures.exact c.entries-threads.ensures.value c.in_ok-order.ensures.spelled (ap turns_of_items c.as_slice.ensures.value)
-    c.in_ok-worlds.ensures.fresh c.in-Ok.ensures.recorded
+    c.entries-threads.result.now (turns_of_items c.in-Ok.order.items) (turns_of_items c.as_slice.result.now)
+    (map (λ w. w.answers.items) c.in_ok-worlds.worlds.items) c.in-Ok-record_with_refusals.trace
+    (map (λ o. o.bytes.items) c.in-Ok-record_with_refusals.outputs.each.items) (map (λ o. o.world.answers.items) c.in-Ok-record_with_refusals.outputs.each.items)
+    (ap (λ (p : Plan). p.order) c.plan.view_is ∙ c.requires) c.in_ok-guest.ensures.exact c.entries-threads.ensures.value c.in-Ok.ensures.spelled (ap turns_of_items c.as_slice.ensures.value)
+    c.in_ok-worlds.ensures.fresh c.in-Ok-record_with_refusals.ensures.recorded
     (worlds_answered_by_own_origins (λ o. made_with o.world.time o.world.seed o.world.file.now) (λ o. o.world.answers.items) (λ o. (o.world.sources, o.world.gave))
-    true c.plan.inside.random c.plan.inside.input.now c.in-Ok.outputs.each.items (length c.entries-threads.result.now)
-    (c.in-Ok.ensures.origins ∙ c.in_ok-worlds.ensures.origins))))
+    true c.plan.inside.random c.plan.inside.input.now c.in-Ok-record_with_refusals.outputs.each.items (length c.entries-threads.result.now)
+    (c.in-Ok-record_with_refusals.ensures.origins ∙ c.in_ok-worlds.ensures.origins))))
