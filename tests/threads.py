@@ -276,10 +276,33 @@ def test_buffered(folder, case):
         wants(f"{options}: what it prints", (lines[-1].split()[0], outputs), ("finished", wanted))
 
 
+# Each command that takes an image, with the recording of a seed that is in lost.trc.
+OVER_IMAGES = ("list {}", "events {} lost.trc", "stale lost.trc --image {}", "who lost.trc 0 --image {}", "why lost.trc 1 0 --image {}",
+               "view lost.trc --json --image {}", "view lost.trc --image {}", "record {} by.trc --order 0x100,1x100", "explore {}",
+               "hunt {} by.trc --seeds 0+50 --until fault", "explore {} by.trc --until fault", "debug {} lost.trc", "gdb {} lost.trc")
+
+
+def test_elf_is_image(folder):
+    """Each command takes the ELF file of a guest in place of the image that `ir elf` makes of it: the same status, output and recording."""
+    guest(folder, "account", PROGRAMS / "account.c").run("hunt", "lost.trc", "--seeds", "0+1000", "--until", "fault")
+    for words in OVER_IMAGES:
+        ended = {}
+        for name in ("account.img", "account.elf"):
+            made = subprocess.run([program(), *words.format(name).split()], cwd=folder, check=False, input=b"forward 0 9\nregs 0\nquit\n", capture_output=True, timeout=100)
+            recorded = folder / "by.trc"
+            ended[name] = (made.returncode, made.stdout, made.stderr, recorded.read_bytes() if recorded.exists() else b"")
+            recorded.unlink(missing_ok=True)
+        wants(words, ended["account.elf"], ended["account.img"])
+
+
 def where(folder, *arguments):
     """What ir-where prints of the recording of account, by lines."""
-    words = [sys.executable, WHERE, "account.elf", "account.img", "account.trc", "--ir", program(), *arguments]
-    return subprocess.run(words, cwd=folder, check=False, capture_output=True, text=True, timeout=100)
+    return where_of(folder, "account.elf", "account.img", "account.trc", *arguments)
+
+
+def where_of(folder, *words):
+    """What ir-where prints of these."""
+    return subprocess.run([sys.executable, WHERE, *words, "--ir", program()], cwd=folder, check=False, capture_output=True, text=True, timeout=100)
 
 
 def test_where(folder):
@@ -294,6 +317,7 @@ def test_where(folder):
     wants("thread 2", {line.split()[1] for line in where(folder, "--thread", "2").stdout.splitlines()}, {"2"})
     wants("at most", (where(folder, "--most", "3").stdout.count("\n"), "events more: --most N" in where(folder, "--most", "3").stderr), (3, True))
     wants("the page", "balance at account.c:13 in deposit" in where(folder, "--page").stdout, True)
+    wants("without an image", where(folder).stdout, where_of(folder, "account.elf", "account.trc").stdout)
     (folder / "account.trc").write_bytes(b"IRT1")
     wants("no recording", where(folder).returncode != 0, True)
 
@@ -378,7 +402,7 @@ def tests(few):
     all_ |= {f"refused-{case.name}": partial(test_refused, case=case) for case in texts.REFUSED}
     all_ |= {f"text-{case.name}": partial(test_printed, case=case) for case in texts.PRINTED}
     all_ |= {f"tso-{case.name}": partial(test_buffered, case=case) for case in texts.BUFFERED}
-    return all_ | {"no-compiler": test_no_compiler, "installed": test_installed, "page": test_page, "readme": test_readme, "where": test_where, "on-ir-h": test_on_ir_h, "several": test_several}
+    return all_ | {"no-compiler": test_no_compiler, "installed": test_installed, "page": test_page, "readme": test_readme, "where": test_where, "elf-is-image": test_elf_is_image, "on-ir-h": test_on_ir_h, "several": test_several}
 
 
 def passes(name, test):

@@ -7,7 +7,7 @@ use crate::conditions::outcome_conditions_of;
 use crate::recording::{
     INPUT, OUTPUT, input_arg, output_arg, profile_arg, profile_in, random_arg, random_in,
 };
-use crate::values::{IMAGE, TRACE, UNTIL, file_arg, given_text, text_of};
+use crate::values::{IMAGE, TRACE, UNTIL, given_text, image_arg, text_of};
 use clap::{Arg, ArgAction, ArgMatches, Command};
 use ir_explore_run::ExplorePlan;
 use ir_record_run::number_within;
@@ -158,7 +158,7 @@ fn private_arg<'a>(alloc: Global) -> Arg<'a> {
 /// The command with its arguments.
 pub fn with_arguments<'a>(alloc: Global, command: Command<'a>) -> Result<Command<'a>, AllocError> {
     command
-        .arg(file_arg(alloc, IMAGE, "The file with the image"))?
+        .arg(image_arg(alloc))?
         .arg(trace_arg(alloc)?)?
         .arg(until_arg(alloc).requires_arg(TRACE)?)?
         .arg(states_arg(alloc))?

@@ -4,7 +4,7 @@ use crate::asked::Asked;
 use crate::conditions::{conditions_of, stale_by};
 use crate::recording::{RecordingOptions, options_of, with_options};
 use crate::seeds::{by_arg, seeds_by, way_by};
-use crate::values::{IMAGE, TRACE, UNTIL, file_arg, text_of};
+use crate::values::{IMAGE, TRACE, UNTIL, file_arg, image_arg, text_of};
 use clap::{Arg, ArgAction, ArgMatches, Command};
 use ir_chaos::Way;
 use ir_hunt::Seeds;
@@ -75,7 +75,7 @@ fn until_arg<'a>(alloc: Global) -> Arg<'a> {
 /// The command with its arguments.
 pub fn with_arguments<'a>(alloc: Global, command: Command<'a>) -> Result<Command<'a>, AllocError> {
     let command = command
-        .arg(file_arg(alloc, IMAGE, "The file with the image"))?
+        .arg(image_arg(alloc))?
         .arg(file_arg(alloc, TRACE, "The file that the trace is written to"))?
         .arg(seeds_arg(alloc))?
         .arg(until_arg(alloc))?

@@ -2,9 +2,9 @@
 
 ghost use Rattle.std.specs.Prelude.{◌≡◌, false};
 
-use crate::commands::bytes_of;
 use crate::commands::debug::explain_files;
 use crate::commands::maps::names_in;
+use crate::commands::{bytes_of, image_in};
 use ir_arguments::EventsArguments;
 use ir_files::{ExitStatus, Folder, MOST_BYTES};
 use ir_listing::events_run;
@@ -23,8 +23,9 @@ pub fn events_file<D: Folder, O: Sink, E: Sink>(
     requires writes { O.broken out.old ≡ false }
     requires reports { E.broken faults.old ≡ false }
 {
-    let Some(image) = bytes_of(alloc, folder, faults, arguments.image.as_str(), MOST_BYTES) else {
-        return ExitStatus::Failed;
+    let image = match image_in(alloc, folder, faults, arguments.image.as_str()) {
+        Ok(image) => image,
+        Err(status) => return status,
     };
     let Some(trace) = bytes_of(alloc, folder, faults, arguments.trace.as_str(), MOST_BYTES) else {
         return ExitStatus::Failed;

@@ -2,10 +2,10 @@
 
 ghost use Rattle.std.specs.Prelude.{◌≡◌, false};
 
-use crate::commands::bytes_of;
+use crate::commands::image_in;
 use crate::commands::maps::names_in;
 use ir_arguments::ListArguments;
-use ir_files::{ExitStatus, Folder, MOST_BYTES};
+use ir_files::{ExitStatus, Folder};
 use ir_listing::list_report;
 use ir_stream::Sink;
 use std::alloc::Global;
@@ -21,8 +21,9 @@ pub fn list_file<D: Folder, O: Sink, E: Sink>(
     requires writes { O.broken out.old ≡ false }
     requires reports { E.broken faults.old ≡ false }
 {
-    let Some(image) = bytes_of(alloc, folder, faults, arguments.image.as_str(), MOST_BYTES) else {
-        return ExitStatus::Failed;
+    let image = match image_in(alloc, folder, faults, arguments.image.as_str()) {
+        Ok(image) => image,
+        Err(status) => return status,
     };
     let symbols = match names_in(alloc, folder, faults, arguments.map.as_ref()) {
         Ok(symbols) => symbols,
