@@ -277,7 +277,7 @@ def test_buffered(folder, case):
 
 
 # Each command that takes an image, with the recording of a seed that is in lost.trc.
-OVER_IMAGES = ("list {}", "events {} lost.trc", "stale lost.trc --image {}", "who lost.trc 0 --image {}", "why lost.trc 1 0 --image {}",
+OVER_IMAGES = ("list {} --map names.map", "events {} lost.trc --map names.map", "stale lost.trc --image {}", "who lost.trc 0 --image {}", "why lost.trc 1 0 --image {}",
                "view lost.trc --json --image {}", "view lost.trc --image {}", "record {} by.trc --order 0x100,1x100", "explore {}",
                "hunt {} by.trc --seeds 0+50 --until fault", "explore {} by.trc --until fault", "debug {} lost.trc", "gdb {} lost.trc")
 
@@ -285,6 +285,7 @@ OVER_IMAGES = ("list {}", "events {} lost.trc", "stale lost.trc --image {}", "wh
 def test_elf_is_image(folder):
     """Each command takes the ELF file of a guest in place of the image that `ir elf` makes of it: the same status, output and recording."""
     guest(folder, "account", PROGRAMS / "account.c").run("hunt", "lost.trc", "--seeds", "0+1000", "--until", "fault")
+    (folder / "names.map").write_text("00010000 T start\n")
     for words in OVER_IMAGES:
         ended = {}
         for name in ("account.img", "account.elf"):
@@ -293,6 +294,31 @@ def test_elf_is_image(folder):
             ended[name] = (made.returncode, made.stdout, made.stderr, recorded.read_bytes() if recorded.exists() else b"")
             recorded.unlink(missing_ok=True)
         wants(words, ended["account.elf"], ended["account.img"])
+
+
+def symbols_of(folder, elf):
+    """The names that `nm` has for the places of an ELF file, by address."""
+    found = {}
+    for line in subprocess.run(["riscv64-unknown-elf-nm", "-n", elf], cwd=folder, check=True, capture_output=True, text=True).stdout.splitlines():
+        address, kind, name = line.split(maxsplit=2)
+        if kind not in "Aa":
+            found.setdefault(address, set()).add(name)
+    return found
+
+
+def test_elf_names(folder):
+    """Without a map `ir list` and `ir events` name addresses by the symbols of an ELF file, as `nm` has them; else they print the same."""
+    guest(folder, "account", PROGRAMS / "account.c").run("hunt", "lost.trc", "--seeds", "0+1000", "--until", "fault")
+    known = symbols_of(folder, "account.elf")
+    named = re.compile(r" <([^>+]+)(?:\+\d+)?>")
+    for words in ("list {}", "events {} lost.trc"):
+        of_elf, of_image = ([line for line in run(words.format(name).split(), folder).stdout.decode().splitlines() if not line.endswith(">:")]
+                            for name in ("account.elf", "account.img"))
+        wants(f"{words}: without names", [named.sub("", line) for line in of_elf], of_image)
+        wants(f"{words}: names that nm doesn't have", {name for line in of_elf for name in named.findall(line)} - set().union(*known.values()), set())
+    heads = [line.split() for line in run(["list", "account.elf"], folder).stdout.decode().splitlines() if line.endswith(">:")]
+    wants("labels", [(address, name) for address, name in heads if name[1:-2] not in known.get(address, ())], [])
+    wants("the functions", {"deposit", "withdraw", "check", "main"} - {name[1:-2] for _, name in heads}, set())
 
 
 def where(folder, *arguments):
@@ -402,7 +428,7 @@ def tests(few):
     all_ |= {f"refused-{case.name}": partial(test_refused, case=case) for case in texts.REFUSED}
     all_ |= {f"text-{case.name}": partial(test_printed, case=case) for case in texts.PRINTED}
     all_ |= {f"tso-{case.name}": partial(test_buffered, case=case) for case in texts.BUFFERED}
-    return all_ | {"no-compiler": test_no_compiler, "installed": test_installed, "page": test_page, "readme": test_readme, "where": test_where, "elf-is-image": test_elf_is_image, "on-ir-h": test_on_ir_h, "several": test_several}
+    return all_ | {"no-compiler": test_no_compiler, "installed": test_installed, "page": test_page, "readme": test_readme, "where": test_where, "elf-is-image": test_elf_is_image, "elf-names": test_elf_names, "on-ir-h": test_on_ir_h, "several": test_several}
 
 
 def passes(name, test):

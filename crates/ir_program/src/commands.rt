@@ -54,20 +54,17 @@ pub fn bytes_of<D: Folder, E: Sink>(
     }
 }
 
-// The bytes of the image in a file, which may be an ELF file: then they are those of its guest's image. If there are none, the reason is
-// reported.
-pub fn image_in<D: Folder, E: Sink>(
+// The bytes of the image that a file of this name holds, which may be an ELF file: then they are those of its guest's image. If there are none,
+// the reason is reported.
+pub fn image_of_file<E: Sink>(
     alloc: Global,
-    folder: &D,
     faults: &mut E,
     path: &str,
+    file: Vec<u8>,
 ) -> Result<Vec<u8>, ExitStatus>
     ensures kept { OnOk result (faults.new ≡ faults.old) }
-    ensures bytes { IfOk result (λ v. IfSome (D.bytes_at folder.now path.now) (λ file. image_bytes file ≡ Ok v.items)) }
+    ensures bytes { IfOk result (λ v. image_bytes file.items ≡ Ok v.items) }
 {
-    let Some(file) = bytes_of(alloc, folder, faults, path, MOST_BYTES) else {
-        return Err(ExitStatus::Failed);
-    };
     match image_bytes(alloc, file) {
         Ok(bytes) => Ok(bytes),
         Err(ElfErr::Refused(why)) => {
@@ -83,6 +80,22 @@ pub fn image_in<D: Folder, E: Sink>(
             say(faults, path, " ", "doesn't fit into memory");
             Err(ExitStatus::Failed)
         }
+    }
+}
+
+// The bytes of the image in a file, in the same way.
+pub fn image_in<D: Folder, E: Sink>(
+    alloc: Global,
+    folder: &D,
+    faults: &mut E,
+    path: &str,
+) -> Result<Vec<u8>, ExitStatus>
+    ensures kept { OnOk result (faults.new ≡ faults.old) }
+    ensures bytes { IfOk result (λ v. IfSome (D.bytes_at folder.now path.now) (λ file. image_bytes file ≡ Ok v.items)) }
+{
+    match bytes_of(alloc, folder, faults, path, MOST_BYTES) {
+        Some(file) => image_of_file(alloc, faults, path, file),
+        None => Err(ExitStatus::Failed),
     }
 }
 

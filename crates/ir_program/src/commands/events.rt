@@ -4,14 +4,14 @@ ghost use Rattle.std.specs.Prelude.{◌≡◌, false};
 
 use crate::commands::debug::explain_files;
 use crate::commands::maps::names_in;
-use crate::commands::{bytes_of, image_in};
+use crate::commands::{bytes_of, image_of_file};
 use ir_arguments::EventsArguments;
 use ir_files::{ExitStatus, Folder, MOST_BYTES};
 use ir_listing::events_run;
 use ir_stream::Sink;
 use std::alloc::Global;
 
-// Prints the events of the run in two files, with the names of a map. If a person looks on, it is said in words why there is none.
+// Prints the events of the run in two files, with the names of a map or of an ELF file. If a person looks on, it is said in words why there is none.
 pub fn events_file<D: Folder, O: Sink, E: Sink>(
     alloc: Global,
     folder: &D,
@@ -23,15 +23,19 @@ pub fn events_file<D: Folder, O: Sink, E: Sink>(
     requires writes { O.broken out.old ≡ false }
     requires reports { E.broken faults.old ≡ false }
 {
-    let image = match image_in(alloc, folder, faults, arguments.image.as_str()) {
-        Ok(image) => image,
-        Err(status) => return status,
+    let path = arguments.image.as_str();
+    let Some(file) = bytes_of(alloc, folder, faults, path, MOST_BYTES) else {
+        return ExitStatus::Failed;
     };
     let Some(trace) = bytes_of(alloc, folder, faults, arguments.trace.as_str(), MOST_BYTES) else {
         return ExitStatus::Failed;
     };
-    let symbols = match names_in(alloc, folder, faults, arguments.map.as_ref()) {
+    let symbols = match names_in(alloc, folder, faults, &file, arguments.map.as_ref()) {
         Ok(symbols) => symbols,
+        Err(status) => return status,
+    };
+    let image = match image_of_file(alloc, faults, path, file) {
+        Ok(image) => image,
         Err(status) => return status,
     };
     let (image, trace) = (image.as_slice(), trace.as_slice());

@@ -2,15 +2,15 @@
 
 ghost use Rattle.std.specs.Prelude.{◌≡◌, false};
 
-use crate::commands::image_in;
 use crate::commands::maps::names_in;
+use crate::commands::{bytes_of, image_of_file};
 use ir_arguments::ListArguments;
-use ir_files::{ExitStatus, Folder};
+use ir_files::{ExitStatus, Folder, MOST_BYTES};
 use ir_listing::list_report;
 use ir_stream::Sink;
 use std::alloc::Global;
 
-// Prints the code of the image in a file, with the names of a map.
+// Prints the code of the image in a file, with the names of a map or of an ELF file.
 pub fn list_file<D: Folder, O: Sink, E: Sink>(
     alloc: Global,
     folder: &D,
@@ -21,13 +21,16 @@ pub fn list_file<D: Folder, O: Sink, E: Sink>(
     requires writes { O.broken out.old ≡ false }
     requires reports { E.broken faults.old ≡ false }
 {
-    let image = match image_in(alloc, folder, faults, arguments.image.as_str()) {
-        Ok(image) => image,
-        Err(status) => return status,
+    let path = arguments.image.as_str();
+    let Some(file) = bytes_of(alloc, folder, faults, path, MOST_BYTES) else {
+        return ExitStatus::Failed;
     };
-    let symbols = match names_in(alloc, folder, faults, arguments.map.as_ref()) {
+    let symbols = match names_in(alloc, folder, faults, &file, arguments.map.as_ref()) {
         Ok(symbols) => symbols,
         Err(status) => return status,
     };
-    list_report(alloc, image.as_slice(), &symbols, out, faults)
+    match image_of_file(alloc, faults, path, file) {
+        Ok(image) => list_report(alloc, image.as_slice(), &symbols, out, faults),
+        Err(status) => status,
+    }
 }
