@@ -75,6 +75,7 @@ fn if_table(section: Section) -> Option<Section>
 }
 
 /// The table of the file's symbols, the first if there are several.
+#[tactic(auto, unfolding(crate::specs::Sections::first_table))]
 pub fn symbol_table(file: &[u8]) -> Option<Section>
     ensures { result ≡ symbol_table file.now }
 {

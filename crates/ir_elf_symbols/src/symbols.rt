@@ -101,6 +101,7 @@ fn push_if(symbols: &mut Vec<Symbol>, symbol: Option<Symbol>) -> Result<(), Allo
 }
 
 // The symbols of a table, if the file has all of it.
+#[tactic(auto, unfolding(crate::specs::Symbols::first_symbols))]
 fn symbols_in(alloc: Global, file: &[u8], table: Section) -> Result<Vec<Symbol>, AllocError>
     ensures { IfOk result (λ symbols. symbols.items ≡ symbols_in file.now table) }
 {
