@@ -29,6 +29,7 @@ COND is a single argument, and `!` before it negates it. Numbers are decimal, or
    word O I V    word I of object O is V at the end
    out T TEXT    TEXT, all that follows a single blank, occurs in what thread T printed
    fault         some thread didn't end by END
+   bad           some thread didn't end by END with code 0
    budget        some thread's budget is spent: that is how a guest ends that waits forever
    stale         `ir stale` with the image lists a write: it rests on a read that was written over
 CLOCK, RANDOM, FILE, P and PREFIX are those of `ir record` with LIST. Ctrl-C ends a hunt, and nothing is written.
