@@ -565,6 +565,39 @@ IR_OBJECTS([LAST] = {1});
 """
 CHOICES = [100 + 10 * one + two for one in range(3) for two in range(2)]
 
+# Two threads that take numbers while there are some, each number once. Each gives how many it took.
+QUEUE = r"""
+#include "ir.h"
+enum { NEXT, SUM, NUMBERS = 3 };
+static int take(void)
+{
+    ir_enter_write(NEXT);
+    int number = ir_get(NEXT, 0);
+    if (number < NUMBERS)
+        ir_put(NEXT, 0, number + 1);
+    ir_leave(NEXT);
+    return number;
+}
+static void add(int number)
+{
+    ir_enter_write(SUM);
+    ir_put(SUM, 0, ir_get(SUM, 0) + number);
+    ir_leave(SUM);
+}
+IR_THREAD(taking)
+{
+    int taken = 0;
+    for (int number = take(); number < NUMBERS; number = take(), taken++)
+        add(number);
+    return taken;
+}
+IR_THREADS(taking, taking);
+IR_OBJECTS([NEXT] = {0}, [SUM] = {0});
+"""
+
+# The option by which each function leaves 0 in registers that it may change.
+CLEARED = "-fzero-call-used-regs=all-gpr"
+
 # Assertions in a function that is called, in one that isn't left, and in a loop.
 ASSERTED = r"""
 #include "ir.h"
@@ -616,6 +649,17 @@ def test_explored(folder, source, more, codes):
         wants(f"at {level}: how it ended", (last.split()[0], last.split()[-2:]), ("finished", ["hangs", "0"]))
         wants(f"at {level}: the outcomes", sorted(set(found_ends)), sorted(tuple((1, code) for code in each) for each in codes))
         wants(f"at {level}: a recording", tuple(recorded(folder, "guest", "--profile", "2", "--chaos", "1", "--by", "walk").ends()) in found_ends, True)
+
+
+def test_cleared(folder):
+    """Where functions leave 0 in registers there are fewer states, and the same outcomes, at each level."""
+    (folder / "queue.c").write_text(QUEUE)
+    for level in LEVELS:
+        converted(folder, "queue.c", "queue", level)
+        converted(folder, "queue.c", "cleared", level, CLEARED)
+        (last, found_ends), (cleared_last, cleared_ends) = explored(folder, "queue"), explored(folder, "cleared")
+        wants(f"at {level}: the outcomes", (sorted(found_ends), sorted(cleared_ends)), ([((1, one), (1, 3 - one)) for one in range(4)],) * 2)
+        wants(f"at {level}: fewer states", int(cleared_last.split()[4]) < int(last.split()[4]), True)
 
 
 def test_proved(folder, name):
@@ -851,7 +895,7 @@ def tests():
     all_ |= {"refused-unasked": test_unasked, "ends": test_ends, "forms": test_forms, "map": test_map, "files": test_files, "clang": test_clang,
              "gas-large": test_gas_large}
     all_ |= {"own": test_own, "counted": test_counted, "archive": test_archive, "assertions": test_assertions,
-             "c++": test_cplusplus, "page": test_page}
+             "c++": test_cplusplus, "cleared": test_cleared, "page": test_page}
     all_ |= {f"explored-{name}": partial(test_explored, source=source, more=more, codes=codes) for name, (source, more, codes) in EXPLORED.items()}
     all_ |= {f"proved-{name}": partial(test_proved, name=name) for name in PROVED}
     all_ |= {f"story-{name}": partial(test_story, name=name) for name in STORIES}

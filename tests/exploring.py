@@ -606,6 +606,8 @@ LIVE = (
     ("a register that only code reads which is never reached", "s1", "        jal zero, ends", 6),
     ("the same, behind a jump to an address in a register", "s1", "        auipc t1, 0\n        jalr zero, 8(t1)", 7),
     ("the same, behind a branch that is never taken", "s1", "        bne zero, zero, other", 7),
+    ("the same, behind a return to a place in ra", "s1", "        auipc ra, 0\n        addi ra, ra, 12\n        jalr zero, 0(ra)", 7),
+    ("a register that is read where no call comes before, behind a return to there", "s1", "        auipc ra, 0\n        addi ra, ra, 24\n        jalr zero, 0(ra)", 8),
     ("an argument that the next call doesn't have", "a1", "        addi a7, zero, 12\n        ecall", 6),
     ("an argument of a call that isn't known", "a1", "        addi a7, s2, 0\n        ecall", 7),
     ("an argument that an illegal call doesn't have", "a1", "        addi a7, zero, 99\n        ecall", 6),
