@@ -75,7 +75,7 @@ CLAIMS = [
         ("ir_record_run", "Recording", "`IsRecordedOf`: what a recording is"),
         ("ir_order", "Recording", "`IsOfRun`: the run that a trace and outputs are of"),
         ("ir_explore_run", "Recorded", "the laws"),
-    ], (400, 150)),
+    ], (405, 150)),
     Claim("Exploring up to conditions", "`ir explore --until` records an outcome that fulfils them.", {"ir_explore_run/src/until.rt": ["explore_until"]}, [
         ("ir_explore_run", "Conditions", "`IsFirst`, `NeverFulfils`"),
         ("ir_explore_run", "Until", "`IsSought`, `IsVain`"),

@@ -24,6 +24,8 @@ ROW = re.compile(rf"name: {TEXT},\s+about: {TEXT},\s+after: (\w+)::(\w+)")
 # An argument, and one that may be left out.
 ARGUMENT = re.compile(rf"file_arg\(\s*alloc,\s*(\w+),\s*{TEXT}|Arg::new\(alloc, (\w+)\)\s*\.help\(\s*{TEXT}")
 OPTION = re.compile(r"fn (\w+)_arg<'a>[^{]*\{\s+Arg::new\(alloc, \w+\)\s*\.long\((\w+)\)((?:(?!\n}).)*?)\.help\(\s*" + TEXT, re.DOTALL)
+# The argument that names an image, which is the same in each subcommand.
+IMAGE = re.compile(r"pub fn image_arg<'a>[^{]*\{\s+(file_arg\(.*?\))\n\}", re.DOTALL)
 # The option that names an image, of which each subcommand says what it is for.
 FROM_IMAGE = re.compile(rf"from_image_arg\(\s*alloc,\s*{TEXT}")
 # Where a subcommand's arguments are put together, and what is put together there: an option, or the options that are shared.
@@ -91,14 +93,15 @@ def named_in(source, pattern):
 
 def subcommands():
     """The subcommands, in the order of the help."""
-    files = constants_of(source_of("values"))
+    values = source_of("values")
+    files, image_file = constants_of(values), IMAGE.search(values)[1]
     recording = source_of("recording")
     shared = {}
     for module in ("recording", "seeds", "values"):
         shared |= options_of(source_of(module), files)
     found = []
     for name, about, module, after in ROW.findall(source_of("subcommands")):
-        source = source_of(module)
+        source = source_of(module).replace("image_arg(alloc)", image_file)
         options, forms = shared | options_of(source, files), []
         if image := FROM_IMAGE.search(source):
             options["from_image"] = ("--image IMAGE", meant(image[1]), False)

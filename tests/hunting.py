@@ -120,6 +120,16 @@ def stale_writes(folder):
         wants(arguments, run(arguments, folder).returncode, status)
 
 
+def bad_ends(folder):
+    """`bad` holds of a thread that doesn't end by END with code 0, as the status of `ir record --status` does, and `fault` of its end alone."""
+    for name, source in (("good", "addi a0, zero, 0\naddi a7, zero, 1\necall\n"), ("coded", "addi a0, zero, 7\naddi a7, zero, 1\necall\n"), ("broken", "ebreak\n")):
+        assembled(folder, name, source)
+        status = run(f"record {name}.img b.trc --status", folder).returncode
+        for condition, holds in (("bad", status == 5), ("!bad", status == 0), ("fault", name == "broken")):
+            wants(f"{condition} of {name}", run(["hunt", f"{name}.img", "b.trc", "--seeds", "0+1", "--until", condition], folder).returncode, 0 if holds else 5)
+            wants(f"{condition} of {name}, explored", run(["explore", f"{name}.img", "b.trc", "--until", condition], folder).returncode, 0 if holds else 5)
+
+
 def last_seeds(folder):
     """The greatest seed ends a hunt."""
     last = 2**64 - 1
@@ -153,7 +163,7 @@ def all_of_it(folder):
     """All tests of hunts, in a folder of their own."""
     assembled(folder, "lost", examples()["lost_update"])
     (folder / "folder").mkdir(exist_ok=True)
-    for test in (refused, reported_first, recorded_again, conditions, stale_writes, last_seeds, kept, on_many_machines):
+    for test in (refused, reported_first, recorded_again, conditions, stale_writes, bad_ends, last_seeds, kept, on_many_machines):
         test(folder)
     assembled(folder, "account", (TOP / "docs/guide/account.s").read_text())
     found("hunt account.img account.trc --seeds 0+1000 --until 'word 0 0 0xffffff9c'", folder)

@@ -197,8 +197,11 @@ def test_explaining(folder):
     wants("diff", at_terminal("diff d.img d.img", folder), (3, both))
     (folder / "d.elf").write_bytes(b"\x7fELF, and more")
     refused = "ir: the image is refused, 2: these bytes are no image\n"
-    for words in ("record d.elf x.trc", "hunt d.elf x.trc --seeds 0+1 --until fault", "explore d.elf", "explore d.elf x.trc --until fault", "list d.elf"):
-        wants(words, at_terminal(words, folder), (3, f"{refused}ir: d.elf: this is an ELF file: `ir elf` makes an image of it\n"))
+    no_guest = "ir: d.elf: this ELF file is no guest, because a field or a segment passes the end of the file\n"
+    for words in ("record d.elf x.trc", "hunt d.elf x.trc --seeds 0+1 --until fault", "explore d.elf", "explore d.elf x.trc --until fault", "list d.elf",
+                  "debug d.elf whole.trc", "gdb d.elf whole.trc", "events d.elf whole.trc", "stale whole.trc --image d.elf",
+                  "who whole.trc 0 --image d.elf", "why whole.trc 0 0 --image d.elf", "view whole.trc --image d.elf"):
+        wants(words, at_terminal(words, folder), (3, no_guest))
     wants("a trace", at_terminal("record whole.trc x.trc", folder), (3, f"{refused}ir: whole.trc: this is a trace, and no image\n"))
     wants("x.trc", (folder / "x.trc").exists(), False)
 

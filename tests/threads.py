@@ -276,10 +276,59 @@ def test_buffered(folder, case):
         wants(f"{options}: what it prints", (lines[-1].split()[0], outputs), ("finished", wanted))
 
 
+# Each command that takes an image, with the recording of a seed that is in lost.trc.
+OVER_IMAGES = ("list {} --map names.map", "events {} lost.trc --map names.map", "stale lost.trc --image {}", "who lost.trc 0 --image {}", "why lost.trc 1 0 --image {}",
+               "view lost.trc --json --image {}", "view lost.trc --image {}", "record {} by.trc --order 0x100,1x100", "explore {}",
+               "hunt {} by.trc --seeds 0+50 --until fault", "explore {} by.trc --until fault", "debug {} lost.trc", "gdb {} lost.trc")
+
+
+def test_elf_is_image(folder):
+    """Each command takes the ELF file of a guest in place of the image that `ir elf` makes of it: the same status, output and recording."""
+    guest(folder, "account", PROGRAMS / "account.c").run("hunt", "lost.trc", "--seeds", "0+1000", "--until", "fault")
+    (folder / "names.map").write_text("00010000 T start\n")
+    for words in OVER_IMAGES:
+        ended = {}
+        for name in ("account.img", "account.elf"):
+            made = subprocess.run([program(), *words.format(name).split()], cwd=folder, check=False, input=b"forward 0 9\nregs 0\nquit\n", capture_output=True, timeout=100)
+            recorded = folder / "by.trc"
+            ended[name] = (made.returncode, made.stdout, made.stderr, recorded.read_bytes() if recorded.exists() else b"")
+            recorded.unlink(missing_ok=True)
+        wants(words, ended["account.elf"], ended["account.img"])
+
+
+def symbols_of(folder, elf):
+    """The names that `nm` has for the places of an ELF file, by address."""
+    found = {}
+    for line in subprocess.run(["riscv64-unknown-elf-nm", "-n", elf], cwd=folder, check=True, capture_output=True, text=True).stdout.splitlines():
+        address, kind, name = line.split(maxsplit=2)
+        if kind not in "Aa":
+            found.setdefault(address, set()).add(name)
+    return found
+
+
+def test_elf_names(folder):
+    """Without a map `ir list` and `ir events` name addresses by the symbols of an ELF file, as `nm` has them; else they print the same."""
+    guest(folder, "account", PROGRAMS / "account.c").run("hunt", "lost.trc", "--seeds", "0+1000", "--until", "fault")
+    known = symbols_of(folder, "account.elf")
+    named = re.compile(r" <([^>+]+)(?:\+\d+)?>")
+    for words in ("list {}", "events {} lost.trc"):
+        of_elf, of_image = ([line for line in run(words.format(name).split(), folder).stdout.decode().splitlines() if not line.endswith(">:")]
+                            for name in ("account.elf", "account.img"))
+        wants(f"{words}: without names", [named.sub("", line) for line in of_elf], of_image)
+        wants(f"{words}: names that nm doesn't have", {name for line in of_elf for name in named.findall(line)} - set().union(*known.values()), set())
+    heads = [line.split() for line in run(["list", "account.elf"], folder).stdout.decode().splitlines() if line.endswith(">:")]
+    wants("labels", [(address, name) for address, name in heads if name[1:-2] not in known.get(address, ())], [])
+    wants("the functions", {"deposit", "withdraw", "check", "main"} - {name[1:-2] for _, name in heads}, set())
+
+
 def where(folder, *arguments):
     """What ir-where prints of the recording of account, by lines."""
-    words = [sys.executable, WHERE, "account.elf", "account.img", "account.trc", "--ir", program(), *arguments]
-    return subprocess.run(words, cwd=folder, check=False, capture_output=True, text=True, timeout=100)
+    return where_of(folder, "account.elf", "account.img", "account.trc", *arguments)
+
+
+def where_of(folder, *words):
+    """What ir-where prints of these."""
+    return subprocess.run([sys.executable, WHERE, *words, "--ir", program()], cwd=folder, check=False, capture_output=True, text=True, timeout=100)
 
 
 def test_where(folder):
@@ -294,6 +343,7 @@ def test_where(folder):
     wants("thread 2", {line.split()[1] for line in where(folder, "--thread", "2").stdout.splitlines()}, {"2"})
     wants("at most", (where(folder, "--most", "3").stdout.count("\n"), "events more: --most N" in where(folder, "--most", "3").stderr), (3, True))
     wants("the page", "balance at account.c:13 in deposit" in where(folder, "--page").stdout, True)
+    wants("without an image", where(folder).stdout, where_of(folder, "account.elf", "account.trc").stdout)
     (folder / "account.trc").write_bytes(b"IRT1")
     wants("no recording", where(folder).returncode != 0, True)
 
@@ -378,7 +428,7 @@ def tests(few):
     all_ |= {f"refused-{case.name}": partial(test_refused, case=case) for case in texts.REFUSED}
     all_ |= {f"text-{case.name}": partial(test_printed, case=case) for case in texts.PRINTED}
     all_ |= {f"tso-{case.name}": partial(test_buffered, case=case) for case in texts.BUFFERED}
-    return all_ | {"no-compiler": test_no_compiler, "installed": test_installed, "page": test_page, "readme": test_readme, "where": test_where, "on-ir-h": test_on_ir_h, "several": test_several}
+    return all_ | {"no-compiler": test_no_compiler, "installed": test_installed, "page": test_page, "readme": test_readme, "where": test_where, "elf-is-image": test_elf_is_image, "elf-names": test_elf_names, "on-ir-h": test_on_ir_h, "several": test_several}
 
 
 def passes(name, test):

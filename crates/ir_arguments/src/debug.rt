@@ -1,7 +1,7 @@
 //! The arguments of `ir debug`.
 
 use crate::asked::Asked;
-use crate::values::{IMAGE, TRACE, file_arg, text_of};
+use crate::values::{IMAGE, TRACE, file_arg, image_arg, text_of};
 use clap::{ArgMatches, Command};
 use std::alloc::{AllocError, Global};
 
@@ -65,7 +65,7 @@ pub struct DebugArguments {
 /// The command with its arguments.
 pub fn with_arguments<'a>(alloc: Global, command: Command<'a>) -> Result<Command<'a>, AllocError> {
     command
-        .arg(file_arg(alloc, IMAGE, "The file with the image"))?
+        .arg(image_arg(alloc))?
         .arg(file_arg(alloc, TRACE, "The file with the trace"))
 }
 

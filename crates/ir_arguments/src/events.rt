@@ -1,7 +1,7 @@
 //! The arguments of `ir events`.
 
 use crate::asked::{Asked, Print};
-use crate::values::{IMAGE, MAP, TRACE, file_arg, given_text, names_arg, text_of};
+use crate::values::{IMAGE, MAP, TRACE, file_arg, given_text, image_arg, names_arg, text_of};
 use clap::{ArgMatches, Command};
 use std::alloc::{AllocError, Global};
 
@@ -31,7 +31,7 @@ pub struct EventsArguments {
 /// The command with its arguments.
 pub fn with_arguments<'a>(alloc: Global, command: Command<'a>) -> Result<Command<'a>, AllocError> {
     command
-        .arg(file_arg(alloc, IMAGE, "The file with the image"))?
+        .arg(image_arg(alloc))?
         .arg(file_arg(alloc, TRACE, "The file with the trace"))?
         .arg(names_arg(alloc))
 }

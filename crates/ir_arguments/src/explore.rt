@@ -7,7 +7,7 @@ use crate::conditions::outcome_conditions_of;
 use crate::recording::{
     INPUT, OUTPUT, input_arg, output_arg, profile_arg, profile_in, random_arg, random_in,
 };
-use crate::values::{IMAGE, TRACE, UNTIL, file_arg, given_text, text_of};
+use crate::values::{IMAGE, TRACE, UNTIL, given_text, image_arg, text_of};
 use clap::{Arg, ArgAction, ArgMatches, Command};
 use ir_explore_run::ExplorePlan;
 use ir_record_run::number_within;
@@ -45,7 +45,7 @@ and the lines of `ir record`. TRACE is written as `ir record IMAGE TRACE --order
 the same S, FILE and profile.
 If none fulfils them, the lines are those without COND, and TRACE isn't written. After `finished` no complete run of the guest
 has an outcome that does, and after `covered C` and `stopped WHY covered C` none of at most C switches. COND is a single argument,
-as in `ir hunt`: `end T E`, `code T V`, `word O I V`, `out T TEXT`, `fault`, or one of them after `!`.
+as in `ir hunt`: `end T E`, `code T V`, `word O I V`, `out T TEXT`, `fault`, `bad`, or one of them after `!`.
 Exit status: 0 finished or covered, 1 a file that can't be read or written, memory that ran out outside the search, or standard
 output that can't be written, 2 bad arguments, 3 a refused image, or a guest with more threads or objects than the profile takes,
 or a COND about what the guest hasn't, 5 stopped. With COND: 0 found, 5 none was found, whatever the last line says.
@@ -158,7 +158,7 @@ fn private_arg<'a>(alloc: Global) -> Arg<'a> {
 /// The command with its arguments.
 pub fn with_arguments<'a>(alloc: Global, command: Command<'a>) -> Result<Command<'a>, AllocError> {
     command
-        .arg(file_arg(alloc, IMAGE, "The file with the image"))?
+        .arg(image_arg(alloc))?
         .arg(trace_arg(alloc)?)?
         .arg(until_arg(alloc).requires_arg(TRACE)?)?
         .arg(states_arg(alloc))?

@@ -2,7 +2,7 @@
 
 use crate::asked::Asked;
 use crate::debug::DebugArguments;
-use crate::values::{IMAGE, TRACE, file_arg, text_of};
+use crate::values::{IMAGE, TRACE, file_arg, image_arg, text_of};
 use clap::{ArgMatches, Command};
 use std::alloc::{AllocError, Global};
 
@@ -27,7 +27,7 @@ Exit status: 0 done, 1 a fault, 2 bad arguments, 3 a refused image or trace, 4 a
 /// The command with its arguments.
 pub fn with_arguments<'a>(alloc: Global, command: Command<'a>) -> Result<Command<'a>, AllocError> {
     command
-        .arg(file_arg(alloc, IMAGE, "The file with the image"))?
+        .arg(image_arg(alloc))?
         .arg(file_arg(alloc, TRACE, "The file with the trace"))
 }
 

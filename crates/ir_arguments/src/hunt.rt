@@ -4,7 +4,7 @@ use crate::asked::Asked;
 use crate::conditions::{conditions_of, stale_by};
 use crate::recording::{RecordingOptions, options_of, with_options};
 use crate::seeds::{by_arg, seeds_by, way_by};
-use crate::values::{IMAGE, TRACE, UNTIL, file_arg, text_of};
+use crate::values::{IMAGE, TRACE, UNTIL, file_arg, image_arg, text_of};
 use clap::{Arg, ArgAction, ArgMatches, Command};
 use ir_chaos::Way;
 use ir_hunt::Seeds;
@@ -29,6 +29,7 @@ COND is a single argument, and `!` before it negates it. Numbers are decimal, or
    word O I V    word I of object O is V at the end
    out T TEXT    TEXT, all that follows a single blank, occurs in what thread T printed
    fault         some thread didn't end by END
+   bad           some thread didn't end by END with code 0
    budget        some thread's budget is spent: that is how a guest ends that waits forever
    stale         `ir stale` with the image lists a write: it rests on a read that was written over
 CLOCK, RANDOM, FILE, P and PREFIX are those of `ir record` with LIST. Ctrl-C ends a hunt, and nothing is written.
@@ -75,7 +76,7 @@ fn until_arg<'a>(alloc: Global) -> Arg<'a> {
 /// The command with its arguments.
 pub fn with_arguments<'a>(alloc: Global, command: Command<'a>) -> Result<Command<'a>, AllocError> {
     let command = command
-        .arg(file_arg(alloc, IMAGE, "The file with the image"))?
+        .arg(image_arg(alloc))?
         .arg(file_arg(alloc, TRACE, "The file that the trace is written to"))?
         .arg(seeds_arg(alloc))?
         .arg(until_arg(alloc))?

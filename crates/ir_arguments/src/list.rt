@@ -1,7 +1,7 @@
 //! The arguments of `ir list`.
 
 use crate::asked::{Asked, Print};
-use crate::values::{IMAGE, MAP, file_arg, given_text, names_arg, text_of};
+use crate::values::{IMAGE, MAP, given_text, image_arg, names_arg, text_of};
 use clap::{ArgMatches, Command};
 use std::alloc::{AllocError, Global};
 
@@ -27,9 +27,7 @@ pub struct ListArguments {
 
 /// The command with its arguments.
 pub fn with_arguments<'a>(alloc: Global, command: Command<'a>) -> Result<Command<'a>, AllocError> {
-    command
-        .arg(file_arg(alloc, IMAGE, "The file with the image"))?
-        .arg(names_arg(alloc))
+    command.arg(image_arg(alloc))?.arg(names_arg(alloc))
 }
 
 /// What its arguments ask for.

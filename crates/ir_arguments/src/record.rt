@@ -5,7 +5,7 @@ ghost use Rattle.std.specs.Prelude.{◌≡◌, option_map};
 use crate::asked::Asked;
 use crate::recording::{RecordingOptions, no_number, options_of, with_options};
 use crate::seeds::{by_arg, way_by};
-use crate::values::{IMAGE, TRACE, file_arg, given_text, text_of};
+use crate::values::{IMAGE, TRACE, file_arg, given_text, image_arg, text_of};
 use clap::{Arg, ArgAction, ArgMatches, Command};
 use ir_chaos::Way;
 use ir_record_run::{RecordPlan, number_within};
@@ -127,7 +127,7 @@ fn chaos_arg<'a>(alloc: Global) -> Arg<'a> {
 /// The command with its arguments.
 pub fn with_arguments<'a>(alloc: Global, command: Command<'a>) -> Result<Command<'a>, AllocError> {
     let command = command
-        .arg(file_arg(alloc, IMAGE, "The file with the image"))?
+        .arg(image_arg(alloc))?
         .arg(file_arg(alloc, TRACE, "The file that the trace is written to"))?
         .arg(order_arg(alloc))?
         .arg(order_file_arg(alloc).conflicts_with(ORDER)?)?

@@ -43,7 +43,7 @@ pub fn with_arguments<'a>(alloc: Global, command: Command<'a>) -> Result<Command
         .arg(file_arg(alloc, TRACE, "The file with the trace"))?
         .arg(from_image_arg(
             alloc,
-            "The file with the image: only writes that rest on what was read",
+            "The file with the image, or an ELF file of the guest: only writes that rest on what was read",
         ))
 }
 

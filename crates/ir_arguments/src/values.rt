@@ -27,6 +27,15 @@ pub fn file_arg<'a>(alloc: Global, name: &'a str, help: &'a str) -> Arg<'a> {
     Arg::new(alloc, name).required(true).help(help)
 }
 
+/// The file of an image, which has to be named.
+pub fn image_arg<'a>(alloc: Global) -> Arg<'a> {
+    file_arg(
+        alloc,
+        IMAGE,
+        "The file with the image, or an ELF file of the guest",
+    )
+}
+
 /// The option that names the file of an image.
 pub fn from_image_arg<'a>(alloc: Global, help: &'a str) -> Arg<'a> {
     Arg::new(alloc, FROM_IMAGE)

@@ -102,7 +102,7 @@ pub fn with_arguments<'a>(alloc: Global, command: Command<'a>) -> Result<Command
         .arg(span_arg(alloc).requires_arg(AROUND)?)?
         .arg(from_image_arg(
             alloc,
-            "The file with the image: the steps of the boxes, and only stale writes that rest on what was read",
+            "The file with the image, or an ELF file of the guest: the steps of the boxes, and only stale writes that rest on what was read",
         ))
 }
 

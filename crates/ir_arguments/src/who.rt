@@ -64,7 +64,10 @@ pub fn with_arguments<'a>(alloc: Global, command: Command<'a>) -> Result<Command
         .arg(Arg::new(alloc, VERSION).help(
             "The number of the version; without it all versions are printed",
         ))?
-        .arg(from_image_arg(alloc, "The file with the image: the steps of the events"))?
+        .arg(from_image_arg(
+            alloc,
+            "The file with the image, or an ELF file of the guest: the steps of the events",
+        ))?
         .arg(
             word_arg(alloc)
                 .requires_arg(FROM_IMAGE)?

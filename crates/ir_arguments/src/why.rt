@@ -88,7 +88,7 @@ pub fn with_arguments<'a>(alloc: Global, command: Command<'a>) -> Result<Command
         .arg(lines_arg(alloc))?
         .arg(from_image_arg(
             alloc,
-            "The file with the image: the steps of the events and of the leaves, the least cut that has the event, and waits of threads that held an object",
+            "The file with the image, or an ELF file of the guest: the steps of the events and of the leaves, the least cut that has the event, and waits of threads that held an object",
         ))?
         .arg(at_arg(alloc).requires_arg(FROM_IMAGE)?)
 }

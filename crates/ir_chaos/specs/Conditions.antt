@@ -18,6 +18,7 @@ pub data Fact : Type 0 where
   Word : (object index value : ℕ) → Fact
   Printed : (thread : ℕ) → (text : List ℕ) → Fact
   Fault : Fact
+  Bad : Fact
   Budget : Fact
 
 -- a fact, or that it isn't so
@@ -32,6 +33,7 @@ as_fact (facts.Code thread code) = Code thread code
 as_fact (facts.Word object index value) = Word object index value
 as_fact (facts.Printed thread text) = Printed thread text.now
 as_fact facts.Fault = Fault
+as_fact facts.Bad = Bad
 as_fact facts.Budget = Budget
 
 abbrev pub as_condition : declared.Condition → Condition
@@ -70,6 +72,11 @@ abbrev pub is_fault : Option end.End → Bool
 is_fault None = false
 is_fault (Some e) = not (end_number e == 1)
 
+-- whether a thread has ended, and not by an exit with code 0
+abbrev pub is_bad : Option end.End → Bool
+is_bad None = false
+is_bad (Some e) = not (exits_with 0 (Some e))
+
 -- whether a thread has spent its budget
 abbrev pub is_spent : Option end.End → Bool
 is_spent ended = ends_by (end_number ends.BudgetSpent) ended
@@ -92,6 +99,7 @@ is_so (Code thread code) o = exits_with code (slice_index_or o.ends thread None)
 is_so (Word object index value) o = slice_index_or (slice_index_or o.words object []) index 0 == value
 is_so (Printed thread text) o = occurs_in text (slice_index_or o.outputs thread [])
 is_so Fault o = some_is is_fault o.ends
+is_so Bad o = some_is is_bad o.ends
 is_so Budget o = some_is is_spent o.ends
 
 -- whether the condition holds of it: the fact is so, or with `!` it isn't
@@ -105,4 +113,5 @@ is_about (Code thread code) g = nat_lt thread (length g.entries)
 is_about (Word object index value) g = nat_lt object (object_count g) && nat_lt index (object_words g)
 is_about (Printed thread text) g = nat_lt thread (length g.entries)
 is_about Fault g = true
+is_about Bad g = true
 is_about Budget g = true

@@ -2,7 +2,7 @@
 use Rattle.std.specs.Prelude.{ℕ, suc, ◌+◌, ◌%◌, ◌==◌, ◌&&◌, nat_le, nat_lt, Bool, List, [], ◌∷◌, length, take, drop, codes, Option, Some, None, option_map, option_and_then, if◌then◌else◌}
 use Rattle.std.specs.Str.{bytes_eq}
 use Rattle.ir_command.specs.Commands.{most_small, number_up_to}
-use Rattle.ir_chaos.specs.Conditions.{Fact, End, Code, Word, Printed, Fault, Budget, Condition}
+use Rattle.ir_chaos.specs.Conditions.{Fact, End, Code, Word, Printed, Fault, Bad, Budget, Condition}
 
 -- how many bytes come before the first blank
 abbrev pub word_length : List ℕ → ℕ
@@ -46,6 +46,7 @@ printed_fact text = option_and_then (λ thread. option_map (λ rest. Printed thr
 unfoldable pub bare_fact : List ℕ → Option Fact
 bare_fact name =
     if bytes_eq name (codes "fault") then Some Fault else
+    if bytes_eq name (codes "bad") then Some Bad else
     if bytes_eq name (codes "budget") then Some Budget else None
 
 -- the fact of a name with these arguments

@@ -3,7 +3,9 @@
 ghost use Rattle.ir_chaos.specs.Conditions.{as_condition, as_fact, fulfils, is_about, is_so, outcome_of};
 ghost use Rattle.std.specs.Prelude.{◌≡◌};
 
-use crate::outcome::{end_at, ends_by, exits_with, output_at, some_fault, some_spent, word_at};
+use crate::outcome::{
+    end_at, ends_by, exits_with, output_at, some_bad, some_fault, some_spent, word_at,
+};
 use crate::text::occurs;
 use ir_flat::Flat;
 use ir_image::Image;
@@ -21,6 +23,8 @@ pub enum Fact<'a> {
     Printed(u32, &'a [u8]),
     /// Some thread doesn't exit.
     Fault,
+    /// Some thread doesn't exit with code 0.
+    Bad,
     /// Some thread's budget is spent.
     Budget,
 }
@@ -45,6 +49,7 @@ impl Fact<'_> {
             Fact::Word(object, index, value) => word_at(flat, object, index) == value,
             Fact::Printed(thread, text) => occurs(text, output_at(flat, thread)),
             Fact::Fault => some_fault(flat.threads()),
+            Fact::Bad => some_bad(flat.threads()),
             Fact::Budget => some_spent(flat.threads()),
         }
     }
@@ -61,7 +66,7 @@ impl Fact<'_> {
             Fact::Word(object, index, _) => {
                 (object as usize) < image.object_count() && (index as usize) < image.object_words()
             }
-            Fact::Fault | Fact::Budget => true,
+            Fact::Fault | Fact::Bad | Fact::Budget => true,
         }
     }
 }

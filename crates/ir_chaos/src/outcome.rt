@@ -1,6 +1,6 @@
 //! What threads and objects came to.
 
-ghost use Rattle.ir_chaos.specs.Conditions.{ends_by, exits_with, is_fault, is_spent, some_is};
+ghost use Rattle.ir_chaos.specs.Conditions.{ends_by, exits_with, is_bad, is_fault, is_spent, some_is};
 ghost use Rattle.ir_flat.specs.Flat.{Flat};
 ghost use Rattle.std.specs.List.{slice_index_or};
 ghost use Rattle.std.specs.Prelude.{◌≡◌, [], None, map};
@@ -75,6 +75,29 @@ pub fn some_fault(threads: &[Thread]) -> bool
             if end.number() != 1 {
                 return true;
             }
+        }
+    }
+    false
+}
+
+// Whether a thread has ended, and not by an exit with code 0.
+fn is_bad(ended: Option<End>) -> bool
+    ensures { result ≡ is_bad ended }
+{
+    match ended {
+        None => false,
+        Some(end) => !exits_with(Some(end), 0),
+    }
+}
+
+// Whether some thread has ended so.
+#[tactic(auto, using(crate::proofs::Texts::some_is_true_at_place, crate::proofs::Texts::some_is_step, crate::proofs::Texts::some_is_false_at_end))]
+pub fn some_bad(threads: &[Thread]) -> bool
+    ensures { result ≡ some_is is_bad (map (λ x. x.ended) threads.now) }
+{
+    'threads: for thread in threads {
+        if is_bad(thread.ended()) {
+            return true;
         }
     }
     false

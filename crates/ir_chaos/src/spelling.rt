@@ -50,6 +50,8 @@ fn bare_fact<'a>(name: &[u8]) -> Option<Fact<'a>>
 {
     if name == b"fault".as_slice() {
         Some(Fact::Fault)
+    } else if name == b"bad".as_slice() {
+        Some(Fact::Bad)
     } else if name == b"budget".as_slice() {
         Some(Fact::Budget)
     } else {

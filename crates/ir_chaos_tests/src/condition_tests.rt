@@ -5,7 +5,7 @@ use ir_chaos::{Condition, Fact, Way, condition_of};
 use std::test::Fail;
 
 // What a text writes.
-const WRITTEN: [(&str, Option<Fact<'static>>); 24] = [
+const WRITTEN: [(&str, Option<Fact<'static>>); 25] = [
     ("end 1 13", Some(Fact::End(1, 13))),
     ("end 0x1 0xD", Some(Fact::End(1, 13))),
     ("code 0 4294967295", Some(Fact::Code(0, 0xffff_ffff))),
@@ -14,6 +14,7 @@ const WRITTEN: [(&str, Option<Fact<'static>>); 24] = [
     ("out 2 ", Some(Fact::Printed(2, b""))),
     ("out 2  a b ", Some(Fact::Printed(2, b" a b "))),
     ("fault", Some(Fact::Fault)),
+    ("bad", Some(Fact::Bad)),
     ("budget", Some(Fact::Budget)),
     ("", None),
     ("!", None),
@@ -55,7 +56,7 @@ fn a_mark_denies(rt: HostRuntime) -> Result<(), Fail> {
 }
 
 // Whether a condition holds of a run of the guest that loses an update, and whether the guest has what it is about.
-const HELD: [(&str, bool, bool); 14] = [
+const HELD: [(&str, bool, bool); 15] = [
     ("word 0 0 1", true, true),
     ("!word 0 0 2", true, true),
     ("word 0 0 2", false, true),
@@ -69,6 +70,7 @@ const HELD: [(&str, bool, bool); 14] = [
     ("out 0 ", true, true),
     ("out 0 x", false, true),
     ("fault", false, true),
+    ("bad", false, true),
     ("!budget", true, true),
 ];
 

@@ -1,3 +1,4 @@
 mod ShownLines
 mod Labels
 mod LabelNames
+mod ElfFiles

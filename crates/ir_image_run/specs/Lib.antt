@@ -1,3 +1,4 @@
 pub mod Assembling
 pub mod Converting
 pub mod Mapping
+pub mod Opening

@@ -8,20 +8,24 @@ ghost use Rattle.ir_elf.specs.Refusal.{Gives};
 ghost use Rattle.ir_elf.specs.declared.refusal.Refusal.{Refusal};
 ghost use Rattle.ir_files.specs.Writers.{writer_of, Failed};
 ghost use Rattle.ir_files.specs.declared.exit_status.ExitStatus.TheVariants as status;
+ghost use Rattle.ir_image_run.specs.Opening.{AreOfGuest};
 ghost use Rattle.ir_image_run.specs.Converting.{elf_image_bytes, refusal_line, refusal_explained, refusal_report, StopsElf};
 
 use crate::writing::{write_bytes, write_report};
 use ir_elf::{ElfErr, Refusal, read_elf};
 use ir_files::ExitStatus;
-use ir_image::write_image;
+use ir_image::{encoding_is_read, write_image};
 use ir_stream::Sink;
 use std::alloc::{AllocError, Global};
 
 // The bytes of the image of the file's guest.
-fn image_of(alloc: Global, file: &[u8]) -> Result<Vec<u8>, ElfErr>
-    ensures { Gives (λ v. v.items) result (elf_image_bytes file.now) }
+pub fn image_of(alloc: Global, file: &[u8]) -> Result<Vec<u8>, ElfErr>
+    ensures bytes { Gives (λ v. v.items) result (elf_image_bytes file.now) }
+    ensures read { IfOk result (λ v. AreOfGuest file.now v.items) }
 {
     let image = read_elf(alloc, file)?;
+    image.form();
+    encoding_is_read();
     Ok(write_image(alloc, &image)?)
 }
 

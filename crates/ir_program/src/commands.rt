@@ -1,6 +1,7 @@
 //! The commands, a file each, and what they share: files that are read, and places that are written.
 
-ghost use Rattle.std.specs.Prelude.{◌≡◌, OnSome, false};
+ghost use Rattle.std.specs.Prelude.{◌≡◌, OnSome, OnOk, IfSome, IfOk, Ok, false};
+ghost use Rattle.ir_image_run.specs.Opening.{image_bytes};
 
 pub mod assemble;
 pub mod conditions;
@@ -17,7 +18,9 @@ pub mod recording;
 pub mod trace;
 pub mod until;
 
+use ir_elf::ElfErr;
 use ir_files::{ExitStatus, Folder, MOST_BYTES, WholeSink, loses, read_file, tell_of};
+use ir_image_run::image_bytes;
 use ir_stream::Sink;
 use std::alloc::Global;
 
@@ -37,6 +40,7 @@ pub fn bytes_of<D: Folder, E: Sink>(
     most: u32,
 ) -> Option<Vec<u8>>
     ensures kept { OnSome result (faults.new ≡ faults.old) }
+    ensures bytes { IfSome result (λ v. IfSome (D.bytes_at folder.now path.now) (λ file. v.items ≡ file)) }
 {
     match read_file(alloc, folder, path, most) {
         Ok(bytes) => Some(bytes),
@@ -47,6 +51,51 @@ pub fn bytes_of<D: Folder, E: Sink>(
             }
             None
         }
+    }
+}
+
+// The bytes of the image that a file of this name holds, which may be an ELF file: then they are those of its guest's image. If there are none,
+// the reason is reported.
+pub fn image_of_file<E: Sink>(
+    alloc: Global,
+    faults: &mut E,
+    path: &str,
+    file: Vec<u8>,
+) -> Result<Vec<u8>, ExitStatus>
+    ensures kept { OnOk result (faults.new ≡ faults.old) }
+    ensures bytes { IfOk result (λ v. image_bytes file.items ≡ Ok v.items) }
+{
+    match image_bytes(alloc, file) {
+        Ok(bytes) => Ok(bytes),
+        Err(ElfErr::Refused(why)) => {
+            say(
+                faults,
+                path,
+                ": this ELF file is no guest, because ",
+                why.words(),
+            );
+            Err(ExitStatus::Refused)
+        }
+        Err(ElfErr::NoMem) => {
+            say(faults, path, " ", "doesn't fit into memory");
+            Err(ExitStatus::Failed)
+        }
+    }
+}
+
+// The bytes of the image in a file, in the same way.
+pub fn image_in<D: Folder, E: Sink>(
+    alloc: Global,
+    folder: &D,
+    faults: &mut E,
+    path: &str,
+) -> Result<Vec<u8>, ExitStatus>
+    ensures kept { OnOk result (faults.new ≡ faults.old) }
+    ensures bytes { IfOk result (λ v. IfSome (D.bytes_at folder.now path.now) (λ file. image_bytes file ≡ Ok v.items)) }
+{
+    match bytes_of(alloc, folder, faults, path, MOST_BYTES) {
+        Some(file) => image_of_file(alloc, faults, path, file),
+        None => Err(ExitStatus::Failed),
     }
 }
 
@@ -64,14 +113,7 @@ pub fn explain_image<D: Folder, E: Sink>(
     let Ok(bytes) = read_file(alloc, folder, path, MOST_BYTES) else {
         return;
     };
-    if bytes.starts_with(b"\x7FELF") {
-        say(
-            faults,
-            path,
-            ": ",
-            "this is an ELF file: `ir elf` makes an image of it",
-        );
-    } else if bytes.starts_with(b"IRT") {
+    if bytes.starts_with(b"IRT") {
         say(faults, path, ": ", "this is a trace, and no image");
     }
 }

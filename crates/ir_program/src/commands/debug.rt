@@ -2,7 +2,7 @@
 
 ghost use Rattle.std.specs.Prelude.{◌≡◌, false};
 
-use crate::commands::{bytes_of, say};
+use crate::commands::{bytes_of, image_in, say};
 use crate::debugging::debug_run;
 use crate::dispatch::Surroundings;
 use crate::gdb::gdb_run;
@@ -144,8 +144,9 @@ where
     let alloc = around.rt.alloc();
     let folder = around.folder;
     let arguments = opening.arguments;
-    let Some(image) = bytes_of(alloc, folder, faults, arguments.image.as_str(), MOST_BYTES) else {
-        return ExitStatus::Failed;
+    let image = match image_in(alloc, folder, faults, arguments.image.as_str()) {
+        Ok(image) => image,
+        Err(status) => return status,
     };
     let Some(trace) = bytes_of(alloc, folder, faults, arguments.trace.as_str(), MOST_BYTES) else {
         return ExitStatus::Failed;

@@ -2,13 +2,13 @@
 
 ghost use Rattle.std.specs.Prelude.{◌≡◌, false};
 
-use crate::commands::bytes_of;
+use crate::commands::image_in;
 use crate::commands::recording::input_of;
 use crate::dispatch::Surroundings;
 use ir_arguments::ExploreArguments;
 use ir_explore::Observer;
 use ir_explore_run::explore_run;
-use ir_files::{ExitStatus, Folder, MOST_BYTES};
+use ir_files::{ExitStatus, Folder};
 use ir_stream::Sink;
 
 // Prints the outcomes of the guest in a file.
@@ -28,8 +28,9 @@ where
     requires reports { E.broken faults.old ≡ false }
 {
     let (alloc, folder) = (around.rt.alloc(), around.folder);
-    let Some(image) = bytes_of(alloc, folder, faults, arguments.image.as_str(), MOST_BYTES) else {
-        return ExitStatus::Failed;
+    let image = match image_in(alloc, folder, faults, arguments.image.as_str()) {
+        Ok(image) => image,
+        Err(status) => return status,
     };
     let Some(input) = input_of(alloc, folder, faults, arguments.input.as_ref()) else {
         return ExitStatus::Failed;

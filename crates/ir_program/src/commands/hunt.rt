@@ -2,15 +2,15 @@
 
 ghost use Rattle.std.specs.Prelude.{◌≡◌, false};
 
-use crate::commands::bytes_of;
 use crate::commands::conditions::conditions_of;
+use crate::commands::image_in;
 use crate::commands::recording::{
     Places, RecordingPaths, input_of, loses_input, output_places, record_files,
 };
 use crate::dispatch::Surroundings;
 use crate::ends::tell_ends;
 use ir_arguments::HuntArguments;
-use ir_files::{ExitStatus, Folder, MOST_BYTES};
+use ir_files::{ExitStatus, Folder};
 use ir_hunt::{HuntPlan, hunt_run};
 use ir_record_run::ParsedImage;
 use ir_stream::Sink;
@@ -72,8 +72,9 @@ where
     if loses_input(folder, faults, &paths(arguments)) {
         return ExitStatus::BadArguments;
     }
-    let Some(image) = bytes_of(alloc, folder, faults, arguments.image.as_str(), MOST_BYTES) else {
-        return ExitStatus::Failed;
+    let image = match image_in(alloc, folder, faults, arguments.image.as_str()) {
+        Ok(image) => image,
+        Err(status) => return status,
     };
     let image = ParsedImage::new(alloc, image.as_slice());
     let texts = arguments.until.as_slice();

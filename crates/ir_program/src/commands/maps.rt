@@ -1,13 +1,17 @@
 //! Maps of names: those that are read, and the one of a source's labels.
 
-ghost use Rattle.std.specs.Prelude.{◌≡◌, OnOk, false};
+ghost use Rattle.std.specs.Prelude.{◌≡◌, [], OnOk, IfOk, false, if◌then◌else◌};
 ghost use Rattle.std.specs.List.{All};
+ghost use Rattle.ir_symbols.specs.Tables.{IsSortOf};
+ghost use Rattle.ir_elf_symbols.specs.Symbols.{elf_symbols};
 ghost use Rattle.ir_image_run.specs.Mapping.{IsNamed};
+ghost use Rattle.ir_image_run.specs.Opening.{is_elf};
 
 use crate::commands::{bytes_of, put_in_place, say};
 use ir_asm::Labels;
+use ir_elf_symbols::elf_symbols;
 use ir_files::{ExitStatus, Folder, MOST_BYTES, WholeFile};
-use ir_image_run::map_run;
+use ir_image_run::{is_elf, map_run};
 use ir_stream::Sink;
 use ir_symbols::{MapErr, SymbolTable, read_map};
 use std::alloc::Global;
@@ -25,11 +29,17 @@ fn refused<E: Sink>(alloc: Global, faults: &mut E, path: &str, why: MapErr) -> E
     ExitStatus::Refused
 }
 
-// No names.
-fn no_names<E: Sink>(alloc: Global, faults: &mut E) -> Result<SymbolTable, ExitStatus>
+// The names of addresses that a file has itself: the symbols of an ELF file, and none of any other.
+fn own_names<E: Sink>(alloc: Global, faults: &mut E, file: &[u8]) -> Result<SymbolTable, ExitStatus>
     ensures kept { OnOk result (faults.new ≡ faults.old) }
+    ensures symbols { IfOk result (λ table. IsSortOf (if is_elf file.now then elf_symbols file.now else []) table) }
 {
-    match SymbolTable::of(alloc, Vec::new(alloc)) {
+    let symbols = if is_elf(file) {
+        elf_symbols(alloc, file)
+    } else {
+        SymbolTable::of(alloc, Vec::new(alloc))
+    };
+    match symbols {
         Ok(symbols) => Ok(symbols),
         Err(_) => {
             say(faults, "memory ran out", "", "");
@@ -38,17 +48,19 @@ fn no_names<E: Sink>(alloc: Global, faults: &mut E) -> Result<SymbolTable, ExitS
     }
 }
 
-// The names of addresses in a file, of which there are none if no file is named. If it can't be read, the reason is reported.
+// The names of addresses in a map, or those that the guest's file has itself if no map is named. If the map can't be read, the reason is
+// reported.
 pub fn names_in<D: Folder, E: Sink>(
     alloc: Global,
     folder: &D,
     faults: &mut E,
+    file: &[u8],
     path: Option<&String>,
 ) -> Result<SymbolTable, ExitStatus>
     ensures kept { OnOk result (faults.new ≡ faults.old) }
 {
     let Some(path) = path else {
-        return no_names(alloc, faults);
+        return own_names(alloc, faults, file);
     };
     let path = path.as_str();
     let Some(bytes) = bytes_of(alloc, folder, faults, path, MOST_BYTES) else {

@@ -1,9 +1,9 @@
 //! `ir stale`, `ir who`, `ir why`, `ir diff` and `ir view`: what the traces in files say of their past is printed.
 
-ghost use Rattle.std.specs.Prelude.{◌≡◌, OnSome, false};
+ghost use Rattle.std.specs.Prelude.{◌≡◌, OnOk, false};
 
 use crate::commands::debug::{THE_TRACE, explain_files, explain_trace};
-use crate::commands::{bytes_of, say};
+use crate::commands::{bytes_of, image_in, say};
 use ir_arguments::{DiffArguments, StaleArguments, ViewArguments, WhoArguments, WhyArguments};
 use ir_diff::diff_run;
 use ir_files::{ExitStatus, Folder, MOST_BYTES};
@@ -48,15 +48,17 @@ fn files_of<D: Folder, E: Sink>(
     faults: &mut E,
     trace: &String,
     image: &Option<String>,
-) -> Option<Given>
-    ensures kept { OnSome result (faults.new ≡ faults.old) }
+) -> Result<Given, ExitStatus>
+    ensures kept { OnOk result (faults.new ≡ faults.old) }
 {
-    let trace = bytes_of(alloc, folder, faults, trace.as_str(), MOST_BYTES)?;
-    let Some(image) = image else {
-        return Some(Given { trace, image: None });
+    let Some(trace) = bytes_of(alloc, folder, faults, trace.as_str(), MOST_BYTES) else {
+        return Err(ExitStatus::Failed);
     };
-    let image = bytes_of(alloc, folder, faults, image.as_str(), MOST_BYTES)?;
-    Some(Given {
+    let Some(image) = image else {
+        return Ok(Given { trace, image: None });
+    };
+    let image = image_in(alloc, folder, faults, image.as_str())?;
+    Ok(Given {
         trace,
         image: Some(image),
     })
@@ -75,8 +77,9 @@ pub fn stale_file<D: Folder, O: Sink, E: Sink>(
     requires writes { O.broken out.old ≡ false }
     requires reports { E.broken faults.old ≡ false }
 {
-    let Some(given) = files_of(alloc, folder, faults, &arguments.trace, &arguments.image) else {
-        return ExitStatus::Failed;
+    let given = match files_of(alloc, folder, faults, &arguments.trace, &arguments.image) {
+        Ok(given) => given,
+        Err(status) => return status,
     };
     let trace = given.trace.as_slice();
     let Some(image) = given.image() else {
@@ -137,8 +140,9 @@ pub fn who_file<D: Folder, O: Sink, E: Sink>(
     requires writes { O.broken out.old ≡ false }
     requires reports { E.broken faults.old ≡ false }
 {
-    let Some(given) = files_of(alloc, folder, faults, &arguments.trace, &arguments.image) else {
-        return ExitStatus::Failed;
+    let given = match files_of(alloc, folder, faults, &arguments.trace, &arguments.image) {
+        Ok(given) => given,
+        Err(status) => return status,
     };
     let trace = given.trace.as_slice();
     let Some(image) = given.image() else {
@@ -171,8 +175,9 @@ pub fn why_file<D: Folder, O: Sink, E: Sink>(
     requires writes { O.broken out.old ≡ false }
     requires reports { E.broken faults.old ≡ false }
 {
-    let Some(given) = files_of(alloc, folder, faults, &arguments.trace, &arguments.image) else {
-        return ExitStatus::Failed;
+    let given = match files_of(alloc, folder, faults, &arguments.trace, &arguments.image) {
+        Ok(given) => given,
+        Err(status) => return status,
     };
     let trace = given.trace.as_slice();
     let what = ir_why::Question {
@@ -258,8 +263,9 @@ pub fn view_file<D: Folder, O: Sink, E: Sink>(
     requires reports { E.broken faults.old ≡ false }
 {
     let asked = picture_asked(arguments);
-    let Some(given) = files_of(alloc, folder, faults, &arguments.trace, &arguments.image) else {
-        return ExitStatus::Failed;
+    let given = match files_of(alloc, folder, faults, &arguments.trace, &arguments.image) {
+        Ok(given) => given,
+        Err(status) => return status,
     };
     let trace = given.trace.as_slice();
     let Some(image) = given.image() else {

@@ -5,7 +5,7 @@ ghost use Rattle.std.specs.Prelude.{◌≡◌, OnOk, false};
 use crate::commands::recording::{
     RecordingPaths, input_of, loses_input, output_places, record_files,
 };
-use crate::commands::{bytes_of, say};
+use crate::commands::{bytes_of, image_in, say};
 use crate::dispatch::Surroundings;
 use crate::ends::{all_ended, tell_ends};
 use ir_arguments::{Chaos, RecordArguments};
@@ -197,8 +197,9 @@ where
     if loses_input(folder, faults, &paths(arguments)) {
         return ExitStatus::BadArguments;
     }
-    let Some(image) = bytes_of(alloc, folder, faults, arguments.image.as_str(), MOST_BYTES) else {
-        return ExitStatus::Failed;
+    let image = match image_in(alloc, folder, faults, arguments.image.as_str()) {
+        Ok(image) => image,
+        Err(status) => return status,
     };
     let image = ParsedImage::new(alloc, image.as_slice());
     let beside = match Beside::of(alloc, rt, folder, faults, arguments, &image) {

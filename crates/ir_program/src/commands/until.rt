@@ -2,8 +2,8 @@
 
 ghost use Rattle.std.specs.Prelude.{◌≡◌, OnOk, false};
 
-use crate::commands::bytes_of;
 use crate::commands::conditions::conditions_of;
+use crate::commands::image_in;
 use crate::commands::recording::{
     Places, RecordingPaths, input_of, loses_input, output_places, record_files,
 };
@@ -12,7 +12,7 @@ use crate::ends::tell_ends;
 use ir_arguments::UntilArguments;
 use ir_explore::Observer;
 use ir_explore_run::{UntilPlan, explore_until};
-use ir_files::{ExitStatus, Folder, MOST_BYTES};
+use ir_files::{ExitStatus, Folder};
 use ir_record_run::ParsedImage;
 use ir_stream::Sink;
 use ir_trace::Trace;
@@ -92,8 +92,9 @@ where
     if loses_input(folder, faults, &paths) {
         return ExitStatus::BadArguments;
     }
-    let Some(image) = bytes_of(alloc, folder, faults, paths.image, MOST_BYTES) else {
-        return ExitStatus::Failed;
+    let image = match image_in(alloc, folder, faults, paths.image) {
+        Ok(image) => image,
+        Err(status) => return status,
     };
     let image = ParsedImage::new(alloc, image.as_slice());
     let conditions = match conditions_of(alloc, faults, &image, arguments.until.as_slice()) {
