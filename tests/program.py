@@ -197,7 +197,7 @@ def test_explaining(folder):
     wants("diff", at_terminal("diff d.img d.img", folder), (3, both))
     (folder / "d.elf").write_bytes(b"\x7fELF, and more")
     refused = "ir: the image is refused, 2: these bytes are no image\n"
-    no_guest = "ir: d.elf: this ELF file is no guest, because a field or a segment passes the end of the file\n"
+    no_guest = "ir: d.elf: this ELF file is no guest, because the file isn't of 32 bits, little-endian, version 1\n"
     for words in ("record d.elf x.trc", "hunt d.elf x.trc --seeds 0+1 --until fault", "explore d.elf", "explore d.elf x.trc --until fault", "list d.elf",
                   "debug d.elf whole.trc", "gdb d.elf whole.trc", "events d.elf whole.trc", "stale whole.trc --image d.elf",
                   "who whole.trc 0 --image d.elf", "why whole.trc 0 0 --image d.elf", "view whole.trc --image d.elf"):
