@@ -26,7 +26,7 @@ use Rattle.ir_runs.specs.declared.access.Access.{Access}
 use Rattle.ir_runs.specs.declared.access.Access.TheVariants.{Writing}
 use Rattle.ir_store.specs.Nodes.{SourcedFlat, source_of, sourced_thread, with_turn, IsSourced}
 use Rattle.ir_store.specs.Table.{no_source}
-use Rattle.ir_graph.specs.Lone.{IsAbout, IsGiven, answer_from, cell_after, lone_thread, lone_cell, GoesLone, MayBegin, TakesTurn, AreBeside, MayTake}
+use Rattle.ir_graph.specs.Lone.{IsAbout, IsGiven, answer_from, cell_after, lone_thread, lone_cell, GoesLone, MayBegin, MustWait, TakesTurn, AreBeside, MayTake}
 use Rattle.ir_graph.specs.Plain.{full_by, full_of, IsFair, GoesPlain, MayGo, OthersStay, Rests, result_by, result_of}
 use Rattle.ir_graph.proofs.Full.{sourced_step_is_step_beside_updated_sources, lookup_after_source_set_is_upd}
 use Rattle.ir_graph.proofs.Plain.{goes_plain_reflexive, goes_plain_transitive, goes_plain_by_fair_step, others_stay_after_step, others_stay_transitive, thread_after_ask_is_twin_of_thread_before}
@@ -240,6 +240,21 @@ ask_may_step_if_it_begins_turn f o refused (ask.Put p i v) h = absurd h
 ask_may_step_if_it_begins_turn f o refused ask.Print h = absurd h
 ask_may_step_if_it_begins_turn f o refused (ask.End e) h = absurd h
 ask_may_step_if_it_begins_turn f o refused ask.Done h = absurd h
+
+-- a thread that has to wait has no step
+pub may_not_step_if_it_must_wait : (f : Flat) (o : ℕ) (refused : Bool) (q : Ask) → MustWait refused o (cell_of f o).fields q
+    → MayStep f (result_by refused) q → ⊥
+may_not_step_if_it_must_wait f o refused ask.Private h may = absurd h
+may_not_step_if_it_must_wait f o refused (ask.Env k) h may = absurd h
+may_not_step_if_it_must_wait f o refused (ask.Enter p a) h may = h.2 (subst (λ z. Admitted a (cell_of f z).fields) h.1 may)
+may_not_step_if_it_must_wait f o true (ask.Try p) h may = absurd (cc h.0)
+may_not_step_if_it_must_wait f o false (ask.Try p) h may = h.2 (subst (λ z. Admitted Writing (cell_of f z).fields) h.1 may)
+may_not_step_if_it_must_wait f o refused (ask.Leave p a) h may = absurd h
+may_not_step_if_it_must_wait f o refused (ask.Get p i) h may = absurd h
+may_not_step_if_it_must_wait f o refused (ask.Put p i v) h may = absurd h
+may_not_step_if_it_must_wait f o refused ask.Print h may = absurd h
+may_not_step_if_it_must_wait f o refused (ask.End e) h may = absurd h
+may_not_step_if_it_must_wait f o refused ask.Done h may = absurd h
 
 -- a turn is by its way
 pub ask_may_go_if_it_begins_turn : (o : ℕ) (refused : Bool) (fields : Fields) (q : Ask) → MayBegin refused o fields q → MayGo refused q

@@ -5,18 +5,21 @@ use Rattle.ir_thread.specs.State.{ask_of}
 use Rattle.ir_flat.specs.Flat.{cell_of}
 use Rattle.ir_store.specs.Nodes.{Shared, SourcedFlat, cell_in, sourced_thread}
 use Rattle.ir_store.specs.Table.{idle_beside}
-use Rattle.ir_graph.specs.Lone.{TakesTurn}
+use Rattle.ir_graph.specs.Lone.{MustWait, TakesTurn}
 use Rattle.ir_graph.specs.Plain.{MayGo}
 use Rattle.ir_graph.specs.declared.known.Turn.{Turn}
 
--- the thread and the object of these numbers become those of the others by a turn of the thread
+-- the thread and the object of these numbers become those of the others by a turn of the thread, or the thread has to wait for the object
 pub record IsTurn (code : List ℕ) (shared : Shared) (turn : Turn) : Type 0 where
   pub from : turn.from < length shared.threads
   pub to : turn.to < length shared.threads
   pub spot : turn.spot.words < length shared.words
   pub after : turn.after.words < length shared.words
   pub tries : turn.tries ≡ false → MayGo true (ask_of code (slice_index_or shared.threads turn.from idle_beside).0) → ⊥
-  pub takes : TakesTurn code turn.object turn.refused (slice_index_or shared.threads turn.from idle_beside) (cell_in shared.words turn.spot)
+  pub waits : turn.waits ≡ true
+      → MustWait turn.refused turn.object (cell_in shared.words turn.spot).fields (ask_of code (slice_index_or shared.threads turn.from idle_beside).0)
+  pub takes : turn.waits ≡ false
+      → TakesTurn code turn.object turn.refused (slice_index_or shared.threads turn.from idle_beside) (cell_in shared.words turn.spot)
       (slice_index_or shared.threads turn.to idle_beside) (cell_in shared.words turn.after)
 
 abbrev pub AreTurns : List ℕ → Shared → List Turn → Type 0

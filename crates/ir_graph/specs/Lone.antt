@@ -89,6 +89,12 @@ MayBegin refused o fields (ask.Enter p access) = (refused ≡ false) × (p ≡ o
 MayBegin refused o fields (ask.Try p) = (p ≡ o) × MayTry fields (result_by refused)
 MayBegin refused o fields _ = ⊥
 
+-- a thread that asks so has to wait: it enters this object, or tries to and isn't refused, and the object doesn't admit it
+abbrev pub MustWait : Bool → ℕ → Fields → Ask → Type 0
+MustWait refused o fields (ask.Enter p access) = (refused ≡ false) × (p ≡ o) × (Admitted access fields → ⊥)
+MustWait refused o fields (ask.Try p) = (refused ≡ false) × (p ≡ o) × (Admitted Writing fields → ⊥)
+MustWait refused o fields _ = ⊥
+
 -- a thread that rests enters this object, or tries to, and goes on, by steps about it alone, to where it rests again: x and c become y and d
 pub record TakesTurn (code : List ℕ) (o : ℕ) (refused : Bool) (x : ThreadState × Source) (c : Cell) (y : ThreadState × Source) (d : Cell) : Type 0 where
   pub begins : MayBegin refused o c.fields (ask_of code x.0)

@@ -2,7 +2,7 @@
 
 use ir_store::Spot;
 
-/// A thread enters an object, or tries to, and goes on to where it rests.
+/// A thread enters an object, or tries to, and goes on to where it rests; or it has to wait for the object.
 #[derive(Clone, Copy, Debug, PartialEq, Eq)]
 pub struct Turn {
     /// The number of the thread before.
@@ -13,6 +13,8 @@ pub struct Turn {
     pub tries: bool,
     /// Whether the try is refused.
     pub refused: bool,
+    /// Whether it has to wait. Then it and the object stay as they are.
+    pub waits: bool,
     /// That object before.
     pub spot: Spot,
     /// The number of the thread after.

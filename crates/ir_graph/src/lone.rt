@@ -1,7 +1,7 @@
 //! A thread that goes on beside one object.
 
 ghost use Rattle.std.specs.Prelude.{◌≡◌, ℕ, true, false, IfSome};
-ghost use Rattle.ir_graph.specs.Lone.{IsAbout, IsGiven, answer_from, cell_after, GoesLone, MayBegin, TakesTurn, AreBeside, MayTake};
+ghost use Rattle.ir_graph.specs.Lone.{IsAbout, IsGiven, answer_from, cell_after, GoesLone, MayBegin, MustWait, TakesTurn, AreBeside, MayTake};
 ghost use Rattle.ir_graph.specs.Plain.{IsFair, Rests};
 ghost use Rattle.ir_sources.specs.Sources.{given};
 ghost use Rattle.ir_states.specs.Sources.{left_of};
@@ -142,6 +142,18 @@ fn first_ask(
         ),
         Ask::Try(o) if o == number && (refused || object.can_write()) => Some(Ask::Try(number)),
         _ => None,
+    }
+}
+
+/// Whether a thread that asks so has to wait for this object, by a way that is no refused try.
+pub fn waits(asked: Ask, object: &Object, number: u8, refused: bool) -> bool
+    ensures { result ≡ true → MustWait refused number object.now.fields asked }
+{
+    match asked {
+        Ask::Enter(o, Access::Reading) if o == number && !refused => !object.can_read(),
+        Ask::Enter(o, Access::Writing) if o == number && !refused => !object.can_write(),
+        Ask::Try(o) if o == number && !refused => !object.can_write(),
+        _ => false,
     }
 }
 

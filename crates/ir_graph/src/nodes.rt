@@ -70,7 +70,7 @@ fn node_of<'a>(
     Ok(node)
 }
 
-// The node where a turn of a thread leads.
+// The node where a turn of a thread leads that doesn't wait.
 fn node_by<'a>(
     flats: &mut Store<'a>,
     timed: &mut bool,
@@ -82,6 +82,7 @@ fn node_by<'a>(
     requires node { way.node < length flats.old.items }
     requires thread { (s : SourcedFlat) → slice_get flats.old.items way.node ≡ Some s → way.thread < length s.flat.threads }
     requires turn { (s : SourcedFlat) → slice_get flats.old.items way.node ≡ Some s → IsTurnOf s.flat.code flats.old.shared s way.thread way.refused turn }
+    requires leads { turn.waits ≡ false }
     requires code { (s : SourcedFlat) → slice_get flats.old.items way.node ≡ Some s → flats.old.code ≡ s.flat.code }
     requires room { length flats.old.items ≤ most }
     ensures nodes { AreNodes flats.new.items }
@@ -194,6 +195,9 @@ pub fn successor<'a>(
         return Ok(None);
     }
     if let Some(turn) = turn_of(flats, ahead, code, way, bounds.private)? {
+        if turn.waits {
+            return Ok(None);
+        }
         return match node_by(flats, timed, way, turn, bounds.nodes) {
             Ok(next) => Ok(Some(next)),
             Err(stop) => Err(stop),

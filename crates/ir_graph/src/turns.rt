@@ -11,7 +11,7 @@ ghost use Rattle.ir_thread.specs.State.{ask_of};
 
 use crate::ahead::Ahead;
 use crate::known::Turn;
-use crate::lone::turn_beside;
+use crate::lone::{turn_beside, waits};
 use crate::way::Way;
 use ir_image::Code;
 use ir_store::Store;
@@ -45,7 +45,7 @@ fn object_of(asked: Ask) -> Option<(u8, bool)>
     }
 }
 
-// The turn of a thread at a node, if it is about one object alone.
+// The turn of a thread at a node, if it is about one object alone or the thread has to wait.
 fn new_turn(
     flats: &mut Store<'_>,
     code: &Code,
@@ -62,7 +62,8 @@ fn new_turn(
 {
     let from = flats.thread_number(way.node, way.thread);
     let mut own = flats.thread(from)?;
-    let Some((number, tries)) = object_of(own.thread.ask(code)) else {
+    let asked = own.thread.ask(code);
+    let Some((number, tries)) = object_of(asked) else {
         return Ok(None);
     };
     let object = number as usize;
@@ -70,23 +71,29 @@ fn new_turn(
         return Ok(None);
     };
     let mut beside = flats.object(spot);
-    if !turn_beside(code, &mut own, &mut beside, number, way.refused, limit) {
-        return Ok(None);
-    }
-    let to = flats.add_thread(&own)?;
-    let after = flats.add_object(&beside)?;
-    Ok(Some(Turn {
+    let mut turn = Turn {
         from,
         object,
         tries,
         refused: way.refused,
+        waits: true,
         spot,
-        to,
-        after,
-    }))
+        to: from,
+        after: spot,
+    };
+    if waits(asked, &beside, number, way.refused) {
+        return Ok(Some(turn));
+    }
+    if !turn_beside(code, &mut own, &mut beside, number, way.refused, limit) {
+        return Ok(None);
+    }
+    turn.waits = false;
+    turn.to = flats.add_thread(&own)?;
+    turn.after = flats.add_object(&beside)?;
+    Ok(Some(turn))
 }
 
-/// The turn of a thread at a node, if it is about one object alone.
+/// The turn of a thread at a node, if it is about one object alone or the thread has to wait.
 ///
 /// # Errors
 /// Out of memory.

@@ -30,7 +30,7 @@ node_of-requires-clause-is c =
       within = c.in_ok-new.ensures.within;
       sourced = subst IsSourced (sym (c.in_ok-new.ensures.state f.0 f.1))
           (both_sourced flats.items flats.shared f.0 c.args.way.thread c.args.way.refused c.args.way.node c.args.turn c.requires.nodes f.1 (c.requires.thread f.0 f.1)
-          (c.thread_number.ensures.sourced f.0 f.1) (c.requires.turn f.0 f.1));
+          (c.thread_number.ensures.sourced f.0 f.1) (c.requires.turn f.0 f.1) c.requires.leads);
     }
 
 pub node_of-requires-clause-code : goal.node_of-requires-clause-code
@@ -44,7 +44,7 @@ node_of-requires-clause-like c = λ u k there.
     let f = element_below_length_exists flats.items c.args.way.node c.requires.node in
     subst (λ (z : SourcedFlat). IsLike z.flat k.flat) (sym (c.in_ok-new.ensures.state f.0 f.1))
     (both_like flats.items flats.shared f.0 c.args.way.thread c.args.way.refused c.args.way.node c.args.turn c.requires.nodes f.1 (c.requires.thread f.0 f.1)
-    (c.thread_number.ensures.sourced f.0 f.1) (c.requires.turn f.0 f.1) u k there)
+    (c.thread_number.ensures.sourced f.0 f.1) (c.requires.turn f.0 f.1) c.requires.leads u k there)
 
 pub node_of-requires-clause-rest : goal.node_of-requires-clause-rest
 node_of-requires-clause-rest c =
@@ -52,7 +52,7 @@ node_of-requires-clause-rest c =
     let f = element_below_length_exists flats.items c.args.way.node c.requires.node in
     subst (λ (z : SourcedFlat). AllRest z.flat) (sym (c.in_ok-new.ensures.state f.0 f.1))
     (both_rests flats.items flats.shared f.0 c.args.way.thread c.args.way.refused c.args.way.node c.args.turn c.requires.nodes f.1 (c.requires.thread f.0 f.1)
-    (c.thread_number.ensures.sourced f.0 f.1) (c.requires.turn f.0 f.1))
+    (c.thread_number.ensures.sourced f.0 f.1) (c.requires.turn f.0 f.1) c.requires.leads)
 
 pub returns-clause-reached : goal.returns-clause-reached
 returns-clause-reached c = λ x all.
@@ -61,7 +61,7 @@ returns-clause-reached c = λ x all.
     c.node_of.ensures.reached x all
     (subst (IsReached x) (sym (c.in_ok-new.ensures.state f.0 f.1))
     (both_reached flats.items flats.shared f.0 c.args.way.thread c.args.way.refused c.args.way.node c.args.turn c.requires.nodes f.1 (c.requires.thread f.0 f.1)
-    (c.thread_number.ensures.sourced f.0 f.1) (c.requires.turn f.0 f.1) x (all c.args.way.node f.0 f.1)))
+    (c.thread_number.ensures.sourced f.0 f.1) (c.requires.turn f.0 f.1) c.requires.leads x (all c.args.way.node f.0 f.1)))
 
 pub returns-clause-leads : goal.returns-clause-leads
 returns-clause-leads c =
@@ -71,7 +71,7 @@ returns-clause-leads c =
     let new = c.node_of.new.flats.items in
     if_ok_of_implied (λ w. (k : SourcedFlat) → slice_get new w ≡ Some k → LookAlike h k) (λ w. LeadsFrom new c.args.way.thread c.args.way.refused c.args.way.node (Some w)) c.node_of.result
     (λ w alike. both_leads flats.items flats.shared f.0 c.args.way.thread c.args.way.refused c.args.way.node c.args.turn c.requires.nodes f.1 (c.requires.thread f.0 f.1)
-    (c.thread_number.ensures.sourced f.0 f.1) (c.requires.turn f.0 f.1) new w c.node_of.ensures.stay
+    (c.thread_number.ensures.sourced f.0 f.1) (c.requires.turn f.0 f.1) c.requires.leads new w c.node_of.ensures.stay
     (λ k is. subst (λ z. LookAlike z k) (c.in_ok-new.ensures.state f.0 f.1) (alike k is))) c.node_of.ensures.alike
 
 pub returns-clause-has : goal.returns-clause-has
@@ -82,7 +82,7 @@ returns-clause-has c = λ x all was new.
       | inr ticks ↦ has_timed_run_if_reached_state_has_ticks x (sourced_in flats.shared c.in_ok-new.new)
           (subst (IsReached x) (sym (c.in_ok-new.ensures.state f.0 f.1))
           (both_reached flats.items flats.shared f.0 c.args.way.thread c.args.way.refused c.args.way.node c.args.turn c.requires.nodes f.1 (c.requires.thread f.0 f.1)
-          (c.thread_number.ensures.sourced f.0 f.1) (c.requires.turn f.0 f.1) x (all c.args.way.node f.0 f.1))) ticks
+          (c.thread_number.ensures.sourced f.0 f.1) (c.requires.turn f.0 f.1) c.requires.leads x (all c.args.way.node f.0 f.1))) ticks
     ]
 
 pub returns-clause-tickless : goal.returns-clause-tickless
@@ -94,6 +94,6 @@ returns-clause-tickless c =
     if_ok_of_implied (λ w. (k : SourcedFlat) → slice_get new w ≡ Some k → LookAlike h k)
     (λ w. c.node_of.new.timed ≡ false → LeadsTickless new c.args.way.thread c.args.way.refused c.args.way.node w) c.node_of.result
     (λ w alike none. both_lead_tickless flats.items flats.shared f.0 c.args.way.thread c.args.way.refused c.args.way.node c.args.turn c.requires.nodes f.1 (c.requires.thread f.0 f.1)
-    (c.thread_number.ensures.sourced f.0 f.1) (c.requires.turn f.0 f.1) new w c.node_of.ensures.stay
+    (c.thread_number.ensures.sourced f.0 f.1) (c.requires.turn f.0 f.1) c.requires.leads new w c.node_of.ensures.stay
     (λ k is. subst (λ z. LookAlike z k) (c.in_ok-new.ensures.state f.0 f.1) (alike k is))
     (subst (λ (z : SourcedFlat). HaveNoTicks z.sources) (c.in_ok-new.ensures.state f.0 f.1) (c.node_of.ensures.tickless none).1)) c.node_of.ensures.alike
