@@ -19,6 +19,7 @@ mod Searched
 mod Standing
 pub mod CallerLemmas
 mod Forms
+mod Hand
 mod LoneSteps
 mod KnownTurns
 mod Over

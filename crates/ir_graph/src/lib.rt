@@ -3,6 +3,7 @@
 
 mod ahead;
 mod graph;
+mod hand;
 mod known;
 mod likeness;
 mod lone;
@@ -10,6 +11,7 @@ mod marks;
 mod nodes;
 mod notes;
 mod outcomes;
+mod probe;
 mod rest;
 mod setup;
 mod start;
@@ -22,6 +24,7 @@ pub use graph::Graph;
 pub use likeness::same_state;
 pub use nodes::Bounds;
 pub use outcomes::has_new_outcome;
+pub use probe::probe;
 pub use rest::run_to_rest;
 pub use setup::Setup;
 pub use states::States;
