@@ -7,7 +7,7 @@ use Rattle.ir_object.specs.Cell.{Cell}
 use Rattle.ir_sources.specs.Sources.{Source}
 use Rattle.ir_thread.specs.State.{ThreadState}
 use Rattle.ir_flat.specs.Flat.{thread_of, cell_of}
-use Rattle.ir_flat.specs.Room.{empty}
+use Rattle.ir_object.specs.Empty.{empty}
 use Rattle.ir_flat.proofs.CallerLemmas.{may_step_iff_can_for_ask}
 use Rattle.ir_lemmas.proofs.CallerLemmas.{length_of_map}
 use Rattle.ir_freeze.specs.Frozen.{is_over}

@@ -4,7 +4,7 @@ use Rattle.std.specs.List.{AllByRecursion}
 use Rattle.std.proofs.lemmas.List.{set-set, set_comm, set-get_or, get_or-set_same, get_or-set_other, length-set, map-set, take_more}
 use Rattle.ir_lemmas.proofs.CallerLemmas.{length_of_map, all_by_recursion_after_push}
 use Rattle.ir_flat.specs.Flat.{idle}
-use Rattle.ir_flat.specs.Room.{empty}
+use Rattle.ir_object.specs.Empty.{empty}
 use Rattle.ir_sources.specs.Sources.{Source}
 use Rattle.ir_thread.specs.State.{ThreadState}
 use Rattle.ir_store.specs.declared.spot.Spot.{Spot}

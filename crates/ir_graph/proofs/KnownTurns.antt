@@ -5,7 +5,7 @@ use Rattle.std.specs.List.{slice_index_or}
 use Rattle.ir_object.specs.Cell.{Cell}
 use Rattle.ir_sources.specs.Sources.{Source}
 use Rattle.ir_thread.specs.State.{ThreadState, ask_of}
-use Rattle.ir_flat.specs.Room.{empty}
+use Rattle.ir_object.specs.Empty.{empty}
 use Rattle.ir_store.specs.declared.spot.Spot.{Spot}
 use Rattle.ir_store.specs.Table.{idle_beside, Keeps}
 use Rattle.ir_store.specs.Nodes.{Shared, cell_in, cells_at, HaveWords, Grows}

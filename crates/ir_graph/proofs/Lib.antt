@@ -22,6 +22,7 @@ mod Forms
 mod Hand
 mod LoneSteps
 mod KnownTurns
+mod Gathered
 mod Over
 mod Both
 mod Ticks

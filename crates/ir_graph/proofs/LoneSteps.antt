@@ -179,25 +179,25 @@ lone_run_by_fair_step s t o state less fair about suits =
     }
 
 -- so many objects stay so many
-pub as_many_after_run : (code numbers : List ℕ) (k : ℕ) (x y : ThreadState × Source) (cells after : List Cell) → GoesAmong code numbers k x cells y after
-    → length after ≡ length cells
-as_many_after_run code numbers zero x y cells after (same, too) = ap length (sym too)
-as_many_after_run code numbers (suc k) x y cells after (p, less, fair, about, suits, more) =
+pub as_many_after_run : (code numbers : List ℕ) (k : ℕ) (x y : ThreadState × Source) (cells later : List Cell) → GoesAmong code numbers k x cells y later
+    → length later ≡ length cells
+as_many_after_run code numbers zero x y cells later (same, too) = ap length (sym too)
+as_many_after_run code numbers (suc k) x y cells later (p, less, fair, about, suits, more) =
     let c = get_or cells p empty in
-    as_many_after_run code numbers k (lone_thread code false x c) y (set cells p (lone_cell code false x c)) after more
+    as_many_after_run code numbers k (lone_thread code false x c) y (set cells p (lone_cell code false x c)) later more
     ∙ length-set cells p (lone_cell code false x c)
 
-pub lone_run_if_goes_among : (k : ℕ) (s : SourcedFlat) (t : ℕ) (numbers : List ℕ) (x y : ThreadState × Source) (cells after : List Cell) → IsSourced s
-    → t < length s.flat.threads → IsHandOf s.flat.objects numbers cells → sourced_thread s t ≡ x → GoesAmong s.flat.code numbers k x cells y after
-    → IsLoneRun s t (with_hand s t y numbers after)
-lone_run_if_goes_among zero s t numbers x y cells after state less hand here (same, too) =
+pub lone_run_if_goes_among : (k : ℕ) (s : SourcedFlat) (t : ℕ) (numbers : List ℕ) (x y : ThreadState × Source) (cells later : List Cell) → IsSourced s
+    → t < length s.flat.threads → IsHandOf s.flat.objects numbers cells → sourced_thread s t ≡ x → GoesAmong s.flat.code numbers k x cells y later
+    → IsLoneRun s t (with_hand s t y numbers later)
+lone_run_if_goes_among zero s t numbers x y cells later state less hand here (same, too) =
     subst (IsLoneRun s t) (sym (with_own_hand s t numbers cells hand) ∙ (λ i. with_hand s t ((here ∙ same) i) numbers (too i)))
     (record {
       state = state;
       goes = goes_plain_reflexive s;
       others = record { threads = λ v ne. refl; sources = λ v ne. refl };
     })
-lone_run_if_goes_among (suc k) s t numbers x y cells after state less hand here (p, few, fair, about, suits, more) =
+lone_run_if_goes_among (suc k) s t numbers x y cells later state less hand here (p, few, fair, about, suits, more) =
     let code = s.flat.code in
     let o = get_or numbers p 0 in
     let c = get_or cells p empty in
@@ -215,16 +215,16 @@ lone_run_if_goes_among (suc k) s t numbers x y cells after state less hand here 
       get_or-set_same s.flat.threads t (lone_thread code false x c).0 idle less i,
       get_or-set_same s.sources t (lone_thread code false x c).1 no_source each i,
     ) in
-    let rest : IsLoneRun u t (with_hand u t y numbers after) =
-    lone_run_if_goes_among k u t numbers (lone_thread code false x c) y (set cells p d) after first.state less_u
+    let rest : IsLoneRun u t (with_hand u t y numbers later) =
+    lone_run_if_goes_among k u t numbers (lone_thread code false x c) y (set cells p d) later first.state less_u
     (hand_after_set s.flat.objects numbers cells p d hand few) here_u more in
-    let many : length after ≡ length numbers =
-    as_many_after_run code numbers k (lone_thread code false x c) y (set cells p d) after more ∙ length-set cells p d
+    let many : length later ≡ length numbers =
+    as_many_after_run code numbers k (lone_thread code false x c) y (set cells p d) later more ∙ length-set cells p d
     ∙ hand_as_many s.flat.objects numbers cells hand in
-    subst (IsLoneRun s t) (with_hand_over_turn s t (lone_thread code false x c) y numbers after p d hand.once few many) (record {
+    subst (IsLoneRun s t) (with_hand_over_turn s t (lone_thread code false x c) y numbers later p d hand.once few many) (record {
       state = rest.state;
-      goes = goes_plain_transitive s u (with_hand u t y numbers after) first.goes rest.goes;
-      others = others_stay_transitive s u (with_hand u t y numbers after) t first.others rest.others;
+      goes = goes_plain_transitive s u (with_hand u t y numbers later) first.goes rest.goes;
+      others = others_stay_transitive s u (with_hand u t y numbers later) t first.others rest.others;
     })
 
 -- a turn: the entry or try, and where the thread rests then
@@ -302,10 +302,10 @@ result_is_by_way_if_ask_begins_turn o refused fields source ask.Print h = absurd
 result_is_by_way_if_ask_begins_turn o refused fields source (ask.End e) h = absurd h
 result_is_by_way_if_ask_begins_turn o refused fields source ask.Done h = absurd h
 
-pub lone_turn_if_takes_turn : (s : SourcedFlat) (t : ℕ) (numbers : List ℕ) (refused : Bool) (x y : ThreadState × Source) (cells after : List Cell)
+pub lone_turn_if_takes_turn : (s : SourcedFlat) (t : ℕ) (numbers : List ℕ) (refused : Bool) (x y : ThreadState × Source) (cells later : List Cell)
     → IsSourced s → t < length s.flat.threads → 0 < length numbers → IsHandOf s.flat.objects numbers cells → sourced_thread s t ≡ x
-    → TakesTurn s.flat.code numbers refused x cells y after → (u : SourcedFlat) × IsLoneTurn s t refused u (with_hand s t y numbers after)
-lone_turn_if_takes_turn s t numbers refused x y cells after state less few hand here turn =
+    → TakesTurn s.flat.code numbers refused x cells y later → (u : SourcedFlat) × IsLoneTurn s t refused u (with_hand s t y numbers later)
+lone_turn_if_takes_turn s t numbers refused x y cells later state less few hand here turn =
     let code = s.flat.code in
     let o = get_or numbers 0 0 in
     let c = get_or cells 0 empty in
@@ -330,46 +330,46 @@ lone_turn_if_takes_turn s t numbers refused x y cells after state less few hand 
       get_or-set_same s.flat.threads t (lone_thread code refused x c).0 idle less i,
       get_or-set_same s.sources t (lone_thread code refused x c).1 no_source each i,
     ) in
-    let rest : IsLoneRun u t (with_hand u t y numbers after) =
-    lone_run_if_goes_among turn.steps u t numbers (lone_thread code refused x c) y (set cells 0 d) after one.state less_u
+    let rest : IsLoneRun u t (with_hand u t y numbers later) =
+    lone_run_if_goes_among turn.steps u t numbers (lone_thread code refused x c) y (set cells 0 d) later one.state less_u
     (hand_after_set s.flat.objects numbers cells 0 d hand few) here_u turn.goes in
-    let many : length after ≡ length numbers =
-    as_many_after_run code numbers turn.steps (lone_thread code refused x c) y (set cells 0 d) after turn.goes ∙ length-set cells 0 d
+    let many : length later ≡ length numbers =
+    as_many_after_run code numbers turn.steps (lone_thread code refused x c) y (set cells 0 d) later turn.goes ∙ length-set cells 0 d
     ∙ hand_as_many s.flat.objects numbers cells hand in (
       u,
       record {
         enters = one;
-        goes = subst (IsLoneRun u t) (with_hand_over_turn s t (lone_thread code refused x c) y numbers after 0 d hand.once few many) rest;
+        goes = subst (IsLoneRun u t) (with_hand_over_turn s t (lone_thread code refused x c) y numbers later 0 d hand.once few many) rest;
         rests = subst (λ z. Rests (ask_of code z)) (sym (get_or-set_same s.flat.threads t y.0 idle less)) turn.rests;
       },
     )
 
 -- after a turn there are as many objects as before
-pub as_many_after_turn : (code numbers : List ℕ) (refused : Bool) (x y : ThreadState × Source) (cells after : List Cell)
-    → TakesTurn code numbers refused x cells y after → length after ≡ length cells
-as_many_after_turn code numbers refused x y cells after turn =
+pub as_many_after_turn : (code numbers : List ℕ) (refused : Bool) (x y : ThreadState × Source) (cells later : List Cell)
+    → TakesTurn code numbers refused x cells y later → length later ≡ length cells
+as_many_after_turn code numbers refused x y cells later turn =
     let c = get_or cells 0 empty in
-    as_many_after_run code numbers turn.steps (lone_thread code refused x c) y (set cells 0 (lone_cell code refused x c)) after turn.goes
+    as_many_after_run code numbers turn.steps (lone_thread code refused x c) y (set cells 0 (lone_cell code refused x c)) later turn.goes
     ∙ length-set cells 0 (lone_cell code refused x c)
 
 -- steps one after the other
-pub goes_among_append : (code numbers : List ℕ) (k j : ℕ) (x y z : ThreadState × Source) (cells mid after : List Cell)
-    → GoesAmong code numbers k x cells y mid → GoesAmong code numbers j y mid z after → GoesAmong code numbers (k + j) x cells z after
-goes_among_append code numbers zero j x y z cells mid after (same, too) more =
+pub goes_among_append : (code numbers : List ℕ) (k j : ℕ) (x y z : ThreadState × Source) (cells mid later : List Cell)
+    → GoesAmong code numbers k x cells y mid → GoesAmong code numbers j y mid z later → GoesAmong code numbers (k + j) x cells z later
+goes_among_append code numbers zero j x y z cells mid later (same, too) more =
     let n : zero + j ≡ j = omega arith in
-    subst (λ m. GoesAmong code numbers m x cells z after) (sym n)
-    (subst (λ s. GoesAmong code numbers j s cells z after) (sym same) (subst (λ s. GoesAmong code numbers j y s z after) (sym too) more))
-goes_among_append code numbers (suc k) j x y z cells mid after (p, less, fair, about, suits, first) more =
+    subst (λ m. GoesAmong code numbers m x cells z later) (sym n)
+    (subst (λ s. GoesAmong code numbers j s cells z later) (sym same) (subst (λ s. GoesAmong code numbers j y s z later) (sym too) more))
+goes_among_append code numbers (suc k) j x y z cells mid later (p, less, fair, about, suits, first) more =
     let n : suc k + j ≡ suc (k + j) = omega arith in
     let c = get_or cells p empty in
-    subst (λ m. GoesAmong code numbers m x cells z after) (sym n)
+    subst (λ m. GoesAmong code numbers m x cells z later) (sym n)
     (
       p,
       less,
       fair,
       about,
       suits,
-      goes_among_append code numbers k j (lone_thread code false x c) y z (set cells p (lone_cell code false x c)) mid after first more,
+      goes_among_append code numbers k j (lone_thread code false x c) y z (set cells p (lone_cell code false x c)) mid later first more,
     )
 
 -- private steps
@@ -446,13 +446,13 @@ are_among_after_ask code numbers refused x source cells p asks b few is about ma
     }
 
 -- and after more of them
-pub are_among_after_run : (code numbers : List ℕ) (k : ℕ) (x y : ThreadState × Source) (cells after : List Cell) → AreAmong code numbers x.0 cells
-    → GoesAmong code numbers k x cells y after → AreAmong code numbers y.0 after
-are_among_after_run code numbers zero x y cells after b (same, too) =
-    subst (λ (z : ThreadState × Source). AreAmong code numbers z.0 after) same (subst (AreAmong code numbers x.0) too b)
-are_among_after_run code numbers (suc k) x y cells after b (p, less, fair, about, suits, more) =
+pub are_among_after_run : (code numbers : List ℕ) (k : ℕ) (x y : ThreadState × Source) (cells later : List Cell) → AreAmong code numbers x.0 cells
+    → GoesAmong code numbers k x cells y later → AreAmong code numbers y.0 later
+are_among_after_run code numbers zero x y cells later b (same, too) =
+    subst (λ (z : ThreadState × Source). AreAmong code numbers z.0 later) same (subst (AreAmong code numbers x.0) too b)
+are_among_after_run code numbers (suc k) x y cells later b (p, less, fair, about, suits, more) =
     let c = get_or cells p empty in
-    are_among_after_run code numbers k (lone_thread code false x c) y (set cells p (lone_cell code false x c)) after
+    are_among_after_run code numbers k (lone_thread code false x c) y (set cells p (lone_cell code false x c)) later
     (are_among_after_ask code numbers false x.0 x.1 cells p (ask_of code x.0) b less refl about
     (λ f there. fair_ask_may_step f x.1 (ask_of code x.0) fair suits)) more
 
@@ -529,22 +529,22 @@ goes_among_by_next_ask code numbers n x y z source left cells p e q some went as
     (goes_among_by_private_steps code numbers n x y source cells some went) one
 
 pub takes_turn_by_beginning_and_run : (code numbers : List ℕ) (refused : Bool) (x z : ThreadState) (source left : Source) (y : ThreadState × Source)
-    (cells : List Cell) (e : Cell) (after : List Cell) (q : Ask) → ask_of code x ≡ q
+    (cells : List Cell) (e : Cell) (later : List Cell) (q : Ask) → ask_of code x ≡ q
     → MayBegin refused (get_or numbers 0 0) (get_or cells 0 empty).fields q
     → z ≡ after_ask code x q (answer_from refused (get_or cells 0 empty) source q) → left ≡ left_of given (shared_ask q) source
-    → e ≡ cell_after refused (get_or cells 0 empty) q → (k : ℕ) × GoesAmong code numbers k (z, left) (set cells 0 e) y after → Rests (ask_of code y.0)
-    → TakesTurn code numbers refused (x, source) cells y after
-takes_turn_by_beginning_and_run code numbers refused x z source left y cells e after q asks begins is gives too goes rests =
+    → e ≡ cell_after refused (get_or cells 0 empty) q → (k : ℕ) × GoesAmong code numbers k (z, left) (set cells 0 e) y later → Rests (ask_of code y.0)
+    → TakesTurn code numbers refused (x, source) cells y later
+takes_turn_by_beginning_and_run code numbers refused x z source left y cells e later q asks begins is gives too goes rests =
     let c = get_or cells 0 empty in
     record {
       begins = subst (MayBegin refused (get_or numbers 0 0) c.fields) (sym asks) begins;
       steps = goes.0;
-      goes = subst (λ s. GoesAmong code numbers goes.0 s (set cells 0 (lone_cell code refused (x, source) c)) y after)
+      goes = subst (λ s. GoesAmong code numbers goes.0 s (set cells 0 (lone_cell code refused (x, source) c)) y later)
           (λ i. (
             (is ∙ (λ j. after_ask code x (sym asks j) (answer_from refused c source (sym asks j)))) i,
             (gives ∙ (λ j. left_of given (shared_ask (sym asks j)) source)) i,
           ))
-          (subst (λ s. GoesAmong code numbers goes.0 (z, left) (set cells 0 s) y after) (too ∙ (λ i. cell_after refused c (sym asks i))) goes.1);
+          (subst (λ s. GoesAmong code numbers goes.0 (z, left) (set cells 0 s) y later) (too ∙ (λ i. cell_after refused c (sym asks i))) goes.1);
       rests = rests;
     }
 
@@ -563,17 +563,17 @@ are_among_after_turn_begins code numbers refused x z source cells e q b some ask
     (ask_may_step_if_it_begins_turn f o refused q (subst (λ (s : Cell). MayBegin refused o s.fields q) (sym there) begins)))))
 
 -- the form of the image stays
-form_kept_by_run : (code numbers : List ℕ) (k : ℕ) (x y : ThreadState × Source) (cells after : List Cell) → GoesAmong code numbers k x cells y after
+form_kept_by_run : (code numbers : List ℕ) (k : ℕ) (x y : ThreadState × Source) (cells later : List Cell) → GoesAmong code numbers k x cells y later
     → x.0.form ≡ y.0.form
-form_kept_by_run code numbers zero x y cells after (same, too) = ap (λ (s : ThreadState × Source). s.0.form) same
-form_kept_by_run code numbers (suc k) x y cells after (p, less, fair, about, suits, more) =
+form_kept_by_run code numbers zero x y cells later (same, too) = ap (λ (s : ThreadState × Source). s.0.form) same
+form_kept_by_run code numbers (suc k) x y cells later (p, less, fair, about, suits, more) =
     let c = get_or cells p empty in
     (thread_after_ask_is_twin_of_thread_before code x.0 (ask_of code x.0) (answer_from false c x.1 (ask_of code x.0))).form
-    ∙ form_kept_by_run code numbers k (lone_thread code false x c) y (set cells p (lone_cell code false x c)) after more
+    ∙ form_kept_by_run code numbers k (lone_thread code false x c) y (set cells p (lone_cell code false x c)) later more
 
-pub form_kept_by_turn : (code numbers : List ℕ) (refused : Bool) (x y : ThreadState × Source) (cells after : List Cell)
-    → TakesTurn code numbers refused x cells y after → x.0.form ≡ y.0.form
-form_kept_by_turn code numbers refused x y cells after turn =
+pub form_kept_by_turn : (code numbers : List ℕ) (refused : Bool) (x y : ThreadState × Source) (cells later : List Cell)
+    → TakesTurn code numbers refused x cells y later → x.0.form ≡ y.0.form
+form_kept_by_turn code numbers refused x y cells later turn =
     let c = get_or cells 0 empty in
     (thread_after_ask_is_twin_of_thread_before code x.0 (ask_of code x.0) (answer_from refused c x.1 (ask_of code x.0))).form
-    ∙ form_kept_by_run code numbers turn.steps (lone_thread code refused x c) y (set cells 0 (lone_cell code refused x c)) after turn.goes
+    ∙ form_kept_by_run code numbers turn.steps (lone_thread code refused x c) y (set cells 0 (lone_cell code refused x c)) later turn.goes

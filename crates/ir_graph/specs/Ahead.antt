@@ -2,7 +2,7 @@
 use Rattle.std.specs.Prelude.{◌≡◌, ℕ, ◌<◌, Bool, true, false, List, length, slice_index}
 use Rattle.std.specs.List.{slice_index_or, AllByRecursion}
 use Rattle.ir_thread.specs.State.{ask_of}
-use Rattle.ir_flat.specs.Room.{empty}
+use Rattle.ir_object.specs.Empty.{empty}
 use Rattle.ir_store.specs.Nodes.{Shared, SourcedFlat, cells_at, HaveWords, sourced_thread}
 use Rattle.ir_store.specs.Table.{idle_beside}
 use Rattle.ir_graph.specs.Hand.{AllPairs, EachOnce, IsAtSpot}

@@ -4,7 +4,7 @@ use Rattle.std.specs.List.{AllByRecursion, slice_index_or}
 use Rattle.ir_object.specs.Cell.{Cell}
 use Rattle.ir_sources.specs.Sources.{Source}
 use Rattle.ir_thread.specs.State.{ThreadState}
-use Rattle.ir_flat.specs.Room.{empty}
+use Rattle.ir_object.specs.Empty.{empty}
 use Rattle.ir_store.specs.declared.spot.Spot.{Spot}
 use Rattle.ir_store.specs.Nodes.{SourcedFlat, cell_in}
 

@@ -16,7 +16,7 @@ use Rattle.ir_thread.specs.declared.ask.Reply.TheVariants.{Go, Value}
 use Rattle.ir_sources.specs.Sources.{Source, given}
 use Rattle.ir_flat.specs.Flat.{Flat, IsFlat, thread_of, cell_of}
 use Rattle.ir_flat.specs.Next.{MayTry}
-use Rattle.ir_flat.specs.Room.{empty}
+use Rattle.ir_object.specs.Empty.{empty}
 use Rattle.ir_graph.specs.Hand.{IsHandOf}
 use Rattle.ir_graph.specs.Plain.{IsFair, Rests, result_by}
 

@@ -3,7 +3,7 @@
 
 mod ahead;
 mod graph;
-mod hand;
+mod hands;
 mod known;
 mod likeness;
 mod lone;
@@ -24,7 +24,7 @@ pub use graph::Graph;
 pub use likeness::same_state;
 pub use nodes::Bounds;
 pub use outcomes::has_new_outcome;
-pub use probe::probe;
+pub use probe::probed;
 pub use rest::run_to_rest;
 pub use setup::Setup;
 pub use states::States;

@@ -13,7 +13,7 @@ ghost use Rattle.ir_store.specs.Nodes.{Grows, IsNode, SourcedFlat, sourced_in};
 ghost use Rattle.ir_store.specs.Table.{HaveTicks, HaveNoTicks};
 
 use crate::ahead::Ahead;
-use crate::hand::put_spots;
+use crate::hands::put_spots;
 use crate::known::Turn;
 use crate::rest::run_to_rest;
 use crate::turns::{tries, turn_of};

@@ -3,6 +3,6 @@
 ghost use Rattle.std.specs.Prelude.{◌≡◌, ℕ};
 
 /// Probe.
-pub fn probe()
+pub fn probed()
     ensures { (n : ℕ) → n ≡ n }
 {}

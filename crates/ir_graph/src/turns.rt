@@ -10,7 +10,7 @@ ghost use Rattle.ir_store.specs.Table.{idle_beside};
 ghost use Rattle.ir_thread.specs.State.{ask_of};
 
 use crate::ahead::{Ahead, key_after, thread_key};
-use crate::hand::{add_objects, hand_of, objects_at, spots_of, stand};
+use crate::hands::{add_objects, hand_of, objects_at, spots_of, stand};
 use crate::known::Turn;
 use crate::lone::{turn_among, waits};
 use crate::way::Way;
@@ -42,19 +42,21 @@ fn known_turn(flats: &Store<'_>, ahead: &Ahead, way: Way) -> Option<usize>
     let key = key_at(flats, way, from, first.numbers.as_slice())?;
     let i = ahead.noted(key)?;
     let turn = ahead.turn(i);
-    if turn.from == from
-        && turn.refused == way.refused
-        && stand(
-            flats,
-            way.node,
-            turn.numbers.as_slice(),
-            turn.spots.as_slice(),
-        )
-    {
-        Some(i)
-    } else {
-        None
+    if turn.from != from {
+        return None;
     }
+    if turn.refused != way.refused {
+        return None;
+    }
+    if !stand(
+        flats,
+        way.node,
+        turn.numbers.as_slice(),
+        turn.spots.as_slice(),
+    ) {
+        return None;
+    }
+    Some(i)
 }
 
 // The object that a thread enters or tries to, and whether it tries, if it asks one of these.

@@ -1,5 +1,5 @@
 use Rattle.std.proofs.Common.{get_or, sym, subst, set}
-use Rattle.ir_flat.specs.Room.{empty}
+use Rattle.ir_object.specs.Empty.{empty}
 use Rattle.ir_sources.specs.Sources.{Source}
 use Rattle.ir_thread.specs.State.{ThreadState}
 use Rattle.ir_graph.specs.Lone.{AreAmong, TakesTurn}
