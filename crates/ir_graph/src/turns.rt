@@ -97,26 +97,33 @@ fn new_turn(
         return Ok(None);
     };
     let mut objects = objects_at(alloc, flats, spots.as_slice())?;
-    let mut turn = Turn {
+    if waits(asked, &objects[0], number, way.refused) {
+        return Ok(Some(Turn {
+            from,
+            tries,
+            refused: way.refused,
+            waits: true,
+            to: from,
+            numbers,
+            spots,
+            afters: Vec::new(alloc),
+        }));
+    }
+    if !turn_among(code, &mut own, &mut objects, numbers.as_slice(), way.refused, limit) {
+        return Ok(None);
+    }
+    let to = flats.add_thread(&own)?;
+    let afters = add_objects(alloc, flats, objects.as_slice())?;
+    Ok(Some(Turn {
         from,
         tries,
         refused: way.refused,
-        waits: true,
-        to: from,
+        waits: false,
+        to,
         numbers,
         spots,
-        afters: Vec::new(alloc),
-    };
-    if waits(asked, &objects[0], number, way.refused) {
-        return Ok(Some(turn));
-    }
-    if !turn_among(code, &mut own, &mut objects, turn.numbers.as_slice(), way.refused, limit) {
-        return Ok(None);
-    }
-    turn.waits = false;
-    turn.to = flats.add_thread(&own)?;
-    turn.afters = add_objects(alloc, flats, objects.as_slice())?;
-    Ok(Some(turn))
+        afters,
+    }))
 }
 
 /// The number of the turn of a thread at a node, if it is about no objects but the one that it enters or tries to and those that it holds, or it

@@ -1,0 +1,84 @@
+use Rattle.std.proofs.Common.{◌≡◌, Some, sym, ◌∙◌, subst}
+use Rattle.std.specs.Prelude.{slice_get, IfSome}
+use Rattle.ir_lemmas.proofs.CallerLemmas.{element_below_length_exists}
+use Rattle.ir_explore.specs.declared.stop.Stop.{Stop}
+use Rattle.ir_store.specs.Nodes.{SourcedFlat}
+use Rattle.ir_graph.specs.Setup.{Setup}
+use Rattle.ir_graph.specs.declared.known.Turn.{Turn}
+use Rattle.ir_graph.specs.Ahead.{IsTurnOf}
+use Rattle.ir_graph.specs.Reached.{AllReached}
+use Rattle.ir_graph.specs.Stops.{MayStop}
+use Rattle.ir_graph.specs.Nodes.{AreNodes}
+use Rattle.ir_graph.proofs.Both.{waiting_turn_leads_nowhere}
+use Rattle.ir_graph.proofs.KnownTurns.{turns_grown, if_err_weaker}
+use Rattle.ir_graph.proofs.nodes.successor.Goals as goal
+
+pub returns-in_err-turn-clause-reached : goal.returns-in_err-turn-clause-reached
+returns-in_err-turn-clause-reached c = λ x all. subst (AllReached x) (sym c.turn_of.ensures.items) all
+
+pub returns-then-turn-clause-reached : goal.returns-then-turn-clause-reached
+returns-then-turn-clause-reached c = λ x all. subst (AllReached x) (sym c.turn_of.ensures.items) all
+
+pub returns-then-turn-clause-leads : goal.returns-then-turn-clause-leads
+returns-then-turn-clause-leads c =
+    let new = c.turn_of.new.flats in
+    let f = element_below_length_exists c.args.flats.now.items c.args.way.node c.requires.node in
+    let at = subst (λ z. slice_get z c.args.way.node ≡ Some f.0) (sym c.turn_of.ensures.items) f.1 in
+    let one = subst (λ z. IfSome z (λ (x : Turn). (f : SourcedFlat) → slice_get new.items c.args.way.node ≡ Some f
+    → IsTurnOf c.args.code.now new.shared f c.args.way.thread c.args.way.refused x)) c.in-Some.is c.in_ok-turn.ensures.turn in
+    waiting_turn_leads_nowhere new.items new.shared f.0 c.args.way.thread c.args.way.refused c.args.way.node c.in-Some.turn
+    (subst AreNodes (sym c.turn_of.ensures.items) c.requires.nodes) at (c.requires.thread f.0 f.1) (c.thread_number-number.ensures.sourced f.0 f.1)
+    (subst (λ z. IsTurnOf z new.shared f.0 c.args.way.thread c.args.way.refused c.in-Some.turn) (sym (c.requires.code f.0 f.1)) (one f.0 at)) c.if-turn.true
+
+pub node_by-requires-clause-turn : goal.node_by-requires-clause-turn
+node_by-requires-clause-turn c = λ f at.
+    let new = c.turn_of.new.flats in
+    let here = subst (λ z. slice_get z c.args.way.node ≡ Some f) c.turn_of.ensures.items at in
+    let one = subst (λ z. IfSome z (λ (x : Turn). (f : SourcedFlat) → slice_get new.items c.args.way.node ≡ Some f
+    → IsTurnOf c.args.code.now new.shared f c.args.way.thread c.args.way.refused x)) c.in-Some.is c.in_ok-turn.ensures.turn in
+    subst (λ z. IsTurnOf z new.shared f c.args.way.thread c.args.way.refused c.in-Some.turn) (sym (c.requires.code f here)) (one f at)
+
+pub node_by-requires-clause-code : goal.node_by-requires-clause-code
+node_by-requires-clause-code c = λ f at.
+    let here = subst (λ z. slice_get z c.args.way.node ≡ Some f) c.turn_of.ensures.items at in
+    c.turn_of.ensures.store ∙ c.requires.store ∙ sym (c.requires.code f here)
+
+pub node_by_steps-requires-clause-code : goal.node_by_steps-requires-clause-code
+node_by_steps-requires-clause-code c = λ f at.
+    let here = subst (λ z. slice_get z c.args.way.node ≡ Some f) c.turn_of.ensures.items at in
+    c.turn_of.ensures.store ∙ c.requires.store ∙ sym (c.requires.code f here)
+
+pub returns-in-Ok-clause-reached : goal.returns-in-Ok-clause-reached
+returns-in-Ok-clause-reached c = λ x all.
+    c.node_by.ensures.reached x (subst (AllReached x) (sym c.turn_of.ensures.items) all)
+
+pub returns-in-Err-clause-reached : goal.returns-in-Err-clause-reached
+returns-in-Err-clause-reached c = λ x all.
+    c.node_by.ensures.reached x (subst (AllReached x) (sym c.turn_of.ensures.items) all)
+
+pub returns-clause-turns : goal.returns-clause-turns
+returns-clause-turns c =
+    turns_grown c.args.code.now c.turn_of.new.flats.shared c.node_by_steps.new.flats.shared c.node_by_steps.ensures.grows c.turn_of.new.ahead
+    c.turn_of.ensures.turns
+
+pub returns-clause-reached : goal.returns-clause-reached
+returns-clause-reached c = λ x all.
+    c.node_by_steps.ensures.reached x (subst (AllReached x) (sym c.turn_of.ensures.items) all)
+
+pub returns-clause-stopped : goal.returns-clause-stopped
+returns-clause-stopped c =
+    let new = c.node_by_steps.new.flats.items in
+    if_err_weaker (λ (stop : Stop). (x : Setup) → AllReached x c.turn_of.new.flats.items
+    → MayStop x new c.args.bounds.nodes c.args.bounds.private stop)
+    (λ (stop : Stop). (x : Setup) → AllReached x c.args.flats.now.items → MayStop x new c.args.bounds.nodes c.args.bounds.private stop)
+    c.node_by_steps.result (λ stop may x all. may x (subst (AllReached x) (sym c.turn_of.ensures.items) all))
+    c.node_by_steps.ensures.stopped
+
+pub returns-in-Ok-clause-has : goal.returns-in-Ok-clause-has
+returns-in-Ok-clause-has c = λ x all. c.node_by.ensures.has x (subst (AllReached x) (sym c.turn_of.ensures.items) all)
+
+pub returns-in-Err-clause-has : goal.returns-in-Err-clause-has
+returns-in-Err-clause-has c = λ x all. c.node_by.ensures.has x (subst (AllReached x) (sym c.turn_of.ensures.items) all)
+
+pub returns-clause-has : goal.returns-clause-has
+returns-clause-has c = λ x all. c.node_by_steps.ensures.has x (subst (AllReached x) (sym c.turn_of.ensures.items) all)
