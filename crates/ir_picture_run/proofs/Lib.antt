@@ -2,4 +2,9 @@ mod Pushed
 mod Kept
 mod Circles
 mod Lasts
+mod Going
+mod Behind
+mod InCut
+mod Marks
+mod Coming
 mod Shown
