@@ -14,13 +14,14 @@ use Rattle.ir_image.specs.declared.form.ImageForm.{ImageForm}
 use Rattle.ir_image.specs.declared.form.ImageForm.TheVariants.{Small, Large}
 use Rattle.ir_image.proofs.CallerLemmas.{get_or_zero_of_padded_is_unchanged}
 use Rattle.ir_object.specs.Cell.{Cell}
+use Rattle.ir_object.specs.Empty.{empty}
 use Rattle.ir_object.specs.Standing.{StandsFor}
 use Rattle.ir_runs.specs.Machine.{Object}
 use Rattle.ir_object.specs.Layout.{word_place, content_place, table_length}
 use Rattle.ir_object.specs.Order.{Shared, objects_after}
 use Rattle.ir_object.specs.Word.{fields_of}
-use Rattle.ir_crew.specs.Ends.{empty, AreSeats, AreTracks, IsEnd, IsLaid, IsObjectOf}
-use Rattle.ir_crew.specs.Plays.{M, all_but_first, first_alone}
+use Rattle.ir_crew.specs.Ends.{AreSeats, AreTracks, IsEnd, IsLaid, IsObjectOf}
+use Rattle.ir_crew.specs.Plays.{M}
 use Rattle.ir_crew.specs.Rule.{View, start_objects, Represents, IsTable, Fits, Kept, tracks_from}
 use Rattle.ir_crew.proofs.Known.{zero_fields_represent_fresh_object, small_words_by_legal_steps}
 use Rattle.ir_crew.proofs.Steps.{track}
@@ -129,12 +130,12 @@ pub seats_with_last_added : (id : TableId) (t u : ℕ) (xs : List (Seat (Unit {0
 seats_with_last_added id t u [] x h e i m = ((i, m ∙ (λ j. (track ((let q : u ≡ t = omega (arith, e) in q) j) [] ∷ [], []))), tt)
 seats_with_last_added id t u (y ∷ ys) x h e i m = (h.0, seats_with_last_added id (suc t) u ys x h.1 (omega (arith, e)) i m)
 
-pub view_after_dealing_first_has_later_tracks : (l m n : ℕ) (me w : M) → me ≡ (tracks_from l (suc m), []) → w ≡ (all_but_first me.0, me.1) → n ≡ suc l
+pub view_after_dealing_first_has_later_tracks : (l m n : ℕ) (me w : M) → me ≡ (tracks_from l (suc m), []) → w ≡ (drop 1 me.0, me.1) → n ≡ suc l
     → w ≡ (tracks_from n m, [])
-view_after_dealing_first_has_later_tracks l m n me w is emitted long = emitted ∙ (λ i. (all_but_first (is i).0, (is i).1)) ∙ (λ i. (tracks_from (sym long i) m, []))
+view_after_dealing_first_has_later_tracks l m n me w is emitted long = emitted ∙ (λ i. (drop 1 (is i).0, (is i).1)) ∙ (λ i. (tracks_from (sym long i) m, []))
 
-pub dealt_view_is_first_thread : (l m : ℕ) (me w : M) → me ≡ (tracks_from l (suc m), []) → w ≡ (first_alone me.0, []) → w ≡ (track l [] ∷ [], [])
-dealt_view_is_first_thread l m me w is emitted = emitted ∙ (λ i. (first_alone (is i).0, []))
+pub dealt_view_is_first_thread : (l m : ℕ) (me w : M) → me ≡ (tracks_from l (suc m), []) → w ≡ (take 1 me.0, []) → w ≡ (track l [] ∷ [], [])
+dealt_view_is_first_thread l m me w is emitted = emitted ∙ (λ i. (take 1 (is i).0, []))
 
 pub tracks_from_of_equal_count : (l m k : ℕ) (me : M) → me ≡ (tracks_from l m, []) → m ≡ suc k → me ≡ (tracks_from l (suc k), [])
 tracks_from_of_equal_count l m k me is e = is ∙ (λ i. (tracks_from l (e i), []))

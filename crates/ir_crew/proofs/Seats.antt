@@ -1,5 +1,5 @@
 -- Seats that are joined and split keep the rule, and it holds at the start.
-use Rattle.std.proofs.Common.{◌≡◌, ◌≢◌, ℕ, zero, suc, ◌+◌, ◌==◌, ◌<◌, ◌≤◌, Bool, if◌then◌else◌, List, [], ◌∷◌, ◌++◌, length, set, refl, sym, ap, ◌∙◌, subst, arith, inl, inr, ⊎_elim, ◌⊎◌, eq-eqb, ne_eqb, length-set}
+use Rattle.std.proofs.Common.{◌≡◌, ◌≢◌, ℕ, zero, suc, ◌+◌, ◌==◌, ◌<◌, ◌≤◌, Bool, if◌then◌else◌, List, [], ◌∷◌, ◌++◌, length, set, refl, sym, ap, ◌∙◌, subst, arith, inl, inr, ⊎_elim, ◌⊎◌, eq-eqb, ne_eqb, length-set, drop, take}
 use mathlib.Core.Option.{some, some-injective, some-ne-none}
 use Rattle.ir_lemmas.proofs.CallerLemmas.{get_of_append_item_cases}
 use lib.ListN.{get_elem?}
@@ -9,7 +9,6 @@ use Rattle.ir_image.specs.Guest.{Guest, object_count}
 use Rattle.ir_image.specs.Bounds.{IsGuest}
 use Rattle.ir_runs.specs.Machine.{Object}
 use Rattle.ir_object.specs.Order.{Shared}
-use Rattle.ir_crew.specs.Plays.{all_but_first, first_alone}
 use Rattle.ir_crew.specs.Rule.{View, start_objects, IsTable, Fits, Kept, tracks_from}
 use Rattle.ir_crew.proofs.Steps.{track}
 
@@ -83,7 +82,7 @@ other_tracks_stay_if_reseated n f es seat t new j (k ∷ ks) ne h = (
       n f es seat t new j ks ne h.1,
 )
 
-pub tracks_split_off_first : (g : Guest) (id t m : ℕ) (v : View) → v ≡ tracks_from t (suc m) → Splits (Kept g) id v (all_but_first v) (first_alone v)
+pub tracks_split_off_first : (g : Guest) (id t m : ℕ) (v : View) → v ≡ tracks_from t (suc m) → Splits (Kept g) id v (drop 1 v) (take 1 v)
 tracks_split_off_first g id t m v is x k at =
     let n : ℕ = length g.entries in
     let f : ℕ → Object = start_objects g in
@@ -119,7 +118,7 @@ tracks_split_off_first g id t m v is x k at =
     subst (λ (z : View). Kept g (record {
       words = x.words;
       homes = x.homes;
-      views = set x.views id (all_but_first z) ++ first_alone z
+      views = set x.views id (drop 1 z) ++ take 1 z
           ∷ [];
     })) (sym is) done
 

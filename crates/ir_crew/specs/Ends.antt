@@ -1,5 +1,5 @@
 -- How the table is opened and closed.
-use Rattle.std.specs.Prelude.{◌≡◌, ℕ, suc, ◌<◌, ◌≤◌, false, List, [], ◌∷◌, length, slice_index}
+use Rattle.std.specs.Prelude.{◌≡◌, ℕ, suc, ◌<◌, ◌≤◌, List, [], ◌∷◌, length, slice_index}
 use Rattle.std.specs.List.{slice_index_or}
 use mathlib.Core.Option.{some}
 use lib.ListN.{get_elem?}
@@ -7,16 +7,12 @@ use Rattle.atomic_table.specs.Seated.{TableId}
 use Rattle.atomic_table.specs.declared.shared.Seat.{Seat}
 use Rattle.ir_image.specs.Guest.{Guest, object_count, most_object_words, first_words}
 use Rattle.ir_thread.specs.State.{most_events, thread_machine}
-use Rattle.ir_object.specs.Cell.{Cell}
+use Rattle.ir_object.specs.Empty.{empty}
 use Rattle.ir_object.specs.Standing.{StandsFor}
 use Rattle.ir_object.specs.Layout.{word_place, content_place, table_length}
 use Rattle.ir_object.specs.Order.{Shared, of_thread, objects_after, IsLegal}
 use Rattle.ir_object.specs.Word.{fields_of}
 use Rattle.ir_crew.specs.Rule.{View, entries, start_objects, IsTrack}
-
--- the object of no number
-abbrev pub empty : Cell
-empty = record { fields = record { version = 0; left = 0; inside = 0; writer = false }; words = [] }
 
 -- the seats of the threads from t on, in order, each with no step
 abbrev pub AreSeats : TableId → ℕ → List (Seat (Unit {0}) View) → Type 0

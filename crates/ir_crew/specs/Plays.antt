@@ -104,11 +104,3 @@ got s me n w = (w ≡ (did me.0 (object_of s.word) (Get (index_of s.word) n), me
 
 abbrev pub wrote : Step (Unit {0}) → M → ℕ → M → Type 0
 wrote s me n w = w ≡ (did me.0 (object_of s.word) (Put (index_of s.word) n), me.1)
-
-abbrev pub all_but_first : View → View
-all_but_first [] = []
-all_but_first (k ∷ ks) = ks
-
-abbrev pub first_alone : View → View
-first_alone [] = []
-first_alone (k ∷ ks) = k ∷ []

@@ -93,11 +93,11 @@ impl Play<(), LinkedList<Track>> for Put {
 pub struct OffFirst;
 
 impl Split<LinkedList<Track>> for OffFirst {
-    ghost use Rattle.ir_crew.specs.Plays.{all_but_first, first_alone};
+    ghost use Rattle.std.specs.Prelude.{drop, take};
 
-    ghost left = { all_but_first };
+    ghost left = { drop 1 };
 
-    ghost right = { first_alone };
+    ghost right = { take 1 };
 }
 
 /// The threads of both.

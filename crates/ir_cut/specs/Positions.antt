@@ -4,7 +4,7 @@ use Rattle.std.specs.List.{slice_index_or, range_with_len}
 use Rattle.ir_runs.specs.Machine.{Machine}
 use Rattle.ir_thread.specs.State as thread
 use Rattle.ir_flat.specs.Flat.{start_flat, tables, machine}
-use Rattle.ir_runs.specs.Run.{State, Step, Cut, IsCut, Consistent}
+use Rattle.ir_runs.specs.Run.{State, Step, th, Cut, IsCut, Consistent}
 use Rattle.ir_fit.specs.Fit.{FittedTrace, IsRunOf}
 use Rattle.ir_trace.specs.Recorded.{recorded_thread}
 
@@ -15,6 +15,10 @@ machine_of f = machine (start_flat f.guest f.recorded.budget f.recorded.profile)
 -- where its runs start
 abbrev pub start_of : FittedTrace → State thread.ThreadState
 start_of f = tables (start_flat f.guest f.recorded.budget f.recorded.profile)
+
+-- thread t of the run after k of its steps
+abbrev pub thread_at : FittedTrace → List Step → ℕ → ℕ → thread.ThreadState
+thread_at f run t k = th (machine_of f) (start_of f) run t k
 
 -- a fact of each complete run of the guest that has the trace
 abbrev pub EachRun : FittedTrace → (List Step → Type 0) → Type 0

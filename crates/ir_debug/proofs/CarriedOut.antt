@@ -24,7 +24,8 @@ use Rattle.ir_text.specs.Texts.{number_line, next_text, core_text, bytes_from, m
 use Rattle.ir_debug.specs.Debugging.{Debugging, IsThere, answer_text, with_point, without_point, IsLast, IsText, IsDesk, logged_so_far}
 use Rattle.ir_image.specs.Guest.{object_words}
 use Rattle.ir_object.specs.Cell.{Cell}
-use Rattle.ir_flat.specs.Room.{empty, object_with}
+use Rattle.ir_object.specs.Empty.{empty}
+use Rattle.ir_flat.specs.Room.{object_with}
 use Rattle.ir_runs.specs.Machine.{Label, Object}
 use Rattle.ir_runs.specs.Run.{Step, object_at}
 use Rattle.ir_weave.proofs.CallerLemmas.{LogsBefore, logs_before_cut_are_recorded}

@@ -17,7 +17,7 @@ use Rattle.ir_text.specs.Texts.{registers_text, inside_for, event_lines, memory_
 use Rattle.ir_command.specs.declared.command.Show.TheVariants.{Registers, Memory, Output, Object, Log, Next}
 use Rattle.ir_debug.specs.Machine.{Desk, desk_of, shown}
 use Rattle.ir_log.specs.declared.event.Event.TheVariants.{Write}
-use Rattle.ir_hits.specs.Hits.{thread_at}
+use Rattle.ir_cut.specs.Positions.{thread_at}
 
 abbrev fitted_trace_of_code : ImageForm → Profile → List ℕ → ℕ → ℕ → FittedTrace
 fitted_trace_of_code form profile code objects steps = record {

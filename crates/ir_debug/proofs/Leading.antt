@@ -4,13 +4,13 @@ use Rattle.std.specs.Prelude.{if◌then◌else◌}
 use Rattle.std.proofs.lemmas.Bool.{le-leb, lt-leb, cases_lt}
 use Rattle.ir_runs.specs.Run.{IsLeast, IsGreatest, Step, trail, end}
 use Rattle.ir_fit.specs.Fit.{FittedTrace, HasRun, IsRunOf}
-use Rattle.ir_cut.specs.Positions.{machine_of, start_of, cut_of, EachRun, last_of, threads_of}
+use Rattle.ir_cut.specs.Positions.{machine_of, start_of, cut_of, EachRun, last_of, threads_of, thread_at}
 use Rattle.ir_cut.specs.Searching.{IsLeastCut, IsGreatestCut}
 use Rattle.ir_command.specs.declared.command.Direction.{Direction}
 use Rattle.ir_command.specs.declared.command.Direction.TheVariants.{Forwards, Backwards}
 use Rattle.ir_command.specs.declared.command.Move.{Move}
 use Rattle.ir_command.specs.declared.command.Move.TheVariants as move
-use Rattle.ir_hits.specs.Hits.{Finds, Numbered, HitBy, thread_at}
+use Rattle.ir_hits.specs.Hits.{Finds, Numbered, HitBy}
 use Rattle.ir_debug.specs.Machine.{Leads, StopsAt, Desk, stop_of}
 use Rattle.ir_debug.specs.Debugging.{ToPosition, ToLeast, ToGreatest}
 use Rattle.ir_mach.specs.Execution.{memory_word}

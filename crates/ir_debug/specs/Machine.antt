@@ -3,8 +3,8 @@ use Rattle.std.specs.Prelude.{◌==◌, ℕ, ◌+◌, not, Bool, true, false, Li
 use Rattle.std.specs.List.{filter}
 use Rattle.ir_fit.specs.Fit.{FittedTrace, HasRun, IsRefused}
 use Rattle.ir_command.specs.Commands.{most_small, command_of}
-use Rattle.ir_hits.specs.Hits.{Numbered, thread_at, Finds}
-use Rattle.ir_cut.specs.Positions.{first_cut, threads_of, last_of, last_cut, machine_of, start_of, cut_of, EachRun}
+use Rattle.ir_hits.specs.Hits.{Numbered, Finds}
+use Rattle.ir_cut.specs.Positions.{first_cut, threads_of, last_of, last_cut, machine_of, start_of, cut_of, EachRun, thread_at}
 use Rattle.ir_image.specs.Guest.{Guest, code_start, object_count, object_words, guest_at, image_fault_number}
 use Rattle.ir_mach.specs.Execution.{lies_in_memory}
 use Rattle.ir_command.specs.declared.command.Command.{Command}

@@ -10,8 +10,7 @@ use Rattle.ir_flat.specs.Flat.{idle}
 use Rattle.ir_runs.specs.Run.{Step}
 use Rattle.ir_fit.specs.Fit.{FittedTrace, HasRun, IsRunOf}
 use Rattle.ir_fit.proofs.CallerLemmas.{event_positions_rise, event_positions_are_as_many_as_events, event_position_below_steps}
-use Rattle.ir_cut.specs.Positions.{cut_of}
-use Rattle.ir_weave.specs.Ahead.{thread_at}
+use Rattle.ir_cut.specs.Positions.{cut_of, thread_at}
 use Rattle.ir_weave.specs.Standing.{Standing, StandsAt, flat_in, positions}
 use Rattle.ir_events.specs.Events.{entries_of, entry_of, pc_of, AreThreadPcs}
 use Rattle.ir_events.specs.Walk.{AreEnds, IsListed}

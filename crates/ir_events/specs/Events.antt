@@ -5,8 +5,7 @@ use Rattle.ir_runs.specs.Run.{Step}
 use Rattle.ir_trace.specs.Recorded.{recorded_thread}
 use Rattle.ir_fit.specs.Fit.{FittedTrace}
 use Rattle.ir_fit.specs.Placed.{placed_at, placed_of}
-use Rattle.ir_cut.specs.Positions.{EachRun}
-use Rattle.ir_weave.specs.Ahead.{thread_at}
+use Rattle.ir_cut.specs.Positions.{EachRun, thread_at}
 
 -- for each event of thread t, in order, how many steps the thread takes before the one that logs it
 abbrev pub entries_of : FittedTrace → ℕ → List ℕ

@@ -11,12 +11,12 @@ use Rattle.ir_explore.proofs.CallerLemmas.{index_of_element_is_below_length}
 use Rattle.ir_flat.proofs.CallerLemmas.{length_of_start_threads, length_of_start_cells}
 use Rattle.ir_flat.specs.Flat.{Flat, IsFlat, idle, thread_of, cell_of, tables}
 use Rattle.ir_store.specs.Nodes.{SourcedFlat}
-use Rattle.ir_flat.specs.Room.{empty}
 use Rattle.ir_graph.specs.Outcomes.{outcome_of}
 use Rattle.ir_graph.specs.Reached.{IsReached}
 use Rattle.ir_graph.specs.Setup.{Setup}
 use Rattle.ir_image.specs.Guest.{Guest, most_object_words, object_count}
 use Rattle.ir_object.specs.Cell.{Cell}
+use Rattle.ir_object.specs.Empty.{empty}
 use Rattle.ir_outcomes.specs.Explored.{IsAt, AreExplored, AreAll}
 use Rattle.ir_outcomes.specs.Shown.{switches_by}
 use Rattle.ir_outcomes.specs.declared.shown.Shown.{Shown}

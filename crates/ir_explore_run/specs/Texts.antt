@@ -9,7 +9,6 @@ use Rattle.ir_explore.specs.declared.stop.Stop.TheVariants.{Memory}
 use Rattle.ir_files.specs.declared.exit_status.ExitStatus.{ExitStatus}
 use Rattle.ir_files.specs.declared.exit_status.ExitStatus.TheVariants as status
 use Rattle.ir_flat.specs.Flat.{Flat, idle, start_cells}
-use Rattle.ir_flat.specs.Room.{empty}
 use Rattle.ir_graph.specs.Nodes.{AreNodes}
 use Rattle.ir_graph.specs.Reached.{AllReached}
 use Rattle.ir_graph.specs.Setup.{Setup}
@@ -18,6 +17,7 @@ use Rattle.ir_graph.specs.Stops.{IsStop, MayStop}
 use Rattle.ir_graph.specs.Times.{HasTimedRun}
 use Rattle.ir_image.specs.Guest.{Guest, object_count, object_words}
 use Rattle.ir_object.specs.Cell.{Cell}
+use Rattle.ir_object.specs.Empty.{empty}
 use Rattle.ir_order.specs.Spelling.{IsListOf}
 use Rattle.ir_outcomes.specs.Explored.{IsAt, AreExplored, AreAll, AreHangs}
 use Rattle.ir_outcomes.specs.declared.explored.Explored.{Explored}

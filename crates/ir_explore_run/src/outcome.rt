@@ -2,7 +2,7 @@
 
 ghost use Rattle.std.specs.Prelude.{◌≡◌, ◌++◌, length, OnOk, IfOk};
 ghost use Rattle.std.specs.List.{slice_index_or};
-ghost use Rattle.ir_flat.specs.Room.{empty};
+ghost use Rattle.ir_object.specs.Empty.{empty};
 ghost use Rattle.ir_explore_run.specs.Texts.{threads_text, object_text, objects_text, objects_in, IsOutcomeText};
 
 use crate::lines::{outcome_line, put_object, put_thread};

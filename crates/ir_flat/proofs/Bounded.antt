@@ -23,7 +23,7 @@ use Rattle.ir_runs.specs.declared.env_kind.EnvKind.TheVariants.{Clock, Random, I
 use Rattle.ir_runs.specs.Run.{State, Step, act, Can, after, IsRun, end}
 use Rattle.ir_runs.proofs.CallerLemmas.{property_of_upd_by_cases}
 use Rattle.ir_flat.specs.Flat.{idle, thread_of, tables, start_threads, start_cells, start_flat}
-use Rattle.ir_flat.specs.Room.{empty}
+use Rattle.ir_object.specs.Empty.{empty}
 use Rattle.ir_flat.proofs.Kept.{events_after_ask, events_within_most_after_ask, length_of_held_after_ask}
 use Rattle.ir_flat.proofs.Fresh.{length_of_start_threads, length_of_start_cells, start_cell_has_first_words}
 

@@ -10,11 +10,11 @@ use Rattle.ir_thread.specs.declared.profile.Profile.{Profile}
 use Rattle.ir_thread.specs.State as thread
 use Rattle.ir_runs.specs.declared.access.Access.{Access}
 use Rattle.ir_object.specs.Cell.{Cell, Counts, readers, has_writer}
+use Rattle.ir_object.specs.Empty.{empty}
 use Rattle.ir_object.specs.Word.{bit_of}
 use Rattle.ir_object.specs.declared.fields.Fields.{Fields}
 use Rattle.ir_object.proofs.CallerLemmas.{no_readers_if_nobody_reads, no_writer_if_nobody_writes}
 use Rattle.ir_flat.specs.Flat.{Flat, idle, cell_of, inside_of, tables, start_threads, start_cell, start_cells, start_flat, IsFlat, IsKept}
-use Rattle.ir_flat.specs.Room.{empty}
 
 pub length_of_start_threads : (g : Guest) (budget : ℕ) (profile : Profile) (from n : ℕ) → length (start_threads g budget profile from n) ≡ n
 length_of_start_threads g budget profile from zero = refl

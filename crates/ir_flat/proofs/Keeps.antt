@@ -13,12 +13,12 @@ use Rattle.ir_thread.specs.declared.ask.Ask.TheVariants.{Private, Env, Enter, Tr
 use Rattle.ir_thread.specs.declared.ask.Reply.TheVariants.{Go, Value}
 use Rattle.ir_thread.proofs.CallerLemmas.{ask_of_permitted, nothing_held_above_highest}
 use Rattle.ir_object.specs.Cell.{Cell, Counts, readers, one_if_reading}
+use Rattle.ir_object.specs.Empty.{empty}
 use Rattle.ir_object.specs.Standing.{CanLeave}
 use Rattle.ir_object.specs.Word.{IsFields, entered, left_by, bit_of}
 use Rattle.ir_object.proofs.CallerLemmas.{no_writer_if_reader_admitted, reader_admitted_if_no_writer, nobody_inside_if_writer_admitted, writer_admitted_if_nobody_inside, counts_after_entry, inside_thread_can_leave, counts_after_leave}
 use Rattle.ir_runs.proofs.CallerLemmas.{property_of_upd_by_cases, upd_with_old_value}
 use Rattle.ir_flat.specs.Flat.{Flat, idle, thread_of, cell_of, inside_of, tables, machine, IsShared, IsFlat, IsKept}
-use Rattle.ir_flat.specs.Room.{empty}
 use Rattle.ir_flat.specs.Next.{with_thread, with_object, answered, next, next_try, MayStep, MayTry}
 use Rattle.ir_runs.specs.Run.{Can, after}
 use Rattle.ir_flat.proofs.Kept.{length_of_held_after_ask, kept_after_step, events_below_within_limit}

@@ -14,10 +14,11 @@ use Rattle.ir_thread.specs.declared.ask.Ask.{Ask}
 use Rattle.ir_thread.specs.declared.ask.Ask.TheVariants.{Private, Env, Enter, Try, Leave, Get, Put, Print, End, Done}
 use Rattle.ir_thread.specs.declared.ask.Reply.TheVariants.{Go, Value}
 use Rattle.ir_object.specs.Cell.{Cell}
+use Rattle.ir_object.specs.Empty.{empty}
 use Rattle.ir_object.specs.Word.{entered, left_by}
 use Rattle.ir_runs.proofs.CallerLemmas.{upd_at_own_place, upd_at_other_place, property_of_upd_by_cases, upd_with_old_value}
 use Rattle.ir_flat.specs.Flat.{Flat, idle, thread_of, cell_of, inside_of, tables, machine, IsFlat}
-use Rattle.ir_flat.specs.Room.{empty, object_with}
+use Rattle.ir_flat.specs.Room.{object_with}
 use Rattle.ir_flat.specs.Next.{with_thread, with_object, next, MayStep}
 use Rattle.ir_runs.specs.Run.{State, after}
 

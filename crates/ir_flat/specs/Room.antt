@@ -1,5 +1,5 @@
--- Threads with a place for each object, and an object that is none of the guest's.
-use Rattle.std.specs.Prelude.{◌≡◌, ◌<◌, ℕ, List, length, [], false, slice_index, Option, ◌+◌, if◌then◌else◌}
+-- Threads with a place for each object.
+use Rattle.std.specs.Prelude.{◌≡◌, ◌<◌, ℕ, List, length, slice_index, Option, ◌+◌, if◌then◌else◌}
 use Rattle.std.specs.List.{slice_index_or}
 use Rattle.ir_thread.specs.State.{ThreadState}
 use Rattle.ir_flat.specs.Flat.{idle}
@@ -10,10 +10,6 @@ use Rattle.ir_runs.specs.declared.access.Access.{Access}
 -- each of these threads has a place for each of this many objects
 abbrev pub HaveRoom : List ThreadState → ℕ → Type 0
 HaveRoom threads objects = (t : ℕ) → t < length threads → length (slice_index_or threads t idle).held ≡ objects
-
--- an object that is none of the guest's
-abbrev pub empty : Cell
-empty = record { fields = record { version = 0; left = 0; inside = 0; writer = false }; words = [] }
 
 -- the object whose word and contents these are, with these threads inside
 abbrev pub object_with : Cell → (ℕ → Option Access) → Object

@@ -8,13 +8,13 @@ use Rattle.ir_runs.specs.Machine.{Label, Quiet, Answer, In, Refused, Out}
 use Rattle.ir_runs.specs.Run.{Step, At, Emits, count, trail}
 use Rattle.ir_thread.specs.State.{ThreadState}
 use Rattle.ir_fit.specs.Fit.{FittedTrace}
-use Rattle.ir_cut.specs.Positions.{machine_of, start_of}
+use Rattle.ir_cut.specs.Positions.{machine_of, start_of, thread_at}
 use Rattle.ir_command.specs.declared.command.Point.{Point}
 use Rattle.ir_command.specs.declared.command.Point.TheVariants.{Break, Watch, WatchObject}
 use Rattle.ir_command.specs.declared.command.Direction.{Direction}
 use Rattle.ir_command.specs.declared.command.Direction.TheVariants.{Forwards, Backwards}
 use Rattle.ir_command.specs.declared.hit.Hit.{Hit}
-use Rattle.ir_hits.specs.Hits.{Numbered, thread_at, HitBy, HitByNumber, IsLowest, NoneWithin, IsFirstHit, IsLastHit, Finds}
+use Rattle.ir_hits.specs.Hits.{Numbered, HitBy, HitByNumber, IsLowest, NoneWithin, IsFirstHit, IsLastHit, Finds}
 use Rattle.ir_gdb.specs.declared.point.Breakpoint.{Breakpoint}
 use Rattle.ir_gdb.specs.Points.{watch_points, break_points, own_points, points_upwards, points_downwards}
 

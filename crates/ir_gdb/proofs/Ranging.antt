@@ -1,9 +1,9 @@
 -- Where a thread stops that steps in a range of addresses.
 use Rattle.std.proofs.Common.{◌≡◌, ◌<◌, ◌≤◌, ◌+◌, ◌∙◌, ◌⊎◌, ℕ, suc, Bool, true, false, List, Option, Some, None, inl, inr, refl, sym, ap, subst, arith}
 use Rattle.ir_fit.specs.Fit.{FittedTrace, HasRun}
-use Rattle.ir_cut.specs.Positions.{EachRun, cut_of, last_of}
+use Rattle.ir_cut.specs.Positions.{EachRun, cut_of, last_of, thread_at}
 use Rattle.ir_command.specs.declared.hit.Hit.{Hit}
-use Rattle.ir_hits.specs.Hits.{Numbered, thread_at}
+use Rattle.ir_hits.specs.Hits.{Numbered}
 use Rattle.ir_hits.specs.Searching.{IsNextHit}
 use Rattle.ir_gdb.specs.declared.stopped.Stopped.{Stopped}
 use Rattle.ir_gdb.specs.Stub.{Stub, spoken}

@@ -1,9 +1,9 @@
 -- Bytes of the objects in hand.
 use Rattle.std.proofs.Common.{◌≡◌, ◌≤◌, ◌<◌, ◌+◌, ◌-◌, ◌/◌, ◌%◌, ◌∙◌, ℕ, Bool, cond, List, length, slice_index_or, slice_index, Some, None, sym, ap, arith, lt-ltb, le-ltb}
 use Rattle.ir_image.specs.Guest.{object_count, object_words, most_objects}
-use Rattle.ir_flat.specs.Room.{empty}
 use Rattle.ir_mach.specs.Execution.{byte_at}
 use Rattle.ir_object.specs.Cell.{Cell}
+use Rattle.ir_object.specs.Empty.{empty}
 use Rattle.ir_runs.specs.Machine.{Object}
 use Rattle.ir_runs.specs.Run.{Step, object_at}
 use Rattle.ir_cut.specs.Positions.{EachRun, machine_of, start_of, cut_of}

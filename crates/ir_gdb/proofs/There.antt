@@ -4,8 +4,7 @@ use Rattle.std.specs.Prelude.{Result, Ok, Err, IfOk}
 use Rattle.ir_flat.specs.Flat.{idle}
 use Rattle.ir_fit.specs.Fit.{FittedTrace, HasRun}
 use Rattle.ir_cut.specs.Laws.{GreatestExact}
-use Rattle.ir_cut.specs.Positions.{EachRun, IsConsistentCut, cut_of, threads_of}
-use Rattle.ir_hits.specs.Hits.{thread_at}
+use Rattle.ir_cut.specs.Positions.{EachRun, IsConsistentCut, cut_of, threads_of, thread_at}
 use Rattle.ir_weave.specs.Standing.{StandsAt}
 use Rattle.ir_debug.specs.Debugging.{ToGreatest}
 use Rattle.ir_gdb.specs.Serving.{Serving}

@@ -1,10 +1,10 @@
 -- A step of one thread alone. Where gdb moves the threads together it makes such a step over a breakpoint, which it has taken out for that.
 use Rattle.std.specs.Prelude.{◌≡◌, ◌≢◌, ◌<◌, ◌==◌, ◌&&◌, ℕ, Bool, true, false, List, Option, Some, None, if◌then◌else◌}
 use Rattle.ir_runs.specs.Run.{Step}
-use Rattle.ir_cut.specs.Positions.{cut_of, threads_of, last_of}
+use Rattle.ir_cut.specs.Positions.{cut_of, threads_of, last_of, thread_at}
 use Rattle.ir_command.specs.declared.command.Direction.TheVariants.{Forwards}
 use Rattle.ir_command.specs.declared.hit.Hit.{Hit}
-use Rattle.ir_hits.specs.Hits.{Numbered, thread_at}
+use Rattle.ir_hits.specs.Hits.{Numbered}
 use Rattle.ir_hits.specs.Searching.{IsNextHit}
 use Rattle.ir_packet.specs.declared.reply.Reason.{Reason}
 use Rattle.ir_packet.specs.declared.reply.Reason.TheVariants as reason

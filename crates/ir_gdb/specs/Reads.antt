@@ -7,9 +7,8 @@ use Rattle.ir_mach.specs.Execution.{byte_at}
 use Rattle.ir_mach.specs.Within.{byte_of}
 use Rattle.ir_thread.specs.State as thread
 use Rattle.ir_runs.specs.Run.{Step, object_at}
-use Rattle.ir_cut.specs.Positions.{machine_of, start_of, cut_of, threads_of}
+use Rattle.ir_cut.specs.Positions.{machine_of, start_of, cut_of, threads_of, thread_at}
 use Rattle.ir_fit.specs.Fit.{FittedTrace}
-use Rattle.ir_hits.specs.Hits.{thread_at}
 use Rattle.ir_packet.specs.Replies.{word_text, words_text, reply_text}
 use Rattle.ir_packet.specs.declared.reply.Reply.{Reply}
 use Rattle.ir_packet.specs.declared.reply.Reply.TheVariants as reply

@@ -1,8 +1,8 @@
 -- Where a thread stops that moves alone, and why.
 use Rattle.std.specs.Prelude.{◌≡◌, ◌<◌, ◌≤◌, ℕ, zero, suc, ◌+◌, ◌-◌, nat_lt, nat_le, ◌&&◌, Bool, true, false, List, [], slice_get, Option, Some, None, option_map, length, if◌then◌else◌}
 use Rattle.ir_runs.specs.Run.{Step}
-use Rattle.ir_cut.specs.Positions.{cut_of, last_of}
-use Rattle.ir_hits.specs.Hits.{Numbered, IsFirstHit, IsLastHit, thread_at}
+use Rattle.ir_cut.specs.Positions.{cut_of, last_of, thread_at}
+use Rattle.ir_hits.specs.Hits.{Numbered, IsFirstHit, IsLastHit}
 use Rattle.ir_hits.specs.Searching.{IsNextHit}
 use Rattle.ir_command.specs.declared.hit.Hit.{Hit}
 use Rattle.ir_command.specs.declared.command.Direction.{Direction}

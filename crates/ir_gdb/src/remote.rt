@@ -106,8 +106,7 @@ fn thread_of_id(fitted: &Fitted, id: u32) -> Option<u32>
 
 impl Remote {
     ghost use Rattle.std.specs.Prelude.{OnOk, OnErr, IfOk, true, false};
-    ghost use Rattle.ir_cut.specs.Positions.{EachRun, cut_of};
-    ghost use Rattle.ir_hits.specs.Hits.{thread_at};
+    ghost use Rattle.ir_cut.specs.Positions.{EachRun, cut_of, thread_at};
     ghost use Rattle.ir_weave.specs.Standing.{StandsAt};
     ghost use Rattle.ir_gdb.specs.Stub.{stub_of, spoken};
     ghost use Rattle.ir_gdb.specs.Serving.{IsThere};

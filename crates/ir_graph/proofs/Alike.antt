@@ -4,8 +4,8 @@ use Rattle.std.specs.Prelude.{slice_index}
 use Rattle.std.specs.List.{slice_index_or}
 use Rattle.std.proofs.lemmas.Bool.{cases_lt}
 use Rattle.ir_object.specs.Cell.{Cell}
+use Rattle.ir_object.specs.Empty.{empty}
 use Rattle.ir_flat.specs.Flat.{IsFlat, thread_of, cell_of, idle}
-use Rattle.ir_flat.specs.Room.{empty}
 use Rattle.ir_sources.specs.Sources.{given}
 use Rattle.ir_states.specs.Looks.{Looks}
 use Rattle.ir_seen.specs.Seen.{view, Same}

@@ -3,6 +3,7 @@ use Rattle.std.proofs.Common.{◌≡◌, ℕ, zero, suc, ◌+◌, ◌<◌, Bool,
 use Rattle.std.proofs.lemmas.List.{set-get_or, set-set}
 use Rattle.std.specs.Prelude.{slice_set}
 use Rattle.ir_object.specs.Cell.{Cell}
+use Rattle.ir_object.specs.Empty.{empty}
 use Rattle.ir_object.specs.Standing.{Admitted, CanLeave}
 use Rattle.ir_object.specs.Word.{IsFields, entered, left_by}
 use Rattle.ir_object.specs.declared.fields.Fields.{Fields}
@@ -18,7 +19,6 @@ use Rattle.ir_thread.specs.declared.ask.Ask.TheVariants as ask
 use Rattle.ir_thread.specs.declared.ask.Reply.TheVariants.{Go, Value}
 use Rattle.ir_sources.specs.Sources.{Source, given}
 use Rattle.ir_flat.specs.Flat.{Flat, IsFlat, thread_of, cell_of, tables, machine, idle}
-use Rattle.ir_flat.specs.Room.{empty}
 use Rattle.ir_flat.specs.Next.{with_thread, with_object, next, MayStep, MayTry}
 use Rattle.ir_flat.proofs.CallerLemmas.{next_is_flat, tables_of_next_are_after, may_step_iff_can_for_ask, entered_fields_fit, left_fields_fit, flat_inside_thread_can_leave}
 use Rattle.ir_thread.proofs.CallerLemmas.{ask_of_permitted}

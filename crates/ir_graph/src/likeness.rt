@@ -2,7 +2,7 @@
 
 ghost use Rattle.std.specs.Prelude.{◌≡◌, ℕ, ◌<◌, List, true, false, length, IfOk, IsTrue, MatchOption, slice_index};
 ghost use Rattle.std.specs.List.{slice_index_or};
-ghost use Rattle.ir_flat.specs.Room.{empty};
+ghost use Rattle.ir_object.specs.Empty.{empty};
 ghost use Rattle.ir_freeze.specs.Twins.{AreTwins};
 ghost use Rattle.ir_graph.specs.Plain.{IsLike};
 ghost use Rattle.ir_graph.specs.Nodes.{LookAlike};

@@ -11,7 +11,8 @@ use Rattle.ir_thread.specs.State.{ThreadState}
 use Rattle.ir_fit.specs.Fit.{FittedTrace, IsRunOf}
 use Rattle.ir_command.specs.declared.command.Point.{Point}
 use Rattle.ir_command.specs.declared.command.Point.TheVariants.{Break, Watch, WatchObject}
-use Rattle.ir_hits.specs.Hits.{Numbered, thread_at, HitBy, HitByNumber, IsLowest}
+use Rattle.ir_hits.specs.Hits.{Numbered, HitBy, HitByNumber, IsLowest}
+use Rattle.ir_cut.specs.Positions.{thread_at}
 use Rattle.ir_hits.specs.Seeing.{Concerns, SomeConcerns, IsNoted, AllNoted, SeesHit, SeesHitAt, IsLowestOf, steps_of, Changes, LeavesWritten}
 use Rattle.ir_hits.specs.declared.before.Before.{Before}
 use Rattle.ir_hits.specs.declared.before.Before.TheVariants.{Nothing, Word, Inside}

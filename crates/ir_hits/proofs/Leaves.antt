@@ -13,9 +13,8 @@ use Rattle.ir_thread.specs.State as thread
 use Rattle.ir_thread.specs.State.{held_at}
 use Rattle.ir_fit.specs.Fit.{FittedTrace, IsRunOf}
 use Rattle.ir_fit.proofs.CallerLemmas.{get_or_is_at_index_if_below_length, get_or_is_item_if_at_index}
-use Rattle.ir_cut.specs.Positions.{machine_of, start_of}
+use Rattle.ir_cut.specs.Positions.{machine_of, start_of, thread_at}
 use Rattle.ir_weave.proofs.CallerLemmas.{StepOf, emitting_step_is_step_of, guest_machine_is_lawful}
-use Rattle.ir_hits.specs.Hits.{thread_at}
 use Rattle.ir_hits.specs.Seeing.{steps_of, LeavesWritten}
 
 -- ---- one step

@@ -7,9 +7,9 @@ use Rattle.ir_mach.specs.Marks.{Marked}
 use Rattle.ir_flat.specs.Flat.{idle, thread_of}
 use Rattle.ir_runs.specs.Run.{Step}
 use Rattle.ir_fit.specs.Fit.{FittedTrace, IsRunOf}
-use Rattle.ir_cut.specs.Positions.{cut_of, EachRun}
+use Rattle.ir_cut.specs.Positions.{cut_of, EachRun, thread_at}
 use Rattle.ir_weave.specs.Standing.{Standing, StandsAt, flat_in, positions}
-use Rattle.ir_hits.specs.Hits.{Numbered, thread_at, NoneWithin, IsLowest, IsLastHit}
+use Rattle.ir_hits.specs.Hits.{Numbered, NoneWithin, IsLowest, IsLastHit}
 use Rattle.ir_hits.specs.Searching.{AreLast, IsLastFrom, IsNextHit, IsStartHit, window_start}
 use Rattle.ir_hits.specs.Passing.{AreCovered, HasPassed}
 use Rattle.ir_hits.specs.Seeing.{AllNoted, IsLowestOf}

@@ -12,13 +12,13 @@ use Rattle.ir_thread.specs.declared.ask.Ask.TheVariants as ask
 use Rattle.ir_thread.proofs.CallerLemmas.{private_steps_prefix, held_after_private_steps, unmarked_steps_prefix, thread_unmarked_step_begins_unmarked, thread_memory_is_unchanged_by_unmarked_steps}
 use Rattle.ir_flat.specs.Flat.{Flat, thread_of}
 use Rattle.ir_fit.specs.Fit.{FittedTrace, IsRunOf}
-use Rattle.ir_cut.specs.Positions.{machine_of, start_of}
+use Rattle.ir_cut.specs.Positions.{machine_of, start_of, thread_at}
 use Rattle.ir_weave.proofs.CallerLemmas.{StepOf, emitting_step_is_step_of, step_below_count_emits}
 use Rattle.ir_weave.specs.Standing.{positions}
 use Rattle.ir_weave.specs.Stepping.{HasGone}
 use Rattle.ir_command.specs.declared.command.Point.{Point}
 use Rattle.ir_command.specs.declared.command.Point.TheVariants.{Break, Watch, WatchObject}
-use Rattle.ir_hits.specs.Hits.{Numbered, thread_at, HitBy, NoneWithin}
+use Rattle.ir_hits.specs.Hits.{Numbered, HitBy, NoneWithin}
 use Rattle.ir_hits.specs.Passing.{Watches, IsCovered, AreCovered, HasPassed}
 use Rattle.ir_hits.specs.Seeing.{IsNoted, AllNoted, steps_of, Changes, LeavesWritten}
 use Rattle.ir_hits.specs.declared.before.Before.{Before}

@@ -4,9 +4,9 @@ use Rattle.ir_mach.specs.Execution.{memory_word}
 use Rattle.ir_thread.specs.State as thread
 use Rattle.ir_runs.specs.declared.access.Access.TheVariants.{Writing}
 use Rattle.ir_runs.specs.Machine.{Out}
-use Rattle.ir_runs.specs.Run.{Step, th, count, Emits}
+use Rattle.ir_runs.specs.Run.{Step, count, Emits}
 use Rattle.ir_fit.specs.Fit.{FittedTrace}
-use Rattle.ir_cut.specs.Positions.{machine_of, start_of}
+use Rattle.ir_cut.specs.Positions.{machine_of, start_of, thread_at}
 use Rattle.ir_command.specs.declared.command.Point.{Point}
 use Rattle.ir_command.specs.declared.command.Point.TheVariants.{Break, Watch, WatchObject}
 use Rattle.ir_command.specs.declared.hit.Hit.{Hit}
@@ -17,10 +17,6 @@ use Rattle.ir_command.specs.declared.command.Direction.TheVariants.{Forwards, Ba
 pub record Numbered : Type 0 where
   pub number : ℕ
   pub point : Point
-
--- thread t of the run just after its k-th own step
-abbrev pub thread_at : FittedTrace → List Step → ℕ → ℕ → thread.ThreadState
-thread_at f run t k = th (machine_of f) (start_of f) run t k
 
 -- the point hits thread t at position k: its pc is there, and it has a step left; or the step to k changed the word; or that step left the
 -- object, which the thread had entered for writing

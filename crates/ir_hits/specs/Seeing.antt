@@ -7,10 +7,10 @@ use Rattle.ir_command.specs.declared.command.Point.{Point}
 use Rattle.ir_command.specs.declared.command.Point.TheVariants.{Break, Watch, WatchObject}
 use Rattle.ir_hits.specs.declared.before.Before.{Before}
 use Rattle.ir_hits.specs.declared.before.Before.TheVariants.{Nothing, Word, Inside}
-use Rattle.ir_hits.specs.Hits.{Numbered, thread_at}
+use Rattle.ir_hits.specs.Hits.{Numbered}
 use Rattle.ir_runs.specs.Run.{Step, count, Emits}
 use Rattle.ir_fit.specs.Fit.{FittedTrace}
-use Rattle.ir_cut.specs.Positions.{machine_of, start_of}
+use Rattle.ir_cut.specs.Positions.{machine_of, start_of, thread_at}
 use Rattle.ir_runs.specs.Machine.{Out}
 
 -- whether the point may hit thread t

@@ -17,6 +17,7 @@ use Rattle.ir_runs.specs.Machine.{Machine}
 use Rattle.ir_thread.specs.State as thread
 use Rattle.ir_thread.specs.declared.ask.Ask.TheVariants as ask
 use Rattle.ir_object.specs.Cell.{Cell}
+use Rattle.ir_object.specs.Empty.{empty}
 use Rattle.ir_object.specs.Order.{Shared, of_thread, order_labels, IsAllowed}
 use Rattle.ir_object.proofs.CallerLemmas.{legal_order_is_allowed, no_steps_of_missing_thread}
 use Rattle.ir_image.proofs.CallerLemmas.{get_or_zero_of_padded_is_unchanged}
@@ -24,7 +25,6 @@ use Rattle.ir_crew.specs.Ends.{AreTracks, IsEnd}
 use Rattle.ir_crew.specs.Plays.{M}
 use Rattle.ir_crew.specs.Rule.{View, IsTrack, start_objects}
 use Rattle.ir_flat.specs.Flat.{Flat, thread_of, cell_of, tables, idle, start_flat, start_threads, start_cells, MayRun, alone_after}
-use Rattle.ir_flat.specs.Room.{empty}
 use Rattle.ir_runs.specs.Run.{State, Step, events, log}
 use Rattle.ir_flat.specs.Splice.{shared_steps, splice}
 use Rattle.ir_flat.specs.Trails.{alone_trail}

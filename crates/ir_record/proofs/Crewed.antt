@@ -2,7 +2,7 @@
 use Rattle.ir_thread.specs.declared.profile.Profile.{Profile}
 use Rattle.std.proofs.Common.{◌≡◌, ℕ, zero, suc, ◌+◌, ◌<◌, Bool, true, false, List, [], ◌∷◌, ◌++◌, map, length, get_or, replicate, None, refl, sym, ap, ◌∙◌, subst, arith, append-nil}
 use Rattle.std.proofs.lemmas.List.{length-replicate, length-map}
-use Rattle.std.specs.List.{AllByRecursion}
+use Rattle.std.specs.List.{AllByRecursion, AllZip}
 use Rattle.atomic_table.specs.Seated.{TableId}
 use Rattle.ir_image.specs.Guest.{Guest, object_count}
 use Rattle.ir_image.specs.Bounds.{IsGuest}
@@ -19,7 +19,7 @@ use Rattle.ir_trace.specs.Absent.{absent}
 use Rattle.ir_record.specs.Gathered.{IsThreadTrace}
 use Rattle.ir_record.specs.Worlds.{answers_at, Answered, answers_in, NoneFailed, AreSameWorlds}
 use Rattle.ir_record.specs.Recording.{WentOn, EachWentOn}
-use Rattle.ir_record.specs.Threads.{IsNew, AreNew, IsOver, AreTraces, HasRoom, IsSeatOf, views_of, Pairs}
+use Rattle.ir_record.specs.Threads.{IsNew, AreNew, IsOver, AreTraces, HasRoom, IsSeatOf, views_of}
 use Rattle.ir_record.specs.Working.{Work, work_of, IsWorking, IsReadyWorker, RanToEnd}
 use Rattle.ir_record.specs.declared.by_threads.buffers.Buffers.{Buffers}
 use Rattle.ir_record.specs.declared.by_threads.worker.Worker.{Worker}
@@ -78,7 +78,7 @@ pub map_map : {A B C : Type 0} (f : B → C) (h : A → B) (xs : List A) → map
 map_map f h [] = refl
 map_map f h (x ∷ xs) = ap (λ z. f (h x) ∷ z) (map_map f h xs)
 
-lists_related_in_pairs_have_equal_length : {A : Type 0} (P : A → A → Type 0) (xs ys : List A) → Pairs P xs ys → length ys ≡ length xs
+lists_related_in_pairs_have_equal_length : {A : Type 0} (P : A → A → Type 0) (xs ys : List A) → AllZip P xs ys → length ys ≡ length xs
 lists_related_in_pairs_have_equal_length P [] [] p = refl
 lists_related_in_pairs_have_equal_length P [] (y ∷ ys) p = absurd p
 lists_related_in_pairs_have_equal_length P (x ∷ xs) [] p = absurd p
@@ -92,7 +92,7 @@ module _ {W O : Type 0} (answers : W → List Answered) (broken : W → Bool) (o
   abbrev R : Worker W → Worker W → Type 0
   R = RanToEnd answers broken origin g
 
-  at_end : (t : ℕ) (vs ws : List (Worker W)) → AreNew g budget profile id t vs → Pairs R vs ws → (k : ℕ) → k < length vs
+  at_end : (t : ℕ) (vs ws : List (Worker W)) → AreNew g budget profile id t vs → AllZip R vs ws → (k : ℕ) → k < length vs
       → get_or (map (λ w. broken w.world) ws) k false ≡ false
       → IsWorking g budget profile (t + k) (answers_at (map answers (map (λ w. w.world) vs)) k) (work_at (map (work_of answers) ws) k)
       × (ask_of g.code (work_at (map (work_of answers) ws) k).thread ≡ ask.Done)
@@ -111,7 +111,7 @@ module _ {W O : Type 0} (answers : W → List Answered) (broken : W → Bool) (o
       )
 
   -- the seats, and what is gathered
-  seats_end : (t : ℕ) (vs ws : List (Worker W)) → AreNew g budget profile id t vs → Pairs R vs ws → NoneBroken broken ws
+  seats_end : (t : ℕ) (vs ws : List (Worker W)) → AreNew g budget profile id t vs → AllZip R vs ws → NoneBroken broken ws
       → AllByRecursion (IsSeatOf id) (map (λ w. w.seat) ws)
   seats_end t [] [] new p works = tt
   seats_end t [] (w ∷ ws) new p works = absurd p
@@ -123,7 +123,7 @@ module _ {W O : Type 0} (answers : W → List Answered) (broken : W → Bool) (o
             (λ u. works (suc u)),
       )
 
-  over_end : (objects t : ℕ) (vs ws : List (Worker W)) → objects ≡ object_count g → AreNew g budget profile id t vs → Pairs R vs ws
+  over_end : (objects t : ℕ) (vs ws : List (Worker W)) → objects ≡ object_count g → AreNew g budget profile id t vs → AllZip R vs ws
       → NoneBroken broken ws → AllByRecursion (IsOver profile objects) ws
   over_end objects t [] [] n new p works = tt
   over_end objects t [] (w ∷ ws) n new p works = absurd p
@@ -138,7 +138,7 @@ module _ {W O : Type 0} (answers : W → List Answered) (broken : W → Bool) (o
       )
 
   -- the work of a worker until its world failed
-  at_stop : (t : ℕ) (vs ws : List (Worker W)) → AreNew g budget profile id t vs → Pairs R vs ws → (k : ℕ) → k < length vs
+  at_stop : (t : ℕ) (vs ws : List (Worker W)) → AreNew g budget profile id t vs → AllZip R vs ws → (k : ℕ) → k < length vs
       → get_or (map (λ w. broken w.world) ws) k false ≡ true
       → (last : Work) × IsWorking g budget profile (t + k) (answers_at (map answers (map (λ w. w.world) vs)) k) last
       × ((kind : EnvKind) × (ask_of g.code last.thread ≡ ask.Env kind))
@@ -162,7 +162,7 @@ module _ {W O : Type 0} (answers : W → List Answered) (broken : W → Bool) (o
         r.3,
       )
 
-  origins_end : (vs ws : List (Worker W)) → Pairs R vs ws → map origin (map (λ w. w.world) ws) ≡ map origin (map (λ w. w.world) vs)
+  origins_end : (vs ws : List (Worker W)) → AllZip R vs ws → map origin (map (λ w. w.world) ws) ≡ map origin (map (λ w. w.world) vs)
   origins_end [] [] p = refl
   origins_end [] (w ∷ ws) p = absurd p
   origins_end (v ∷ vs) [] p = absurd p
@@ -178,7 +178,7 @@ answers_at_are_answers_of_work answers (w ∷ ws) (suc t) = answers_at_are_answe
 pub record HaveRun {W O : Type 0} (answers : W → List Answered) (broken : W → Bool) (origin : W → O) (g : Guest) (budget : ℕ)
     (profile : Profile) (id : TableId) (worlds : List W) (vs ws : List (Worker W)) : Type 0 where
   pub new : AreNew g budget profile id 0 vs
-  pub pairs : Pairs (RanToEnd answers broken origin g) vs ws
+  pub pairs : AllZip (RanToEnd answers broken origin g) vs ws
   pub same : map (λ w. w.world) vs ≡ worlds
   pub each : length worlds ≡ length g.entries
 

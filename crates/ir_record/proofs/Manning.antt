@@ -3,7 +3,7 @@ use Rattle.ir_thread.specs.declared.profile.Profile.{Profile}
 use Rattle.std.proofs.Common.{◌≡◌, ℕ, suc, ◌+◌, ◌<◌, ◌≤◌, Bool, false, List, [], ◌∷◌, ◌++◌, map, length, get_or, take, drop, refl, sym, ap, ◌∙◌, subst, arith, inl, inr, append-nil, append_assoc, length-append}
 use Rattle.std.proofs.lemmas.Bool.{cases_lt}
 use Rattle.std.proofs.lemmas.List.{length-map, get_or_past, get_or-map}
-use Rattle.std.specs.List.{AllByRecursion}
+use Rattle.std.specs.List.{AllByRecursion, AllZip}
 use Rattle.ir_lemmas.proofs.CallerLemmas.{take_length_of_append}
 use Rattle.atomic_table.specs.Seated.{TableId}
 use Rattle.atomic_table.specs.declared.shared.Seat.{Seat}
@@ -12,7 +12,7 @@ use Rattle.ir_crew.specs.Ends.{AreSeats}
 use Rattle.ir_crew.specs.Rule.{View}
 use Rattle.ir_trace.specs.Recorded.{RecordedThread}
 use Rattle.ir_record.specs.Gathered.{IsThreadTrace}
-use Rattle.ir_record.specs.Threads.{IsNew, AreNew, AreTraces, views_of, Pairs}
+use Rattle.ir_record.specs.Threads.{IsNew, AreNew, AreTraces, views_of}
 use Rattle.ir_record.specs.declared.by_threads.worker.Worker.{Worker}
 
 pub new_workers_with_one_added : {W : Type 0} (g : Guest) (budget : ℕ) (profile : Profile) (id : TableId) (t n : ℕ) (ws : List (Worker W)) (w : Worker W)
@@ -91,7 +91,7 @@ empty_if_length_zero [] n e z = refl
 empty_if_length_zero (x ∷ xs) n e z = absurd (omega (arith, e, z))
 
 pub pairs_if_elements_at_each_index_related : {A : Type 0} (P : A → A → Type 0) (xs ys : List A) → length ys ≡ length xs
-    → ((i : ℕ) (d : A) → i < length xs → P (get_or xs i d) (get_or ys i d)) → Pairs P xs ys
+    → ((i : ℕ) (d : A) → i < length xs → P (get_or xs i d) (get_or ys i d)) → AllZip P xs ys
 pairs_if_elements_at_each_index_related P [] [] e h = tt
 pairs_if_elements_at_each_index_related P [] (y ∷ ys) e h = absurd (omega (arith, e))
 pairs_if_elements_at_each_index_related P (x ∷ xs) [] e h = absurd (omega (arith, e))

@@ -44,7 +44,7 @@ use Rattle.ir_crew.proofs.CallerLemmas.{entries_with_step_added, track, step_of_
 use Rattle.ir_record.specs.Progress.{steps_left_within}
 use Rattle.ir_record.specs.Worlds.{Answered, answers_in}
 use Rattle.ir_record.specs.declared.by_threads.worker.Worker.{Worker}
-use Rattle.ir_record.specs.Working.{Work, IsWorking, StillWorks, IsOwn, IsInside, IsSeated, Stays, own_steps_left}
+use Rattle.ir_record.specs.Working.{Work, IsWorking, StillWorks, TouchesNothing, IsInside, IsSeated, Stays, own_steps_left}
 use Rattle.ir_record.proofs.Left.{steps_left_fall_after_permitted_ask_unless_done}
 use Rattle.ir_record.proofs.Profiles.{profile_is_unchanged_by_ask}
 use Rattle.ir_record.proofs.Working.{worked_with_reply_added, held_after_own_act_is_unchanged, held_after_is_inside_if}
@@ -230,7 +230,7 @@ record IsOwnStep (code : List ℕ) (q : Ask) : Type 0 where
   of : AreObjectStepsAndEventsOfAsk q 0 [] []
   reply : Go ≡ reply_of q 0
 
-own_ask_is_own_step : (code : List ℕ) (q : Ask) → IsOwn q → IsOwnStep code q
+own_ask_is_own_step : (code : List ℕ) (q : Ask) → TouchesNothing q → IsOwnStep code q
 own_ask_is_own_step code ask.Private own = record { may = refl; of = refl; reply = refl }
 own_ask_is_own_step code (ask.Env kind) own = absurd own
 own_ask_is_own_step code (ask.Enter object access) own = absurd own
@@ -242,7 +242,7 @@ own_ask_is_own_step code ask.Print own = record { may = refl; of = refl; reply =
 own_ask_is_own_step code (ask.End e) own = record { may = refl; of = refl; reply = refl }
 own_ask_is_own_step code ask.Done own = absurd own
 
-pub still_works_after_own_step : {g : Guest} {w w' : Work} {code : List ℕ} → code ≡ g.code → (q : Ask) → IsOwn q → ask_of code w.thread ≡ q → w'.me ≡ w.me
+pub still_works_after_own_step : {g : Guest} {w w' : Work} {code : List ℕ} → code ≡ g.code → (q : Ask) → TouchesNothing q → ask_of code w.thread ≡ q → w'.me ≡ w.me
     → w'.thread ≡ after_reply code w.thread Go → w'.log ≡ w.log → w'.answers ≡ w.answers → StillWorks g w w'
 still_works_after_own_step {g} {w} {w'} {code} same q own asked me took =
     let k : IsOwnStep g.code q = own_ask_is_own_step g.code q own in

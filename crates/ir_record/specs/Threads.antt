@@ -66,10 +66,3 @@ pub record IsSeatOf (id : TableId) (s : Seat (Unit {0}) View) : Type 0 where
 abbrev pub views_of : List (Seat (Unit {0}) View) → View
 views_of [] = []
 views_of (s ∷ ss) = s.me.0 ++ views_of ss
-
--- the lists are as long, and each element is so to the one in its place
-abbrev pub Pairs : {A : Type 0} → (A → A → Type 0) → List A → List A → Type 0
-Pairs P [] [] = ⊤
-Pairs P [] (y ∷ ys) = ⊥
-Pairs P (x ∷ xs) [] = ⊥
-Pairs P (x ∷ xs) (y ∷ ys) = P x y × Pairs P xs ys

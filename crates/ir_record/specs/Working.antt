@@ -72,18 +72,18 @@ IsWorker g w = (budget : ℕ) × (profile : Profile) × (t : ℕ) × (before : L
 abbrev pub StillWorks : Guest → Work → Work → Type 0
 StillWorks g v w = (budget : ℕ) (profile : Profile) (t : ℕ) (before : List Answered) → IsWorking g budget profile t before v → IsWorking g budget profile t before w
 
--- the step concerns no other thread, and nothing is logged of it
-abbrev pub IsOwn : Ask → Type 0
-IsOwn ask.Private = Unit {0}
-IsOwn (ask.Env kind) = ⊥
-IsOwn (ask.Enter object access) = ⊥
-IsOwn (ask.Try object) = ⊥
-IsOwn (ask.Leave object access) = ⊥
-IsOwn (ask.Get object index) = ⊥
-IsOwn (ask.Put object index value) = ⊥
-IsOwn ask.Print = Unit {0}
-IsOwn (ask.End e) = Unit {0}
-IsOwn ask.Done = ⊥
+-- the step touches no object, and nothing is logged of it
+abbrev pub TouchesNothing : Ask → Type 0
+TouchesNothing ask.Private = Unit {0}
+TouchesNothing (ask.Env kind) = ⊥
+TouchesNothing (ask.Enter object access) = ⊥
+TouchesNothing (ask.Try object) = ⊥
+TouchesNothing (ask.Leave object access) = ⊥
+TouchesNothing (ask.Get object index) = ⊥
+TouchesNothing (ask.Put object index value) = ⊥
+TouchesNothing ask.Print = Unit {0}
+TouchesNothing (ask.End e) = Unit {0}
+TouchesNothing ask.Done = ⊥
 
 -- how many steps a thread may still take at most, with as many objects as its guest has
 abbrev pub own_steps_left : thread.ThreadState → ℕ

@@ -2,7 +2,7 @@
 use Rattle.std.proofs.Common.{◌≡◌, ℕ, suc, zero, ◌-◌, ◌<◌, ◌≤◌, ◌⊎◌, List, [], ◌∷◌, ◌++◌, length, refl, sym, ap, ◌∙◌, subst, arith, inl, inr, append-nil}
 use Rattle.std.proofs.lemmas.Bool.{cases_lt, cases_eq}
 use Rattle.std.proofs.lemmas.List.{get_or_past}
-use Rattle.std.specs.List.{AllByRecursion, slice_index_or}
+use Rattle.std.specs.List.{AllByRecursion, slice_index_or, AllZip}
 use Rattle.atomic_table.specs.Seated.{TableId}
 use Rattle.atomic_table.specs.declared.shared.Seat.{Seat}
 use Rattle.ir_thread.specs.State as thread
@@ -17,7 +17,7 @@ use Rattle.ir_weave.specs.Standing.{Standing, StandsAt, flat_in, IsBetween, posi
 use Rattle.ir_weave.specs.Woven.{View, M, trace_in, opened_in, opened_at, AreSeats, IsSeated, WasStopped, IsClosed, AreAt}
 use Rattle.ir_weave.specs.declared.plan.Plan.{Plan}
 use Rattle.ir_replay.specs.Rounds.{Goes, backwards, threads_of, seats_of, views_of, IsOfTable}
-use Rattle.ir_replay.specs.Workers.{IsReady, HasWorked, Pairs}
+use Rattle.ir_replay.specs.Workers.{IsReady, HasWorked}
 use Rattle.ir_replay.specs.declared.worker.Worker.{Worker}
 use Rattle.ir_replay.proofs.Down.{AllByNumber, all_by_number_if_implied, all_by_number_of_both, all_if_implied_by_all_by_number, element_with_property_exists_at_number_if_all_by_number, all_by_number_have_related_element_with_property_if_pairs, length_of_backward_threads, each_worker_has_thread_of_its_number, each_worker_has_opening_seat_of_its_number, IsSeatAtOpening}
 use Rattle.ir_replay.proofs.Gathered.{state_of_ahead_threads_stands_at_own_positions, target_reached_if_each_thread_is_there_or_was_stopped}
@@ -96,7 +96,7 @@ worker_is_after_round id k target t v w m h = record {
 }
 
 pub workers_are_after_round : (id : TableId) (k : Plan) (target : List ℕ) (vs ws : List Worker) → AllByNumber (IsAssigned id k target) vs
-    → Pairs (HasWorked id k target) vs ws → AllByNumber (IsAfterRound id k target) ws
+    → AllZip (HasWorked id k target) vs ws → AllByNumber (IsAfterRound id k target) ws
 workers_are_after_round id k target vs ws h p = all_by_number_if_implied (λ t w. (v : Worker) × IsAssigned id k target t v × HasWorked id k target v w)
     (IsAfterRound id k target) ws (λ t w l x. worker_is_after_round id k target t x.0 w x.1 x.2)
     (all_by_number_have_related_element_with_property_if_pairs (IsAssigned id k target) (HasWorked id k target) vs ws h p)

@@ -2,7 +2,7 @@
 use Rattle.std.proofs.Common.{false, ◌≡◌, ℕ, suc, ◌+◌, ◌<◌, List, [], ◌∷◌, ◌++◌, length, refl, sym, ap, ◌∙◌, subst, arith, inl, inr, length-append, append_assoc}
 use Rattle.std.proofs.lemmas.Bool.{cases_eq}
 use Rattle.std.proofs.lemmas.List.{get_or_at}
-use Rattle.std.specs.List.{AllByRecursion, slice_index_or}
+use Rattle.std.specs.List.{AllByRecursion, slice_index_or, AllZip}
 use Rattle.atomic_table.specs.Seated.{TableId}
 use Rattle.atomic_table.specs.declared.shared.Seat.{Seat}
 use Rattle.ir_flat.specs.Flat.{idle}
@@ -10,7 +10,6 @@ use Rattle.ir_thread.specs.State as thread
 use Rattle.ir_weave.specs.Woven.{View, AreSeats, opened_at, progress, first_met}
 use Rattle.ir_weave.specs.declared.plan.Plan.{Plan}
 use Rattle.ir_replay.specs.Rounds.{backwards, threads_of, seats_of}
-use Rattle.ir_replay.specs.Workers.{Pairs}
 use Rattle.ir_replay.specs.declared.worker.Worker.{Worker}
 
 -- P holds of each number and the element there
@@ -38,13 +37,13 @@ element_with_property_exists_at_number_if_all_by_number P (x ∷ xs) h t l = eli
   | inr ne ↦ element_with_property_exists_at_number_if_all_by_number P xs h.1 t (omega (arith, l, ne))
 ]
 
-pub pairs_have_same_length : {A : Type 0} (R : A → A → Type 0) (xs ys : List A) → Pairs R xs ys → length ys ≡ length xs
+pub pairs_have_same_length : {A : Type 0} (R : A → A → Type 0) (xs ys : List A) → AllZip R xs ys → length ys ≡ length xs
 pairs_have_same_length R [] [] p = refl
 pairs_have_same_length R [] (y ∷ ys) p = absurd p
 pairs_have_same_length R (x ∷ xs) [] p = absurd p
 pairs_have_same_length R (x ∷ xs) (y ∷ ys) p = ap suc (pairs_have_same_length R xs ys p.1)
 
-pub all_by_number_have_related_element_with_property_if_pairs : {A : Type 0} (P : ℕ → A → Type 0) (R : A → A → Type 0) (xs ys : List A) → AllByNumber P xs → Pairs R xs ys
+pub all_by_number_have_related_element_with_property_if_pairs : {A : Type 0} (P : ℕ → A → Type 0) (R : A → A → Type 0) (xs ys : List A) → AllByNumber P xs → AllZip R xs ys
     → AllByNumber (λ t y. (x : A) × P t x × R x y) ys
 all_by_number_have_related_element_with_property_if_pairs P R [] [] h p = tt
 all_by_number_have_related_element_with_property_if_pairs P R [] (y ∷ ys) h p = absurd p
@@ -52,7 +51,7 @@ all_by_number_have_related_element_with_property_if_pairs P R (x ∷ xs) [] h p 
 all_by_number_have_related_element_with_property_if_pairs P R (x ∷ xs) (y ∷ ys) h p = ((x, subst (λ z. P z x) (sym (pairs_have_same_length R xs ys p.1)) h.0, p.0), all_by_number_have_related_element_with_property_if_pairs P R xs ys h.1 p.1)
 
 pub pairs_if_elements_related : {A : Type 0} (R : A → A → Type 0) (xs ys : List A) → length ys ≡ length xs
-    → ((i : ℕ) (d : A) → i < length xs → R (slice_index_or xs i d) (slice_index_or ys i d)) → Pairs R xs ys
+    → ((i : ℕ) (d : A) → i < length xs → R (slice_index_or xs i d) (slice_index_or ys i d)) → AllZip R xs ys
 pairs_if_elements_related R [] [] e h = tt
 pairs_if_elements_related R [] (y ∷ ys) e h = absurd (omega (arith, e))
 pairs_if_elements_related R (x ∷ xs) [] e h = absurd (omega (arith, e))

@@ -8,9 +8,9 @@ use Rattle.ir_object.specs.Cell.{Cell}
 use Rattle.ir_flat.specs.Flat.{Flat, IsFlat, idle, thread_of}
 use Rattle.ir_runs.specs.Run.{Step}
 use Rattle.ir_fit.specs.Fit.{FittedTrace, HasRun, IsRunOf}
-use Rattle.ir_cut.specs.Positions.{machine_of, start_of, cut_of, IsConsistentCut}
+use Rattle.ir_cut.specs.Positions.{machine_of, start_of, cut_of, IsConsistentCut, thread_at}
 use Rattle.ir_runs.proofs.CallerLemmas.{Progress, progress_below_consistent_target, admitted_persists_at_later_cut}
-use Rattle.ir_weave.specs.Ahead.{IsAhead, AreAlone, thread_at}
+use Rattle.ir_weave.specs.Ahead.{IsAhead, AreAlone}
 use Rattle.ir_weave.specs.Standing.{StandsAt, flat_in, IsStateAt, positions}
 use Rattle.ir_weave.specs.Woven.{trace_in, opened_in, opened_at, WasStopped}
 use Rattle.ir_weave.specs.declared.plan.Plan.{Plan}

@@ -1,5 +1,5 @@
 -- Workers, each with its thread at a seat of a table.
-use Rattle.std.specs.Prelude.{◌≡◌, ℕ, ◌≤◌, ◌⊎◌, List, [], ◌∷◌}
+use Rattle.std.specs.Prelude.{◌≡◌, ℕ, ◌≤◌, ◌⊎◌, List, []}
 use Rattle.atomic_table.specs.Seated.{TableId}
 use Rattle.ir_cut.specs.Positions.{cut_of}
 use Rattle.ir_weave.specs.Woven.{IsSeated, WasStopped}
@@ -25,10 +25,3 @@ pub record HasWorked (id : TableId) (k : Plan) (target : List ℕ) (old new : Wo
   pub number : new.thread.number ≡ old.thread.number
   pub up : old.thread.steps ≤ new.thread.steps
   pub rests : (new.thread.steps ≡ cut_of target new.thread.number) ⊎ WasStopped k new.thread.number new.thread.steps
-
--- both lists have the same length, and P holds of each pair
-abbrev pub Pairs : {A : Type 0} → (A → A → Type 0) → List A → List A → Type 0
-Pairs P [] [] = Unit {0}
-Pairs P [] (y ∷ ys) = ⊥
-Pairs P (x ∷ xs) [] = ⊥
-Pairs P (x ∷ xs) (y ∷ ys) = P x y × Pairs P xs ys

@@ -1,14 +1,14 @@
 //! A round: each thread advances by a worker of its own, over one table.
 
 ghost use Rattle.std.specs.Prelude.{◌≡◌, ◌<◌, ◌≤◌, ℕ, true, false, [], length, slice_index_or, vec_len, vec_capacity, IfOk, IfErr};
-ghost use Rattle.std.specs.List.{AllByRecursion};
+ghost use Rattle.std.specs.List.{AllByRecursion, AllZip};
 ghost use Rattle.ir_flat.specs.Flat.{idle};
 ghost use Rattle.ir_cut.specs.Positions.{IsConsistentCut, cut_of};
 ghost use Rattle.ir_weave.specs.Standing.{StandsAt, flat_in, IsBetween, positions};
 ghost use Rattle.ir_weave.specs.Stepping.{steps_left};
 ghost use Rattle.ir_weave.specs.Woven.{IsFor, AreSeats};
 ghost use Rattle.ir_replay.specs.Rounds.{Goes, backwards, threads_of, seats_of, views_of, IsOfTable};
-ghost use Rattle.ir_replay.specs.Workers.{IsReady, HasWorked, Pairs};
+ghost use Rattle.ir_replay.specs.Workers.{IsReady, HasWorked};
 
 use crate::worker::{Worker, work_all};
 use crossbeam_utils::CachePadded;
@@ -52,7 +52,7 @@ fn run_all<H: Hands>(
     requires table { IsFor weave.now.table.shared.key fitted.now }
     requires target { (length target.now ≡ length fitted.now.guest.entries) × IsConsistentCut fitted.now target.now }
     requires ready { AllByRecursion (IsReady weave.now.table.shared.table_id weave.now.table.shared.key target.now) workers.old.items }
-    ensures { Pairs (HasWorked weave.now.table.shared.table_id weave.now.table.shared.key target.now) workers.old.items workers.new.items }
+    ensures { AllZip (HasWorked weave.now.table.shared.table_id weave.now.table.shared.key target.now) workers.old.items workers.new.items }
 {
     work_all(hands, weave, workers.as_mut_slice(), fitted, target, millis);
 }

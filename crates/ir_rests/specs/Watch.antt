@@ -6,8 +6,7 @@ use Rattle.ir_mach.specs.Marks.{Marked}
 use Rattle.ir_thread.specs.State.{ThreadState}
 use Rattle.ir_trace.specs.Recorded.{recorded_thread}
 use Rattle.ir_fit.specs.Fit.{FittedTrace}
-use Rattle.ir_cut.specs.Positions.{EachRun}
-use Rattle.ir_weave.specs.Ahead.{thread_at}
+use Rattle.ir_cut.specs.Positions.{EachRun, thread_at}
 use Rattle.ir_weave.specs.Standing.{Standing, flat_in, positions}
 use Rattle.ir_past.specs.Past.{IsRow, AreStaleWrites}
 use Rattle.ir_past.specs.declared.stale_write.StaleWrite.{StaleWrite}

@@ -11,7 +11,7 @@ use Rattle.ir_freeze.proofs.CallerLemmas.{over_together_if_frozen_bytes_equal}
 use Rattle.ir_seen.specs.Seen.{Same, view}
 use Rattle.ir_sources.specs.Sources.{Source}
 use Rattle.ir_thread.specs.State.{ThreadState}
-use Rattle.ir_flat.specs.Room.{empty}
+use Rattle.ir_object.specs.Empty.{empty}
 use Rattle.ir_store.specs.declared.spot.Spot.{Spot}
 use Rattle.ir_store.specs.Nodes.{LookSame, cell_in}
 use Rattle.ir_store.specs.Table.{idle_beside, AreLooks, all_over, threads_at}

@@ -4,13 +4,13 @@ use Rattle.std.specs.Prelude.{slice_get}
 use Rattle.std.specs.List.{AllByRecursion}
 use Rattle.std.proofs.lemmas.Option.{slice_get-get_or, get_or_from_slice_get}
 use Rattle.ir_lemmas.proofs.CallerLemmas.{slice_get_element_satisfies_all_by_recursion, get_or_element_satisfies_all_by_recursion, length_of_map}
-use Rattle.ir_flat.specs.Room.{empty}
 use Rattle.ir_freeze.specs.Basis.{IsBasis}
 use Rattle.ir_freeze.specs.Twins.{AreTwins, TellsApart, IsBounded}
 use Rattle.ir_sources.specs.Sources.{Source}
 use Rattle.ir_thread.specs.State.{ThreadState}
 use Rattle.ir_store.specs.declared.spot.Spot.{Spot}
 use Rattle.ir_object.specs.Cell.{Cell}
+use Rattle.ir_object.specs.Empty.{empty}
 use Rattle.ir_store.specs.Hashes.{empty_hash, after_number, after_numbers, IsFoundBy, PassesOver, place_of, number_at, most_steps}
 use Rattle.ir_store.specs.Nodes.{Shared, Node, LookSame, cell_in, sourced_in, IsWithin, IsNode, AreKept, AreSameLooks, AreSameNumbers, AreMoments, looks_in, words_in, node_hash, AreNodesFound}
 use Rattle.ir_store.specs.Places.{no_node}

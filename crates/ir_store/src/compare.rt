@@ -2,7 +2,7 @@
 
 ghost use Rattle.std.specs.Prelude.{◌≡◌, ◌≢◌, ℕ, ◌<◌, List, true, false, length};
 ghost use Rattle.std.specs.List.{slice_index_or};
-ghost use Rattle.ir_flat.specs.Room.{empty};
+ghost use Rattle.ir_object.specs.Empty.{empty};
 ghost use Rattle.ir_store.specs.Nodes.{LookSame, cells_at, AreSameLooks, sourced_in, looks_in, words_in};
 ghost use Rattle.ir_store.specs.Hashes as hashes;
 ghost use Rattle.ir_store.specs.Nodes as nodes;

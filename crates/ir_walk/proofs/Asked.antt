@@ -7,8 +7,8 @@ use Rattle.ir_thread.specs.declared.ask.Ask.{Ask}
 use Rattle.ir_thread.specs.declared.ask.Ask.TheVariants as ask
 use Rattle.ir_thread.specs.declared.ask.Reply.{Reply}
 use Rattle.ir_fit.specs.Fit.{FittedTrace}
-use Rattle.ir_cut.specs.Positions.{EachRun}
-use Rattle.ir_weave.specs.Ahead.{thread_at, ask_at}
+use Rattle.ir_cut.specs.Positions.{EachRun, thread_at}
+use Rattle.ir_weave.specs.Ahead.{ask_at}
 use Rattle.ir_walk.specs.Calls.{reply_between, call_by, call_at, calls_in, AreCalls}
 use Rattle.ir_walk.specs.declared.exchange.Exchange.{Exchange}
 use Rattle.ir_walk.proofs.Taken.{calls_in_one_step}

@@ -8,11 +8,10 @@ use Rattle.ir_runs.specs.declared.access.Access.{Access}
 use Rattle.ir_runs.specs.declared.access.Access.TheVariants.{Reading, Writing}
 use Rattle.ir_runs.specs.Run.{Step, Emits}
 use Rattle.ir_runs.proofs.CallerLemmas.{upd_at_own_place}
-use Rattle.ir_flat.specs.Room.{empty}
+use Rattle.ir_object.specs.Empty.{empty}
 use Rattle.ir_thread.specs.State as thread
 use Rattle.ir_fit.specs.Fit.{FittedTrace, IsRunOf}
-use Rattle.ir_cut.specs.Positions.{EachRun, machine_of, start_of}
-use Rattle.ir_weave.specs.Ahead.{thread_at}
+use Rattle.ir_cut.specs.Positions.{EachRun, machine_of, start_of, thread_at}
 use Rattle.ir_weave.specs.Standing.{Standing, StandsAt, flat_in, positions}
 use Rattle.ir_weave.proofs.CallerLemmas.{guest_machine_is_lawful, StepOf, emitting_step_is_step_of}
 use Rattle.ir_walk.specs.Words.{AreWordsAt}

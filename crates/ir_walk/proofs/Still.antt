@@ -12,9 +12,8 @@ use Rattle.ir_runs.specs.Admitted.{further, Admitted, AtCut}
 use Rattle.ir_runs.specs.Verdicts.{sum_below}
 use Rattle.ir_runs.proofs.CallerLemmas.{property_of_upd_by_cases, StateInvariant, state_invariant_after_step, state_at_consistent_cut, progress_below_consistent_target, min_of_cuts_is_consistent, sum_below_less_if_one_less}
 use Rattle.ir_fit.specs.Fit.{FittedTrace, IsRunOf}
-use Rattle.ir_cut.specs.Positions.{machine_of, start_of}
+use Rattle.ir_cut.specs.Positions.{machine_of, start_of, thread_at}
 use Rattle.ir_cut.proofs.CallerLemmas.{no_trail_of_missing_thread}
-use Rattle.ir_weave.specs.Ahead.{thread_at}
 use Rattle.ir_weave.proofs.CallerLemmas.{guest_machine_is_lawful, state_invariant_at_guest_start}
 
 -- ---- one step

@@ -15,8 +15,8 @@ use Rattle.ir_runs.specs.Machine.{act_of, Object, Admits, reply}
 use Rattle.ir_runs.specs.Run.{Step, count}
 use Rattle.ir_flat.specs.Flat.{thread_of}
 use Rattle.ir_fit.specs.Fit.{FittedTrace, IsRunOf}
-use Rattle.ir_cut.specs.Positions.{machine_of, start_of}
-use Rattle.ir_weave.specs.Ahead.{thread_at, ask_at}
+use Rattle.ir_cut.specs.Positions.{machine_of, start_of, thread_at}
+use Rattle.ir_weave.specs.Ahead.{ask_at}
 use Rattle.ir_weave.specs.Standing.{Standing, StandsAt, flat_in, positions}
 use Rattle.ir_weave.specs.Stepping.{HasGone}
 use Rattle.ir_weave.proofs.CallerLemmas.{StepOf, emitting_step_is_step_of, step_below_count_emits}

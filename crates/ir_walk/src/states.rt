@@ -3,7 +3,7 @@
 ghost use Rattle.std.specs.Prelude.{◌≡◌, ◌<◌, length, slice_index, IfOk};
 ghost use Rattle.std.specs.List.{slice_index_or};
 ghost use Rattle.ir_flat.specs.Flat.{idle};
-ghost use Rattle.ir_flat.specs.Room.{empty};
+ghost use Rattle.ir_object.specs.Empty.{empty};
 
 use ir_replay::State;
 use ir_thread::Thread;

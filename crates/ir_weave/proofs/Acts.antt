@@ -31,9 +31,9 @@ use Rattle.ir_log.specs.declared.event.Event.{Event}
 use Rattle.ir_log.specs.declared.event.Event.TheVariants.{Answer as Answered, Read, Write, Try as Refused}
 use Rattle.ir_trace.specs.Recorded.{recorded_thread}
 use Rattle.ir_fit.specs.Fit.{FittedTrace, HasRun}
-use Rattle.ir_cut.specs.Positions.{machine_of, start_of, EachRun}
+use Rattle.ir_cut.specs.Positions.{machine_of, start_of, EachRun, thread_at}
 use Rattle.ir_runs.proofs.CallerLemmas.{admitted_persists_at_later_cut}
-use Rattle.ir_weave.specs.Ahead.{IsRefused, IsAlone, GoesAlone, event_of, HasStep, IsAhead, IsEntering, IsNextObject, thread_at, AreAlone}
+use Rattle.ir_weave.specs.Ahead.{IsRefused, IsAlone, GoesAlone, event_of, HasStep, IsAhead, IsEntering, IsNextObject, AreAlone}
 use Rattle.ir_weave.specs.Standing.{IsStateAt, positions}
 use Rattle.ir_object.specs.Layout.{word_place, content_place}
 use Rattle.ir_weave.specs.Table.{IsTable, object_in}

@@ -22,8 +22,8 @@ use Rattle.ir_flat.proofs.CallerLemmas.{events_added_by, may_step_iff_can_for_as
 use Rattle.ir_runs.specs.Admitted.{further}
 use Rattle.ir_fit.specs.Fit.{FittedTrace, HasRun, IsRunOf}
 use Rattle.ir_runs.specs.Verdicts.{unlogged}
-use Rattle.ir_cut.specs.Positions.{machine_of, start_of}
-use Rattle.ir_weave.specs.Ahead.{IsRefused, IsAlone, GoesAlone, HasStep, ask_at, event_of, thread_at, IsThreadAt, AreAlone}
+use Rattle.ir_cut.specs.Positions.{machine_of, start_of, thread_at}
+use Rattle.ir_weave.specs.Ahead.{IsRefused, IsAlone, GoesAlone, HasStep, ask_at, event_of, IsThreadAt, AreAlone}
 use Rattle.ir_weave.specs.Standing.{IsStateAt, positions}
 use Rattle.ir_weave.specs.Stepping.{LogsNext}
 use Rattle.ir_weave.specs.Woven.{AdmittedAt}

@@ -22,8 +22,8 @@ use Rattle.ir_log.specs.declared.event.Event.{Event}
 use Rattle.ir_log.specs.declared.event.Event.TheVariants.{Answer as Answered, Read, Write, Try as Refused}
 use Rattle.ir_trace.specs.Recorded.{recorded_thread}
 use Rattle.ir_fit.specs.Fit.{FittedTrace, IsRunOf}
-use Rattle.ir_cut.specs.Positions.{machine_of, start_of, EachRun}
-use Rattle.ir_weave.specs.Ahead.{IsAlone, GoesAlone, HasStep, IsThreadAt, IsAhead, ask_at, event_of, thread_at}
+use Rattle.ir_cut.specs.Positions.{machine_of, start_of, EachRun, thread_at}
+use Rattle.ir_weave.specs.Ahead.{IsAlone, GoesAlone, HasStep, IsThreadAt, IsAhead, ask_at, event_of}
 use Rattle.ir_weave.proofs.Trails.{StepOf, thread_at_position_zero_is_start_thread, emitting_step_is_step_of}
 
 -- ---- the next event

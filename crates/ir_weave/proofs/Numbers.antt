@@ -9,8 +9,8 @@ use Rattle.ir_thread.specs.declared.profile.Profile.{Profile}
 use Rattle.ir_flat.specs.Flat.{Flat, IsFlat, idle, thread_of, start_threads}
 use Rattle.ir_runs.specs.Run.{Step, count}
 use Rattle.ir_fit.specs.Fit.{FittedTrace, HasRun, IsRunOf}
-use Rattle.ir_cut.specs.Positions.{machine_of, start_of}
-use Rattle.ir_weave.specs.Ahead.{IsAhead, thread_at, ask_at}
+use Rattle.ir_cut.specs.Positions.{machine_of, start_of, thread_at}
+use Rattle.ir_weave.specs.Ahead.{IsAhead, ask_at}
 use Rattle.ir_weave.specs.Standing.{IsStateAt, positions}
 use Rattle.ir_weave.proofs.Lone.{number_after_ask_is_unchanged, step_below_count_emits, machine_take_is_after_ask}
 use Rattle.ir_weave.proofs.Trails.{StepOf, emitting_step_is_step_of, thread_at_position_zero_is_start_thread}

@@ -1,5 +1,5 @@
 -- How the table is opened, its seats cut and joined, and the table closed.
-use Rattle.std.proofs.Common.{◌≡◌, ◌≢◌, ℕ, zero, suc, ◌+◌, ◌*◌, ◌-◌, ◌/◌, ◌%◌, ◌^◌, ◌<◌, ◌≤◌, ◌==◌, Bool, false, if◌then◌else◌, List, [], ◌∷◌, ◌++◌, length, get_or, set, refl, sym, ap, ◌∙◌, subst, arith, inl, inr, ◌⊎◌, length-set, length-append, get_or-set_same, get_or-set_other, get_or-append-add, cond, ltb, eq-eqb, ne_eqb}
+use Rattle.std.proofs.Common.{◌≡◌, ◌≢◌, ℕ, zero, suc, ◌+◌, ◌*◌, ◌-◌, ◌/◌, ◌%◌, ◌^◌, ◌<◌, ◌≤◌, ◌==◌, Bool, false, if◌then◌else◌, List, [], ◌∷◌, ◌++◌, length, get_or, set, refl, sym, ap, ◌∙◌, subst, arith, inl, inr, ◌⊎◌, length-set, length-append, get_or-set_same, get_or-set_other, get_or-append-add, cond, ltb, eq-eqb, ne_eqb, drop, take}
 use Rattle.std.proofs.lemmas.List.{ext_get_or}
 use Rattle.std.proofs.lemmas.Bool.{cases_eq, cases_lt, le-ltb, lt-ltb}
 use Rattle.std.proofs.lemmas.List.{get_or_past}
@@ -15,9 +15,9 @@ use Rattle.ir_thread.specs.State.{IsAllowed}
 use Rattle.ir_thread.specs.State as thread
 use Rattle.ir_thread.specs.declared.profile.Profile.{Profile}
 use Rattle.ir_object.specs.Cell.{Cell}
+use Rattle.ir_object.specs.Empty.{empty}
 use Rattle.ir_object.specs.Word.{word_of, fields_of}
 use Rattle.ir_flat.specs.Flat.{Flat, IsFlat, idle, start_flat}
-use Rattle.ir_flat.specs.Room.{empty}
 use Rattle.ir_weave.proofs.Onward.{start_is_state_at_zero}
 use Rattle.ir_weave.proofs.Numbers.{state_thread_is_ahead_at_position}
 use Rattle.ir_weave.specs.Ahead.{IsAhead}
@@ -31,7 +31,7 @@ use Rattle.ir_fit.proofs.CallerLemmas.{guest_with_header_is_allowed as header_al
 use Rattle.ir_weave.specs.Standing.{Standing, StandsAt, flat_in, IsStateAt, positions}
 use Rattle.ir_object.specs.Layout.{line_words, apart, table_length, word_place, content_place}
 use Rattle.ir_weave.specs.Table.{IsTable, IsLaid, laid, word_in, object_in}
-use Rattle.ir_weave.specs.Woven.{View, M, trace_in, opened_in, opened_at, progress, first_met, IsSeated, AreTracks, Woven, tracks_from, all_but_first, first_alone, AreSeats, AreAt, IsClosed, IsEnd, AreRead}
+use Rattle.ir_weave.specs.Woven.{View, M, trace_in, opened_in, opened_at, progress, first_met, IsSeated, AreTracks, Woven, tracks_from, AreSeats, AreAt, IsClosed, IsEnd, AreRead}
 use Rattle.ir_weave.proofs.Acts.{fields_of_word_of, fields_of_object_cell_are_in_range}
 use Rattle.ir_weave.specs.declared.plan.Plan.{Plan}
 
@@ -142,7 +142,7 @@ tracks_stay_if_thread_of_other_seat_is_reseated k s seat t new j (q ∷ qs) ne h
   tracks_stay_if_thread_of_other_seat_is_reseated k s seat t new j qs ne h.1,
 )
 
-pub tracks_split_off_first : (k : Plan) (id t m : ℕ) (v : View) → v ≡ tracks_from k t (suc m) → Splits (Woven k) id v (all_but_first v) (first_alone v)
+pub tracks_split_off_first : (k : Plan) (id t m : ℕ) (v : View) → v ≡ tracks_from k t (suc m) → Splits (Woven k) id v (drop 1 v) (take 1 v)
 tracks_split_off_first k id t m v is x h at =
     let at₀ : get_elem? x.views id ≡ some (tracks_from k t (suc m)) = at ∙ ap some is in
     let f = h.tracks id (tracks_from k t (suc m)) at₀ in
@@ -185,7 +185,7 @@ tracks_split_off_first k id t m v is x h at =
     subst (λ (z : View). Woven k (record {
       words = x.words;
       homes = x.homes;
-      views = set x.views id (all_but_first z) ++ first_alone z
+      views = set x.views id (drop 1 z) ++ take 1 z
           ∷ [];
     })) (sym is) done
 
@@ -264,13 +264,13 @@ are_seats_after_next_seat_appended id k t u [] x h e i m = (
 )
 are_seats_after_next_seat_appended id k t u (y ∷ ys) x h e i m = (h.0, are_seats_after_next_seat_appended id k (suc t) u ys x h.1 (omega (arith, e)) i m)
 
-pub view_after_dealing_first_has_later_tracks : (k : Plan) (l m n : ℕ) (me w : M) → me ≡ (tracks_from k l (suc m), []) → w ≡ (all_but_first me.0, me.1) → n ≡ suc l
+pub view_after_dealing_first_has_later_tracks : (k : Plan) (l m n : ℕ) (me w : M) → me ≡ (tracks_from k l (suc m), []) → w ≡ (drop 1 me.0, me.1) → n ≡ suc l
     → w ≡ (tracks_from k n m, [])
-view_after_dealing_first_has_later_tracks k l m n me w is emitted long = emitted ∙ (λ i. (all_but_first (is i).0, (is i).1)) ∙ (λ i. (tracks_from k (sym long i) m, []))
+view_after_dealing_first_has_later_tracks k l m n me w is emitted long = emitted ∙ (λ i. (drop 1 (is i).0, (is i).1)) ∙ (λ i. (tracks_from k (sym long i) m, []))
 
-pub dealt_first_view_is_opening_progress_of_first_thread : (k : Plan) (l m : ℕ) (me w : M) → me ≡ (tracks_from k l (suc m), []) → w ≡ (first_alone me.0, [])
+pub dealt_first_view_is_opening_progress_of_first_thread : (k : Plan) (l m : ℕ) (me w : M) → me ≡ (tracks_from k l (suc m), []) → w ≡ (take 1 me.0, [])
     → w ≡ (progress k l (opened_at k l) false (first_met k) ∷ [], [])
-dealt_first_view_is_opening_progress_of_first_thread k l m me w is emitted = emitted ∙ (λ i. (first_alone (is i).0, []))
+dealt_first_view_is_opening_progress_of_first_thread k l m me w is emitted = emitted ∙ (λ i. (take 1 (is i).0, []))
 
 pub view_is_tracks_of_successor : (k : Plan) (l m n : ℕ) (me : M) → me ≡ (tracks_from k l m, []) → m ≡ suc n → me ≡ (tracks_from k l (suc n), [])
 view_is_tracks_of_successor k l m n me is e = is ∙ (λ i. (tracks_from k l (e i), []))

@@ -10,8 +10,8 @@ use Rattle.ir_runs.specs.declared.env_kind.EnvKind.{EnvKind}
 use Rattle.std.specs.List.{slice_index_or}
 use Rattle.std.proofs.lemmas.List.{get_or_default}
 use Rattle.ir_object.specs.Cell.{Cell}
+use Rattle.ir_object.specs.Empty.{empty}
 use Rattle.ir_flat.specs.Flat.{Flat, thread_of, cell_of, IsFlat}
-use Rattle.ir_flat.specs.Room.{empty}
 use Rattle.ir_flat.proofs.CallerLemmas.{entered_object_below_object_count}
 use Rattle.ir_log.specs.Asked.{Suits}
 use Rattle.ir_log.specs.declared.event.Event.{Event}

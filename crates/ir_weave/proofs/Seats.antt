@@ -19,8 +19,8 @@ use Rattle.ir_log.specs.declared.event.Event.{Event}
 use Rattle.ir_trace.specs.Recorded.{recorded_thread}
 use Rattle.ir_runs.specs.Run.{Emits}
 use Rattle.ir_fit.specs.Fit.{FittedTrace, HasRun}
-use Rattle.ir_cut.specs.Positions.{machine_of, start_of, EachRun}
-use Rattle.ir_weave.specs.Ahead.{IsAlone, event_of, HasStep, IsAhead, IsAsking, IsEntering, IsNextObject, ask_at, thread_at}
+use Rattle.ir_cut.specs.Positions.{machine_of, start_of, EachRun, thread_at}
+use Rattle.ir_weave.specs.Ahead.{IsAlone, event_of, HasStep, IsAhead, IsAsking, IsEntering, IsNextObject, ask_at}
 use Rattle.ir_object.specs.Layout.{word_place, content_place, table_length}
 use Rattle.ir_object.specs.Word.{version_unit, reader_leaves}
 use Rattle.ir_weave.specs.Woven.{View, M, trace_in, Met, progress, met_in, met_of, Rises, HasMet, Woven, Opens, Answers, WasStopped, looked, stepped_on, read_version, IsSeated, IsGranted}

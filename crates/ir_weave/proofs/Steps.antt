@@ -23,8 +23,8 @@ use Rattle.ir_log.specs.declared.event.Event.{Event}
 use Rattle.ir_log.specs.declared.event.Event.TheVariants.{Answer as Answered, Read, Write, Try as Refused}
 use Rattle.ir_trace.specs.Recorded.{recorded_thread}
 use Rattle.ir_fit.specs.Fit.{FittedTrace, IsRunOf}
-use Rattle.ir_cut.specs.Positions.{machine_of, start_of}
-use Rattle.ir_weave.specs.Ahead.{IsRefused, IsAlone, event_of, HasStep, IsAhead, IsAsking, IsEntering, thread_at, ask_at}
+use Rattle.ir_cut.specs.Positions.{machine_of, start_of, thread_at}
+use Rattle.ir_weave.specs.Ahead.{IsRefused, IsAlone, event_of, HasStep, IsAhead, IsAsking, IsEntering, ask_at}
 use Rattle.ir_weave.specs.Woven.{View, M, trace_in, Met, progress, met_of, Rises, HasMet, Answers, IsFor, IsOpened, IsSeated, HasStepped, HasWaited, HasRunOn, WasStopped}
 use Rattle.ir_weave.specs.declared.plan.Plan.{Plan}
 use Rattle.ir_weave.proofs.Lone.{TakesStep, HasNoValue, IsNotDone, ahead_after_alone_step, ahead_by_nothing_after_object_step, ahead_of_own_position, takes_step_with_go_if_ask_has_no_value, takes_step_of_call_with_logged_answer, takes_step_of_try_with_logged_result, try_result, ahead_thread_asks_in_run, logged_step_has_recorded_event, steps_after_ask_are_one_more_if_not_done, number_after_ask_is_unchanged, thread_with_step_is_not_done}

@@ -2,8 +2,8 @@
 use Rattle.std.proofs.Common.{◌≡◌, ℕ, length, sym, ap, ◌∙◌, arith}
 use Rattle.std.proofs.lemmas.List.{ext_get_or}
 use Rattle.ir_object.specs.Cell.{readers, has_writer}
+use Rattle.ir_object.specs.Empty.{empty}
 use Rattle.ir_flat.specs.Flat.{Flat, IsShared, cell_of, idle, tables}
-use Rattle.ir_flat.specs.Room.{empty}
 use Rattle.ir_weave.specs.Standing.{IsAt}
 use Rattle.ir_weave.specs.Laws.{OneStateEach}
 

@@ -6,13 +6,13 @@ use Rattle.ir_thread.specs.State as thread
 use Rattle.ir_thread.specs.declared.ask.Ask.{Ask}
 use Rattle.ir_thread.specs.declared.ask.Ask.TheVariants as ask
 use Rattle.ir_runs.specs.declared.access.Access.{Access}
-use Rattle.ir_runs.specs.Run.{Step, count, th}
+use Rattle.ir_runs.specs.Run.{Step, count}
 use Rattle.ir_log.specs.Asked.{ask_of as event_ask, Suits}
 use Rattle.ir_log.specs.declared.event.Event.{Event}
 use Rattle.ir_log.specs.declared.event.Event.TheVariants as event
 use Rattle.ir_trace.specs.Recorded.{recorded_thread}
 use Rattle.ir_fit.specs.Fit.{FittedTrace, HasRun}
-use Rattle.ir_cut.specs.Positions.{machine_of, start_of, EachRun}
+use Rattle.ir_cut.specs.Positions.{machine_of, start_of, thread_at, EachRun}
 
 -- a try that is logged so was refused
 abbrev pub IsRefused : Option Event → Type 0
@@ -31,10 +31,6 @@ IsAlone (ask.Put object index value) e = ⊥
 IsAlone ask.Print e = ⊤
 IsAlone (ask.End x) e = ⊤
 IsAlone ask.Done e = ⊥
-
--- thread t of the run after k of its steps
-abbrev pub thread_at : FittedTrace → List Step → ℕ → ℕ → thread.ThreadState
-thread_at f run t k = th (machine_of f) (start_of f) run t k
 
 -- what it asks then
 abbrev pub ask_at : FittedTrace → List Step → ℕ → ℕ → Ask

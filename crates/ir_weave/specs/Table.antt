@@ -3,9 +3,9 @@ use Rattle.std.specs.Prelude.{◌≡◌, ℕ, ◌+◌, ◌-◌, ◌/◌, ◌%◌
 use Rattle.std.specs.List.{slice_index_or}
 use Rattle.ir_image.specs.Guest.{most_object_words}
 use Rattle.ir_object.specs.Cell.{Cell}
+use Rattle.ir_object.specs.Empty.{empty}
 use Rattle.ir_object.specs.Layout.{line_words, apart, word_place, content_place, table_length}
 use Rattle.ir_object.specs.Word.{word_of}
-use Rattle.ir_flat.specs.Room.{empty}
 
 abbrev pub object_in : List Cell → ℕ → Cell
 object_in cells o = slice_index_or cells o empty

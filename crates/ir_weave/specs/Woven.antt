@@ -22,8 +22,8 @@ use Rattle.ir_fit.specs.Ahead.{IsOpen}
 use Rattle.ir_runs.specs.Run.{count, Cut, IsCut, Consistent, Emits}
 use Rattle.ir_runs.specs.Admitted.{Admitted}
 use Rattle.ir_fit.specs.Fit.{FittedTrace, HasRun}
-use Rattle.ir_cut.specs.Positions.{machine_of, start_of, EachRun}
-use Rattle.ir_weave.specs.Ahead.{thread_at, ask_at, IsNextObject, IsAhead}
+use Rattle.ir_cut.specs.Positions.{machine_of, start_of, EachRun, thread_at}
+use Rattle.ir_weave.specs.Ahead.{ask_at, IsNextObject, IsAhead}
 use Rattle.ir_weave.specs.Standing.{IsStateAt, positions, Standing, flat_in}
 use Rattle.ir_object.specs.Layout.{word_place}
 use Rattle.ir_weave.specs.Table.{IsTable, object_in}
@@ -177,14 +177,6 @@ read_version s (q ∷ [], c) n w = (i : ℕ) × IsNextObject (trace_in q.plan) q
 abbrev pub tracks_from : Plan → ℕ → ℕ → View
 tracks_from k t zero = []
 tracks_from k t (suc n) = progress k t (opened_at k t) false (first_met k) ∷ tracks_from k (suc t) n
-
-abbrev pub all_but_first : View → View
-all_but_first [] = []
-all_but_first (q ∷ qs) = qs
-
-abbrev pub first_alone : View → View
-first_alone [] = []
-first_alone (q ∷ qs) = q ∷ []
 
 -- the thread x and a seat of its own
 abbrev pub IsSeated : Plan → View → thread.ThreadState → Type 0

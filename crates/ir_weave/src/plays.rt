@@ -46,11 +46,11 @@ impl Play<(), LinkedList<Progress>> for ReadVersion {
 pub struct OffFirst;
 
 impl Split<LinkedList<Progress>> for OffFirst {
-    ghost use Rattle.ir_weave.specs.Woven.{all_but_first, first_alone};
+    ghost use Rattle.std.specs.Prelude.{drop, take};
 
-    ghost left = { all_but_first };
+    ghost left = { drop 1 };
 
-    ghost right = { first_alone };
+    ghost right = { take 1 };
 }
 
 pub struct Both;

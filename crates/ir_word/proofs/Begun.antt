@@ -9,7 +9,7 @@ use Rattle.ir_image.specs.Guest.{object_count, first_words}
 use Rattle.ir_runs.specs.Machine.{Object}
 use Rattle.ir_runs.specs.Run.{Step, join_if, end, Cut, part}
 use Rattle.ir_runs.specs.Bounds.{lower}
-use Rattle.ir_flat.specs.Room.{empty}
+use Rattle.ir_object.specs.Empty.{empty}
 use Rattle.ir_flat.proofs.CallerLemmas.{start_cell_has_first_words}
 use Rattle.ir_fit.specs.Fit.{FittedTrace, HasRun}
 use Rattle.ir_cut.specs.Positions.{machine_of, start_of}

@@ -2,8 +2,7 @@
 
 ghost use Rattle.std.specs.Prelude.{◌≡◌, ◌<◌, ◌≤◌, ◌+◌, ◌-◌, length, IfOk};
 ghost use Rattle.std.specs.List.{AllByRecursion};
-ghost use Rattle.ir_cut.specs.Positions.{EachRun, cut_of, threads_of, last_of};
-ghost use Rattle.ir_hits.specs.Hits.{thread_at};
+ghost use Rattle.ir_cut.specs.Positions.{EachRun, cut_of, threads_of, last_of, thread_at};
 ghost use Rattle.ir_hits.specs.Watchable.{AreWatchable};
 ghost use Rattle.ir_timeline.specs.Hand.{IsCutOf};
 ghost use Rattle.ir_gdb.specs.Stub.{IsWatched, most_points, spoken};

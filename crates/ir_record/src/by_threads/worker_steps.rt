@@ -5,7 +5,7 @@ ghost use Rattle.ir_thread.specs.State.{ask_of};
 ghost use Rattle.ir_runs.specs.declared.access.Access.TheVariants.{Reading, Writing};
 ghost use Rattle.ir_runs.specs.declared.env_kind.EnvKind.{EnvKind};
 ghost use Rattle.ir_thread.specs.declared.ask.Ask.TheVariants as ask;
-ghost use Rattle.ir_record.specs.Working.{IsAtWork, StaysAtWork, IsStopped, IsReadyWorker, RanToEnd, IsOwn, IsInside, IsOutside, own_steps_left};
+ghost use Rattle.ir_record.specs.Working.{IsAtWork, StaysAtWork, IsStopped, IsReadyWorker, RanToEnd, TouchesNothing, IsInside, IsOutside, own_steps_left};
 
 use crate::by_threads::worker::Worker;
 use crate::world::{World, WorldErr};
@@ -141,7 +141,7 @@ impl<W: World> Worker<W> {
     fn take_own_step(&mut self, crew: &Crew, code: &Code, asked: Ask)
         requires worker { IsAtWork W.answers crew.now code.now self.old }
         requires asked { ask_of code.now self.old.thread ≡ asked }
-        requires own { IsOwn asked }
+        requires own { TouchesNothing asked }
         ensures stays { StaysAtWork W.answers crew.now self.old self.new }
         ensures fewer { own_steps_left self.new.thread < own_steps_left self.old.thread }
         ensures world { self.new.world ≡ self.old.world }

@@ -3,7 +3,8 @@
 ghost use Rattle.std.specs.Prelude.{◌≡◌, ◌<◌, ◌≤◌, ℕ, length, map, slice_index_or, vec_len, IfOk, IfSome, None};
 ghost use Rattle.ir_thread.specs.State.{most_budget};
 ghost use Rattle.ir_crew.specs.Ends.{AreSeats};
-ghost use Rattle.ir_record.specs.Threads.{AreNew, Pairs};
+ghost use Rattle.ir_record.specs.Threads.{AreNew};
+ghost use Rattle.std.specs.List.{AllZip};
 ghost use Rattle.ir_record.specs.Working.{AreReady, RanToEnd};
 ghost use Rattle.ir_record.specs.Worlds.{NoneFailed, IsFirstFailed};
 
@@ -83,7 +84,7 @@ pub fn run_workers<R: Threads + Wait + Sync, W: World + Send, G: Gate + Sync>(
     workers: &mut Vec<Worker<W>>,
 )
     requires ready { AreReady W.answers W.broken crew.now code.now workers.old.items }
-    ensures { Pairs (RanToEnd W.answers W.broken W.origin crew.now.table.shared.key) workers.old.items workers.new.items }
+    ensures { AllZip (RanToEnd W.answers W.broken W.origin crew.now.table.shared.key) workers.old.items workers.new.items }
 {
     run_side_by_side(rt, crew, code, gate, workers.as_mut_slice());
 }

@@ -1,6 +1,6 @@
 use Rattle.std.proofs.Common.{◌≡◌, ℕ, ap, ◌∙◌, sym, subst, arith, length}
 use Rattle.std.specs.List.{slice_index_or}
-use Rattle.ir_flat.specs.Room.{empty}
+use Rattle.ir_object.specs.Empty.{empty}
 use Rattle.ir_flat.specs.Flat.{thread_of}
 use Rattle.ir_seen.specs.Seen.{Same, view}
 use Rattle.ir_store.specs.Nodes.{SourcedFlat, source_of}

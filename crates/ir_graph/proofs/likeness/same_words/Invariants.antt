@@ -1,6 +1,6 @@
 use Rattle.std.proofs.Common.{◌≡◌, ℕ, ◌<◌}
 use Rattle.std.specs.List.{slice_index_or}
-use Rattle.ir_flat.specs.Room.{empty}
+use Rattle.ir_object.specs.Empty.{empty}
 use Rattle.ir_graph.proofs.likeness.same_words.Given as goal
 
 abbrev pub invariant-loop-o : goal.invariant-loop-o

@@ -1,10 +1,10 @@
 use Rattle.std.proofs.Common.{rules, ◌≡◌, ◌<◌, ℕ, List, map, length, sym, ap, ◌∙◌, subst, arith}
-use Rattle.std.specs.List.{AllByRecursion}
+use Rattle.std.specs.List.{AllByRecursion, AllZip}
 use Rattle.ir_image.specs.Guest.{Guest, object_count}
 use Rattle.ir_image.proofs.CallerLemmas.{guest_threads_at_most_limit}
 use Rattle.ir_crew.specs.Ends.{IsEnd}
 use Rattle.ir_record.specs.Recording.{EachWentOn}
-use Rattle.ir_record.specs.Threads.{Pairs, IsSeatOf, views_of}
+use Rattle.ir_record.specs.Threads.{IsSeatOf, views_of}
 use Rattle.ir_record.specs.Working.{work_of, IsReadyWorker, RanToEnd}
 use Rattle.ir_record.specs.Worlds.{NoneFailed, IsFirstFailed, AreSameWorlds}
 use Rattle.ir_record.specs.declared.by_threads.worker.Worker.{Worker}
@@ -31,11 +31,11 @@ Ran g c end = HaveRun g.W.World.answers g.W.World.broken g.W.World.origin c.args
     c.in_ok-crew.crew.table.shared.table_id c.args.worlds.items c.in_ok-workers.workers.items end
 
 ran : (g : given.Over) (c : goal.After-workers-3-1 g) (end : List (Worker g.row.W.Denot))
-    → Pairs (RanToEnd g.W.World.answers g.W.World.broken g.W.World.origin c.in_ok-crew.crew.table.shared.key)
+    → AllZip (RanToEnd g.W.World.answers g.W.World.broken g.W.World.origin c.in_ok-crew.crew.table.shared.key)
     c.in_ok-workers.workers.items end → Ran g c end
 ran g c end pairs = record {
   new = c.in_ok-workers.ensures.new c.in_ok-crew.crew.table.shared.table_id c.in_ok-crew.ensures.seats.0;
-  pairs = subst (λ z. Pairs (RanToEnd g.W.World.answers g.W.World.broken g.W.World.origin z) c.in_ok-workers.workers.items end)
+  pairs = subst (λ z. AllZip (RanToEnd g.W.World.answers g.W.World.broken g.W.World.origin z) c.in_ok-workers.workers.items end)
       c.in_ok-crew.ensures.key pairs;
   same = c.in_ok-workers.ensures.worlds;
   each = search rules;

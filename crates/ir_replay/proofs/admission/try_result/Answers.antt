@@ -7,8 +7,8 @@ use Rattle.ir_thread.specs.declared.ask.Ask.TheVariants.{Try}
 use Rattle.ir_trace.specs.Recorded.{Recorded, recorded_thread}
 use Rattle.ir_thread.specs.State.{ask_of}
 use Rattle.ir_object.specs.Cell.{Cell}
+use Rattle.ir_object.specs.Empty.{empty}
 use Rattle.ir_flat.specs.Flat.{Flat, IsFlat, thread_of, cell_of}
-use Rattle.ir_flat.specs.Room.{empty}
 use Rattle.ir_flat.proofs.CallerLemmas.{tried_object_below_object_count}
 use Rattle.ir_fit.proofs.CallerLemmas.{found_cell_open_if_test_true, found_cell_shut_if_test_false, try_not_refused_got_in}
 use Rattle.ir_weave.proofs.CallerLemmas.{refused_try_logs_next_with_result_zero, open_try_logs_next_with_result_one, no_result_logs_next_for_shut_try, no_result_logs_next_for_unsuited_try}

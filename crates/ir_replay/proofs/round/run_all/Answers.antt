@@ -1,6 +1,6 @@
 use Rattle.std.proofs.Common.{rules, ◌≡◌, ◌<◌, length, sym, subst}
-use Rattle.std.specs.List.{slice_index_or}
-use Rattle.ir_replay.specs.Workers.{HasWorked, Pairs}
+use Rattle.std.specs.List.{slice_index_or, AllZip}
+use Rattle.ir_replay.specs.Workers.{HasWorked}
 use Rattle.ir_replay.proofs.Dealt.{take_of_append_of_dropped_old_is_new}
 use Rattle.ir_replay.proofs.Down.{pairs_if_elements_related}
 use Rattle.ir_replay.proofs.round.run_all.Goals as goal
@@ -10,7 +10,7 @@ returns g c =
     let R = HasWorked c.args.weave.now.table.shared.table_id c.args.weave.now.table.shared.key c.args.target.now in
     let len : c.args.workers.now.len ≡ length c.args.workers.now.items = search rules in
     let same : length c.work_all.new.workers ≡ length c.args.workers.now.items = search rules in
-    subst (Pairs R c.args.workers.now.items) (sym (take_of_append_of_dropped_old_is_new c.work_all.new.workers c.args.workers.now.items c.args.workers.now.len len
+    subst (AllZip R c.args.workers.now.items) (sym (take_of_append_of_dropped_old_is_new c.work_all.new.workers c.args.workers.now.items c.args.workers.now.len len
     same))
     (pairs_if_elements_related R c.args.workers.now.items c.work_all.new.workers same
     (subst (λ z. (i : _) (d : _) → i < length z → R (slice_index_or z i d) (slice_index_or c.work_all.new.workers i d))

@@ -1,7 +1,6 @@
 use Rattle.std.proofs.Common.{◌≡◌, ◌≤◌, ◌∙◌, ℕ, List, sym, ap, subst}
 use Rattle.std.proofs.lemmas.Result.{IfOk-weaker}
-use Rattle.ir_cut.specs.Positions.{EachRun, cut_of, last_of}
-use Rattle.ir_hits.specs.Hits.{thread_at}
+use Rattle.ir_cut.specs.Positions.{EachRun, cut_of, last_of, thread_at}
 use Rattle.ir_gdb.specs.Stub.{Stub}
 use Rattle.ir_gdb.proofs.Ranging.{pc_in_cut_is_pc_at_position}
 use Rattle.ir_gdb.proofs.remote.Remote.pc_at.Goals as goal

@@ -1,5 +1,5 @@
 use Rattle.std.proofs.Common.{rules, ◌≡◌, length, sym, subst}
-use Rattle.ir_record.specs.Threads.{Pairs}
+use Rattle.std.specs.List.{AllZip}
 use Rattle.ir_record.specs.Working.{RanToEnd}
 use Rattle.ir_record.proofs.Manning.{pairs_if_elements_at_each_index_related, take_length_of_append_drop_is_first_list}
 use Rattle.ir_record.proofs.by_threads.workers.run_workers.Goals as goal
@@ -8,7 +8,7 @@ pub returns : goal.returns
 returns g c =
     let len : c.args.workers.now.len ≡ length c.args.workers.now.items = search rules in
     let same : length c.run_side_by_side.new.workers ≡ length c.args.workers.now.items = search rules in
-    subst (Pairs (RanToEnd g.W.World.answers g.W.World.broken g.W.World.origin c.args.crew.now.table.shared.key) c.args.workers.now.items)
+    subst (AllZip (RanToEnd g.W.World.answers g.W.World.broken g.W.World.origin c.args.crew.now.table.shared.key) c.args.workers.now.items)
     (sym (take_length_of_append_drop_is_first_list c.run_side_by_side.new.workers c.args.workers.now.items c.args.workers.now.len len same))
     (pairs_if_elements_at_each_index_related (RanToEnd g.W.World.answers g.W.World.broken g.W.World.origin c.args.crew.now.table.shared.key) c.args.workers.now.items
     c.run_side_by_side.new.workers same

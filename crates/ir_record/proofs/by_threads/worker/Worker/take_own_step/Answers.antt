@@ -1,5 +1,5 @@
 use Rattle.std.proofs.Common.{refl, subst}
-use Rattle.ir_record.specs.Working.{IsOwn}
+use Rattle.ir_record.specs.Working.{TouchesNothing}
 use Rattle.ir_record.proofs.WorkerSteps.{still_works_after_own_step, own_steps_left_fall_after_reply_unless_done}
 use Rattle.ir_record.proofs.by_threads.worker.Worker.take_own_step.Goals as goal
 
@@ -10,4 +10,4 @@ returns-clause-stays g c = record {
 }
 
 pub returns-clause-fewer : goal.returns-clause-fewer
-returns-clause-fewer g c = own_steps_left_fall_after_reply_unless_done _ _ _ c.requires.asked (λ done. subst IsOwn done c.requires.own) c.take_asked.ensures
+returns-clause-fewer g c = own_steps_left_fall_after_reply_unless_done _ _ _ c.requires.asked (λ done. subst TouchesNothing done c.requires.own) c.take_asked.ensures
