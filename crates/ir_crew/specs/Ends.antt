@@ -7,6 +7,7 @@ use Rattle.atomic_table.specs.Seated.{TableId}
 use Rattle.atomic_table.specs.declared.shared.Seat.{Seat}
 use Rattle.ir_image.specs.Guest.{Guest, object_count, most_object_words, first_words}
 use Rattle.ir_thread.specs.State.{most_events, thread_machine}
+use Rattle.ir_object.specs.Cell.{Cell}
 use Rattle.ir_object.specs.Empty.{empty}
 use Rattle.ir_object.specs.Standing.{StandsFor}
 use Rattle.ir_object.specs.Layout.{word_place, content_place, table_length}
