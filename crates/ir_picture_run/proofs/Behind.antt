@@ -24,9 +24,10 @@ use Rattle.ir_picture.specs.declared.placed_box.PlacedBox.{PlacedBox}
 use Rattle.ir_picture_run.specs.Steps.{IsLastStep}
 use Rattle.ir_picture_run.specs.Spans.{last_event, IsSpan}
 use Rattle.ir_picture_run.specs.Brief.{IsRunBox}
-use Rattle.ir_picture_run.specs.Held.{AreHeld, IsMark, MarkedBefore}
+use Rattle.ir_holds.specs.Held.{IsMark, MarkedBefore}
+use Rattle.ir_picture_run.specs.Held.{AreHeld}
 use Rattle.ir_picture_run.specs.Laws.{BehindIsLeft}
-use Rattle.ir_picture_run.specs.declared.span.Span.{Span}
+use Rattle.ir_holds.specs.declared.span.Span.{Span}
 
 -- ---- steps of events
 
@@ -99,7 +100,7 @@ placed_box_is_at : (boxes : List PlacedBox) (n : ℕ) (b : EventBox) → slice_g
     → (p : PlacedBox) × (slice_get boxes n ≡ Some p) × (p.events ≡ b)
 placed_box_is_at boxes n b at =
     let nowhere : Point = record { x = 0; u = 0 } in
-    let none : PlacedBox = record { events = b; start = nowhere; end = nowhere; came = 0 } in
+    let none : PlacedBox = record { events = b; start = nowhere; end = nowhere; came = 0; row = 0 } in
     let long = length_of_map (λ (x : PlacedBox). x.events) boxes in
     let within = slice_get_within (events_of_all boxes) n b at in
     let there : slice_get boxes n ≡ Some (get_or boxes n none) = slice_get-get_or boxes n none (omega (arith, long, within)) in (
@@ -110,9 +111,9 @@ placed_box_is_at boxes n b at =
     )
 
 -- the steps of a box are there
-span_is_at : (f : FittedTrace) (boxes : List PlacedBox) (spans : List Span) (rows : List ℕ) (ends : List Point) → AreHeld f boxes spans rows ends → (n : ℕ)
+span_is_at : (f : FittedTrace) (boxes : List PlacedBox) (spans : List Span) (ends : List Point) → AreHeld f boxes spans ends → (n : ℕ)
     (b : PlacedBox) → slice_get boxes n ≡ Some b → (s : Span) × (slice_get spans n ≡ Some s) × IsSpan f b.events s
-span_is_at f boxes spans rows ends h n b at =
+span_is_at f boxes spans ends h n b at =
     let none : Span = record { thread = 0; first = 0; last = 0 } in
     let size = h.go.size in
     let within = slice_get_within boxes n b at in
@@ -123,28 +124,28 @@ span_is_at f boxes spans rows ends h n b at =
     )
 
 -- it is a box of the run
-box_is_of_run : (f : FittedTrace) (boxes : List PlacedBox) (spans : List Span) (rows : List ℕ) (ends : List Point) → AreHeld f boxes spans rows ends → (n : ℕ)
+box_is_of_run : (f : FittedTrace) (boxes : List PlacedBox) (spans : List Span) (ends : List Point) → AreHeld f boxes spans ends → (n : ℕ)
     (b : PlacedBox) → slice_get boxes n ≡ Some b → IsRunBox f b.events
-box_is_of_run f boxes spans rows ends h n b at = h.all.each n b.events
+box_is_of_run f boxes spans ends h n b at = h.all.each n b.events
     (slice_get-map (λ (x : PlacedBox). x.events) boxes n ∙ ap (λ (x : Option PlacedBox). option_map (λ (y : PlacedBox). y.events) x) at)
 
 -- ---- the law
 
 -- the box of what is needed ends left of the box of what needs it, and the box of an event before the leave starts left of that end
 pub behind_starts_left : BehindIsLeft
-behind_starts_left f run boxes spans rows ends h t i u k x z behind early late =
+behind_starts_left f run boxes spans ends h t i u k x z behind early late =
     let l = behind.leave in
     let j = behind.needs.needed in
     let own : HasBox (events_of_all boxes) u j = h.all.all u j (needed_event_exists f.recorded t i u j behind.needs.needs) in
     let found = placed_box_is_at boxes own.number own.box own.there in
     let a : PlacedBox = found.0 in
-    let span_a = span_is_at f boxes spans rows ends h own.number a found.1 in
-    let span_b = span_is_at f boxes spans rows ends h late.number late.box late.there in
-    let span_c = span_is_at f boxes spans rows ends h early.number early.box early.there in
+    let span_a = span_is_at f boxes spans ends h own.number a found.1 in
+    let span_b = span_is_at f boxes spans ends h late.number late.box late.there in
+    let span_c = span_is_at f boxes spans ends h early.number early.box early.there in
     let has : IsInBox a.events u j = subst (λ (y : EventBox). IsInBox y u j) (sym found.2) own.has in
     let has_own : IsInBox a.events a.events.thread j = subst (λ y. IsInBox a.events y j) (sym has.thread) has in
     let left_own : IsLeaveOf f a.events.thread j l = subst (λ y. IsLeaveOf f y j l) (sym has.thread) behind.needs.left in
-    let by = leave_is_by_end_of_box f run a.events span_a.0 (box_is_of_run f boxes spans rows ends h own.number a found.1) span_a.2 j l has_own left_own in
+    let by = leave_is_by_end_of_box f run a.events span_a.0 (box_is_of_run f boxes spans ends h own.number a found.1) span_a.2 j l has_own left_own in
     let before = behind.before in
     let first : entry_of f u early.box.events.event ≤ entry_of f u k = entry_step_is_no_later f run u k early.box.events.event behind.inside early.has.from in
     let first_is : span_c.0.first ≡ entry_of f u early.box.events.event =
@@ -166,12 +167,12 @@ behind_starts_left f run boxes spans rows ends h t i u k x z behind early late =
       x = refl;
     } in
     let es : List Event = (recorded_thread f.recorded a.events.thread).events in
-    let of_run = box_is_of_run f boxes spans rows ends h own.number a found.1 in
+    let of_run = box_is_of_run f boxes spans ends h own.number a found.1 in
     let some = of_run.some in
     let within = of_run.within in
     let e : Event = get_or es a.events.event (Try 0) in
     let e_at : event_at f.recorded a.events.thread a.events.event ≡ Some e = slice_get-get_or es a.events.event (Try 0) (omega (arith, some, within)) in
-    let up = ((h.placed own.number a span_a.0 found.1 span_a.1).end_x e e_at).above early.box.start.x marked in
+    let up = ((h.places.placed own.number a span_a.0 found.1 span_a.1).end_x e e_at).above early.box.start.x marked in
     let needed : EndsNeeded f.recorded boxes (λ p. p.x) late.box a.end.x = record {
       at = own.number;
       box = a;
@@ -185,7 +186,7 @@ behind_starts_left f run boxes spans rows ends h t i u k x z behind early late =
       };
       ends = refl;
     } in
-    let right = (h.placed late.number late.box span_b.0 late.there span_b.1).start_x.above a.end.x (inr needed) in
+    let right = (h.places.placed late.number late.box span_b.0 late.there span_b.1).start_x.above a.end.x (inr needed) in
     let start_early = early.start in
     let start_late = late.start in
     omega (arith, up, right, start_early, start_late)

@@ -1,10 +1,9 @@
 mod Pushed
+mod Boxed
 mod Kept
-mod Circles
 mod Lasts
 mod Going
 mod Behind
 mod InCut
-mod Marks
-mod Coming
+mod HeldOf
 mod Shown

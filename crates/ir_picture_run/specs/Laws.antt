@@ -10,9 +10,9 @@ use Rattle.ir_picture.specs.Needs.{Needs}
 use Rattle.ir_picture.specs.Shown.{StartsAt}
 use Rattle.ir_picture.specs.declared.placed_box.Point.{Point}
 use Rattle.ir_picture.specs.declared.placed_box.PlacedBox.{PlacedBox}
-use Rattle.ir_picture_run.specs.Spans.{IsOver, AreRows}
+use Rattle.ir_holds.specs.Spans.{IsOver, AreRows}
 use Rattle.ir_picture_run.specs.Held.{AreHeld}
-use Rattle.ir_picture_run.specs.declared.span.Span.{Span}
+use Rattle.ir_holds.specs.declared.span.Span.{Span}
 
 -- event i of thread t needs step k of thread u: the step leaves what an event that is needed entered
 pub record NeedsLeave (f : FittedTrace) (t i u k : ℕ) : Type 0 where
@@ -63,17 +63,17 @@ BehindIsInCut = (f : FittedTrace) → HasRun f → (t i u k : ℕ) → NeedsBehi
 
 -- the law: what an event needs behind a leave is drawn further left than the event
 abbrev pub BehindIsLeft : Type 0
-BehindIsLeft = (f : FittedTrace) → HasRun f → (boxes : List PlacedBox) (spans : List Span) (rows : List ℕ) (ends : List Point) → AreHeld f boxes spans rows ends
+BehindIsLeft = (f : FittedTrace) → HasRun f → (boxes : List PlacedBox) (spans : List Span) (ends : List Point) → AreHeld f boxes spans ends
     → (t i u k x z : ℕ) → NeedsBehind f t i u k → StartsAt boxes u k z → StartsAt boxes t i x → z < x
 
 -- the law: what is left of an x is a consistent cut, so that in each run with the trace nothing right of it comes before what is left of it has to
 abbrev pub LeftIsConsistent : Type 0
-LeftIsConsistent = (f : FittedTrace) → HasRun f → (boxes : List PlacedBox) (spans : List Span) (rows : List ℕ) (ends : List Point) → AreHeld f boxes spans rows ends
+LeftIsConsistent = (f : FittedTrace) → HasRun f → (boxes : List PlacedBox) (spans : List Span) (ends : List Point) → AreHeld f boxes spans ends
     → (x : ℕ) (cut : List ℕ) → IsCutAt f boxes spans x cut → IsConsistentCut f cut
 
 -- the law: there is such a cut for each x
 abbrev pub LeftIsCut : Type 0
-LeftIsCut = (f : FittedTrace) → HasRun f → (boxes : List PlacedBox) (spans : List Span) (rows : List ℕ) (ends : List Point) → AreHeld f boxes spans rows ends
+LeftIsCut = (f : FittedTrace) → HasRun f → (boxes : List PlacedBox) (spans : List Span) (ends : List Point) → AreHeld f boxes spans ends
     → (x : ℕ) → (cut : List ℕ) × IsCutAt f boxes spans x cut
 
 -- a run takes the steps at which boxes start and end from left to right
@@ -83,7 +83,7 @@ GoesRight boxes spans run = (t k x u j y m n : ℕ) → IsMoment boxes spans t k
 
 -- the law: left to right is the order of a run with the trace
 abbrev pub RightIsAnOrder : Type 0
-RightIsAnOrder = (f : FittedTrace) → HasRun f → (boxes : List PlacedBox) (spans : List Span) (rows : List ℕ) (ends : List Point) → AreHeld f boxes spans rows ends
+RightIsAnOrder = (f : FittedTrace) → HasRun f → (boxes : List PlacedBox) (spans : List Span) (ends : List Point) → AreHeld f boxes spans ends
     → (run : List Step) × IsRunOf f.guest f.recorded run × GoesRight boxes spans run
 
 -- the law: two boxes of a thread that have the same row don't overlap

@@ -8,9 +8,9 @@ ghost use Rattle.ir_picture.specs.declared.event_box.EventBox.{EventBox};
 ghost use Rattle.ir_picture_run.specs.Spans.{IsSpan};
 
 use crate::drawing::last_step;
-use crate::span::Span;
 use ir_fit::Fitted;
 use ir_fit_run::step_of;
+use ir_holds::Span;
 use ir_past::Place;
 use ir_picture::EventBox;
 use std::alloc::{AllocError, Global};

@@ -3,7 +3,7 @@ use Rattle.std.proofs.lemmas.Option.{slice_get-get_or}
 use Rattle.ir_fit_run.proofs.CallerLemmas.{ArePairedTo, paired_to_next_element}
 use Rattle.ir_picture.specs.declared.event_box.EventBox.{EventBox}
 use Rattle.ir_picture_run.specs.Spans.{IsSpan}
-use Rattle.ir_picture_run.specs.declared.span.Span.{Span}
+use Rattle.ir_holds.specs.declared.span.Span.{Span}
 use Rattle.ir_picture_run.proofs.spans.spans_of.Goals as goal
 
 pub span_of-requires : goal.span_of-requires

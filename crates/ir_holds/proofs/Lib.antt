@@ -1,0 +1,5 @@
+mod Rows
+mod Marks
+mod Coming
+mod Needs
+mod Checked

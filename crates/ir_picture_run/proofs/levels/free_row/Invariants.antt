@@ -1,6 +1,0 @@
-use Rattle.std.specs.Prelude.{ℕ, ◌<◌, length}
-use Rattle.ir_picture_run.specs.Spans.{IsTaken}
-use Rattle.ir_picture_run.proofs.levels.free_row.Given as goal
-
-abbrev pub invariant-loop-row : goal.invariant-loop-row
-invariant-loop-row l = (z : ℕ) → z < l.row → IsTaken l.spans l.rows (length l.rows) l.own z

@@ -1,5 +1,0 @@
-use Rattle.ir_picture_run.proofs.Going.{NotTakenBelow}
-use Rattle.ir_picture_run.proofs.levels.is_taken.Given as goal
-
-abbrev pub invariant-loop-number : goal.invariant-loop-number
-invariant-loop-number l = NotTakenBelow l.spans l.rows l.number l.own l.row

@@ -1,5 +1,0 @@
-use Rattle.ir_picture_run.proofs.Going.{AreRowsTo}
-use Rattle.ir_picture_run.proofs.levels.rows_of.Given as goal
-
-abbrev pub invariant-loop-own : goal.invariant-loop-own
-invariant-loop-own l = AreRowsTo l.spans l.own-index l.rows.items
