@@ -22,14 +22,16 @@ use Rattle.ir_holds.specs.declared.span.Span.{Span}
 -- ---- the events of a box
 
 get_of_drop : {X : Type 0} (xs : List X) (n k : ℕ) (x : X) → slice_get (drop n xs) k ≡ Some x → slice_get xs (n + k) ≡ Some x
-get_of_drop xs zero k x is = is
-get_of_drop [] (suc n) k x is = is
-get_of_drop (y ∷ ys) (suc n) k x is = get_of_drop ys n k x is
+get_of_drop xs zero k x is = let same : k ≡ 0 + k = omega arith in subst (λ z. slice_get xs z ≡ Some x) same is
+get_of_drop [] (suc n) k x is = absurd (none-some x is)
+get_of_drop (y ∷ ys) (suc n) k x is =
+    let same : suc (n + k) ≡ suc n + k = omega arith in subst (λ z. slice_get (y ∷ ys) z ≡ Some x) same (get_of_drop ys n k x is)
 
 get_in_drop : {X : Type 0} (xs : List X) (n k : ℕ) (x : X) → slice_get xs (n + k) ≡ Some x → slice_get (drop n xs) k ≡ Some x
-get_in_drop xs zero k x is = is
-get_in_drop [] (suc n) k x is = is
-get_in_drop (y ∷ ys) (suc n) k x is = get_in_drop ys n k x is
+get_in_drop xs zero k x is = let same : 0 + k ≡ k = omega arith in subst (λ z. slice_get xs z ≡ Some x) same is
+get_in_drop [] (suc n) k x is = absurd (none-some x is)
+get_in_drop (y ∷ ys) (suc n) k x is =
+    let same : suc n + k ≡ suc (n + k) = omega arith in get_in_drop ys n k x (subst (λ z. slice_get (y ∷ ys) z ≡ Some x) same is)
 
 get_of_take : {X : Type 0} (xs : List X) (n k : ℕ) (x : X) → slice_get (take n xs) k ≡ Some x → (k < n) × (slice_get xs k ≡ Some x)
 get_of_take [] zero k x is = absurd (none-some x is)
@@ -69,9 +71,9 @@ event_in_list_is_in_box r b k e is =
 need_is_like : (r : Recorded) (t i u j : ℕ) (a e : Event) → event_at r t i ≡ Some a → event_at r u j ≡ Some e → Needs r t i u j → NeedsLike a e
 need_is_like r t i u j a e is_a is_e (inl m) = elim m.entry [
   | inl read ↦ subst (λ x. NeedsLike x e) (same_Some (Read m.object (suc m.version)) a (sym read ∙ is_a))
-      (m.version, refl, m.readers, same_Some e (Write m.object m.version m.readers) (sym is_e ∙ m.made))
+      (m.version, refl, (m.readers, same_Some e (Write m.object m.version m.readers) (sym is_e ∙ m.made)))
   | inr write ↦ subst (λ x. NeedsLike x e) (same_Some (Write m.object (suc m.version) write.0) a (sym write.1 ∙ is_a))
-      (inl (m.version, refl, m.readers, same_Some e (Write m.object m.version m.readers) (sym is_e ∙ m.made)))
+      (inl (m.version, refl, (m.readers, same_Some e (Write m.object m.version m.readers) (sym is_e ∙ m.made))))
 ]
 need_is_like r t i u j a e is_a is_e (inr d) = subst (λ x. NeedsLike x e) (same_Some (Write d.object d.version d.readers) a (sym d.write ∙ is_a))
     (inr (same_Some e (Read d.object d.version) (sym is_e ∙ d.read)))
@@ -190,3 +192,25 @@ held_if_starts_and_ends_right r boxes spans b own needed e first after start end
   end_u = end.u;
   came = start.came;
 }
+
+-- a box of this number, where it is looked at
+pub held_if_box_of_number_is_right : (r : Recorded) (boxes : List PlacedBox) (spans : List Span) (n : ℕ) (own : PlacedBox) (span : Span) (needed : Point) (e : Event)
+    (long : ℕ) → slice_get boxes n ≡ Some own → slice_get spans n ≡ Some span → event_at r own.events.thread own.events.event ≡ Some e → long ≡ length_of e
+    → IsAfterThese r boxes (OneNeedsLike (events_in r own.events)) needed → StartsRight boxes spans own span needed → EndsRight boxes spans own span long
+    → (b : PlacedBox) (s : Span) → slice_get boxes n ≡ Some b → slice_get spans n ≡ Some s → IsHeld r boxes spans b s
+held_if_box_of_number_is_right r boxes spans n own span needed e long at there first same after start end b s at_b there_s =
+    subst (λ (x : PlacedBox). IsHeld r boxes spans x s) (same_Some own b (sym at ∙ at_b))
+    (subst (λ (x : Span). IsHeld r boxes spans own x) (same_Some span s (sym there ∙ there_s))
+    (held_if_starts_and_ends_right r boxes spans own span needed e first after start (subst (EndsRight boxes spans own span) same end)))
+
+-- so far as boxes are looked at
+pub held_to_next_box : (r : Recorded) (boxes : List PlacedBox) (spans : List Span) (n : ℕ)
+    → ((k : ℕ) (b : PlacedBox) (s : Span) → k < n → slice_get boxes k ≡ Some b → slice_get spans k ≡ Some s → IsHeld r boxes spans b s)
+    → ((b : PlacedBox) (s : Span) → slice_get boxes n ≡ Some b → slice_get spans n ≡ Some s → IsHeld r boxes spans b s)
+    → (k : ℕ) (b : PlacedBox) (s : Span) → k < n + 1 → slice_get boxes k ≡ Some b → slice_get spans k ≡ Some s → IsHeld r boxes spans b s
+held_to_next_box r boxes spans n h here k b s less at there = elim (cases_lt k n) [
+  | inl before ↦ h k b s before at there
+  | inr past ↦
+      let same : k ≡ n = omega (arith, less, past) in
+      here b s (subst (λ z. slice_get boxes z ≡ Some b) same at) (subst (λ z. slice_get spans z ≡ Some s) same there)
+]

@@ -1,3 +1,4 @@
+mod Defaults
 mod Rows
 mod Marks
 mod Coming

@@ -1,5 +1,5 @@
 -- Where the boxes end that have what an event needs.
-use Rattle.std.proofs.Common.{◌≡◌, ℕ, zero, suc, ◌+◌, ◌<◌, ◌≤◌, ◌⊎◌, inl, inr, max, Bool, true, false, ◌==◌, ◌&&◌, if◌then◌else◌, Some, List, length, refl, sym, ap, ◌∙◌, subst, arith, eq-eqb, ne_eqb}
+use Rattle.std.proofs.Common.{◌≡◌, ℕ, zero, suc, ◌+◌, ◌-◌, ◌<◌, ◌≤◌, ◌⊎◌, inl, inr, max, Bool, true, false, ◌==◌, ◌&&◌, if◌then◌else◌, Some, List, length, refl, sym, ap, ◌∙◌, subst, arith, eq-eqb, ne_eqb}
 use Rattle.std.specs.List.{slice_get}
 use Rattle.std.proofs.lemmas.Bool.{cases_eq, cases_lt}
 use Rattle.std.proofs.lemmas.Option.{same_Some, slice_get_within}
@@ -198,6 +198,7 @@ version_of (Try o) = 0
 reads_after_next_event : (r : Recorded) (boxes : List PlacedBox) (n m : ℕ) (b : PlacedBox) (what : Event) (f : ℕ → ℕ → Point) → slice_get boxes n ≡ Some b
     → IsInBox b.events b.events.thread m → event_at r b.events.thread m ≡ Some what → ((o v : ℕ) → IsAfterTo r boxes n m (Reads o v) (f o v))
     → (o v : ℕ) → IsAfterTo r boxes n (m + 1) (Reads o v) (with_read what (right_of b.end) f o v)
+unfolding object_of version_of
 reads_after_next_event r boxes n m b (Answer kind value) f there has is h o v =
     after_to_next_event_without r boxes n m (Reads o v) b (Answer kind value) (f o v) there is (λ e. cc) (h o v)
 reads_after_next_event r boxes n m b (Read q w) f there has is h o v =
@@ -210,6 +211,7 @@ reads_after_next_event r boxes n m b (Try q) f there has is h o v =
 writes_after_next_event : (r : Recorded) (boxes : List PlacedBox) (n m : ℕ) (b : PlacedBox) (what : Event) (f : ℕ → ℕ → Point) → slice_get boxes n ≡ Some b
     → IsInBox b.events b.events.thread m → event_at r b.events.thread m ≡ Some what → ((o v : ℕ) → IsAfterTo r boxes n m (Writes o v) (f o v))
     → (o v : ℕ) → IsAfterTo r boxes n (m + 1) (Writes o v) (with_write what (right_of b.end) f o v)
+unfolding object_of version_of
 writes_after_next_event r boxes n m b (Answer kind value) f there has is h o v =
     after_to_next_event_without r boxes n m (Writes o v) b (Answer kind value) (f o v) there is (λ d. let e = d.1 in cc) (h o v)
 writes_after_next_event r boxes n m b (Read q w) f there has is h o v =

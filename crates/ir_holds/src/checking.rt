@@ -2,8 +2,6 @@
 
 ghost use Rattle.std.specs.Prelude.{◌≡◌, ◌^◌, ◌+◌, ◌<◌, ℕ, true, max, length, Some};
 ghost use Rattle.std.specs.List.{slice_get};
-ghost use Rattle.ir_past.specs.Past.{event_at};
-ghost use Rattle.ir_picture.specs.Boxes.{IsBox};
 ghost use Rattle.ir_picture.specs.Progress.{AreBoxesOf};
 ghost use Rattle.ir_picture.specs.declared.placed_box.PlacedBox.{PlacedBox};
 ghost use Rattle.ir_holds.specs.Needing.{HoldsEnds};
@@ -15,11 +13,12 @@ use crate::coming_by::come_from_marks;
 use crate::needing::Ends;
 use crate::passing::past_marks;
 use crate::span::Span;
-use ir_picture::{PlacedBox, Point, events_in, length_of};
+use ir_past::{Place, event_of};
+use ir_picture::{EventBox, PlacedBox, Point, events_in, length_of};
 use ir_trace::Trace;
 
-// More than any place and any step that is drawn.
-const FAR: u64 = 1 << 60;
+/// More than any place and any step that is drawn.
+pub const FAR: u64 = 1 << 60;
 
 // Whether a place isn't too far.
 fn is_near(place: Point) -> bool
@@ -109,10 +108,13 @@ fn is_held(
 {
     let own = boxes[number];
     let span = spans[number];
-    let events = events_in(trace, &own.events);
-    let needed = ends.after_needs_of(events);
-    starts_right(boxes, spans, &own, &span, needed)
-        && ends_right(boxes, spans, &own, &span, length_of(events[0]))
+    let EventBox { thread, event, .. } = own.events;
+    let first = event_of(trace, Place { thread, event });
+    let needed = ends.after_needs_of(events_in(trace, &own.events));
+    if !starts_right(boxes, spans, &own, &span, needed) {
+        return false;
+    }
+    ends_right(boxes, spans, &own, &span, length_of(first))
 }
 
 /// Whether all boxes are where they have to be. Time is quadratic in the boxes.

@@ -12,7 +12,7 @@ ghost use Rattle.ir_holds.specs.Spans.{AreRows};
 ghost use Rattle.ir_holds.specs.Held.{IsHeldEnd, AreHeldAt, rows_in};
 ghost use Rattle.ir_holds.specs.Checks.{AreNear, HoldAll};
 
-use crate::checking::{are_held, are_near, are_short};
+use crate::checking::{FAR, are_held, are_near, are_short};
 use crate::coming_by::come_from_marks;
 use crate::held::HeldBoxes;
 use crate::levels::rows_of;
@@ -24,9 +24,6 @@ use ir_past::thread_count;
 use ir_picture::{EventBox, PlacedBox, Point};
 use ir_trace::Trace;
 use std::alloc::{AllocError, Global};
-
-// More than any step that is drawn.
-const FAR: u64 = 1 << 60;
 
 // Where a box is for which no place was proposed.
 const NOWHERE: Point = Point { x: 0, u: 0 };
@@ -128,6 +125,28 @@ fn thread_ends(
     Ok(ends)
 }
 
+// Where the threads of boxes end, if each box is where it has to be.
+fn ends_if_held(
+    alloc: Global,
+    trace: &Trace,
+    boxes: &[PlacedBox],
+    spans: &[Span],
+) -> Result<Option<Vec<Point>>, AllocError>
+    requires boxes { AreBoxesOf trace.now boxes.now }
+    requires size { length spans.now ≡ length boxes.now }
+    ensures { IfOk result (λ x. IfSome x (λ ends. AreHeldAt trace.now boxes.now spans.now ends.items)) }
+{
+    if !are_near(boxes) || !are_short(spans) || !are_steps_few(trace) {
+        return Ok(None);
+    }
+    let needs = ends_of(alloc, trace, boxes)?;
+    if !are_held(trace, boxes, spans, &needs) {
+        return Ok(None);
+    }
+    let ends = thread_ends(alloc, trace, boxes, spans)?;
+    Ok(Some(ends))
+}
+
 // Boxes and where their threads end, if each is where it has to be.
 fn judged(
     alloc: Global,
@@ -140,15 +159,10 @@ fn judged(
     ensures same { IfOk result (λ x. IfSome x (λ h. h.boxes.items ≡ boxes.items)) }
     ensures held { IfOk result (λ x. IfSome x (λ h. AreHeldAt trace.now h.boxes.items spans.now h.ends.items)) }
 {
-    if !are_near(&boxes) || !are_short(spans) || !are_steps_few(trace) {
-        return Ok(None);
+    match ends_if_held(alloc, trace, &boxes, spans)? {
+        None => Ok(None),
+        Some(ends) => Ok(Some(HeldBoxes { boxes, ends })),
     }
-    let needs = ends_of(alloc, trace, &boxes)?;
-    if !are_held(trace, &boxes, spans, &needs) {
-        return Ok(None);
-    }
-    let ends = thread_ends(alloc, trace, &boxes, spans)?;
-    Ok(Some(HeldBoxes { boxes, ends }))
 }
 
 /// Boxes of a trace, which go so, with their places and rows, and where their threads end. None, if no places were found: what is proposed may be

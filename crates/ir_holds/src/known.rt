@@ -1,10 +1,9 @@
 //! What is known of the versions of objects while places are proposed.
 
+use crate::needing::FIRST;
 use ir_log::Event;
 use ir_picture::{Point, later};
 use std::alloc::{AllocError, Global};
-
-const START: Point = Point { x: 0, u: 1 };
 
 // What is known of a version of an object.
 #[derive(Clone, Copy, Debug, PartialEq, Eq)]
@@ -20,7 +19,7 @@ struct Version {
 const NOTHING: Version = Version {
     made: None,
     readers: 0,
-    left: START,
+    left: FIRST,
 };
 
 /// What is known of each version of each object.
@@ -70,7 +69,7 @@ impl Known {
     // After what made a version, if that has its place; nothing made the first.
     fn after_maker(&self, object: u8, version: u32) -> Option<Point> {
         if version == 0 {
-            Some(START)
+            Some(FIRST)
         } else {
             self.at(object, version as usize).made
         }
@@ -79,8 +78,8 @@ impl Known {
     /// After all that an event needs, if all of that has its place.
     pub fn after_needs(&self, event: Event) -> Option<Point> {
         match event {
-            Event::Answer(..) => Some(START),
-            Event::Try { .. } => Some(START),
+            Event::Answer(..) => Some(FIRST),
+            Event::Try { .. } => Some(FIRST),
             Event::Read { object, version } => self.after_maker(object, version),
             Event::Write {
                 object,

@@ -14,8 +14,8 @@ use ir_picture::{PlacedBox, Point, Table, Version, later, right_of};
 use ir_trace::Trace;
 use std::alloc::{AllocError, Global};
 
-// The first place of all.
-const START: Point = Point { x: 0, u: 1 };
+/// The first place of all.
+pub const FIRST: Point = Point { x: 0, u: 1 };
 
 /// Of each object at each version the first place right of the boxes that enter it for writing, and of those that read it.
 #[derive(Drop)]
@@ -101,7 +101,7 @@ impl Ends {
         ensures { (r : Recorded) (boxes : List PlacedBox) → HoldsEnds r boxes self.now → IsAfterThese r boxes (Makes object version) result }
     {
         if version == 0 {
-            return START;
+            return FIRST;
         }
         let known = self.made.get(object, version as usize - 1);
         known.left
@@ -112,8 +112,8 @@ impl Ends {
         ensures { (r : Recorded) (boxes : List PlacedBox) → HoldsEnds r boxes self.now → IsAfterThese r boxes (NeedsLike event) result }
     {
         match event {
-            Event::Answer(..) => START,
-            Event::Try { .. } => START,
+            Event::Answer(..) => FIRST,
+            Event::Try { .. } => FIRST,
             Event::Read { object, version } => self.after_maker(object, version),
             Event::Write {
                 object, version, ..
@@ -128,7 +128,7 @@ impl Ends {
     pub fn after_needs_of(&self, events: &[Event]) -> Point
         ensures { (r : Recorded) (boxes : List PlacedBox) → HoldsEnds r boxes self.now → IsAfterThese r boxes (OneNeedsLike events.now) result }
     {
-        let mut place = START;
+        let mut place = FIRST;
         for event in events {
             place = later(place, self.after_needs(*event));
         }

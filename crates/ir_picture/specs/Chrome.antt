@@ -22,8 +22,8 @@ abbrev pub row_number : ℕ → ℕ
 row_number t = t * 64
 
 -- the number of the row of a box
-abbrev pub row_of : PlacedBox → ℕ
-row_of b = row_number b.events.thread + b.row
+abbrev pub row_number_of : PlacedBox → ℕ
+row_number_of b = row_number b.events.thread + b.row
 
 -- the process, in which all threads are
 abbrev pub process_line : List ℕ
@@ -79,7 +79,7 @@ drawn_as (e ∷ es) long = codes "\"cat\":\"" ++ (category e ++ (codes "\",\"ph\
 abbrev pub slice_line : List Event → Option ℕ → PlacedBox → List ℕ
 slice_line es read b =
     codes ",\n{\"name\":\"" ++ (box_name es ++ (codes "\"," ++ (drawn_as es (time_of (b.end.x - b.start.x)) ++ (codes ",\"ts\":" ++ (decimal (time_of b.start.x)
-    ++ (codes ",\"pid\":1,\"tid\":" ++ (decimal (row_of b) ++ (codes ",\"args\":{\"event\":" ++ (decimal b.events.event
+    ++ (codes ",\"pid\":1,\"tid\":" ++ (decimal (row_number_of b) ++ (codes ",\"args\":{\"event\":" ++ (decimal b.events.event
     ++ (codes ",\"events\":" ++ (decimal b.events.count ++ (stale_argument read ++ codes "}}"))))))))))))
 
 -- the line of a box of a trace with these stale writes
@@ -118,8 +118,8 @@ arrow_end object phase number time row =
 -- the lines of an arrow: it leaves at the last time in the maker's slice
 abbrev pub arrow_lines : ℕ → Sight → List ℕ
 arrow_lines k s =
-    arrow_end s.object (codes "\"s\"") k (time_of s.maker.end.x - 1) (row_of s.maker)
-    ++ arrow_end s.object (codes "\"f\",\"bp\":\"e\"") k (time_of s.seer.start.x) (row_of s.seer)
+    arrow_end s.object (codes "\"s\"") k (time_of s.maker.end.x - 1) (row_number_of s.maker)
+    ++ arrow_end s.object (codes "\"f\",\"bp\":\"e\"") k (time_of s.seer.start.x) (row_number_of s.seer)
 
 -- the lines of arrows, of which the first has number k
 unfoldable pub all_arrows : ℕ → List Sight → List ℕ

@@ -9,7 +9,7 @@ use Rattle.ir_picture.specs.Boxing.{AreSomeBoxes}
 use Rattle.ir_picture.specs.Placing.{events_of_all}
 use Rattle.ir_log.specs.declared.event.Event.{Event}
 use Rattle.ir_picture.specs.Numbers.{comma, rows_from, first_numbers, place_numbers, box_row, stale_row, data_start, thread_list}
-use Rattle.ir_picture.specs.Chrome.{row_of, time_of, stale_argument, process_line, all_threads}
+use Rattle.ir_picture.specs.Chrome.{row_number_of, time_of, stale_argument, process_line, all_threads}
 use Rattle.ir_picture.specs.declared.asked.Around.{Around}
 use Rattle.ir_picture.specs.declared.placed_box.Point.{Point}
 use Rattle.ir_picture.specs.declared.placed_box.PlacedBox.{PlacedBox}
@@ -66,7 +66,7 @@ data_rows r near p =
 -- the line of a box after what it is drawn as
 abbrev pub slice_place : Option ℕ → PlacedBox → List ℕ
 slice_place read b =
-    codes ",\"ts\":" ++ (decimal (time_of b.start.x) ++ (codes ",\"pid\":1,\"tid\":" ++ (decimal (row_of b)
+    codes ",\"ts\":" ++ (decimal (time_of b.start.x) ++ (codes ",\"pid\":1,\"tid\":" ++ (decimal (row_number_of b)
     ++ (codes ",\"args\":{\"event\":" ++ (decimal b.events.event ++ (codes ",\"events\":" ++ (decimal b.events.count
     ++ (stale_argument read ++ codes "}}"))))))))
 

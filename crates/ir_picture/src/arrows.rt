@@ -4,12 +4,12 @@ ghost use Rattle.std.specs.Prelude.{◌≡◌, ◌-◌, ◌++◌, OnOk, IfErr, c
 ghost use Rattle.ir_files.specs.Writers.{writer_of};
 ghost use Rattle.ir_text.specs.Buffered.{Buffered};
 ghost use Rattle.ir_past.specs.Answers.{Stops};
-ghost use Rattle.ir_picture.specs.Chrome.{row_of, time_of, arrow_end, arrow_lines, all_arrows};
+ghost use Rattle.ir_picture.specs.Chrome.{row_number_of, time_of, arrow_end, arrow_lines, all_arrows};
 ghost use Rattle.ir_picture.specs.Progress.{arrow_with};
 
 use crate::pieces::{push_number, push_words, write_piece};
 use crate::sights::Sight;
-use crate::slices::{row_of, time_of};
+use crate::slices::{row_number_of, time_of};
 use ir_past::PastErr;
 use ir_stream::Sink;
 use std::alloc::AllocError;
@@ -34,7 +34,7 @@ fn push_end(
 
 // Adds where the arrow of a number leaves: the last time in the maker's slice.
 fn push_start(text: &mut Vec<u8>, number: usize, sight: &Sight) -> Result<(), AllocError>
-    ensures { OnOk result (text.new.items ≡ text.old.items ++ arrow_end (sight.now).object (codes "\"s\"") number (time_of (sight.now).maker.end.x - 1) (row_of (sight.now).maker)) }
+    ensures { OnOk result (text.new.items ≡ text.old.items ++ arrow_end (sight.now).object (codes "\"s\"") number (time_of (sight.now).maker.end.x - 1) (row_number_of (sight.now).maker)) }
 {
     let time = time_of(sight.maker.end.x).saturating_sub(1);
     push_end(
@@ -43,13 +43,13 @@ fn push_start(text: &mut Vec<u8>, number: usize, sight: &Sight) -> Result<(), Al
         b"\",\"cat\":\"sees\",\"ph\":\"s\",\"id\":",
         number,
         time,
-        row_of(&sight.maker),
+        row_number_of(&sight.maker),
     )
 }
 
 // Adds where it arrives.
 fn push_arrival(text: &mut Vec<u8>, number: usize, sight: &Sight) -> Result<(), AllocError>
-    ensures { OnOk result (text.new.items ≡ text.old.items ++ arrow_end (sight.now).object (codes "\"f\",\"bp\":\"e\"") number (time_of (sight.now).seer.start.x) (row_of (sight.now).seer)) }
+    ensures { OnOk result (text.new.items ≡ text.old.items ++ arrow_end (sight.now).object (codes "\"f\",\"bp\":\"e\"") number (time_of (sight.now).seer.start.x) (row_number_of (sight.now).seer)) }
 {
     push_end(
         text,
@@ -57,7 +57,7 @@ fn push_arrival(text: &mut Vec<u8>, number: usize, sight: &Sight) -> Result<(), 
         b"\",\"cat\":\"sees\",\"ph\":\"f\",\"bp\":\"e\",\"id\":",
         number,
         time_of(sight.seer.start.x),
-        row_of(&sight.seer),
+        row_number_of(&sight.seer),
     )
 }
 

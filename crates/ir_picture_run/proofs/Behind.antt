@@ -32,7 +32,7 @@ use Rattle.ir_holds.specs.declared.span.Span.{Span}
 -- ---- steps of events
 
 -- an event of the trace is one of the guest's thread
-event_below_length_is_inside : (f : FittedTrace) → HasRun f → (t i : ℕ) → i < length (recorded_thread f.recorded t).events → IsInside f t i
+pub event_below_length_is_inside : (f : FittedTrace) → HasRun f → (t i : ℕ) → i < length (recorded_thread f.recorded t).events → IsInside f t i
 event_below_length_is_inside f h t i l =
     let es : List Event = (recorded_thread f.recorded t).events in
     recorded_event_is_inside f h t i (get_or es i (Try 0)) (slice_get-get_or es i (Try 0) l)

@@ -1,10 +1,13 @@
 //! The picture of a run.
 
-ghost use Rattle.std.specs.Prelude.{◌≡◌, Some, IfOk, IfErr, IfSome, OnOk};
+ghost use Rattle.std.specs.Prelude.{IfOk, IfErr, IfSome, OnOk};
 ghost use Rattle.ir_past.specs.Answers.{AreCoherent};
+ghost use Rattle.ir_fit_run.specs.Paired.{ArePaired};
 ghost use Rattle.ir_picture.specs.Progress.{IsOf};
 ghost use Rattle.ir_picture.specs.Answers.{IsThere};
 ghost use Rattle.ir_picture_run.specs.Answers.{IsRunPicture, IsUnsaid};
+ghost use Rattle.ir_picture_run.specs.Brief.{AreRunBoxes};
+ghost use Rattle.ir_picture_run.specs.Spans.{IsSpan};
 ghost use Rattle.ir_picture_run.specs.Held.{HaveHeld};
 
 use crate::folding::run_boxes_of;
@@ -13,20 +16,45 @@ use crate::run_picture::RunPicture;
 use crate::run_view_err::RunViewErr;
 use crate::spans::spans_of;
 use ir_fit::Fitted;
-use ir_holds::{HeldBoxes, held_boxes};
+use ir_holds::{HeldBoxes, Span, held_boxes};
 use ir_past::stale_writes;
-use ir_picture::{Around, Asked, Picture, is_there, shown_boxes};
+use ir_picture::{Around, Asked, EventBox, Picture, is_there, shown_boxes};
 use ir_rests::rests;
 use std::alloc::{AllocError, Global};
+
+// Boxes of a run that go so with their places and rows, if places were found.
+fn held_in(
+    alloc: Global,
+    fitted: &Fitted,
+    events: &[EventBox],
+    spans: &[Span],
+) -> Result<Option<HeldBoxes>, AllocError>
+    requires events { AreRunBoxes fitted.now events.now }
+    requires go { ArePaired (IsSpan fitted.now) events.now spans.now }
+    ensures { IfOk result (λ x. IfSome x (λ h. HaveHeld fitted.now h.boxes.items h.ends.items)) }
+{
+    held_boxes(alloc, fitted.trace(), events, spans)
+}
+
+// From which step to which each of these boxes of a run goes.
+fn run_spans_of(
+    alloc: Global,
+    fitted: &Fitted,
+    events: &[EventBox],
+) -> Result<Vec<Span>, AllocError>
+    requires { AreRunBoxes fitted.now events.now }
+    ensures { IfOk result (λ v. ArePaired (IsSpan fitted.now) events.now v.items) }
+{
+    spans_of(alloc, fitted, events)
+}
 
 // The boxes of a run with their places and rows, if places were found.
 fn held_of(alloc: Global, fitted: &Fitted) -> Result<Option<HeldBoxes>, AllocError>
     ensures { IfOk result (λ x. IfSome x (λ h. HaveHeld fitted.now h.boxes.items h.ends.items)) }
 {
-    fitted.known();
     let events = run_boxes_of(alloc, fitted)?;
-    let spans = spans_of(alloc, fitted, &events)?;
-    held_boxes(alloc, fitted.trace(), &events, &spans)
+    let spans = run_spans_of(alloc, fitted, &events)?;
+    held_in(alloc, fitted, &events, &spans)
 }
 
 // The picture of a run that has these boxes.
