@@ -99,10 +99,13 @@ like_is_need r t i u j (Try o) e is_a is_e like = absurd like
 
 -- an event that is needed is there
 needed_is_there : (r : Recorded) (t i u j : ℕ) → Needs r t i u j → ((a : Event) × (event_at r t i ≡ Some a)) × ((e : Event) × (event_at r u j ≡ Some e))
-needed_is_there r t i u j (inl m) = (elim m.entry [
-  | inl read ↦ (Read m.object (suc m.version), read)
-  | inr write ↦ (Write m.object (suc m.version) write.0, write.1)
-], (Write m.object m.version m.readers, m.made))
+needed_is_there r t i u j (inl m) = (
+  elim m.entry [
+    | inl read ↦ (Read m.object (suc m.version), read)
+    | inr write ↦ (Write m.object (suc m.version) write.0, write.1)
+  ],
+  (Write m.object m.version m.readers, m.made),
+)
 needed_is_there r t i u j (inr d) = ((Write d.object d.version d.readers, d.write), (Read d.object d.version, d.read))
 
 ends_needed_are_ends_with : (r : Recorded) (boxes : List PlacedBox) (number : Point → ℕ) (b : PlacedBox) (z : ℕ) → EndsNeeded r boxes number b z
@@ -185,7 +188,7 @@ held_if_starts_and_ends_right r boxes spans b own needed e first after start end
     least = λ w low all.
         let comes = start.came.least w low (λ z come. all z (inl come)) in
         let needs = after.u.least w (omega (arith, low)) (λ z need.
-            let by = all (z + 1) (inr (z, ends_with_are_ends_needed r boxes (λ q. q.u) b z need, refl)) in omega (arith, by)) in
+        let by = all (z + 1) (inr (z, ends_with_are_ends_needed r boxes (λ q. q.u) b z need, refl)) in omega (arith, by)) in
         let at = start.u in
         omega (arith, comes, needs, at);
   };

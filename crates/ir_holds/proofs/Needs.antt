@@ -288,13 +288,16 @@ holds_to_next_box r boxes n m b ends there all h = record {
             let box : w.one.box ≡ b = same_Some w.one.box b (sym w.one.there ∙ ap (slice_get boxes) here ∙ there) in
             record {
               one = w.one;
-              early = inr (here, omega (
-                arith,
-                w.one.has.below,
-                all,
-                ap (λ (c : PlacedBox). c.events.event) box,
-                ap (λ (c : PlacedBox). c.events.count) box,
-              ));
+              early = inr (
+                here,
+                omega (
+                  arith,
+                  w.one.has.below,
+                  all,
+                  ap (λ (c : PlacedBox). c.events.event) box,
+                  ap (λ (c : PlacedBox). c.events.count) box,
+                ),
+              );
             }
       ]
       | inr here ↦ absurd (omega (arith, here.1))
@@ -344,8 +347,11 @@ after_maker_of_first_version r boxes o v first = after_these_of_none r boxes (Ma
 pub after_maker_of_version : (r : Recorded) (boxes : List PlacedBox) (ends : Ends) (o v : ℕ) → HoldsEnds r boxes ends → (v ≡ 0 → ⊥)
     → IsAfterThese r boxes (Makes o v) (place_in ends.made o (v - 1))
 after_maker_of_version r boxes ends o zero h made = absurd (made refl)
-after_maker_of_version r boxes ends o (suc w) h made = after_these_of_equal_sets r boxes (Writes o w) (Makes o (suc w)) (place_in ends.made o w)
-    (λ e is. (w, refl, is)) (λ e m. subst (λ k. Writes o k e) (let is = m.1 in omega (arith, is)) m.2) (h.made o w)
+after_maker_of_version r boxes ends o (suc w) h made =
+    let same : w ≡ suc w - 1 = omega arith in
+    subst (λ k. IsAfterThese r boxes (Makes o (suc w)) (place_in ends.made o k)) same
+    (after_these_of_equal_sets r boxes (Writes o w) (Makes o (suc w)) (place_in ends.made o w)
+    (λ e is. (w, refl, is)) (λ e m. subst (λ k. Writes o k e) (let is = m.1 in omega (arith, is)) m.2) (h.made o w))
 
 pub after_needs_of_write : (r : Recorded) (boxes : List PlacedBox) (ends : Ends) (o v l : ℕ) (p : Point) → HoldsEnds r boxes ends → IsAfterThese r boxes (Makes o v) p
     → IsAfterThese r boxes (NeedsLike (Write o v l)) (later_of p (place_in ends.left o v))

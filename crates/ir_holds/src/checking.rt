@@ -71,13 +71,7 @@ fn starts_right(
 }
 
 // Whether a box of this length ends where it has to.
-fn ends_right(
-    boxes: &[PlacedBox],
-    spans: &[Span],
-    own: &PlacedBox,
-    span: &Span,
-    long: u64,
-) -> bool
+fn ends_right(boxes: &[PlacedBox], spans: &[Span], own: &PlacedBox, span: &Span, long: u64) -> bool
     requires size { length spans.now ≡ length boxes.now }
     requires near { AreNear boxes.now }
     requires last { span.now.last < 2 ^ 60 }
@@ -91,13 +85,7 @@ fn ends_right(
 }
 
 // Whether the box of a number is where it has to be.
-fn is_held(
-    trace: &Trace,
-    boxes: &[PlacedBox],
-    spans: &[Span],
-    ends: &Ends,
-    number: usize,
-) -> bool
+fn is_held(trace: &Trace, boxes: &[PlacedBox], spans: &[Span], ends: &Ends, number: usize) -> bool
     requires number { number < length boxes.now }
     requires size { length spans.now ≡ length boxes.now }
     requires boxes { AreBoxesOf trace.now boxes.now }

@@ -111,7 +111,9 @@ impl Known {
                 self.set(object, version as usize, more)
             }
             Event::Write {
-                object, version, ..
+                object,
+                version,
+                ..
             } => {
                 let next = (version as usize).saturating_add(1);
                 let more = Version {

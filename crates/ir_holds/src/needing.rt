@@ -54,7 +54,9 @@ impl Ends {
             Event::Try { .. } => Ok(()),
             Event::Read { object, version } => put(&mut self.left, object, version, after),
             Event::Write {
-                object, version, ..
+                object,
+                version,
+                ..
             } => put(&mut self.made, object, version, after),
         }
     }
@@ -116,7 +118,9 @@ impl Ends {
             Event::Try { .. } => FIRST,
             Event::Read { object, version } => self.after_maker(object, version),
             Event::Write {
-                object, version, ..
+                object,
+                version,
+                ..
             } => {
                 let known = self.left.get(object, version as usize);
                 later(self.after_maker(object, version), known.left)
