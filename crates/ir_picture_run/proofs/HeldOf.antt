@@ -1,7 +1,7 @@
 -- Boxes of a run with their places.
-use Rattle.std.proofs.Common.{◌≡◌, ℕ, Option, Some, None, List, length, sym, ap, ◌∙◌, subst}
+use Rattle.std.proofs.Common.{◌≡◌, ℕ, Option, Some, None, Result, Ok, Err, List, length, sym, ap, ◌∙◌, subst}
 use Rattle.std.specs.List.{slice_get}
-use Rattle.std.specs.Prelude.{IfSome}
+use Rattle.std.specs.Prelude.{IfSome, IfOk}
 use Rattle.ir_trace.specs.Recorded.{Recorded}
 use Rattle.ir_fit.specs.Fit.{FittedTrace}
 use Rattle.ir_fit_run.specs.Paired.{ArePaired}
@@ -40,3 +40,7 @@ pub held_boxes_are_of_run_if_some : (f : FittedTrace) (r : Recorded) (events : L
 held_boxes_are_of_run_if_some f r events spans None same are go hold = hold
 held_boxes_are_of_run_if_some f r events spans (Some h) same are go hold =
     held_boxes_are_of_run f events spans h are go (subst (λ (q : Recorded). HoldAll q events spans h) same hold)
+
+pub if_ok_of_weaker : {T E : Type 0} (P Q : T → Type 0) (r : Result T E) → ((x : T) → P x → Q x) → IfOk r P → IfOk r Q
+if_ok_of_weaker P Q (Ok x) to h = to x h
+if_ok_of_weaker P Q (Err e) to h = h
