@@ -2,7 +2,7 @@
 use Rattle.std.specs.Prelude.{◌≡◌, ◌<◌, ℕ, ◌*◌, ◌/◌, ◌%◌, ◌^◌, ℤ, pos, negsuc}
 use Rattle.std.proofs.Common.{arith}
 use Rattle.ir_isa.specs.Fields.{sign_extended, low_bits}
-use Rattle.ir_isa.specs.Decoded.{below_32, low_12, high_12, low_13, high_13, even_13, low_21, high_21, even_21}
+use Rattle.ir_isa.specs.Ranges.{below_32, low_12, high_12, low_13, high_13, even_13, low_21, high_21, even_21}
 use Rattle.ir_isa.specs.declared.inst.Register.{Register}
 use Rattle.ir_isa.specs.declared.inst.Immediate.{Immediate}
 use Rattle.ir_isa.specs.declared.inst.BranchOffset.{BranchOffset}

@@ -7,7 +7,8 @@ use Rattle.ir_isa.specs.Even.{IsEven}
 use Rattle.ir_isa.specs.Code.{IsCode, shift_functs, reg_functs}
 use Rattle.ir_isa.specs.Rows.{branch_funct, load_funct, store_funct, imm_funct}
 use Rattle.ir_isa.specs.Words.{word_of}
-use Rattle.ir_isa.specs.Decoded.{field_s, fits_s, field_b, fits_b, fits_i, field_j, fits_j}
+use Rattle.ir_isa.specs.Immediates.{field_s, field_b, field_j}
+use Rattle.ir_isa.specs.Ranges.{fits_s, fits_b, fits_i, fits_j}
 use Rattle.ir_isa.specs.declared.inst.Inst.{Inst}
 use Rattle.ir_isa.specs.declared.inst.Inst.TheVariants.{Lui, Auipc, Jal, Jalr, Branch, Load, Store, OpImm, Shift, Op, Fence, Ecall, Ebreak}
 use Rattle.ir_isa.specs.declared.inst.BranchOp.{BranchOp}

@@ -5,3 +5,4 @@ pub mod Decoded
 pub mod Words
 pub mod Even
 pub mod Immediates
+pub mod Ranges
