@@ -2,7 +2,7 @@
 
 use crate::values::UNTIL;
 use clap::ArgMatches;
-use ir_chaos::{Fact, condition_of};
+use ir_chaos::{Condition, Fact, condition_of};
 use std::alloc::{AllocError, Global};
 
 // Whether a condition asks for a stale write that rests on what was read, or for none; nothing, if it is another condition.
@@ -33,7 +33,9 @@ pub fn stale_by(
 
 // That a text is no condition.
 fn no_condition(alloc: Global, text: &str) -> Result<String, AllocError> {
-    format!(in alloc; "--{UNTIL}: '{text}' is no condition")
+    format!(in alloc;
+        "--{UNTIL}: '{text}' is no condition: there are end, code, word, out, fault, bad, budget and stale, `!` before one and ` | ` between two"
+    )
 }
 
 /// The other conditions as they are written, or that one is none.
@@ -46,12 +48,20 @@ pub fn conditions_of(
         if stale_of(text).is_some() {
             continue;
         }
-        if condition_of(text.as_bytes()).is_none() {
+        if condition_of(alloc, text.as_bytes())?.is_none() {
             return Ok(Err(no_condition(alloc, text)?));
         }
         conditions.push(String::from_str(alloc, text)?)?;
     }
     Ok(Ok(conditions))
+}
+
+// Whether a condition asks for a spent budget.
+fn asks_for_budget(condition: &Condition<'_>) -> bool {
+    condition
+        .alternatives
+        .iter()
+        .any(|literal| literal.fact == Fact::Budget)
 }
 
 // What is wrong with a condition that has to hold of an outcome, if something is.
@@ -61,10 +71,10 @@ fn no_outcome(alloc: Global, text: &str) -> Result<Option<String>, AllocError> {
             "--{UNTIL}: '{text}' is about a run, and runs of one outcome differ in it: `ir hunt` looks for it"
         )?));
     }
-    let Some(condition) = condition_of(text.as_bytes()) else {
+    let Some(condition) = condition_of(alloc, text.as_bytes())? else {
         return Ok(Some(no_condition(alloc, text)?));
     };
-    if condition.fact == Fact::Budget {
+    if asks_for_budget(&condition) {
         return Ok(Some(format!(in alloc;
             "--{UNTIL}: '{text}' holds of no outcome, since no budget ends a run here: a hang is printed in a line of its own"
         )?));

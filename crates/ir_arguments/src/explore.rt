@@ -45,10 +45,12 @@ and the lines of `ir record`. TRACE is written as `ir record IMAGE TRACE --order
 the same S, FILE and profile.
 If none fulfils them, the lines are those without COND, and TRACE isn't written. After `finished` no complete run of the guest
 has an outcome that does, and after `covered C` and `stopped WHY covered C` none of at most C switches. COND is a single argument,
-as in `ir hunt`: `end T E`, `code T V`, `word O I V`, `out T TEXT`, `fault`, `bad`, or one of them after `!`.
-Exit status: 0 finished or covered, 1 a file that can't be read or written, memory that ran out outside the search, or standard
-output that can't be written, 2 bad arguments, 3 a refused image, or a guest with more threads or objects than the profile takes,
-or a COND about what the guest hasn't, 5 stopped. With COND: 0 found, 5 none was found, whatever the last line says.
+as in `ir hunt`: `end T E`, `code T V`, `word O I V`, `out T TEXT`, `fault`, `bad`, or one of them after `!`, or several of these
+with ` | ` between them.
+Exit status: 0 finished without a hang, or covered, 1 a file that can't be read or written, memory that ran out outside the search,
+or standard output that can't be written, 2 bad arguments, 3 a refused image, or a guest with more threads or objects than the
+profile takes, or a COND about what the guest hasn't, 6 stopped, 7 finished, and from some state no run reaches an end any more.
+With COND: 0 found, 5 finished or covered, and no outcome fulfils them, 6 stopped, and none was found.
 ";
 
 const STATES: &str = "states";

@@ -17,24 +17,26 @@ pub const HUNT_AFTER: &str =
     "Each seed gives a schedule of the guest's threads, always the same. The guest is run by the schedules of A, A+1 and so on up to
 B, on all processors. The lowest seed whose run fulfils each COND is recorded again: `found seed S order LIST` is printed, then
 TRACE is written, and the lines of `ir record` follow. LIST is for `ir record --order`. If no seed does, `none A..B` is printed,
-nothing is written, and the exit status is 5. That proves nothing of other schedules. A+N is N seeds from A on.
+nothing is written, and the exit status isn't 0. That proves nothing of other schedules. A+N is N seeds from A on.
 Threads change places only before an entry, and when a thread is done; with P 2 also before a leave. The ways to choose:
    walk    each thread that can continue has the same chance
    pct:D   the thread of the highest priority continues. Priorities are drawn; at D - 1 drawn places the thread that would continue
            falls below the others. A thread that enters again and again while others could continue falls too: it polls.
    mix     even seeds walk, odd seeds are pct:2, pct:3 and pct:4 in turn
-COND is a single argument, and `!` before it negates it. Numbers are decimal, or hexadecimal after 0x:
+COND is a single argument: one of these, `!` before one to negate it, or several with ` | ` between them, of which one has to hold.
+Numbers are decimal, or hexadecimal after 0x:
    end T E       thread T's end is E
    code T V      thread T ended by END with code V
    word O I V    word I of object O is V at the end
-   out T TEXT    TEXT, all that follows a single blank, occurs in what thread T printed
+   out T TEXT    TEXT, all that follows a single blank, up to ` | `, occurs in what thread T printed
    fault         some thread didn't end by END
    bad           some thread didn't end by END with code 0
    budget        some thread's budget is spent: that is how a guest ends that waits forever
-   stale         `ir stale` with the image lists a write: it rests on a read that was written over
+   stale         `ir stale` with the image lists a write: it rests on a read that was written over. Not beside ` | `
 CLOCK, RANDOM, FILE, P and PREFIX are those of `ir record` with LIST. Ctrl-C ends a hunt, and nothing is written.
 Exit status: 0 found, 1 a file that can't be read or written or is too long, 2 bad arguments, 3 a refused image, a guest with
-more threads or objects than P allows, or a COND about what the guest hasn't, 5 none was found.
+more threads or objects than P allows, or a COND about what the guest hasn't, 5 none was found, 6 none was found among the seeds
+that were followed, and some were left out because their runs have too many turns.
 ";
 
 /// What is hunted, how, and where what is found goes.

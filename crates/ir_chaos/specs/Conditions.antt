@@ -1,6 +1,6 @@
 -- What a hunt looks for in what a run came to.
 use Rattle.std.specs.Prelude.{ℕ, ◌==◌, eqb, ◌&&◌, ◌||◌, nat_lt, Bool, true, false, List, [], ◌∷◌, map, not, if◌then◌else◌, Option, Some, None}
-use Rattle.std.specs.List.{slice_index_or, starts_with}
+use Rattle.std.specs.List.{slice_index_or, starts_with, list_all}
 use Rattle.ir_flat.specs.Flat.{Flat}
 use Rattle.ir_image.specs.Guest.{Guest, object_count, object_words}
 use Rattle.std.specs.Prelude.{length}
@@ -8,6 +8,7 @@ use Rattle.ir_thread.specs.State.{end_number}
 use Rattle.ir_thread.specs.declared.end.End as end
 use Rattle.ir_thread.specs.declared.end.End.TheVariants as ends
 use Rattle.ir_chaos.specs.declared.condition.Condition as declared
+use Rattle.ir_chaos.specs.declared.condition.Literal as declared_literal
 use Rattle.ir_chaos.specs.declared.condition.Fact as fact
 use Rattle.ir_chaos.specs.declared.condition.Fact.TheVariants as facts
 
@@ -22,9 +23,13 @@ pub data Fact : Type 0 where
   Budget : Fact
 
 -- a fact, or that it isn't so
-pub record Condition : Type 0 where
+pub record Literal : Type 0 where
   pub is_denied : Bool
   pub fact : Fact
+
+-- literals, of which one has to hold
+pub record Condition : Type 0 where
+  pub alternatives : List Literal
 
 -- the same of the code's
 abbrev pub as_fact : fact.Fact → Fact
@@ -36,8 +41,11 @@ as_fact facts.Fault = Fault
 as_fact facts.Bad = Bad
 as_fact facts.Budget = Budget
 
+abbrev pub as_literal : declared_literal.Literal → Literal
+as_literal l = record { is_denied = l.is_denied; fact = as_fact l.fact }
+
 abbrev pub as_condition : declared.Condition → Condition
-as_condition c = record { is_denied = c.is_denied; fact = as_fact c.fact }
+as_condition c = record { alternatives = map as_literal c.alternatives.items }
 
 -- what a run came to
 pub record Outcome : Type 0 where
@@ -102,9 +110,13 @@ is_so Fault o = some_is is_fault o.ends
 is_so Bad o = some_is is_bad o.ends
 is_so Budget o = some_is is_spent o.ends
 
--- whether the condition holds of it: the fact is so, or with `!` it isn't
+-- whether the literal holds of it: the fact is so, or with `!` it isn't
+abbrev pub holds : Literal → Outcome → Bool
+holds l o = if l.is_denied then not (is_so l.fact o) else is_so l.fact o
+
+-- whether the condition holds of it: some literal does
 abbrev pub fulfils : Condition → Outcome → Bool
-fulfils c o = if c.is_denied then not (is_so c.fact o) else is_so c.fact o
+fulfils c o = some_is (λ l. holds l o) c.alternatives
 
 -- whether the guest has the thread, the object and the word that the fact is about
 abbrev pub is_about : Fact → Guest → Bool
@@ -115,3 +127,7 @@ is_about (Printed thread text) g = nat_lt thread (length g.entries)
 is_about Fault g = true
 is_about Bad g = true
 is_about Budget g = true
+
+-- whether it has what each literal is about
+abbrev pub is_about_each : Condition → Guest → Bool
+is_about_each c g = list_all (λ l. is_about l.fact g) c.alternatives

@@ -2,7 +2,9 @@
 use Rattle.std.specs.Prelude.{ℕ, suc, ◌+◌, ◌%◌, ◌==◌, ◌&&◌, nat_le, nat_lt, Bool, List, [], ◌∷◌, length, take, drop, codes, Option, Some, None, option_map, option_and_then, if◌then◌else◌}
 use Rattle.std.specs.Str.{bytes_eq}
 use Rattle.ir_command.specs.Commands.{most_small, number_up_to}
-use Rattle.ir_chaos.specs.Conditions.{Fact, End, Code, Word, Printed, Fault, Bad, Budget, Condition}
+use Rattle.bstr.specs.Text.{split_at}
+use Rattle.memchr.specs.Find.{matches}
+use Rattle.ir_chaos.specs.Conditions.{Fact, End, Code, Word, Printed, Fault, Bad, Budget, Literal, Condition}
 
 -- how many bytes come before the first blank
 abbrev pub word_length : List ℕ → ℕ
@@ -70,6 +72,23 @@ abbrev pub marks : List ℕ → ℕ
 marks [] = 0
 marks (b ∷ text) = if b == 33 then suc (marks text) else 0
 
--- the condition that a text writes: each `!` denies what is after it
+-- the literal that a text writes: each `!` denies what is after it
+abbrev pub literal_of : List ℕ → Option Literal
+literal_of text = option_map (λ fact. record { is_denied = marks text % 2 == 1; fact = fact }) (fact_of (drop (marks text) text))
+
+-- what is between two literals
+abbrev pub bar : List ℕ
+bar = codes " | "
+
+-- the texts between the bars, of which no two share a byte
+abbrev pub parts_of : List ℕ → List (List ℕ)
+parts_of text = split_at text (length bar) 0 (matches text bar 0)
+
+-- the literals that texts write, if each writes one
+abbrev pub literals_of : List (List ℕ) → Option (List Literal)
+literals_of [] = Some []
+literals_of (text ∷ texts) = option_and_then (λ l. option_map (λ ls. l ∷ ls) (literals_of texts)) (literal_of text)
+
+-- the condition that a text writes: literals, with bars between them
 abbrev pub condition_of : List ℕ → Option Condition
-condition_of text = option_map (λ fact. record { is_denied = marks text % 2 == 1; fact = fact }) (fact_of (drop (marks text) text))
+condition_of text = option_map (λ ls. record { alternatives = ls }) (literals_of (parts_of text))

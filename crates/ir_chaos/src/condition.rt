@@ -1,6 +1,6 @@
 //! What a hunt looks for in what a run came to.
 
-ghost use Rattle.ir_chaos.specs.Conditions.{as_condition, as_fact, fulfils, is_about, is_so, outcome_of};
+ghost use Rattle.ir_chaos.specs.Conditions.{as_condition, as_fact, as_literal, fulfils, holds, is_about, is_about_each, is_so, outcome_of};
 ghost use Rattle.std.specs.Prelude.{◌≡◌};
 
 use crate::outcome::{
@@ -31,11 +31,18 @@ pub enum Fact<'a> {
 
 /// A fact, or that it isn't so.
 #[derive(Clone, Copy, Debug, PartialEq, Eq)]
-pub struct Condition<'a> {
+pub struct Literal<'a> {
     /// Whether it must not be so.
     pub is_denied: bool,
     /// The fact.
     pub fact: Fact<'a>,
+}
+
+/// Literals, of which one has to hold.
+#[derive(Debug, Drop)]
+pub struct Condition<'a> {
+    /// The literals, as they are written. There is at least one in a condition that `condition_of` gives.
+    pub alternatives: Vec<Literal<'a>>,
 }
 
 impl Fact<'_> {
@@ -71,18 +78,29 @@ impl Fact<'_> {
     }
 }
 
-impl Condition<'_> {
-    /// Whether it holds of what these threads and objects came to.
-    pub fn holds(&self, flat: &Flat<'_>) -> bool
-        ensures { result ≡ fulfils (as_condition self.now) (outcome_of flat.now) }
+impl Literal<'_> {
+    // Whether it holds of what these threads and objects came to.
+    fn holds(&self, flat: &Flat<'_>) -> bool
+        ensures { result ≡ holds (as_literal self.now) (outcome_of flat.now) }
     {
         self.fact.is_so(flat) != self.is_denied
     }
+}
 
-    /// Whether the guest has the thread, the object and the word that it is about.
-    pub fn is_about(&self, image: &Image) -> bool
-        ensures { result ≡ is_about (as_condition self.now).fact image.now }
+impl Condition<'_> {
+    /// Whether one of its literals holds of what these threads and objects came to.
+    pub fn holds(&self, flat: &Flat<'_>) -> bool
+        ensures { result ≡ fulfils (as_condition self.now) (outcome_of flat.now) }
     {
-        self.fact.is_about(image)
+        self.alternatives.iter().any(|literal| literal.holds(flat))
+    }
+
+    /// Whether the guest has the threads, the objects and the words that its literals are about.
+    pub fn is_about(&self, image: &Image) -> bool
+        ensures { result ≡ is_about_each (as_condition self.now) image.now }
+    {
+        self.alternatives
+            .iter()
+            .all(|literal| literal.fact.is_about(image))
     }
 }

@@ -18,7 +18,7 @@ mod text;
 mod way;
 
 pub use chooser::Chooser;
-pub use condition::{Condition, Fact};
+pub use condition::{Condition, Fact, Literal};
 pub use laws::{schedules_are_of_threads, schedules_are_orders};
 pub use run::Choices;
 pub use runner::Runner;

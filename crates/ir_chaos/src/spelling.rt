@@ -1,12 +1,14 @@
 //! How conditions are written.
 
-ghost use Rattle.ir_chaos.specs.Conditions.{as_condition, as_fact};
-ghost use Rattle.ir_chaos.specs.Spelling.{two_values, three_values, printed_fact, bare_fact, fact_named, fact_of, condition_of};
-ghost use Rattle.std.specs.Prelude.{◌≡◌, option_map};
+ghost use Rattle.ir_chaos.specs.Conditions.{as_condition, as_fact, as_literal};
+ghost use Rattle.ir_chaos.specs.Spelling.{two_values, three_values, printed_fact, bare_fact, fact_named, fact_of, literal_of, condition_of};
+ghost use Rattle.std.specs.Prelude.{◌≡◌, option_map, IfOk};
 
-use crate::condition::{Condition, Fact};
+use crate::condition::{Condition, Fact, Literal};
 use crate::text::{cut, marks};
+use bstr::ByteSlice;
 use ir_command::parse_u32;
+use std::alloc::{AllocError, Global};
 
 // The greatest number of an end.
 const MOST_END: u32 = 14;
@@ -93,15 +95,36 @@ fn fact_of(text: &[u8]) -> Option<Fact<'_>>
     }
 }
 
-/// The condition that a text writes: `end T E`, `code T V`, `word O I V`, `out T TEXT`, `fault`, `budget`, or `!` and a condition. One
-/// blank is between two words, and TEXT is all that comes after one. Numbers are decimal, or `0x` and hexadecimal digits.
-pub fn condition_of(text: &[u8]) -> Option<Condition<'_>>
-    ensures { option_map as_condition result ≡ condition_of text.now }
+// The literal that a text writes.
+fn literal_of(text: &[u8]) -> Option<Literal<'_>>
+    ensures { option_map as_literal result ≡ literal_of text.now }
 {
     let marks = marks(text);
     let fact = fact_of(&text[marks..])?;
-    Some(Condition {
+    Some(Literal {
         is_denied: marks % 2 == 1,
         fact,
     })
+}
+
+// What is between two literals.
+const BAR: &[u8] = b" | ";
+
+/// The condition that a text writes, if it writes one: literals with ` | ` between them. A literal is `end T E`, `code T V`, `word O I V`,
+/// `out T TEXT`, `fault`, `bad`, `budget`, or `!` and a literal. One blank is between two words, and TEXT is all that comes after one. Numbers
+/// are decimal, or `0x` and hexadecimal digits.
+///
+/// # Errors
+/// Out of memory.
+pub fn condition_of(alloc: Global, text: &[u8]) -> Result<Option<Condition<'_>>, AllocError>
+    ensures { IfOk result (λ read. option_map as_condition read ≡ condition_of text.now) }
+{
+    let mut alternatives = Vec::new(alloc);
+    for part in text.split_str(BAR) {
+        match literal_of(part) {
+            Some(literal) => alternatives.push(literal)?,
+            None => return Ok(None),
+        }
+    }
+    Ok(Some(Condition { alternatives }))
 }

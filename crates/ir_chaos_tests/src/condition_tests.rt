@@ -1,7 +1,8 @@
 //! Conditions, and what holds of a run.
 
 use crate::guests::{ENTRIES, lost_update, run};
-use ir_chaos::{Condition, Fact, Way, condition_of};
+use ir_chaos::{Fact, Literal, Way, condition_of};
+use std::alloc::{AllocError, Global};
 use std::test::Fail;
 
 // What a text writes.
@@ -33,30 +34,65 @@ const WRITTEN: [(&str, Option<Fact<'static>>); 25] = [
     ("faults", None),
 ];
 
+// The literals of the condition that a text writes, none if it writes no condition.
+fn literals_of(alloc: Global, text: &str) -> Result<Vec<Literal<'_>>, AllocError> {
+    match condition_of(alloc, text.as_bytes())? {
+        Some(condition) => Ok(condition.alternatives),
+        None => Ok(Vec::new(alloc)),
+    }
+}
+
 #[test]
 fn texts_write_conditions(rt: HostRuntime) -> Result<(), Fail> {
+    let alloc = rt.alloc();
     for (text, fact) in &WRITTEN {
-        let condition = condition_of(text.as_bytes());
-        let wanted = fact.map(|fact| Condition {
+        let literals = literals_of(alloc, text)?;
+        assert_eq!(rt; literals.len() <= 1, true);
+        let first = literals.first().copied();
+        let wanted = fact.map(|fact| Literal {
             is_denied: false,
             fact,
         });
-        assert_eq!(rt; condition, wanted);
+        assert_eq!(rt; first, wanted);
     }
     Ok(())
 }
 
 #[test]
 fn a_mark_denies(rt: HostRuntime) -> Result<(), Fail> {
-    let denied = condition_of(b"!fault".as_slice()).map(|condition| condition.is_denied);
-    assert_eq!(rt; denied, Some(true));
-    let twice = condition_of(b"!!fault".as_slice()).map(|condition| condition.is_denied);
-    assert_eq!(rt; twice, Some(false));
+    let alloc = rt.alloc();
+    for (text, is_denied) in [("!fault", true), ("!!fault", false)] {
+        let literals = literals_of(alloc, text)?;
+        let denied = literals.first().map(|literal| literal.is_denied);
+        assert_eq!(rt; denied, Some(is_denied));
+    }
+    Ok(())
+}
+
+// How many literals a text writes, 0 if it writes no condition.
+const ALTERNATIVES: [(&str, usize); 8] = [
+    ("fault | bad", 2),
+    ("!fault | word 0 0 1 | end 0 1", 3),
+    ("out 0 a | bad", 2),
+    ("out 0 a|b", 1),
+    ("fault|bad", 0),
+    ("fault | ", 0),
+    (" | fault", 0),
+    ("fault |  | bad", 0),
+];
+
+#[test]
+fn bars_divide_alternatives(rt: HostRuntime) -> Result<(), Fail> {
+    let alloc = rt.alloc();
+    for (text, count) in &ALTERNATIVES {
+        let literals = literals_of(alloc, text)?;
+        assert_eq!(rt; literals.len(), *count);
+    }
     Ok(())
 }
 
 // Whether a condition holds of a run of the guest that loses an update, and whether the guest has what it is about.
-const HELD: [(&str, bool, bool); 15] = [
+const HELD: [(&str, bool, bool); 19] = [
     ("word 0 0 1", true, true),
     ("!word 0 0 2", true, true),
     ("word 0 0 2", false, true),
@@ -72,6 +108,10 @@ const HELD: [(&str, bool, bool); 15] = [
     ("fault", false, true),
     ("bad", false, true),
     ("!budget", true, true),
+    ("fault | word 0 0 1", true, true),
+    ("word 0 0 1 | fault", true, true),
+    ("fault | bad", false, true),
+    ("bad | word 0 8 0", true, false),
 ];
 
 #[test]
@@ -81,7 +121,7 @@ fn conditions_hold_of_a_run(rt: HostRuntime) -> Result<(), Fail> {
     let (choices, runner) = run(alloc, &image, Way::Walk, 0, 16)?;
     assert_eq!(rt; choices, Ok(ENTRIES));
     for (text, holds, is_about) in &HELD {
-        let Some(condition) = condition_of(text.as_bytes()) else {
+        let Some(condition) = condition_of(alloc, text.as_bytes())? else {
             return Err(Fail::from("no condition"));
         };
         assert_eq!(rt; condition.holds(&runner.flat), *holds);

@@ -97,7 +97,7 @@ fn loses(alloc: Global, image: &Image, way: Way, seed: u64) -> Result<bool, Fail
     requires { IsAllowed One image.now }
 {
     let (choices, runner) = run(alloc, image, way, seed, 16)?;
-    let Some(condition) = condition_of(b"word 0 0 1".as_slice()) else {
+    let Some(condition) = condition_of(alloc, b"word 0 0 1".as_slice())? else {
         return Err(Fail::from("no condition"));
     };
     Ok(choices.is_ok() && condition.holds(&runner.flat))

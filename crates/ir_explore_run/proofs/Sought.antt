@@ -6,7 +6,7 @@ use Rattle.ir_files.specs.declared.exit_status.ExitStatus.{ExitStatus}
 use Rattle.ir_graph.specs.Standing.{NeedsSwitches}
 use Rattle.ir_image.specs.Guest.{Guest}
 use Rattle.ir_explore_run.specs.Conditions.{IsFirst}
-use Rattle.ir_explore_run.specs.Texts.{Known, AreKnown, IsKnownText}
+use Rattle.ir_explore_run.specs.Texts.{Known, AreKnown, IsKnownText, vain_status_of}
 use Rattle.ir_explore_run.specs.Until.{IsSought, IsVain}
 use Rattle.ir_explore_run.specs.Plan.{ExplorePlan, setup_of}
 use Rattle.ir_explore_run.proofs.Fulfilled.{never_within_if_none_before, never_fulfils_if_none_before}
@@ -41,14 +41,14 @@ is_sought_if_known_at_n_switches_and_first_found guest plan cs n k found a first
 }
 
 -- none was found
-pub vain_text_if_none_found : (guest : Guest) (plan : ExplorePlan) (cs : List Condition) (k : Known) (answered : ExitStatus) (text : List ℕ)
-    → IsSought guest plan cs k None → IsKnownText guest k answered text → IsVain guest plan cs text
-vain_text_if_none_found guest plan cs k answered text s printed = let a = s.whole refl in record {
+pub vain_text_if_none_found : (guest : Guest) (plan : ExplorePlan) (cs : List Condition) (k : Known) (alone : ExitStatus) (text : List ℕ)
+    → IsSought guest plan cs k None → IsKnownText guest k alone text → IsVain guest plan cs (vain_status_of k.ended) text
+vain_text_if_none_found guest plan cs k alone text s printed = let a = s.whole refl in record {
   known = k;
   are = a;
-  answered = answered;
-  printed = printed;
+  printed = (alone, printed);
   none = s.first;
   never = λ e. never_fulfils_if_none_before (setup_of guest plan) cs k.flats k.outcomes (a.all e) s.first;
   within = never_within_if_none_before (setup_of guest plan) cs k.flats k.outcomes k.levels a.explored s.first;
+  status = refl;
 }

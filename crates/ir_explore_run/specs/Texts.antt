@@ -79,11 +79,18 @@ pub record IsPart (setup : Setup) (text : List ℕ) : Type 0 where
   pub explored : AreExplored setup flats levels outcomes
   pub texts : AreTexts (objects_of setup.guest) flats outcomes (length outcomes) text
 
--- the exit status of a search that ended so
-abbrev pub status_of : Ended → ExitStatus
-status_of Finished = status.Done
-status_of Covered = status.Done
-status_of (Stopped why) = status.NotSo
+-- the exit status of a search that ended so, and knows so many states that can't be brought to an end
+abbrev pub status_of : Ended → ℕ → ExitStatus
+status_of Finished zero = status.Done
+status_of Finished (suc hangs) = status.Hangs
+status_of Covered hangs = status.Done
+status_of (Stopped why) hangs = status.GaveUp
+
+-- the same of a search in which no outcome fulfils the conditions
+abbrev pub vain_status_of : Ended → ExitStatus
+vain_status_of Finished = status.NotSo
+vain_status_of Covered = status.NotSo
+vain_status_of (Stopped why) = status.GaveUp
 
 -- the line of a hang, if one is known
 abbrev pub IsHangText : Option Shown → List ℕ → Type 0
@@ -150,7 +157,7 @@ pub record IsEnding (k : Known) (answered : ExitStatus) (text : List ℕ) : Type
   pub hang_lines : List ℕ
   pub hang_text : IsHangText k.hang hang_lines
   pub whole : text ≡ hang_lines ++ end_line k.ended k.levels (length k.outcomes) (length k.flats) k.hangs k.timed
-  pub status : answered ≡ status_of k.ended
+  pub status : answered ≡ status_of k.ended k.hangs
 
 -- it is printed: the outcomes of the guest, a hang if one is known, and how the search for them ended
 pub record IsKnownText (guest : Guest) (k : Known) (answered : ExitStatus) (text : List ℕ) : Type 0 where
@@ -169,7 +176,7 @@ pub record IsStopped (guest : Guest) (plan : ExplorePlan) (answered : ExitStatus
   pub why : Stop
   pub reason : IsReason guest plan why
   pub whole : text ≡ end_line (Stopped why) 0 0 0 0 false
-  pub status : answered ≡ status.NotSo
+  pub status : answered ≡ status.GaveUp
 
 -- the answer about a guest
 abbrev pub IsAnswerAbout : Guest → ExplorePlan → ExitStatus → List ℕ → Type 0

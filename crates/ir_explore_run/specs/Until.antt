@@ -1,5 +1,6 @@
 -- What `ir explore --until` finds, and what it writes.
-use Rattle.std.specs.Prelude.{◌≡◌, ◌⊎◌, ℕ, suc, true, List, [], ◌++◌, length, Option, Some, None, Ok}
+use Rattle.std.specs.Prelude.{◌≡◌, ◌⊎◌, ℕ, suc, true, List, [], ◌++◌, length, Option, Some, None, Result, Ok, Err, String}
+use Rattle.std.specs.String.{string_bytes}
 use Rattle.ir_chaos.specs.Conditions.{Condition}
 use Rattle.ir_explore.specs.declared.search.Ended.TheVariants.{Finished}
 use Rattle.ir_files.specs.Writers.{Writer, Took, Failed}
@@ -25,7 +26,7 @@ use Rattle.ir_trace.specs.Recorded.{Recorded}
 use Rattle.ir_explore_run.specs.Conditions.{fulfils_each, NeverFulfils, NeverWithin, NoneBefore, IsFirst}
 use Rattle.ir_explore_run.specs.Faults.{HasNone}
 use Rattle.ir_explore_run.specs.Lines.{found_line}
-use Rattle.ir_explore_run.specs.Texts.{Known, AreKnown, IsKnownText, objects_of, AreTexts, IsStopped}
+use Rattle.ir_explore_run.specs.Texts.{Known, AreKnown, IsKnownText, objects_of, AreTexts, IsStopped, vain_status_of}
 use Rattle.ir_explore_run.specs.declared.fault.ExploreFault.{ExploreFault}
 use Rattle.ir_explore_run.specs.declared.fault.ExploreFault.TheVariants.{Image, TooLarge, NoMem, Write}
 use Rattle.ir_explore_run.specs.Plan.{ExplorePlan, setup_of}
@@ -75,30 +76,36 @@ pub record IsSought (guest : Guest) (plan : ExplorePlan) (conditions : List Cond
 
 -- All outcomes that were found are printed, and how the search for them ended. None fulfils each condition: if the search is finished, no complete
 -- run of the guest does, and however it ended none of fewer switches than it has gone over. Runs in which a budget is spent or a log is full aside.
-pub record IsVain (guest : Guest) (plan : ExplorePlan) (conditions : List Condition) (text : List ℕ) : Type 0 where
+-- The exit status tells whether it ended before it was over.
+pub record IsVain (guest : Guest) (plan : ExplorePlan) (conditions : List Condition) (answered : ExitStatus) (text : List ℕ) : Type 0 where
   pub known : Known
   pub are : AreKnown guest plan known
-  pub answered : ExitStatus
-  pub printed : IsKnownText guest known answered text
+  pub printed : (alone : ExitStatus) × IsKnownText guest known alone text
   pub none : NoneBefore guest conditions known.flats known.outcomes (length known.outcomes)
   pub never : known.ended ≡ Finished → NeverFulfils (setup_of guest plan) conditions
   pub within : NeverWithin (setup_of guest plan) conditions known.levels
+  pub status : answered ≡ vain_status_of known.ended
 
 -- or the search didn't begin
-abbrev pub IsMissText : Guest → ExplorePlan → List Condition → List ℕ → Type 0
-IsMissText guest plan conditions text = IsVain guest plan conditions text ⊎ ((answered : ExitStatus) × IsStopped guest plan answered text)
+abbrev pub IsMissText : Guest → ExplorePlan → List Condition → ExitStatus → List ℕ → Type 0
+IsMissText guest plan conditions answered text = IsVain guest plan conditions answered text ⊎ IsStopped guest plan answered text
+
+-- the list of the outcome that was found, as its bytes, or the exit status where none was
+abbrev pub found_bytes : {Z : Type 0} → Result (String Z) ExitStatus → Result (List ℕ) ExitStatus
+found_bytes (Ok list) = Ok (string_bytes list)
+found_bytes (Err answered) = Err answered
 
 -- what is written about a guest: with the list of an outcome that fulfils each condition, or that there is none
-abbrev pub IsUntilText : Guest → ExplorePlan → List Condition → Option (List ℕ) → List ℕ → Type 0
-IsUntilText guest plan conditions None text = IsMissText guest plan conditions text
-IsUntilText guest plan conditions (Some list) text = IsHitText guest plan conditions list text
+abbrev pub IsUntilText : Guest → ExplorePlan → List Condition → Result (List ℕ) ExitStatus → List ℕ → Type 0
+IsUntilText guest plan conditions (Ok list) text = IsHitText guest plan conditions list text
+IsUntilText guest plan conditions (Err answered) text = IsMissText guest plan conditions answered text
 
 -- the same of the guest that these bytes encode, which the profile allows
-pub record IsUntil (image : List ℕ) (plan : ExplorePlan) (conditions : List Condition) (list : Option (List ℕ)) (text : List ℕ) : Type 0 where
+pub record IsUntil (image : List ℕ) (plan : ExplorePlan) (conditions : List Condition) (found : Result (List ℕ) ExitStatus) (text : List ℕ) : Type 0 where
   pub guest : Guest
   pub is : guest_at image ≡ Ok guest
   pub allowed : IsAllowed plan.profile guest
-  pub says : IsUntilText guest plan conditions list text
+  pub says : IsUntilText guest plan conditions found text
 
 -- what was found is recorded: the trace of its run, and what its threads printed
 pub record IsFinding (image : List ℕ) (plan : ExplorePlan) (conditions : List Condition) (list text : List ℕ) (trace : Recorded) (outputs : List (List ℕ)) : Type 0 where
@@ -113,4 +120,4 @@ abbrev pub HasNoAnswer : ExploreFault → List ℕ → ExplorePlan → List Cond
 HasNoAnswer (Image e) image plan conditions w = HasNone (Image e) image plan w
 HasNoAnswer TooLarge image plan conditions w = HasNone TooLarge image plan w
 HasNoAnswer NoMem image plan conditions w = Took w []
-HasNoAnswer Write image plan conditions w = (list : Option (List ℕ)) × (text : List ℕ) × IsUntil image plan conditions list text × Failed w text
+HasNoAnswer Write image plan conditions w = (found : Result (List ℕ) ExitStatus) × (text : List ℕ) × IsUntil image plan conditions found text × Failed w text

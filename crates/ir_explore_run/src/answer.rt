@@ -8,7 +8,7 @@ ghost use Rattle.ir_image.specs.Guest.{Guest};
 ghost use Rattle.ir_outcomes.specs.Explored.{AreExplored};
 ghost use Rattle.ir_thread.specs.State.{IsAllowed};
 ghost use Rattle.ir_explore_run.specs.Conditions.{NoneBefore, IsFulfilled};
-ghost use Rattle.ir_explore_run.specs.Texts.{IsReason, IsStopped, AreKnown, IsEnding, IsKnownText, known_of, status_of};
+ghost use Rattle.ir_explore_run.specs.Texts.{IsReason, IsStopped, AreKnown, IsEnding, IsKnownText, known_of, status_of, vain_status_of};
 ghost use Rattle.ir_explore_run.specs.Until.{IsHitText};
 ghost use Rattle.ir_explore_run.specs.Plan.{ExplorePlan, setup_of};
 
@@ -24,13 +24,26 @@ use ir_order::list_of_items;
 use ir_outcomes::Explored;
 use std::alloc::{AllocError, Global};
 
-// The exit status of a search that ended so.
-fn status_of(ended: Ended) -> ExitStatus
-    ensures { result ≡ status_of ended }
+// The exit status of a search that ended so, and knows so many states that can't be brought to an end.
+fn status_of(ended: Ended, hangs: usize) -> ExitStatus
+    ensures { result ≡ status_of ended hangs }
 {
     match ended {
+        Ended::Finished if hangs > 0 => ExitStatus::Hangs,
         Ended::Finished | Ended::Covered => ExitStatus::Done,
-        Ended::Stopped(_) => ExitStatus::NotSo,
+        Ended::Stopped(_) => ExitStatus::GaveUp,
+    }
+}
+
+/// The exit status of a search that ended so, in which no outcome fulfils the conditions.
+pub fn vain_status_of(ended: Ended) -> ExitStatus
+    ensures { result ≡ vain_status_of ended }
+{
+    let stopped = matches!(ended, Ended::Stopped(_));
+    if stopped {
+        ExitStatus::GaveUp
+    } else {
+        ExitStatus::NotSo
     }
 }
 
@@ -54,7 +67,7 @@ pub fn ending_text(
     };
     let line = end_line(alloc, ending)?;
     text.extend_from_slice(line.as_bytes())?;
-    Ok((text, status_of(explored.ended)))
+    Ok((text, status_of(explored.ended, explored.hangs)))
 }
 
 /// The lines of what was found out about a guest, and the exit status.
@@ -95,7 +108,7 @@ pub fn stopped_text(alloc: Global, why: Stop) -> Result<(Vec<u8>, ExitStatus), A
     };
     let line = end_line(alloc, ending)?;
     let text = Vec::from_slice(alloc, line.as_bytes())?;
-    Ok((text, ExitStatus::NotSo))
+    Ok((text, ExitStatus::GaveUp))
 }
 
 /// The lines of the outcomes up to the one at a place, and of that one as what was found, with the list that spells its order.

@@ -104,8 +104,8 @@ fn show_image<W: Observer, O: Sink>(
 }
 
 /// Writes the different outcomes of the guest that these bytes encode, level by level as they are found, each with a list that spells an order
-/// that leads to it, and then how the search for them ended. The exit status is `Done` if all were found that were asked for, and `NotSo` if
-/// the search stopped before. It is `Refused` if the bytes are no image or the guest is too large, and `Failed` if memory ran out outside the
+/// that leads to it, and then how the search for them ended. The exit status is `Done` if all were found that were asked for and no hang is known,
+/// `Hangs` if all were found and some run hangs, and `GaveUp` if the search stopped before. It is `Refused` if the bytes are no image or the guest is too large, and `Failed` if memory ran out outside the
 /// search or the writer failed: then the fault is reported in one line. The observer is told how far the search is.
 pub fn explore_run<W: Observer, O: Sink, E: Sink>(
     alloc: Global,

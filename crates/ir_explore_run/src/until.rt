@@ -1,12 +1,11 @@
 //! `ir explore --until`: the first outcome that fulfils conditions is recorded.
 
-ghost use Rattle.std.specs.Prelude.{◌≡◌, ◌⊎◌, ◌++◌, ℕ, List, [], false, true, map, Some, None, Ok, option_map, IfOk, IfErr, OnOk};
+ghost use Rattle.std.specs.Prelude.{◌≡◌, ◌⊎◌, ◌++◌, ℕ, List, [], false, true, map, Some, None, Ok, Err, option_map, IfOk, IfErr, OnOk};
 ghost use Rattle.std.specs.String.{string_bytes};
 ghost use Rattle.std.specs.Io.KnownBytes.{Appends};
 ghost use Rattle.ir_chaos.specs.Conditions.{Condition, as_condition};
 ghost use Rattle.ir_files.specs.Outputs.{output_writer_of, TookEach};
 ghost use Rattle.ir_files.specs.Writers.{Writer, Took, writer_of, Reports, fault_text};
-ghost use Rattle.ir_files.specs.declared.exit_status.ExitStatus.TheVariants.{NotSo};
 ghost use Rattle.ir_record_run.specs.Faults as recorded;
 ghost use Rattle.ir_record_run.specs.Faults.{Refuses, Stops, IsReported, unwritten_of};
 ghost use Rattle.ir_record_run.specs.Recording.{lines_of};
@@ -16,11 +15,11 @@ ghost use Rattle.ir_thread.specs.State.{IsAllowed};
 ghost use Rattle.ir_trace.specs.Encoding.{encoding};
 ghost use Rattle.ir_explore_run.specs.Faults.{fault_status, fault_words};
 ghost use Rattle.ir_explore_run.specs.Texts.{known_of};
-ghost use Rattle.ir_explore_run.specs.Until.{recording, IsSought, IsUntilText, IsUntil, IsFinding, HasNoAnswer};
+ghost use Rattle.ir_explore_run.specs.Until.{recording, found_bytes, IsSought, IsUntilText, IsUntil, IsFinding, HasNoAnswer};
 ghost use Rattle.ir_explore_run.specs.declared.fault.ExploreFault.{ExploreFault};
 ghost use Rattle.ir_explore_run.specs.Plan.{ExplorePlan};
 
-use crate::answer::{hit_text, known_text, stopped_text};
+use crate::answer::{hit_text, known_text, stopped_text, vain_status_of};
 use crate::fault::ExploreFault;
 use crate::plan::{ExplorePlan, UntilPlan};
 use crate::seek::{Sought, seek};
@@ -74,11 +73,11 @@ fn guest_of<'a>(
     }
 }
 
-// What is written, and the list of the outcome that was found, if one was.
+// What is written, and the list of the outcome that was found, or the exit status if none was.
 #[derive(Drop)]
 struct Told {
     text: Vec<u8>,
-    list: Option<String>,
+    found: Result<String, ExitStatus>,
 }
 
 // What is written of what was looked for.
@@ -90,7 +89,7 @@ fn sought_text<W>(
 ) -> Result<Told, AllocError>
     requires allowed { IsAllowed plan.now.explore.profile image.now }
     requires sought { IsSought image.now plan.now.explore (map as_condition plan.now.conditions.now) (known_of sought.now.explored) sought.now.first }
-    ensures { IfOk result (λ told. IsUntilText image.now plan.now.explore (map as_condition plan.now.conditions.now) (option_map (λ s. string_bytes s) told.list) told.text.items) }
+    ensures { IfOk result (λ told. IsUntilText image.now plan.now.explore (map as_condition plan.now.conditions.now) (found_bytes told.found) told.text.items) }
 {
     let explored = &sought.explored;
     match sought.first {
@@ -98,12 +97,15 @@ fn sought_text<W>(
             let (text, list) = hit_text(alloc, image, &plan.explore, explored, place)?;
             Ok(Told {
                 text,
-                list: Some(list),
+                found: Ok(list),
             })
         }
         None => {
             let (text, _) = known_text(alloc, image, &plan.explore, explored)?;
-            Ok(Told { text, list: None })
+            Ok(Told {
+                text,
+                found: Err(vain_status_of(explored.ended)),
+            })
         }
     }
 }
@@ -115,25 +117,28 @@ fn text_about<W: Observer>(
     plan: &UntilPlan<'_, '_, '_, W>,
 ) -> Result<Told, AllocError>
     requires { IsAllowed plan.now.explore.profile image.now }
-    ensures { IfOk result (λ told. IsUntilText image.now plan.now.explore (map as_condition plan.now.conditions.now) (option_map (λ s. string_bytes s) told.list) told.text.items) }
+    ensures { IfOk result (λ told. IsUntilText image.now plan.now.explore (map as_condition plan.now.conditions.now) (found_bytes told.found) told.text.items) }
 {
     match seek(alloc, image, plan) {
         Ok(sought) => sought_text(alloc, image, plan, &sought),
         Err(why) => {
-            let (text, _) = stopped_text(alloc, why)?;
-            Ok(Told { text, list: None })
+            let (text, answered) = stopped_text(alloc, why)?;
+            Ok(Told {
+                text,
+                found: Err(answered),
+            })
         }
     }
 }
 
-// Writes it: the list of the outcome that was found, if one was.
+// Writes it: the list of the outcome that was found, or the exit status if none was.
 fn tell_sought<W: Observer, O: Sink>(
     alloc: Global,
     plan: &UntilPlan<'_, '_, '_, W>,
     out: &mut O,
-) -> Result<Option<String>, ExploreFault>
+) -> Result<Result<String, ExitStatus>, ExploreFault>
     requires { O.broken out.old ≡ false }
-    ensures told { IfOk result (λ list. (text : List ℕ) × IsUntil plan.now.image.now plan.now.explore (map as_condition plan.now.conditions.now) (option_map (λ s. string_bytes s) list) text
+    ensures told { IfOk result (λ found. (text : List ℕ) × IsUntil plan.now.image.now plan.now.explore (map as_condition plan.now.conditions.now) (found_bytes found) text
         × Appends (O.written out.old) (O.written out.new) text) }
     ensures works { OnOk result (O.broken out.new ≡ false) }
     ensures fails { IfErr result (λ e. HasNoAnswer e plan.now.image.now plan.now.explore (map as_condition plan.now.conditions.now) (writer_of (O.written out.old) (O.written out.new) (O.broken out.new))) }
@@ -142,9 +147,9 @@ fn tell_sought<W: Observer, O: Sink>(
         Ok(guest) => guest,
         Err(why) => return Err(why),
     };
-    let Told { text, list } = text_about(alloc, guest, plan)?;
+    let Told { text, found } = text_about(alloc, guest, plan)?;
     write_all(out, text.as_slice())?;
-    Ok(list)
+    Ok(found)
 }
 
 /// Looks for the first outcome of a guest that fulfils each condition, and records a run that has it. The outcomes up to that one are written, then
@@ -152,8 +157,8 @@ fn tell_sought<W: Observer, O: Sink>(
 /// recorded is handed back. The observer of the plan is told how far the search is.
 ///
 /// # Errors
-/// The exit status. It is `NotSo` if none was found: what `explore_run` writes is written, and nothing is recorded. Else it is that of a fault,
-/// which is reported in one line.
+/// The exit status. It is `NotSo` if the search was over and none was found, and `GaveUp` if the search stopped before: what `explore_run` writes
+/// is written, and nothing is recorded. Else it is the status of a fault, which is reported in one line.
 pub fn explore_until<R, V, W, P, O, E>(
     rt: &R,
     plan: &UntilPlan<'_, '_, '_, V>,
@@ -181,13 +186,13 @@ where
     ensures whole { OnOk result (W.whole files.new.trace ≡ true) }
     ensures quiet { OnOk result (faults.new ≡ faults.old) }
     // Else there is none, which is written and nothing else; or nothing is, or that failed; or what was found is told, and its recording stopped.
-    ensures stopped { IfErr result (λ status. ((status ≡ NotSo) × (files.new.trace ≡ files.old.trace) × (files.new.outputs ≡ files.old.outputs) × (faults.new ≡ faults.old)
-        × ((text : List ℕ) × IsUntil plan.now.image.now plan.now.explore (map as_condition plan.now.conditions.now) None text × Appends (O.written out.old) (O.written out.new) text))
+    ensures stopped { IfErr result (λ status. ((files.new.trace ≡ files.old.trace) × (files.new.outputs ≡ files.old.outputs) × (faults.new ≡ faults.old)
+        × ((text : List ℕ) × IsUntil plan.now.image.now plan.now.explore (map as_condition plan.now.conditions.now) (Err status) text × Appends (O.written out.old) (O.written out.new) text))
         ⊎ (((e : ExploreFault) × (status ≡ fault_status e) × (files.new.trace ≡ files.old.trace) × (files.new.outputs ≡ files.old.outputs)
         × HasNoAnswer e plan.now.image.now plan.now.explore (map as_condition plan.now.conditions.now) (writer_of (O.written out.old) (O.written out.new) (O.broken out.new))
         × Reports (writer_of (E.written faults.old) (E.written faults.new) (E.broken faults.new)) (fault_text (fault_words e)))
         ⊎ ((e : RecordFault) × (status ≡ recorded.fault_status e) × (text list : List ℕ) × (said : O)
-        × IsUntil plan.now.image.now plan.now.explore (map as_condition plan.now.conditions.now) (Some list) text
+        × IsUntil plan.now.image.now plan.now.explore (map as_condition plan.now.conditions.now) (Ok list) text
         × Appends (O.written out.old) (O.written said) text
         × IsReported e plan.now.image.now (recording plan.now.explore (Some list)) (unwritten_of (W.called files.new.trace) (W.cause files.new.trace)) (unwritten_of (P.called files.new.outputs) (P.cause files.new.outputs))
         (writer_of (E.written faults.old) (E.written faults.new) (E.broken faults.new))
@@ -198,8 +203,8 @@ where
         ((files.new.trace ≡ files.old.trace) × (files.new.outputs ≡ files.old.outputs) × (out.new ≡ said)) ((files.new.outputs ≡ files.old.outputs) × (out.new ≡ said)) (out.new ≡ said)))) }
 {
     let list = match tell_sought(rt.alloc(), plan, out) {
-        Ok(Some(list)) => list,
-        Ok(None) => return Err(ExitStatus::NotSo),
+        Ok(Ok(list)) => list,
+        Ok(Err(answered)) => return Err(answered),
         Err(why) => {
             tell(faults, why.words());
             return Err(why.status());

@@ -15,15 +15,18 @@ pub enum ExitStatus {
     Refused,
     /// A trace doesn't fit its image, contradicts itself or another trace, or has too many boxes for a page.
     NotFit,
-    /// What was asked for isn't so: a thread of a recording didn't end by END with code 0, a hunt found no seed, or an exploration stopped or found no
-    /// outcome.
+    /// What was asked for isn't so: a thread of a recording didn't end by END with code 0, or of what was looked for there is none.
     NotSo,
+    /// A search gave up before it was known whether there is what it looked for.
+    GaveUp,
+    /// A search found a hang.
+    Hangs,
 }
 
 impl ExitStatus {
     ghost use Rattle.ir_files.specs.Statuses.{status_number};
 
-    /// The number that the system is given, 0 to 5 in the order above.
+    /// The number that the system is given, 0 to 7 in the order above.
     pub fn number(self) -> u8
         ensures { result ≡ status_number self }
     {
@@ -34,6 +37,8 @@ impl ExitStatus {
             ExitStatus::Refused => 3,
             ExitStatus::NotFit => 4,
             ExitStatus::NotSo => 5,
+            ExitStatus::GaveUp => 6,
+            ExitStatus::Hangs => 7,
         }
     }
 }

@@ -1,6 +1,8 @@
 -- How a hunt ends without a recording.
 use Rattle.std.specs.Prelude.{◌≡◌, ◌≢◌, ℕ, zero, suc, List, ◌⊎◌}
 use Rattle.ir_files.specs.Writers.{Writer, Reports, fault_text}
+use Rattle.ir_files.specs.declared.exit_status.ExitStatus.{ExitStatus}
+use Rattle.ir_files.specs.declared.exit_status.ExitStatus.TheVariants.{NotSo, GaveUp}
 use Rattle.ir_record_run.specs.Faults.{fault_words, Refuses}
 use Rattle.ir_record_run.specs.Plan.{Plan}
 use Rattle.ir_record_run.specs.declared.record_fault.RecordFault.{RecordFault}
@@ -23,6 +25,11 @@ IsTold e faults = Reports faults (fault_text (fault_words e))
 abbrev pub IsHuntLine : List ℕ → HuntPlan → List ℕ → Type 0
 IsHuntLine image plan line = ((left_out seed : ℕ) × (list : List ℕ) × IsFoundIn image plan left_out seed list × (line ≡ found_line seed list))
     ⊎ ((left_out : ℕ) × IsNoneIn image plan left_out × (line ≡ none_line plan.seeds.first plan.seeds.last))
+
+-- the exit status where none is found and so many seeds were left out
+abbrev pub none_status : ℕ → ExitStatus
+none_status zero = NotSo
+none_status (suc n) = GaveUp
 
 -- how many seeds were left out is reported, if some were; else what is reported is as before
 abbrev pub TellsLeftOut : ℕ → Writer → Type 0 → Type 0

@@ -1,6 +1,6 @@
 //! A hunt, and the recording of what it finds.
 
-ghost use Rattle.std.specs.Prelude.{◌≡◌, ◌<◌, ◌++◌, ◌⊎◌, ℕ, List, false, true, IfOk, IfErr, IfSome, MatchOption, None};
+ghost use Rattle.std.specs.Prelude.{◌≡◌, ◌<◌, ◌++◌, ◌⊎◌, ℕ, List, false, true, IfOk, IfErr, IfSome, MatchOption, None, OnOk};
 ghost use Rattle.std.specs.String.{string_bytes};
 ghost use Rattle.std.specs.Io.KnownBytes.{Appends};
 ghost use Rattle.ir_trace.specs.Encoding.{encoding};
@@ -13,7 +13,7 @@ ghost use Rattle.ir_record_run.specs.declared.record_fault.RecordFault.TheVarian
 ghost use Rattle.ir_hunt.specs.Finding.{IsOrderOfSeed, by_list};
 ghost use Rattle.ir_hunt.specs.Hunted.{IsFoundIn, IsNoneIn, IsFinding};
 ghost use Rattle.ir_hunt.specs.Lines.{found_line, left_out_words, none_line};
-ghost use Rattle.ir_hunt.specs.Stopping.{RefusesHunt, IsTold, IsHuntLine, TellsLeftOut};
+ghost use Rattle.ir_hunt.specs.Stopping.{RefusesHunt, IsTold, IsHuntLine, TellsLeftOut, none_status};
 
 use crate::plan::{HuntPlan, Seeds};
 use crate::report::{found_line, left_out_words, none_line};
@@ -145,6 +145,16 @@ fn tell_left_out<E: Sink>(faults: &mut E, words: &Option<String>)
     }
 }
 
+// The exit status of a hunt that found none, by the words that say how many seeds were left out.
+fn none_status(words: &Option<String>) -> ExitStatus
+    ensures { (left_out : ℕ) → MatchOption words.now (left_out ≡ 0) (λ words. (0 < left_out) × (string_bytes words ≡ left_out_words left_out)) → result ≡ none_status left_out }
+{
+    match words {
+        Some(_) => ExitStatus::GaveUp,
+        None => ExitStatus::NotSo,
+    }
+}
+
 // How a guest is recorded by a list.
 fn by_list<'a>(how: &RecordPlan<'a>, list: &'a str) -> RecordPlan<'a>
     ensures { result ≡ by_list how.now list.now }
@@ -164,7 +174,8 @@ fn by_list<'a>(how: &RecordPlan<'a>, list: &'a str) -> RecordPlan<'a>
 /// What was recorded is handed back.
 ///
 /// # Errors
-/// The exit status, as of `record_run`. A fault is reported in one line.
+/// The exit status. It is `NotSo` if no seed fulfils the conditions, and `GaveUp` if none is known to, but some were left out. Else it is the
+/// status of a fault, as of `record_run`, which is reported in one line.
 pub fn hunt_run<R, W, P, O, E>(
     rt: &R,
     image: &ParsedImage<'_>,
@@ -172,7 +183,7 @@ pub fn hunt_run<R, W, P, O, E>(
     files: &mut RecordFiles<W, P>,
     out: &mut O,
     faults: &mut E,
-) -> Result<Option<Trace>, ExitStatus>
+) -> Result<Trace, ExitStatus>
 where
     R: Threads + Sync + Clock + Eprint + AllocGlobal,
     W: WholeSink,
@@ -184,19 +195,19 @@ where
     requires prints { O.broken out.old ≡ false }
     requires reports { E.broken faults.old ≡ false }
     // Of the lowest seed that is found, whose run fulfils each condition: the run's trace was written, what its threads printed, and the lines
-    // with the list. Or each seed was tried and none is found, which was written. If seeds were left out, it is reported how many.
-    ensures done { IfOk result (λ o. MatchOption o
-        ((files.new.trace ≡ files.old.trace) × (files.new.outputs ≡ files.old.outputs) × Appends (O.written out.old) (O.written out.new) (none_line plan.now.seeds.first plan.now.seeds.last)
-        × ((left_out : ℕ) × IsNoneIn image.now plan.now left_out
-        × TellsLeftOut left_out (writer_of (E.written faults.old) (E.written faults.new) (E.broken faults.new)) (faults.new ≡ faults.old)))
-        (λ recorded. (left_out seed : ℕ) × (list : List ℕ) × (printed : List (List ℕ)) × IsFinding image.now plan.now left_out seed list recorded printed
+    // with the list. If seeds were left out, it is reported how many.
+    ensures done { IfOk result (λ recorded. (left_out seed : ℕ) × (list : List ℕ) × (printed : List (List ℕ)) × IsFinding image.now plan.now left_out seed list recorded printed
         × Appends (W.written files.old.trace) (W.written files.new.trace) (encoding recorded)
         × TookEach (output_writer_of (P.taken files.old.outputs) (P.taken files.new.outputs) (P.broken files.new.outputs)) printed
         × Appends (O.written out.old) (O.written out.new) (found_line seed list ++ lines_of recorded)
-        × TellsLeftOut left_out (writer_of (E.written faults.old) (E.written faults.new) (E.broken faults.new)) (faults.new ≡ faults.old))) }
-    ensures whole { IfOk result (λ o. IfSome o (λ _. W.whole files.new.trace ≡ true)) }
-    // Else nothing was written; or the line failed; or what was found is said, and its recording stopped.
-    ensures stopped { IfErr result (λ status. (e : RecordFault) × (status ≡ fault_status e) × (
+        × TellsLeftOut left_out (writer_of (E.written faults.old) (E.written faults.new) (E.broken faults.new)) (faults.new ≡ faults.old)) }
+    ensures whole { OnOk result (W.whole files.new.trace ≡ true) }
+    // Else each seed was tried and none is found, which was written, and it is reported how many were left out, if some were; or nothing was
+    // written; or the line failed; or what was found is said, and its recording stopped.
+    ensures stopped { IfErr result (λ status. ((left_out : ℕ) × (status ≡ none_status left_out) × IsNoneIn image.now plan.now left_out
+        × (files.new.trace ≡ files.old.trace) × (files.new.outputs ≡ files.old.outputs) × Appends (O.written out.old) (O.written out.new) (none_line plan.now.seeds.first plan.now.seeds.last)
+        × TellsLeftOut left_out (writer_of (E.written faults.old) (E.written faults.new) (E.broken faults.new)) (faults.new ≡ faults.old))
+        ⊎ ((e : RecordFault) × (status ≡ fault_status e) × (
         (RefusesHunt e image.now plan.now.record × (files.new.trace ≡ files.old.trace) × (files.new.outputs ≡ files.old.outputs) × (out.new ≡ out.old)
         × IsTold e (writer_of (E.written faults.old) (E.written faults.new) (E.broken faults.new)))
         ⊎ (((line : List ℕ) × (e ≡ Lines) × IsHuntLine image.now plan.now line
@@ -211,7 +222,7 @@ where
         (writer_of (W.written files.old.trace) (W.written files.new.trace) (W.broken files.new.trace))
         (output_writer_of (P.taken files.old.outputs) (P.taken files.new.outputs) (P.broken files.new.outputs))
         (writer_of (O.written said) (O.written out.new) (O.broken out.new))
-        ((files.new.trace ≡ files.old.trace) × (files.new.outputs ≡ files.old.outputs) × (out.new ≡ said)) ((files.new.outputs ≡ files.old.outputs) × (out.new ≡ said)) (out.new ≡ said))))) }
+        ((files.new.trace ≡ files.old.trace) × (files.new.outputs ≡ files.old.outputs) × (out.new ≡ said)) ((files.new.outputs ≡ files.old.outputs) × (out.new ≡ said)) (out.new ≡ said)))))) }
 {
     let alloc = rt.alloc();
     let sought = match hunted(rt, alloc, image, plan) {
@@ -223,12 +234,12 @@ where
     }
     let Some(found) = &sought.found else {
         tell_left_out(faults, &sought.left_out);
-        return Ok(None);
+        return Err(none_status(&sought.left_out));
     };
     let list = found.list.as_str();
     let plan = &by_list(&plan.record, list);
     let recording = Recording { image, plan };
     let recorded = record_by_list(rt, &recording, list, files, out, faults)?;
     tell_left_out(faults, &sought.left_out);
-    Ok(Some(recorded))
+    Ok(recorded)
 }

@@ -32,7 +32,7 @@ use std::time::Clock;
 pub struct Terminals {
     /// What is read. In a session of files each line is prompted for there.
     pub input: bool,
-    /// Where faults are reported. One of a source is explained there.
+    /// Where faults are reported. One of a source is explained there, and progress and the ends of a recording's threads are shown.
     pub faults: bool,
 }
 
@@ -104,18 +104,15 @@ fn make<D: Folder, E: Sink>(
     }
 }
 
-// The exit status of a command over an image. If a person looks on, it is said in words what a refused image is.
+// The exit status of a command over an image. It is reported what a refused image is.
 fn over_image<D: Folder, E: Sink>(
     alloc: Global,
     folder: &D,
     image: &str,
-    explains: bool,
     status: ExitStatus,
     faults: &mut E,
 ) -> ExitStatus {
-    if explains {
-        explain_image(alloc, folder, image, status, faults);
-    }
+    explain_image(alloc, folder, image, status, faults);
     status
 }
 
@@ -123,7 +120,6 @@ fn over_image<D: Folder, E: Sink>(
 fn print<R, D, G, O, E>(
     around: &Surroundings<'_, R, D, G>,
     what: &mut Print,
-    explains: bool,
     out: &mut O,
     faults: &mut E,
 ) -> ExitStatus
@@ -141,19 +137,19 @@ where
         Print::Code(arguments) => {
             let status = list_file(alloc, folder, arguments, out, faults);
             let image = arguments.image.as_str();
-            over_image(alloc, folder, image, explains, status, faults)
+            over_image(alloc, folder, image, status, faults)
         }
-        Print::Trace(arguments) => trace_file(alloc, folder, arguments, explains, out, faults),
-        Print::Events(arguments) => { events_file(alloc, folder, arguments, explains, out, faults) }
-        Print::Stale(arguments) => { stale_file(alloc, folder, arguments, explains, out, faults) }
-        Print::Who(arguments) => who_file(alloc, folder, arguments, explains, out, faults),
-        Print::Why(arguments) => why_file(alloc, folder, arguments, explains, out, faults),
-        Print::Diff(arguments) => diff_files(alloc, folder, arguments, explains, out, faults),
-        Print::View(arguments) => view_file(alloc, folder, arguments, explains, out, faults),
+        Print::Trace(arguments) => trace_file(alloc, folder, arguments, out, faults),
+        Print::Events(arguments) => { events_file(alloc, folder, arguments, out, faults) }
+        Print::Stale(arguments) => { stale_file(alloc, folder, arguments, out, faults) }
+        Print::Who(arguments) => who_file(alloc, folder, arguments, out, faults),
+        Print::Why(arguments) => why_file(alloc, folder, arguments, out, faults),
+        Print::Diff(arguments) => diff_files(alloc, folder, arguments, out, faults),
+        Print::View(arguments) => view_file(alloc, folder, arguments, out, faults),
         Print::Outcomes(arguments) => {
             let status = explore_file(around, arguments, out, faults);
             let image = arguments.image.as_str();
-            over_image(alloc, folder, image, explains, status, faults)
+            over_image(alloc, folder, image, status, faults)
         }
     }
 }
@@ -199,24 +195,23 @@ where
         Asked::Record(arguments) => {
             let status = record_file(&around, &arguments, terminals.faults, out, faults);
             let image = arguments.image.as_str();
-            over_image(alloc, folder, image, terminals.faults, status, faults)
+            over_image(alloc, folder, image, status, faults)
         }
         Asked::Hunt(arguments) => {
             let status = hunt_file(&around, &arguments, terminals.faults, out, faults);
             let image = arguments.image.as_str();
-            over_image(alloc, folder, image, terminals.faults, status, faults)
+            over_image(alloc, folder, image, status, faults)
         }
         Asked::Until(arguments) => {
             let status = until_file(&around, &arguments, terminals.faults, out, faults);
             let image = arguments.explore.image.as_str();
-            over_image(alloc, folder, image, terminals.faults, status, faults)
+            over_image(alloc, folder, image, status, faults)
         }
         Asked::Debug(arguments) => {
             let mut input = Prompting::new(input, rt, terminals.input);
             let opening = Opening {
                 arguments: &arguments,
                 speech: Speech::Lines,
-                explains: terminals.faults,
             };
             debug_files(&around, opening, &mut input, out, faults)
         }
@@ -225,11 +220,10 @@ where
             let opening = Opening {
                 arguments: &arguments,
                 speech: Speech::Packets,
-                explains: terminals.faults,
             };
             debug_files(&around, opening, &mut input, out, faults)
         }
-        Asked::Print(mut what) => print(&around, &mut what, terminals.faults, out, faults),
+        Asked::Print(mut what) => print(&around, &mut what, out, faults),
         Asked::Help(text) => help(text.as_str(), out, faults),
         Asked::Nothing(why) => {
             say(faults, why.as_str(), "", "");

@@ -13,23 +13,24 @@ use std::alloc::{AllocError, Global};
 fn read_conditions(alloc: Global, texts: &[String]) -> Result<Vec<Condition<'_>>, AllocError> {
     let mut conditions = Vec::with_capacity(alloc, texts.len())?;
     for text in texts {
-        if let Some(condition) = condition_of(text.as_bytes()) {
+        if let Some(condition) = condition_of(alloc, text.as_bytes())? {
             conditions.push(condition)?;
         }
     }
     Ok(conditions)
 }
 
-// The first of these texts that is about a thread, an object or a word that the image hasn't.
-fn about_nothing<'a>(image: &ParsedImage<'_>, texts: &'a [String]) -> Option<&'a str> {
+// The text of the first of these conditions that is about a thread, an object or a word that the image hasn't.
+fn about_nothing<'a>(
+    image: &ParsedImage<'_>,
+    conditions: &[Condition<'_>],
+    texts: &'a [String],
+) -> Option<&'a str> {
     let guest = image.guest()?;
-    for text in texts {
-        match condition_of(text.as_bytes()) {
-            Some(condition) if !condition.is_about(guest) => return Some(text.as_str()),
-            _ => {}
-        }
-    }
-    None
+    let place = conditions
+        .iter()
+        .position(|condition| !condition.is_about(guest))?;
+    texts.get(place).map(|text| text.as_str())
 }
 
 /// The conditions that these texts write; if they can't be given, the reason is reported.
@@ -41,16 +42,14 @@ pub fn conditions_of<'a, E: Sink>(
 ) -> Result<Vec<Condition<'a>>, ExitStatus>
     ensures kept { OnOk result (faults.new ≡ faults.old) }
 {
-    if let Some(text) = about_nothing(image, texts) {
+    let Ok(conditions) = read_conditions(alloc, texts) else {
+        say(faults, "memory ran out", "", "");
+        return Err(ExitStatus::Failed);
+    };
+    if let Some(text) = about_nothing(image, conditions.as_slice(), texts) {
         let why = ": the image has no such thread, object or word";
         say(faults, text, why, "");
         return Err(ExitStatus::Refused);
     }
-    match read_conditions(alloc, texts) {
-        Ok(conditions) => Ok(conditions),
-        Err(_) => {
-            say(faults, "memory ran out", "", "");
-            Err(ExitStatus::Failed)
-        }
-    }
+    Ok(conditions)
 }

@@ -113,8 +113,6 @@ pub struct Opening<'a> {
     pub arguments: &'a DebugArguments,
     /// What it speaks.
     pub speech: Speech,
-    /// Whether a person looks on: then it is said in words why nothing was opened.
-    pub explains: bool,
 }
 
 // Whether nothing was opened.
@@ -122,7 +120,7 @@ fn is_refusal(status: ExitStatus) -> bool {
     matches!(status, ExitStatus::Refused | ExitStatus::NotFit)
 }
 
-// A session of an image and a trace in files. One of gdb that opens nothing ends only once gdb has sent something.
+// A session of an image and a trace in files. If nothing is opened, it is reported why. One of gdb that opens nothing ends only once gdb has sent something.
 pub fn debug_files<R, D, G, I, O, E>(
     around: &Surroundings<'_, R, D, G>,
     opening: Opening<'_>,
@@ -157,9 +155,7 @@ where
         Speech::Lines => debug_run(&hands, image, trace, reader, out, faults),
         Speech::Packets => gdb_run(&hands, image, trace, reader, out, faults),
     };
-    if opening.explains {
-        explain_files(alloc, image, trace, status, faults);
-    }
+    explain_files(alloc, image, trace, status, faults);
     if opening.speech == Speech::Packets && is_refusal(status) {
         // gdb shows why only if its first packet can still be sent.
         let _ = next_byte(reader);

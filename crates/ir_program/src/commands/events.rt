@@ -11,12 +11,11 @@ use ir_listing::events_run;
 use ir_stream::Sink;
 use std::alloc::Global;
 
-// Prints the events of the run in two files, with the names of a map or of an ELF file. If a person looks on, it is said in words why there is none.
+// Prints the events of the run in two files, with the names of a map or of an ELF file. It is reported why there is none.
 pub fn events_file<D: Folder, O: Sink, E: Sink>(
     alloc: Global,
     folder: &D,
     arguments: &EventsArguments,
-    explains: bool,
     out: &mut O,
     faults: &mut E,
 ) -> ExitStatus
@@ -40,8 +39,6 @@ pub fn events_file<D: Folder, O: Sink, E: Sink>(
     };
     let (image, trace) = (image.as_slice(), trace.as_slice());
     let status = events_run(alloc, image, trace, &symbols, out, faults);
-    if explains {
-        explain_files(alloc, image, trace, status, faults);
-    }
+    explain_files(alloc, image, trace, status, faults);
     status
 }

@@ -37,7 +37,7 @@ fn hunted_into<R, D, G, O, E>(
     plan: &HuntPlan<'_>,
     out: &mut O,
     faults: &mut E,
-) -> Result<Option<Trace>, ExitStatus>
+) -> Result<Trace, ExitStatus>
 where
     R: Threads + Sync + Clock + Eprint + AllocGlobal,
     D: Folder,
@@ -102,13 +102,12 @@ where
         outputs: outputs.as_ref().map(|each| each.as_slice()),
     };
     match hunted_into(around, places, &image, &plan, out, faults) {
-        Ok(Some(recorded)) => {
+        Ok(recorded) => {
             if explains {
                 tell_ends(alloc, &recorded, faults);
             }
             ExitStatus::Done
         }
-        Ok(None) => ExitStatus::NotSo,
         Err(status) => status,
     }
 }

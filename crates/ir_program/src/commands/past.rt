@@ -64,13 +64,12 @@ fn files_of<D: Folder, E: Sink>(
     })
 }
 
-// Prints the stale writes of the trace in a file, with an image those that rest on what was read. If a person looks on, it is said in words
+// Prints the stale writes of the trace in a file, with an image those that rest on what was read. It is reported
 // why the image has no run with the trace.
 pub fn stale_file<D: Folder, O: Sink, E: Sink>(
     alloc: Global,
     folder: &D,
     arguments: &StaleArguments,
-    explains: bool,
     out: &mut O,
     faults: &mut E,
 ) -> ExitStatus
@@ -84,15 +83,11 @@ pub fn stale_file<D: Folder, O: Sink, E: Sink>(
     let trace = given.trace.as_slice();
     let Some(image) = given.image() else {
         let status = stale_run(alloc, trace, out, faults);
-        if explains {
-            explain_trace(alloc, THE_TRACE, trace, status, faults);
-        }
+        explain_trace(alloc, THE_TRACE, trace, status, faults);
         return status;
     };
     let status = rests_run(alloc, image, trace, out, faults);
-    if explains {
-        explain_files(alloc, image, trace, status, faults);
-    }
+    explain_files(alloc, image, trace, status, faults);
     status
 }
 
@@ -133,7 +128,6 @@ pub fn who_file<D: Folder, O: Sink, E: Sink>(
     alloc: Global,
     folder: &D,
     arguments: &WhoArguments,
-    explains: bool,
     out: &mut O,
     faults: &mut E,
 ) -> ExitStatus
@@ -151,15 +145,11 @@ pub fn who_file<D: Folder, O: Sink, E: Sink>(
             version: arguments.version,
         };
         let status = who_run(alloc, trace, &asked, out, faults);
-        if explains {
-            explain_trace(alloc, THE_TRACE, trace, status, faults);
-        }
+        explain_trace(alloc, THE_TRACE, trace, status, faults);
         return status;
     };
     let status = print_versions(alloc, image, trace, arguments, out, faults);
-    if explains {
-        explain_files(alloc, image, trace, status, faults);
-    }
+    explain_files(alloc, image, trace, status, faults);
     status
 }
 
@@ -168,7 +158,6 @@ pub fn why_file<D: Folder, O: Sink, E: Sink>(
     alloc: Global,
     folder: &D,
     arguments: &mut WhyArguments,
-    explains: bool,
     out: &mut O,
     faults: &mut E,
 ) -> ExitStatus
@@ -187,9 +176,7 @@ pub fn why_file<D: Folder, O: Sink, E: Sink>(
     };
     let Some(image) = given.image() else {
         let status = why_run(alloc, trace, &what, out, faults);
-        if explains {
-            explain_trace(alloc, THE_TRACE, trace, status, faults);
-        }
+        explain_trace(alloc, THE_TRACE, trace, status, faults);
         return status;
     };
     let asked = FitQuestion {
@@ -197,18 +184,15 @@ pub fn why_file<D: Folder, O: Sink, E: Sink>(
         at: arguments.at.take(),
     };
     let status = why_fit_run(alloc, image, trace, &asked, out, faults);
-    if explains {
-        explain_files(alloc, image, trace, status, faults);
-    }
+    explain_files(alloc, image, trace, status, faults);
     status
 }
 
-// Prints what the traces in two files have in common. If a person looks on, it is said in words which of them is refused, and why.
+// Prints what the traces in two files have in common. It is reported which of them is refused, and why.
 pub fn diff_files<D: Folder, O: Sink, E: Sink>(
     alloc: Global,
     folder: &D,
     arguments: &DiffArguments,
-    explains: bool,
     out: &mut O,
     faults: &mut E,
 ) -> ExitStatus
@@ -223,10 +207,8 @@ pub fn diff_files<D: Folder, O: Sink, E: Sink>(
     };
     let (first, second) = (first.as_slice(), second.as_slice());
     let status = diff_run(alloc, first, second, out, faults);
-    if explains {
-        explain_trace(alloc, "the first trace", first, status, faults);
-        explain_trace(alloc, "the second trace", second, status, faults);
-    }
+    explain_trace(alloc, "the first trace", first, status, faults);
+    explain_trace(alloc, "the second trace", second, status, faults);
     status
 }
 
@@ -255,7 +237,6 @@ pub fn view_file<D: Folder, O: Sink, E: Sink>(
     alloc: Global,
     folder: &D,
     arguments: &ViewArguments,
-    explains: bool,
     out: &mut O,
     faults: &mut E,
 ) -> ExitStatus
@@ -270,17 +251,17 @@ pub fn view_file<D: Folder, O: Sink, E: Sink>(
     let trace = given.trace.as_slice();
     let Some(image) = given.image() else {
         let status = view_run(alloc, trace, &asked, out, faults);
-        if explains && status == ExitStatus::NotFit {
+        if status == ExitStatus::NotFit {
             say(faults, NO_PICTURE, "", "");
-        } else if explains {
+        } else {
             explain_trace(alloc, THE_TRACE, trace, status, faults);
         }
         return status;
     };
     let status = view_fit_run(alloc, image, trace, &asked, out, faults);
-    if explains && status == ExitStatus::NotFit {
+    if status == ExitStatus::NotFit {
         say(faults, NO_PICTURE_OF_RUN, "", "");
-    } else if explains {
+    } else {
         explain_files(alloc, image, trace, status, faults);
     }
     status

@@ -10,12 +10,11 @@ use ir_files::{ExitStatus, Folder, MOST_BYTES};
 use ir_stream::Sink;
 use std::alloc::Global;
 
-// Prints the trace in a file. If a person looks on, it is said in words why it is refused, if it is.
+// Prints the trace in a file. It is reported why it is refused, if it is.
 pub fn trace_file<D: Folder, O: Sink, E: Sink>(
     alloc: Global,
     folder: &D,
     arguments: &TraceArguments,
-    explains: bool,
     out: &mut O,
     faults: &mut E,
 ) -> ExitStatus
@@ -26,8 +25,6 @@ pub fn trace_file<D: Folder, O: Sink, E: Sink>(
         return ExitStatus::Failed;
     };
     let status = trace_run(alloc, bytes.as_slice(), out, faults);
-    if explains {
-        explain_trace(alloc, THE_TRACE, bytes.as_slice(), status, faults);
-    }
+    explain_trace(alloc, THE_TRACE, bytes.as_slice(), status, faults);
     status
 }

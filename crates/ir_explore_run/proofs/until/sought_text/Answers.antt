@@ -1,9 +1,9 @@
-use Rattle.std.proofs.Common.{map, inl, subst}
+use Rattle.std.proofs.Common.{map, inl, sym, subst}
 use Rattle.ir_chaos.specs.Conditions.{as_condition}
 use Rattle.ir_explore.proofs.CallerLemmas.{index_of_element_is_below_length}
 use Rattle.ir_explore_run.specs.Conditions.{IsFirst}
 use Rattle.ir_explore_run.specs.Texts.{known_of}
-use Rattle.ir_explore_run.specs.Until.{IsSought}
+use Rattle.ir_explore_run.specs.Until.{IsSought, IsVain}
 use Rattle.ir_explore_run.proofs.Sought.{vain_text_if_none_found}
 use Rattle.ir_explore_run.proofs.until.sought_text.Goals as goal
 
@@ -28,5 +28,7 @@ pub returns-in_ok-text-in-None : goal.returns-in_ok-text-in-None
 returns-in_ok-text-in-None g c =
     let cs = map as_condition c.args.plan.now.conditions.now in
     let known = known_of c.args.sought.now.explored in
-    inl (vain_text_if_none_found c.args.image.now c.args.plan.now.explore cs known c.in_ok-text-in-None.field-0-1 c.in_ok-text-in-None.text.items
-    (subst (IsSought c.args.image.now c.args.plan.now.explore cs known) c.in-None.is c.requires.sought) c.in_ok-text-in-None.ensures)
+    let text = c.in_ok-text-in-None.text.items in
+    inl (subst (λ z. IsVain c.args.image.now c.args.plan.now.explore cs z text) (sym c.vain_status_of.ensures)
+    (vain_text_if_none_found c.args.image.now c.args.plan.now.explore cs known c.in_ok-text-in-None.field-0-1 text
+    (subst (IsSought c.args.image.now c.args.plan.now.explore cs known) c.in-None.is c.requires.sought) c.in_ok-text-in-None.ensures))

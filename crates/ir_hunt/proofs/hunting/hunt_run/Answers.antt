@@ -17,7 +17,7 @@ returns-then-is_err-clause-stopped g c =
     let failed = sym c.is_err.ensures.value ∙ c.if-is_err.true in
     let line = string_bytes c.in-Ok.sought.line in
     let sought = c.in-Ok.ensures.sought in
-    let prefix = error_fact_if_is_err c.write_all.result _ c.write_all.ensures.prefix failed in (
+    let prefix = error_fact_if_is_err c.write_all.result _ c.write_all.ensures.prefix failed in inr (
       Lines,
       c.told-then-is_err.ensures.status,
       inr (inl (
@@ -42,7 +42,7 @@ returns-in_err-recorded-clause-stopped g c =
     let line = c.as_bytes.ensures.value ∙ (rw c.in-Some.is at c.in-Ok.ensures.line) in
     let sought = c.in-Ok.ensures.sought in
     let stopped = rw c.as_str-list.ensures.value at (rw c.by_list.ensures at c.in_err-recorded.ensures.stopped) in
-    if_err_holds_if_holds_of_handed_on_error _ c.from_residual.result c.in_err-recorded.field-0.0 p.0 p.1 p.2 (
+    if_err_holds_if_holds_of_handed_on_error _ c.from_residual.result c.in_err-recorded.field-0.0 p.0 p.1 p.2 (inr (
       stopped.0,
       stopped.1,
       inr (inr (
@@ -55,7 +55,7 @@ returns-in_err-recorded-clause-stopped g c =
         stopped.2,
         stopped.3,
       )),
-    )
+    ))
 
 pub returns-clause-done : goal.returns-clause-done
 returns-clause-done g c =
