@@ -75,11 +75,11 @@ CLAIMS = [
         ("ir_record_run", "Recording", "`IsRecordedOf`: what a recording is"),
         ("ir_order", "Recording", "`IsOfRun`: the run that a trace and outputs are of"),
         ("ir_explore_run", "Recorded", "the laws"),
-    ], (405, 150)),
+    ], (420, 155)),
     Claim("Exploring up to conditions", "`ir explore --until` records an outcome that fulfils them.", {"ir_explore_run/src/until.rt": ["explore_until"]}, [
         ("ir_explore_run", "Conditions", "`IsFirst`, `NeverFulfils`"),
         ("ir_explore_run", "Until", "`IsSought`, `IsVain`"),
-    ], (320, 220)),
+    ], (325, 226)),
     Claim("Hunting", "`ir hunt` says which seeds it tried, and which is the lowest that it found.", {"ir_hunt/src/hunting.rt": ["hunt_run"]}, [
         ("ir_chaos", "Schedules", "`IsSchedule`: the run by a chooser"),
         ("ir_hunt", "Hunt", "`Hunt`: what is hunted"),

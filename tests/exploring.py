@@ -404,9 +404,10 @@ def check_guest(folder, guest, objects, world=SILENT):
     assembled(folder, "guest", source_of(guest, objects))
     more = options_of(folder, world) if world != SILENT else []
     lines, ended = explored(folder, "guest", more)
-    if ended.returncode:
+    if ended.returncode not in (0, 7):
         raise Wrong(f"{guest} in {world}: {ended!r}")
     found, last = listed(lines, objects)
+    wants(f"status of {guest} in {world}", ended.returncode, 0 if re.search(r" hangs 0( |$)", last) else 7)
     wanted = judged(guest, objects, world)
     told = {(row.threads, row.words): row.switches for row in found}
     if told != wanted.outcomes or len(told) != len(found):
@@ -536,7 +537,7 @@ def check_endless(folder):
     """Calls are steps like others: a thread that makes no entry stops the search."""
     assembled(folder, "endless", ENDLESS)
     lines, ended = explored(folder, "endless", ["--private", "1000"])
-    wants("a thread that asks for the time without end", (lines, ended.returncode), (["stopped private 0 covered - outcomes 0 states 0"], 5))
+    wants("a thread that asks for the time without end", (lines, ended.returncode), (["stopped private 0 covered - outcomes 0 states 0"], 6))
 
 
 def check_on_paper(folder, row):
@@ -656,7 +657,11 @@ UNTIL = (
     ("lost.img", ["word 0 0 1", "word 0 0 2"], 5, ["finished outcomes 2 states 12 hangs 0"]),
     ("lost.img --switches 1", ["!word 0 0 2"], 5, ["covered 1 outcomes 1 states 11"]),
     ("lost.img --switches 2", ["!word 0 0 2"], 0, ["thread 1 end 1 code 0 steps 25 events 2"]),
-    ("lost.img --states 3", ["!word 0 0 2"], 5, []),
+    ("lost.img --states 3", ["!word 0 0 2"], 6, []),
+    ("lost.img", ["word 0 0 3 | !word 0 0 2"], 0, ["thread 1 end 1 code 0 steps 25 events 2"]),
+    ("lost.img", ["word 0 0 1 | word 0 0 2", "fault | word 0 0 1"], 0, ["thread 1 end 1 code 0 steps 25 events 2"]),
+    ("lost.img", ["fault | word 0 0 3"], 5, ["finished outcomes 2 states 12 hangs 0"]),
+    ("lost.img", ["out 0 A|B"], 5, ["finished outcomes 2 states 12 hangs 0"]),
     ("counter.img", ["!word 0 0 4"], 5, ["finished outcomes 1 states 16 hangs 0"]),
     ("tries.img --profile 2", ["code 0 2", "code 1 2"], 0, ["found outcome 4 switches 1 order 1x2,1!x5,0x2,0!x5",
                                                             "thread 0 end 1 code 2 steps 7 events 1", "thread 1 end 1 code 2 steps 7 events 1"]),
@@ -675,7 +680,11 @@ NO_UNTIL = (
     ("lost.img x.trc --until '!budget'", 2, "no budget ends a run"),
     ("lost.img x.trc --until stale", 2, "`ir hunt` looks for it"),
     ("lost.img x.trc --until '!!stale' --until fault", 2, "`ir hunt` looks for it"),
-    ("lost.img x.trc --until 'end 0 15'", 2, "is no condition"),
+    ("lost.img x.trc --until 'end 0 15'", 2, "is no condition: there are end, code, word, out, fault, bad, budget and stale"),
+    ("lost.img x.trc --until 'fault | '", 2, "is no condition"),
+    ("lost.img x.trc --until 'fault | stale'", 2, "is no condition"),
+    ("lost.img x.trc --until 'fault | budget'", 2, "no budget ends a run"),
+    ("lost.img x.trc --until 'fault | end 2 1'", 3, "end 2 1: the image has no such thread, object or word"),
     ("lost.img x.trc --until 'end 2 1'", 3, "end 2 1: the image has no such thread, object or word"),
     ("lost.img x.trc --until 'word 1 0 0'", 3, "the image has no such thread, object or word"),
     ("lost.img x.trc --until 'word 0 8 0'", 3, "the image has no such thread, object or word"),

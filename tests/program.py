@@ -185,24 +185,31 @@ def at_terminal(arguments, folder):
     return ended.returncode, shown_at(control)
 
 
+def refuses(words, folder, why):
+    """A run that refuses a file, and says so and why, at a terminal and elsewhere."""
+    wants(words, at_terminal(words, folder), (3, why))
+    ended = run(words, folder)
+    wants(f"{words}, not at a terminal", (ended.returncode, ended.stderr.decode()), (3, why))
+
+
 def test_explaining(folder):
-    """At a terminal a fault is explained, asked for or not; elsewhere only if it is asked for (see above)."""
+    """At a terminal a fault of a source is explained, asked for or not, and elsewhere only if it is asked for (see above); other refusals always are."""
     for arguments in ("asm bad.s d2.img", "asm --explain bad.s d2.img"):
         wants(arguments, at_terminal(arguments, folder), (3, EXPLAINED))
         wants(f"{arguments}: d2.img", (folder / "d2.img").exists(), False)
     wants("no fault", at_terminal("asm --explain d.s d2.img", folder), (0, ""))
     for words in ("view d.img", "stale d.img", "who d.img 0", "why d.img 0 0", "trace d.img"):
-        wants(words, at_terminal(words, folder), (3, "ir: the trace is refused: these bytes are no trace\n"))
+        refuses(words, folder, "ir: the trace is refused: these bytes are no trace\n")
     both = "".join(f"ir: the {which} trace is refused: these bytes are no trace\n" for which in ("first", "second"))
-    wants("diff", at_terminal("diff d.img d.img", folder), (3, both))
+    refuses("diff d.img d.img", folder, both)
     (folder / "d.elf").write_bytes(b"\x7fELF, and more")
     refused = "ir: the image is refused, 2: these bytes are no image\n"
     no_guest = "ir: d.elf: this ELF file is no guest, because the file isn't of 32 bits, little-endian, version 1\n"
     for words in ("record d.elf x.trc", "hunt d.elf x.trc --seeds 0+1 --until fault", "explore d.elf", "explore d.elf x.trc --until fault", "list d.elf",
                   "debug d.elf whole.trc", "gdb d.elf whole.trc", "events d.elf whole.trc", "stale whole.trc --image d.elf",
                   "who whole.trc 0 --image d.elf", "why whole.trc 0 0 --image d.elf", "view whole.trc --image d.elf"):
-        wants(words, at_terminal(words, folder), (3, no_guest))
-    wants("a trace", at_terminal("record whole.trc x.trc", folder), (3, f"{refused}ir: whole.trc: this is a trace, and no image\n"))
+        refuses(words, folder, no_guest)
+    refuses("record whole.trc x.trc", folder, f"{refused}ir: whole.trc: this is a trace, and no image\n")
     wants("x.trc", (folder / "x.trc").exists(), False)
 
 

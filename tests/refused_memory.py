@@ -11,7 +11,7 @@ requests. The start of a thread is a request too.
 - A session that can't be opened writes nothing.
 - `ir asm`, `ir record`, `ir trace`, `ir stale`, `ir who`, `ir why`, `ir diff` and `ir view` end as with ample memory, or with status 1 and a line that says why.
   Then only the last lines may be missing, and a file that is there is whole.
-- `ir explore` ends as with ample memory, with status 1 and a line that says why, or with status 5 and the line `stopped memory`: then the outcomes
+- `ir explore` ends as with ample memory, with status 1 and a line that says why, or with status 6 and the line `stopped memory`: then the outcomes
   before that line are the first of those with ample memory, and all of those that it says are covered. With `--until` nothing is recorded then.
 - If a thread isn't started, all is as with ample memory.
 
@@ -372,7 +372,7 @@ def explored_run(folder, row, ample, lines, number, lasts):
         raise Wrong(f"{met!r} {found[:3]!r}")
     if (status, error.count(b"\n")) == (1, 1) and (ample[1].startswith(out) or lines.startswith(out)) and not written:
         return met, "ended with status 1"
-    if (status, error, written) == (5, b"", {}) and is_cut(out, lines):
+    if (status, error, written) == (6, b"", {}) and is_cut(out, lines):
         return met, "stopped as it says"
     raise Wrong(f"{found[:3]!r} and {sorted(written)}")
 

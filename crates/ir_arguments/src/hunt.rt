@@ -62,7 +62,7 @@ fn seeds_arg<'a>(alloc: Global) -> Arg<'a> {
     Arg::new(alloc, SEEDS)
         .long(SEEDS)
         .value_name("SEEDS")
-        .required(true)
+        .default_value("0+10000")
         .help("The seeds that are tried: A..B, from A to B, or A+N, N from A on")
 }
 

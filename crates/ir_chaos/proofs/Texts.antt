@@ -1,7 +1,7 @@
 -- Texts that occur, and words before a blank.
 use Rattle.std.proofs.Common.{◌≡◌, ◌≢◌, ℕ, zero, suc, ◌+◌, ◌-◌, ◌<◌, ◌≤◌, ◌==◌, eqb, Bool, true, false, ◌||◌, if◌then◌else◌, List, [], ◌∷◌, length, take, drop, map, get_or, refl, sym, ap, ◌∙◌, arith, eq-eqb, ne_eqb}
 use Rattle.std.proofs.lemmas.List.{drop_all, length-drop, take_all}
-use Rattle.std.specs.List.{starts_with}
+use Rattle.std.specs.List.{list_any, starts_with}
 use Rattle.ir_chaos.specs.Conditions.{occurs_in, some_is}
 use Rattle.ir_chaos.specs.Spelling.{word_length, marks}
 
@@ -131,3 +131,10 @@ some_is_step test f xs i x l e is h =
 pub some_is_false_at_end : {A B : Type 0} (test : B → Bool) (f : A → B) (xs : List A) (i : ℕ) → length xs ≤ i
     → some_is test (map f (drop i xs)) ≡ some_is test (map f xs) → false ≡ some_is test (map f xs)
 some_is_false_at_end test f xs i l h = ap (λ ys. some_is test (map f ys)) (sym (drop_all i xs l)) ∙ h
+
+-- ---- literals
+
+-- some element passes a test after a function, if the function's value passes the test
+pub list_any-map : {X Y : Type 0} (test : X → Bool) (h : Y → X) (ys : List Y) → list_any test (map h ys) ≡ list_any (λ y. test (h y)) ys
+list_any-map test h [] = refl
+list_any-map test h (y ∷ ys) = ap (λ b. test (h y) || b) (list_any-map test h ys)

@@ -1,6 +1,6 @@
 -- What a hunt looks for in what a run came to.
 use Rattle.std.specs.Prelude.{ℕ, ◌==◌, eqb, ◌&&◌, ◌||◌, nat_lt, Bool, true, false, List, [], ◌∷◌, map, not, if◌then◌else◌, Option, Some, None}
-use Rattle.std.specs.List.{slice_index_or, starts_with, list_all}
+use Rattle.std.specs.List.{slice_index_or, starts_with, list_all, list_any}
 use Rattle.ir_flat.specs.Flat.{Flat}
 use Rattle.ir_image.specs.Guest.{Guest, object_count, object_words}
 use Rattle.std.specs.Prelude.{length}
@@ -116,7 +116,7 @@ holds l o = if l.is_denied then not (is_so l.fact o) else is_so l.fact o
 
 -- whether the condition holds of it: some literal does
 abbrev pub fulfils : Condition → Outcome → Bool
-fulfils c o = some_is (λ l. holds l o) c.alternatives
+fulfils c o = list_any (λ l. holds l o) c.alternatives
 
 -- whether the guest has the thread, the object and the word that the fact is about
 abbrev pub is_about : Fact → Guest → Bool

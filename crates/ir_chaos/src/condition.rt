@@ -2,6 +2,7 @@
 
 ghost use Rattle.ir_chaos.specs.Conditions.{as_condition, as_fact, as_literal, fulfils, holds, is_about, is_about_each, is_so, outcome_of};
 ghost use Rattle.std.specs.Prelude.{◌≡◌};
+ghost use Rattle.std.specs.List.{list_all, list_any};
 
 use crate::outcome::{
     end_at, ends_by, exits_with, output_at, some_bad, some_fault, some_spent, word_at,
@@ -87,20 +88,32 @@ impl Literal<'_> {
     }
 }
 
+// Whether some literal holds of what these threads and objects came to.
+fn some_holds(literals: &[Literal<'_>], flat: &Flat<'_>) -> bool
+    ensures { result ≡ list_any (λ l. holds (as_literal l) (outcome_of flat.now)) literals.now }
+{
+    literals.iter().any(|literal| literal.holds(flat))
+}
+
+// Whether the guest has what each literal is about.
+fn each_is_about(literals: &[Literal<'_>], image: &Image) -> bool
+    ensures { result ≡ list_all (λ l. is_about (as_fact l.fact) image.now) literals.now }
+{
+    literals.iter().all(|literal| literal.fact.is_about(image))
+}
+
 impl Condition<'_> {
     /// Whether one of its literals holds of what these threads and objects came to.
     pub fn holds(&self, flat: &Flat<'_>) -> bool
         ensures { result ≡ fulfils (as_condition self.now) (outcome_of flat.now) }
     {
-        self.alternatives.iter().any(|literal| literal.holds(flat))
+        some_holds(self.alternatives.as_slice(), flat)
     }
 
     /// Whether the guest has the threads, the objects and the words that its literals are about.
     pub fn is_about(&self, image: &Image) -> bool
         ensures { result ≡ is_about_each (as_condition self.now) image.now }
     {
-        self.alternatives
-            .iter()
-            .all(|literal| literal.fact.is_about(image))
+        each_is_about(self.alternatives.as_slice(), image)
     }
 }

@@ -6,8 +6,8 @@ use Rattle.ir_files.specs.declared.exit_status.ExitStatus.{ExitStatus}
 use Rattle.ir_graph.specs.Standing.{NeedsSwitches}
 use Rattle.ir_image.specs.Guest.{Guest}
 use Rattle.ir_explore_run.specs.Conditions.{IsFirst}
-use Rattle.ir_explore_run.specs.Texts.{Known, AreKnown, IsKnownText, vain_status_of}
-use Rattle.ir_explore_run.specs.Until.{IsSought, IsVain}
+use Rattle.ir_explore_run.specs.Texts.{Known, AreKnown, IsKnownText}
+use Rattle.ir_explore_run.specs.Until.{IsSought, IsVain, vain_status_of}
 use Rattle.ir_explore_run.specs.Plan.{ExplorePlan, setup_of}
 use Rattle.ir_explore_run.proofs.Fulfilled.{never_within_if_none_before, never_fulfils_if_none_before}
 

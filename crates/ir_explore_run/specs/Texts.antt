@@ -86,12 +86,6 @@ status_of Finished (suc hangs) = status.Hangs
 status_of Covered hangs = status.Done
 status_of (Stopped why) hangs = status.GaveUp
 
--- the same of a search in which no outcome fulfils the conditions
-abbrev pub vain_status_of : Ended → ExitStatus
-vain_status_of Finished = status.NotSo
-vain_status_of Covered = status.NotSo
-vain_status_of (Stopped why) = status.GaveUp
-
 -- the line of a hang, if one is known
 abbrev pub IsHangText : Option Shown → List ℕ → Type 0
 IsHangText None text = text ≡ []

@@ -2,9 +2,11 @@
 use Rattle.std.specs.Prelude.{◌≡◌, ◌⊎◌, ℕ, suc, true, List, [], ◌++◌, length, Option, Some, None, Result, Ok, Err, String}
 use Rattle.std.specs.String.{string_bytes}
 use Rattle.ir_chaos.specs.Conditions.{Condition}
-use Rattle.ir_explore.specs.declared.search.Ended.TheVariants.{Finished}
+use Rattle.ir_explore.specs.declared.search.Ended.{Ended}
+use Rattle.ir_explore.specs.declared.search.Ended.TheVariants.{Finished, Covered, Stopped}
 use Rattle.ir_files.specs.Writers.{Writer, Took, Failed}
 use Rattle.ir_files.specs.declared.exit_status.ExitStatus.{ExitStatus}
+use Rattle.ir_files.specs.declared.exit_status.ExitStatus.TheVariants.{NotSo, GaveUp}
 use Rattle.ir_flat.specs.Flat.{tables}
 use Rattle.ir_graph.specs.Outcomes.{outcome_of}
 use Rattle.ir_graph.specs.Reached.{AllReached}
@@ -26,7 +28,7 @@ use Rattle.ir_trace.specs.Recorded.{Recorded}
 use Rattle.ir_explore_run.specs.Conditions.{fulfils_each, NeverFulfils, NeverWithin, NoneBefore, IsFirst}
 use Rattle.ir_explore_run.specs.Faults.{HasNone}
 use Rattle.ir_explore_run.specs.Lines.{found_line}
-use Rattle.ir_explore_run.specs.Texts.{Known, AreKnown, IsKnownText, objects_of, AreTexts, IsStopped, vain_status_of}
+use Rattle.ir_explore_run.specs.Texts.{Known, AreKnown, IsKnownText, objects_of, AreTexts, IsStopped}
 use Rattle.ir_explore_run.specs.declared.fault.ExploreFault.{ExploreFault}
 use Rattle.ir_explore_run.specs.declared.fault.ExploreFault.TheVariants.{Image, TooLarge, NoMem, Write}
 use Rattle.ir_explore_run.specs.Plan.{ExplorePlan, setup_of}
@@ -73,6 +75,12 @@ pub record IsSought (guest : Guest) (plan : ExplorePlan) (conditions : List Cond
   pub reached : AllReached (setup_of guest plan) known.flats
   pub first : IsFirst guest conditions known.flats known.outcomes found
   pub whole : found ≡ None → AreKnown guest plan known
+
+-- the exit status of a search that ended so, and found no outcome that fulfils the conditions
+abbrev pub vain_status_of : Ended → ExitStatus
+vain_status_of Finished = NotSo
+vain_status_of Covered = NotSo
+vain_status_of (Stopped why) = GaveUp
 
 -- All outcomes that were found are printed, and how the search for them ended. None fulfils each condition: if the search is finished, no complete
 -- run of the guest does, and however it ended none of fewer switches than it has gone over. Runs in which a budget is spent or a log is full aside.

@@ -8,8 +8,8 @@ ghost use Rattle.ir_image.specs.Guest.{Guest};
 ghost use Rattle.ir_outcomes.specs.Explored.{AreExplored};
 ghost use Rattle.ir_thread.specs.State.{IsAllowed};
 ghost use Rattle.ir_explore_run.specs.Conditions.{NoneBefore, IsFulfilled};
-ghost use Rattle.ir_explore_run.specs.Texts.{IsReason, IsStopped, AreKnown, IsEnding, IsKnownText, known_of, status_of, vain_status_of};
-ghost use Rattle.ir_explore_run.specs.Until.{IsHitText};
+ghost use Rattle.ir_explore_run.specs.Texts.{IsReason, IsStopped, AreKnown, IsEnding, IsKnownText, known_of, status_of};
+ghost use Rattle.ir_explore_run.specs.Until.{IsHitText, vain_status_of};
 ghost use Rattle.ir_explore_run.specs.Plan.{ExplorePlan, setup_of};
 
 use crate::lines::found_line;
