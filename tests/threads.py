@@ -343,6 +343,9 @@ def test_where(folder):
     wants("thread 2", {line.split()[1] for line in where(folder, "--thread", "2").stdout.splitlines()}, {"2"})
     wants("at most", (where(folder, "--most", "3").stdout.count("\n"), "events more: --most N" in where(folder, "--most", "3").stderr), (3, True))
     wants("the page", "balance at account.c:13 in deposit" in where(folder, "--page").stdout, True)
+    said = run("who account.trc 3 1 --image account.img", folder).stdout.decode()
+    noted = subprocess.run([sys.executable, WHERE, "account.elf", "account.trc", "--note", "--ir", program()], cwd=folder, check=False, capture_output=True, text=True, timeout=100, input=said).stdout
+    wants("noted", ([line for line in noted.splitlines() if line[:2] != "  "], "event 1 balance" in noted or "balance account.c" in noted), (said.splitlines(), True))
     wants("without an image", where(folder).stdout, where_of(folder, "account.elf", "account.trc").stdout)
     (folder / "account.trc").write_bytes(b"IRT1")
     wants("no recording", where(folder).returncode != 0, True)

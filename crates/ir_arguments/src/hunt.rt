@@ -8,9 +8,15 @@ use crate::values::{IMAGE, TRACE, UNTIL, file_arg, image_arg, text_of};
 use clap::{Arg, ArgAction, ArgMatches, Command};
 use ir_chaos::Way;
 use ir_hunt::Seeds;
+use ir_record_run::number_within;
 use std::alloc::{AllocError, Global};
 
 const SEEDS: &str = "seeds";
+
+const JOBS: &str = "jobs";
+
+// The most threads that can be asked for.
+const MOST_JOBS: u64 = 64;
 
 /// What follows the help of `ir hunt`.
 pub const HUNT_AFTER: &str =
@@ -54,6 +60,8 @@ pub struct HuntArguments {
     pub until: Vec<String>,
     /// Whether a stale write of the run has to rest on what was read, or none; `None` if nothing is asked of them.
     pub stale: Option<bool>,
+    /// The most threads that hunt at once.
+    pub jobs: usize,
     /// How the guest is recorded, by whatever order.
     pub options: RecordingOptions,
 }
@@ -75,6 +83,16 @@ fn until_arg<'a>(alloc: Global) -> Arg<'a> {
         .help("What has to hold of a run; given more than once, all of it")
 }
 
+fn jobs_arg<'a>(alloc: Global) -> Arg<'a> {
+    Arg::new(alloc, JOBS)
+        .long(JOBS)
+        .value_name("N")
+        .allow_negative_numbers(true)
+        .help(
+            "The most seeds that are run at once, from 1 to 64; without it as many as there are processors",
+        )
+}
+
 /// The command with its arguments.
 pub fn with_arguments<'a>(alloc: Global, command: Command<'a>) -> Result<Command<'a>, AllocError> {
     let command = command
@@ -82,8 +100,37 @@ pub fn with_arguments<'a>(alloc: Global, command: Command<'a>) -> Result<Command
         .arg(file_arg(alloc, TRACE, "The file that the trace is written to"))?
         .arg(seeds_arg(alloc))?
         .arg(until_arg(alloc))?
-        .arg(by_arg(alloc))?;
+        .arg(by_arg(alloc))?
+        .arg(jobs_arg(alloc))?;
     with_options(alloc, command)
+}
+
+// The most threads that are asked for, or what is wrong with their number.
+fn jobs_by(alloc: Global, matches: &ArgMatches<'_>) -> Result<Result<usize, String>, AllocError> {
+    let Some(text) = matches.get_str(JOBS) else {
+        return Ok(Ok(usize::MAX));
+    };
+    match number_within(1, MOST_JOBS, text) {
+        Some(number) => Ok(Ok(number as usize)),
+        None => Ok(Err(format!(in alloc;
+            "--{JOBS}: '{text}' is no number from 1 to {MOST_JOBS}"
+        )?)),
+    }
+}
+
+// The conditions on what a run comes to, and what is asked of its stale writes, or what is wrong with one.
+fn wanted_by(
+    alloc: Global,
+    matches: &ArgMatches<'_>,
+) -> Result<Result<(Vec<String>, Option<bool>), String>, AllocError> {
+    let until = match conditions_of(alloc, matches)? {
+        Ok(until) => until,
+        Err(why) => return Ok(Err(why)),
+    };
+    match stale_by(alloc, matches)? {
+        Ok(stale) => Ok(Ok((until, stale))),
+        Err(why) => Ok(Err(why)),
+    }
 }
 
 /// What its arguments ask for.
@@ -100,12 +147,12 @@ pub fn asked(alloc: Global, matches: &ArgMatches<'_>) -> Result<Asked, AllocErro
         Ok(way) => way,
         Err(why) => return Ok(Asked::Nothing(why)),
     };
-    let until = match conditions_of(alloc, matches)? {
-        Ok(until) => until,
+    let (until, stale) = match wanted_by(alloc, matches)? {
+        Ok(wanted) => wanted,
         Err(why) => return Ok(Asked::Nothing(why)),
     };
-    let stale = match stale_by(alloc, matches)? {
-        Ok(stale) => stale,
+    let jobs = match jobs_by(alloc, matches)? {
+        Ok(jobs) => jobs,
         Err(why) => return Ok(Asked::Nothing(why)),
     };
     Ok(Asked::Hunt(HuntArguments {
@@ -115,6 +162,7 @@ pub fn asked(alloc: Global, matches: &ArgMatches<'_>) -> Result<Asked, AllocErro
         way,
         until,
         stale,
+        jobs,
         options,
     }))
 }

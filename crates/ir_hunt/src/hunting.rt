@@ -54,6 +54,7 @@ pub fn order_of_seed<C: Clock>(
         },
         conditions: &[],
         stale: None,
+        jobs: 1,
         is_shown: false,
     };
     let mut seeker = Seeker::new(alloc, clock, guest, &plan)?;

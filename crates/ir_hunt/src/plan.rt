@@ -25,6 +25,8 @@ pub struct HuntPlan<'a> {
     pub conditions: &'a [Condition<'a>],
     /// Whether a stale write of a run has to rest on what was read, by the image: one, or none; if it is `None`, nothing is asked of them.
     pub stale: Option<bool>,
+    /// The most threads that hunt at once. There is one at least.
+    pub jobs: usize,
     /// Whether it is shown on standard error, once a second, how many seeds were tried.
     pub is_shown: bool,
 }

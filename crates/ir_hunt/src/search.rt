@@ -72,15 +72,15 @@ fn processors(rt: &impl Threads) -> usize
     }
 }
 
-// How many workers there are for these seeds: as many as processors, and no more than seeds.
-fn worker_count(rt: &impl Threads, seeds: Seeds) -> usize
+// How many workers there are for these seeds: as many as processors, and no more than seeds or than are wanted.
+fn worker_count(rt: &impl Threads, seeds: Seeds, jobs: usize) -> usize
     ensures { 0 < result }
 {
     let more = seeds
         .last
         .saturating_sub(seeds.first)
         .min(MOST_WORKERS as u64);
-    processors(rt).min(more as usize + 1)
+    processors(rt).min(more as usize + 1).min(jobs.max(1))
 }
 
 // What was tried of these seeds from the first on, by a worker. What no worker has tried is tried here.
@@ -232,7 +232,7 @@ fn found_in(part: Part) -> Search
     }
 }
 
-/// The lowest seed that fulfils, sought by as many threads as there are processors.
+/// The lowest seed that fulfils, sought by as many threads as there are processors, and no more than the plan wants.
 ///
 /// # Errors
 /// Out of memory.
@@ -254,7 +254,7 @@ pub fn lowest_seed<R: Threads + Clock + Sync + Eprint>(
         });
     }
     let mut own = Tries::new(alloc, rt, image, plan)?;
-    let count = worker_count(rt, seeds);
+    let count = worker_count(rt, seeds, plan.jobs);
     let mut each = workers(rt, alloc, image, plan, count, &own)?;
     let workers = each.as_mut_slice();
     let part = try_all(rt, alloc, workers, &mut own, seeds, plan.is_shown)?;

@@ -95,6 +95,7 @@ where
         seeds: arguments.seeds,
         conditions: conditions.as_slice(),
         stale: arguments.stale,
+        jobs: arguments.jobs,
         is_shown: explains,
     };
     let places = Places {
