@@ -55,7 +55,7 @@ A line is `thread T end E code C steps S events N`; the ends E are
    1 END                   6 a bad load              11 an object that isn't held
    2 EBREAK                7 a bad store             12 too much output
    3 no instruction        8 an unknown call         13 the budget is spent
-   4 a misaligned jump     9 no such object          14 too many events
+   4 a misaligned jump     9 no such object or word  14 too many events
    5 outside the code     10 an entry out of order
 At a terminal standard error says in words how a thread ended, unless it was by END with code 0.
 Exit status: 0 recorded, 1 a file that can't be read or written or is too long, a clock that can't be read, or a run by SEED with

@@ -17,7 +17,7 @@ fn words(end: End) -> &'static str {
         End::BadLoad => "a bad load",
         End::BadStore => "a bad store",
         End::UnknownCall => "an unknown call",
-        End::NoSuchObject => "no such object",
+        End::NoSuchObject => "no such object or word",
         End::EntryOutOfOrder => "an entry out of order",
         End::NotHeld => "an object that isn't held",
         End::OutputFull => "too much output",
