@@ -2,12 +2,17 @@
 use Rattle.std.proofs.Common.{◌≡◌, ℕ, suc, Option, None, List, refl, ap, ◌∙◌, subst}
 use Rattle.ir_chaos.specs.Conditions.{Condition}
 use Rattle.ir_explore.specs.declared.search.Ended.TheVariants.{Covered}
+use Rattle.ir_files.specs.Writers.{Writer}
 use Rattle.ir_files.specs.declared.exit_status.ExitStatus.{ExitStatus}
 use Rattle.ir_graph.specs.Standing.{NeedsSwitches}
 use Rattle.ir_image.specs.Guest.{Guest}
 use Rattle.ir_explore_run.specs.Conditions.{IsFirst}
 use Rattle.ir_explore_run.specs.Texts.{Known, AreKnown, IsKnownText}
-use Rattle.ir_explore_run.specs.Until.{IsSought, IsVain, vain_status_of}
+use Rattle.ir_explore_run.specs.Faults.{HasNoGuest}
+use Rattle.ir_explore_run.specs.Hang.{HasNoHangAnswer}
+use Rattle.ir_explore_run.specs.Until.{IsSought, IsVain, HasNoAnswer, vain_status_of}
+use Rattle.ir_explore_run.specs.declared.fault.ExploreFault.{ExploreFault}
+use Rattle.ir_explore_run.specs.declared.fault.ExploreFault.TheVariants.{Image, TooLarge, NoMem, Write}
 use Rattle.ir_explore_run.specs.Plan.{ExplorePlan, setup_of}
 use Rattle.ir_explore_run.proofs.Fulfilled.{never_within_if_none_before, never_fulfils_if_none_before}
 
@@ -52,3 +57,20 @@ vain_text_if_none_found guest plan cs k alone text s printed = let a = s.whole r
   within = never_within_if_none_before (setup_of guest plan) cs k.flats k.outcomes k.levels a.explored s.first;
   status = refl;
 }
+
+-- ---- no guest
+
+-- if no guest is explored, there is no answer with conditions
+pub no_guest_is_no_answer : (e : ExploreFault) (image : List ℕ) (plan : ExplorePlan) (cs : List Condition) (w : Writer) → HasNoGuest e image plan w
+    → HasNoAnswer e image plan cs w
+no_guest_is_no_answer (Image e) image plan cs w none = none
+no_guest_is_no_answer TooLarge image plan cs w none = none
+no_guest_is_no_answer NoMem image plan cs w none = none
+no_guest_is_no_answer Write image plan cs w none = absurd none
+
+-- nor one about a hang
+pub no_guest_is_no_hang_answer : (e : ExploreFault) (image : List ℕ) (plan : ExplorePlan) (w : Writer) → HasNoGuest e image plan w → HasNoHangAnswer e image plan w
+no_guest_is_no_hang_answer (Image e) image plan w none = none
+no_guest_is_no_hang_answer TooLarge image plan w none = none
+no_guest_is_no_hang_answer NoMem image plan w none = none
+no_guest_is_no_hang_answer Write image plan w none = absurd none

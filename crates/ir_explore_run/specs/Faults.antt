@@ -57,10 +57,17 @@ abbrev pub StopsPrinting : ExploreFault → Guest → ExplorePlan → Writer →
 StopsPrinting e guest plan w = EndsEarly e (setup_of guest plan) w
     ⊎ ((e ≡ Write) × (answered : ExitStatus) × (text : List ℕ) × IsAnswerAbout guest plan answered text × Failed w text)
 
+-- Why no guest is explored, and nothing is written: the image is refused, or its guest is too large; or memory ran out.
+abbrev pub HasNoGuest : ExploreFault → List ℕ → ExplorePlan → Writer → Type 0
+HasNoGuest (Image e) bytes plan w = (guest_at bytes ≡ Err e) × Took w []
+HasNoGuest TooLarge bytes plan w = ((guest : Guest) × (guest_at bytes ≡ Ok guest) × (IsAllowed plan.profile guest → ⊥)) × Took w []
+HasNoGuest NoMem bytes plan w = Took w []
+HasNoGuest Write bytes plan w = ⊥
+
 -- Why there is no answer, or not all of it. The image is refused for its first fault, or its guest is too large: then nothing is written. Or memory
 -- ran out, before anything was written or while outcomes were printed; or the writer failed.
 abbrev pub HasNone : ExploreFault → List ℕ → ExplorePlan → Writer → Type 0
-HasNone (Image e) bytes plan w = (guest_at bytes ≡ Err e) × Took w []
-HasNone TooLarge bytes plan w = ((guest : Guest) × (guest_at bytes ≡ Ok guest) × (IsAllowed plan.profile guest → ⊥)) × Took w []
+HasNone (Image e) bytes plan w = HasNoGuest (Image e) bytes plan w
+HasNone TooLarge bytes plan w = HasNoGuest TooLarge bytes plan w
 HasNone NoMem bytes plan w = Took w [] ⊎ ((guest : Guest) × IsExplorable bytes plan.profile guest × StopsPrinting NoMem guest plan w)
 HasNone Write bytes plan w = (guest : Guest) × IsExplorable bytes plan.profile guest × StopsPrinting Write guest plan w

@@ -6,3 +6,4 @@ pub mod Faults
 pub mod Conditions
 pub mod Until
 pub mod Recorded
+pub mod Hang

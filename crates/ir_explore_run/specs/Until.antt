@@ -4,7 +4,7 @@ use Rattle.std.specs.String.{string_bytes}
 use Rattle.ir_chaos.specs.Conditions.{Condition}
 use Rattle.ir_explore.specs.declared.search.Ended.{Ended}
 use Rattle.ir_explore.specs.declared.search.Ended.TheVariants.{Finished, Covered, Stopped}
-use Rattle.ir_files.specs.Writers.{Writer, Took, Failed}
+use Rattle.ir_files.specs.Writers.{Writer, Failed}
 use Rattle.ir_files.specs.declared.exit_status.ExitStatus.{ExitStatus}
 use Rattle.ir_files.specs.declared.exit_status.ExitStatus.TheVariants.{NotSo, GaveUp}
 use Rattle.ir_flat.specs.Flat.{tables}
@@ -26,7 +26,7 @@ use Rattle.ir_store.specs.Nodes.{SourcedFlat}
 use Rattle.ir_thread.specs.State.{IsAllowed, most_budget}
 use Rattle.ir_trace.specs.Recorded.{Recorded}
 use Rattle.ir_explore_run.specs.Conditions.{fulfils_each, NeverFulfils, NeverWithin, NoneBefore, IsFirst}
-use Rattle.ir_explore_run.specs.Faults.{HasNone}
+use Rattle.ir_explore_run.specs.Faults.{HasNoGuest}
 use Rattle.ir_explore_run.specs.Lines.{found_line}
 use Rattle.ir_explore_run.specs.Texts.{Known, AreKnown, IsKnownText, objects_of, AreTexts, IsStopped}
 use Rattle.ir_explore_run.specs.declared.fault.ExploreFault.{ExploreFault}
@@ -125,7 +125,7 @@ pub record IsFinding (image : List ℕ) (plan : ExplorePlan) (conditions : List 
 -- Why there is no answer: the image is refused or its guest too large, as without conditions; or memory ran out, and nothing was written; or the
 -- writer failed in it.
 abbrev pub HasNoAnswer : ExploreFault → List ℕ → ExplorePlan → List Condition → Writer → Type 0
-HasNoAnswer (Image e) image plan conditions w = HasNone (Image e) image plan w
-HasNoAnswer TooLarge image plan conditions w = HasNone TooLarge image plan w
-HasNoAnswer NoMem image plan conditions w = Took w []
+HasNoAnswer (Image e) image plan conditions w = HasNoGuest (Image e) image plan w
+HasNoAnswer TooLarge image plan conditions w = HasNoGuest TooLarge image plan w
+HasNoAnswer NoMem image plan conditions w = HasNoGuest NoMem image plan w
 HasNoAnswer Write image plan conditions w = (found : Result (List ℕ) ExitStatus) × (text : List ℕ) × IsUntil image plan conditions found text × Failed w text

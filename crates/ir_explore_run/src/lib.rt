@@ -5,6 +5,7 @@ mod answer;
 mod bytes;
 mod conditions;
 mod fault;
+mod hang;
 mod known;
 mod laws;
 mod levels;
@@ -20,10 +21,11 @@ mod until;
 
 pub use conditions::outcomes_decide;
 pub use fault::ExploreFault;
+pub use hang::{HangOrder, explore_hang};
 pub use laws::{
     hangs_never_complete, recordings_are_listed, recordings_are_untimed, recordings_have_outcomes,
     recordings_never_fulfil, untimed_recordings_are_listed,
 };
-pub use plan::{ExplorePlan, UntilPlan};
+pub use plan::{ExplorePlan, HangPlan, UntilPlan};
 pub use run::explore_run;
 pub use until::explore_until;

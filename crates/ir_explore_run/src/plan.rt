@@ -96,6 +96,17 @@ impl<'a> ExplorePlan<'a> {
     }
 }
 
+/// Which guest is explored for a hang, and how far.
+#[derive(Drop)]
+pub struct HangPlan<'a, 'i, 'o, W> {
+    /// The guest's image.
+    pub image: &'a ParsedImage<'i>,
+    /// How the guest is explored.
+    pub explore: ExplorePlan<'a>,
+    /// What is told how far the search is.
+    pub observer: &'o W,
+}
+
 /// What is looked for among the outcomes of a guest, and how far.
 #[derive(Drop)]
 pub struct UntilPlan<'a, 'i, 'o, W> {

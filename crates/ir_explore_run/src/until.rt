@@ -3,7 +3,7 @@
 ghost use Rattle.std.specs.Prelude.{◌≡◌, ◌⊎◌, ◌++◌, ℕ, List, [], false, true, map, Some, None, Ok, Err, option_map, IfOk, IfErr, OnOk};
 ghost use Rattle.std.specs.String.{string_bytes};
 ghost use Rattle.std.specs.Io.KnownBytes.{Appends};
-ghost use Rattle.ir_chaos.specs.Conditions.{Condition, as_condition};
+ghost use Rattle.ir_chaos.specs.Conditions.{as_condition};
 ghost use Rattle.ir_files.specs.Outputs.{output_writer_of, TookEach};
 ghost use Rattle.ir_files.specs.Writers.{Writer, Took, writer_of, Reports, fault_text};
 ghost use Rattle.ir_record_run.specs.Faults as recorded;
@@ -13,7 +13,7 @@ ghost use Rattle.ir_record_run.specs.declared.record_fault.RecordFault.{RecordFa
 ghost use Rattle.ir_image.specs.Guest.{guest_at};
 ghost use Rattle.ir_thread.specs.State.{IsAllowed};
 ghost use Rattle.ir_trace.specs.Encoding.{encoding};
-ghost use Rattle.ir_explore_run.specs.Faults.{fault_status, fault_words};
+ghost use Rattle.ir_explore_run.specs.Faults.{HasNoGuest, fault_status, fault_words};
 ghost use Rattle.ir_explore_run.specs.Texts.{known_of};
 ghost use Rattle.ir_explore_run.specs.Until.{recording, found_bytes, IsSought, IsUntilText, IsUntil, IsFinding, HasNoAnswer};
 ghost use Rattle.ir_explore_run.specs.declared.fault.ExploreFault.{ExploreFault};
@@ -48,7 +48,7 @@ fn recording<'a>(plan: &ExplorePlan<'a>, list: Option<&'a str>) -> RecordPlan<'a
 
 // Why a guest isn't explored, by why it isn't recorded.
 fn refusal_of(why: RecordFault) -> ExploreFault
-    ensures { (image : List ℕ) (plan : ExplorePlan) (conditions : List Condition) (w : Writer) → Refuses why image (recording plan None) → Took w [] → HasNoAnswer result image plan conditions w }
+    ensures { (image : List ℕ) (plan : ExplorePlan) (w : Writer) → Refuses why image (recording plan None) → Took w [] → HasNoGuest result image plan w }
 {
     match why {
         RecordFault::Image(why) => ExploreFault::Image(why),
@@ -58,14 +58,14 @@ fn refusal_of(why: RecordFault) -> ExploreFault
     }
 }
 
-// The guest, if it is explored.
-fn guest_of<'a>(
+/// The guest, if it is explored.
+pub fn guest_of<'a>(
     image: &'a ParsedImage<'_>,
     explore: &ExplorePlan<'_>,
 ) -> Result<&'a Image, ExploreFault>
     ensures exact { IfOk result (λ guest. guest_at image.now ≡ Ok guest.now) }
     ensures allowed { IfOk result (λ guest. IsAllowed explore.now.profile guest.now) }
-    ensures refused { IfErr result (λ e. (conditions : List Condition) (w : Writer) → Took w [] → HasNoAnswer e image.now explore.now conditions w) }
+    ensures refused { IfErr result (λ e. (w : Writer) → Took w [] → HasNoGuest e image.now explore.now w) }
 {
     match image.allowed(&recording(explore, None)) {
         Ok(guest) => Ok(guest),
@@ -132,6 +132,7 @@ fn text_about<W: Observer>(
 }
 
 // Writes it: the list of the outcome that was found, or the exit status if none was.
+#[tactic(auto, using(crate::proofs::Sought::no_guest_is_no_answer))]
 fn tell_sought<W: Observer, O: Sink>(
     alloc: Global,
     plan: &UntilPlan<'_, '_, '_, W>,
