@@ -683,6 +683,9 @@ NO_UNTIL = (
     ("lost.img x.trc --until 'end 0 15'", 2, "is no condition: there are end, code, word, out, fault, bad, budget and stale"),
     ("lost.img x.trc --until 'fault | '", 2, "is no condition"),
     ("lost.img x.trc --until 'fault | stale'", 2, "is no condition"),
+    ("lost.img x.trc --until hang --until fault", 2, "'hang' stands alone"),
+    ("lost.img x.trc --until '!hang'", 2, "is no condition"),
+    ("lost.img x.trc --until 'hang | fault'", 2, "is no condition"),
     ("lost.img x.trc --until 'fault | budget'", 2, "no budget ends a run"),
     ("lost.img x.trc --until 'fault | end 2 1'", 3, "end 2 1: the image has no such thread, object or word"),
     ("lost.img x.trc --until 'end 2 1'", 3, "end 2 1: the image has no such thread, object or word"),
@@ -732,6 +735,77 @@ def check_no_until(folder, row):
     (folder / "x.trc").unlink(missing_ok=True)
 
 
+# Thread 0 puts 1 into word 0, and then waits for word 1. Thread 1 sets word 1 only if word 0 isn't set yet: else thread 0 waits forever.
+WAITS = """        .objects 1
+        .thread first
+        .thread second
+first:  addi a0, zero, 0
+        addi a7, zero, 8        # ENTER_WRITE
+        ecall
+        addi a1, zero, 0
+        addi a2, zero, 1
+        addi a7, zero, 11       # PUT
+        ecall
+        addi a7, zero, 9        # LEAVE
+        ecall
+wait:   addi a0, zero, 0
+        addi a7, zero, 7        # ENTER_READ
+        ecall
+        addi a1, zero, 1
+        addi a7, zero, 10       # GET
+        ecall
+        addi s0, a0, 0
+        addi a0, zero, 0
+        addi a7, zero, 9
+        ecall
+        beq s0, zero, wait
+        addi a7, zero, 1        # END
+        ecall
+second: addi a0, zero, 0
+        addi a7, zero, 8
+        ecall
+        addi a1, zero, 0
+        addi a7, zero, 10
+        ecall
+        addi s0, a0, 0
+        addi a0, zero, 0
+        bne s0, zero, leave
+        addi a1, zero, 1
+        addi a2, zero, 1
+        addi a7, zero, 11
+        ecall
+leave:  addi a7, zero, 9
+        ecall
+        addi a0, zero, 0
+        addi a7, zero, 1
+        ecall
+"""
+# Guests whose hang is looked for: the options, and the status.
+HANGS = (("waits", "", 0), ("forever", "", 0), ("lost", "", 5), ("lost", "--switches 1", 6), ("waits", "--switches 0", 6), ("waits", "--states 2", 6))
+
+
+def check_hang(folder, row):
+    """A run that hangs is recorded, and comes to where LIST leads; where none is known, nothing is written."""
+    name, more, status = row
+    (folder / "hang.trc").unlink(missing_ok=True)
+    plain = run(["explore", f"{name}.img", *more.split()], folder).stdout.decode().splitlines()
+    ended = run(["explore", f"{name}.img", "hang.trc", "--until", "hang", *more.split()], folder)
+    lines = ended.stdout.decode().splitlines()
+    wants(f"{row}", (ended.returncode, lines[:len(plain)], (folder / "hang.trc").exists()), (status, plain, status == 0))
+    if status:
+        wants(f"{row}: no more lines", lines, plain)
+        return
+    order = next(line.partition(" order ")[2] for line in plain if line.startswith("hang "))
+    turns = [(int(thread), int(count or 1)) for thread, count in re.findall(r"(\d+)!?(?:x(\d+))?", order)]
+    again = run(["record", f"{name}.img", "again.trc", "--order", order or "0", "--budget", str(1 + sum(count for _, count in turns))], folder)
+    wants(f"{row}: the lines of the recording", lines[len(plain):], again.stdout.decode().splitlines())
+    wants(f"{row}: the trace", (folder / "hang.trc").read_bytes(), (folder / "again.trc").read_bytes())
+    taken = [sum(count for other, count in turns if other == thread) for thread in range(2)]
+    steps = [int(line.split()[7]) for line in lines[len(plain):]]
+    wants(f"{row}: each thread goes as far as LIST", [mine >= least for mine, least in zip(steps, taken)], [True, True])
+    wants(f"{row}: somebody waits", "end 13" in "\n".join(lines[len(plain):]), True)
+
+
 def check_until_failures(folder):
     """Writers that fail: standard output, TRACE, an output. And what the threads of the outcome print."""
     ended = shell("./ir explore lost.img k.trc --until 'word 0 0 1' >/dev/full", folder)
@@ -770,6 +844,8 @@ def main():
         for name, example in (("lost", "lost_update"), ("counter", "counter")):
             assembled(folder, name, examples()[example])
         assembled(folder, "tries", TRIES)
+        assembled(folder, "waits", WAITS)
+        assembled(folder, "forever", WAITS.replace("        addi a2, zero, 1\n        addi a7, zero, 11\n        ecall\nleave:", "leave:"))
         assembled(folder, "spends", source_of(SPENDS, 1))
         (folder / "ab.bin").write_bytes(b"AB")
         (folder / "x.0").write_bytes(b"AB")
@@ -777,6 +853,7 @@ def main():
         (folder / "ir").symlink_to(program())
         checks = [lambda: check_examples(folder), lambda: check_guest(folder, LOST_WAKE_UP, 1),
                   *(lambda row=row: check_until(folder, row) for row in UNTIL),
+                  *(lambda row=row: check_hang(folder, row) for row in HANGS),
                   *(lambda row=row: check_no_until(folder, row) for row in NO_UNTIL), lambda: check_until_failures(folder), lambda: check_as_found(folder),
                   *(lambda row=row: check_on_paper(folder, row) for row in ON_PAPER),
                   *(lambda row=row: check_live(folder, row) for row in LIVE),

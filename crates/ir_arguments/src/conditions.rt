@@ -64,6 +64,24 @@ fn asks_for_budget(condition: &Condition<'_>) -> bool {
         .any(|literal| literal.fact == Fact::Budget)
 }
 
+// What asks for a run that hangs.
+const HANG: &str = "hang";
+
+/// Whether a run that hangs is asked for, or that this excludes other conditions.
+pub fn hang_by(
+    alloc: Global,
+    matches: &ArgMatches<'_>,
+) -> Result<Result<bool, String>, AllocError> {
+    let texts = matches.get_strs(UNTIL).unwrap_or_default();
+    let hang = texts.iter().any(|text| *text == HANG);
+    if hang && texts.len() > 1 {
+        return Ok(Err(format!(in alloc;
+            "--{UNTIL}: '{HANG}' stands alone, since a run that hangs has no outcome"
+        )?));
+    }
+    Ok(Ok(hang))
+}
+
 // What is wrong with a condition that has to hold of an outcome, if something is.
 fn no_outcome(alloc: Global, text: &str) -> Result<Option<String>, AllocError> {
     if stale_of(text).is_some() {
@@ -76,7 +94,7 @@ fn no_outcome(alloc: Global, text: &str) -> Result<Option<String>, AllocError> {
     };
     if asks_for_budget(&condition) {
         return Ok(Some(format!(in alloc;
-            "--{UNTIL}: '{text}' holds of no outcome, since no budget ends a run here: a hang is printed in a line of its own"
+            "--{UNTIL}: '{text}' holds of no outcome, since no budget ends a run here: 'hang' looks for a run that waits forever"
         )?));
     }
     Ok(None)

@@ -3,7 +3,7 @@
 ghost use Rattle.std.specs.Prelude.{◌≡◌, ◌≤◌, IfOk};
 
 use crate::asked::{Asked, Print};
-use crate::conditions::outcome_conditions_of;
+use crate::conditions::{hang_by, outcome_conditions_of};
 use crate::recording::{
     INPUT, OUTPUT, input_arg, output_arg, profile_arg, profile_in, random_arg, random_in,
 };
@@ -47,10 +47,14 @@ If none fulfils them, the lines are those without COND, and TRACE isn't written.
 has an outcome that does, and after `covered C` and `stopped WHY covered C` none of at most C switches. COND is a single argument,
 as in `ir hunt`: `end T E`, `code T V`, `word O I V`, `out T TEXT`, `fault`, `bad`, or one of them after `!`, or several of these
 with ` | ` between them.
+With `--until hang` alone all lines are printed, and if there is the line `hang`, TRACE is of the run by its LIST, and the lines of
+`ir record` follow. Behind the hang each thread goes on until its budget is spent: as many steps as all threads take by LIST, and
+one.
 Exit status: 0 finished without a hang, or covered, 1 a file that can't be read or written, memory that ran out outside the search,
 or standard output that can't be written, 2 bad arguments, 3 a refused image, or a guest with more threads or objects than the
 profile takes, or a COND about what the guest hasn't, 6 stopped, 7 finished, and from some state no run reaches an end any more.
-With COND: 0 found, 5 finished or covered, and no outcome fulfils them, 6 stopped, and none was found.
+With COND: 0 found, 5 finished or covered, and no outcome fulfils them, 6 stopped, and none was found. With `hang`: 0 found, 5
+finished, and no run hangs, 6 covered or stopped.
 ";
 
 const STATES: &str = "states";
@@ -119,6 +123,8 @@ pub struct UntilArguments {
     pub trace: String,
     /// The conditions, as they are written.
     pub until: Vec<String>,
+    /// Whether a run that hangs is looked for in place of an outcome; then there are no conditions.
+    pub hang: bool,
     /// What the paths of the files of what threads print begin with, if they are asked for.
     pub output: Option<String>,
 }
@@ -258,13 +264,29 @@ fn arguments_of(
     }))
 }
 
+// The conditions that an outcome has to fulfil, if no hang is looked for, or what is wrong with one.
+fn conditions_besides(
+    alloc: Global,
+    matches: &ArgMatches<'_>,
+    hang: bool,
+) -> Result<Result<Vec<String>, String>, AllocError> {
+    if hang {
+        return Ok(Ok(Vec::new(alloc)));
+    }
+    outcome_conditions_of(alloc, matches)
+}
+
 /// What its arguments ask for.
 pub fn asked(alloc: Global, matches: &ArgMatches<'_>) -> Result<Asked, AllocError> {
     let explore = match arguments_of(alloc, matches)? {
         Ok(explore) => explore,
         Err(why) => return Ok(Asked::Nothing(why)),
     };
-    let until = match outcome_conditions_of(alloc, matches)? {
+    let hang = match hang_by(alloc, matches)? {
+        Ok(hang) => hang,
+        Err(why) => return Ok(Asked::Nothing(why)),
+    };
+    let until = match conditions_besides(alloc, matches, hang)? {
         Ok(until) => until,
         Err(why) => return Ok(Asked::Nothing(why)),
     };
@@ -273,6 +295,7 @@ pub fn asked(alloc: Global, matches: &ArgMatches<'_>) -> Result<Asked, AllocErro
             explore,
             trace,
             until,
+            hang,
             output: given_text(alloc, matches, OUTPUT)?,
         })),
         None => Ok(Asked::Print(Print::Outcomes(explore))),

@@ -11,7 +11,7 @@ use crate::dispatch::Surroundings;
 use crate::ends::tell_ends;
 use ir_arguments::UntilArguments;
 use ir_explore::Observer;
-use ir_explore_run::{UntilPlan, explore_until};
+use ir_explore_run::{HangPlan, UntilPlan, explore_hang, explore_until};
 use ir_files::{ExitStatus, Folder};
 use ir_record_run::ParsedImage;
 use ir_stream::Sink;
@@ -69,7 +69,30 @@ where
     explore_until(rt, plan, &mut files, out, faults)
 }
 
-// Looks for an outcome of a guest, and records a run that has it into a file, and what its threads print into others where they are asked for.
+// Looks for a run of a guest that hangs, whose trace and outputs go into files at these paths.
+fn hang_into<R, D, G, O, E>(
+    around: &Surroundings<'_, R, D, G>,
+    places: Places<'_, '_>,
+    plan: &HangPlan<'_, '_, '_, G>,
+    out: &mut O,
+    faults: &mut E,
+) -> Result<Trace, ExitStatus>
+where
+    R: Clock + AllocGlobal,
+    D: Folder,
+    G: Observer,
+    O: Sink,
+    E: Sink,
+    requires writes { O.broken out.old ≡ false }
+    requires reports { E.broken faults.old ≡ false }
+{
+    let Surroundings { rt, folder, .. } = *around;
+    let mut files = record_files(rt.alloc(), folder, places.trace, places.outputs);
+    explore_hang(rt, plan, &mut files, out, faults)
+}
+
+// Looks for an outcome of a guest, or a run that hangs, and records such a run into a file, and what its threads print into others where they are asked
+// for.
 pub fn until_file<R, D, G, O, E>(
     around: &Surroundings<'_, R, D, G>,
     arguments: &UntilArguments,
@@ -105,17 +128,29 @@ where
         Ok(beside) => beside,
         Err(status) => return status,
     };
-    let plan = UntilPlan {
-        image: &image,
-        explore: arguments.explore.plan(input.as_slice()),
-        conditions: conditions.as_slice(),
-        observer: around.gate,
-    };
+    let (image, observer) = (&image, around.gate);
+    let explore = arguments.explore.plan(input.as_slice());
     let places = Places {
         trace: paths.trace,
         outputs: outputs.as_ref().map(|each| each.as_slice()),
     };
-    match found_into(around, places, &plan, out, faults) {
+    let found = if arguments.hang {
+        let plan = HangPlan {
+            image,
+            explore,
+            observer,
+        };
+        hang_into(around, places, &plan, out, faults)
+    } else {
+        let plan = UntilPlan {
+            image,
+            explore,
+            conditions: conditions.as_slice(),
+            observer,
+        };
+        found_into(around, places, &plan, out, faults)
+    };
+    match found {
         Ok(recorded) => {
             if explains {
                 tell_ends(alloc, &recorded, faults);
