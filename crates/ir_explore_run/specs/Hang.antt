@@ -21,7 +21,7 @@ use Rattle.ir_explore_run.specs.Texts.{Known, AreKnown, IsKnownText, IsStopped}
 use Rattle.ir_explore_run.specs.Until.{recording}
 use Rattle.ir_explore_run.specs.declared.fault.ExploreFault.{ExploreFault}
 use Rattle.ir_explore_run.specs.declared.fault.ExploreFault.TheVariants.{Image, TooLarge, NoMem, Write}
-use Rattle.ir_explore_run.specs.declared.hang.HangOrder.{HangOrder}
+use Rattle.ir_explore_run.specs.declared.hang_order.HangOrder.{HangOrder}
 
 -- a budget and so many steps more, but no more than the highest budget
 abbrev pub with_steps : ℕ → ℕ → ℕ

@@ -15,11 +15,12 @@ ghost use Rattle.ir_explore_run.specs.Faults.{fault_status, fault_words};
 ghost use Rattle.ir_explore_run.specs.Hang.{with_steps, budget_from, hang_plan, unhung_status_of, FindsHang, LeadsToHang, IsHangText, IsHangAnswer, IsHangRecorded, HasNoHangAnswer};
 ghost use Rattle.ir_explore_run.specs.Texts.{AreKnown, known_of};
 ghost use Rattle.ir_explore_run.specs.declared.fault.ExploreFault.{ExploreFault};
-ghost use Rattle.ir_explore_run.specs.declared.hang.HangOrder.{HangOrder};
+ghost use Rattle.ir_explore_run.specs.declared.hang_order.HangOrder.{HangOrder};
 ghost use Rattle.ir_explore_run.specs.Plan.{ExplorePlan};
 
 use crate::answer::{known_text, stopped_text};
 use crate::fault::ExploreFault;
+use crate::hang_order::HangOrder;
 use crate::known::known;
 use crate::plan::{ExplorePlan, HangPlan};
 use crate::until::guest_of;
@@ -35,16 +36,6 @@ use ir_thread::MOST_BUDGET;
 use ir_trace::Trace;
 use std::alloc::{AllocError, Global};
 use std::time::Clock;
-
-/// The order in which a run that hangs is recorded.
-#[derive(Drop)]
-pub struct HangOrder {
-    /// The list that leads to the hang.
-    pub list: String,
-    /// The most steps of each thread: as many as all threads take by the list, and one.
-    pub budget: u64,
-    ghost within: { budget ≤ most_budget },
-}
 
 // A budget and so many steps more.
 fn with_steps(budget: u64, count: u64) -> u64

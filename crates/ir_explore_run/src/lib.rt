@@ -6,6 +6,7 @@ mod bytes;
 mod conditions;
 mod fault;
 mod hang;
+mod hang_order;
 mod known;
 mod laws;
 mod levels;
@@ -21,7 +22,8 @@ mod until;
 
 pub use conditions::outcomes_decide;
 pub use fault::ExploreFault;
-pub use hang::{HangOrder, explore_hang};
+pub use hang::explore_hang;
+pub use hang_order::HangOrder;
 pub use laws::{
     hangs_never_complete, recordings_are_listed, recordings_are_untimed, recordings_have_outcomes,
     recordings_never_fulfil, untimed_recordings_are_listed,
