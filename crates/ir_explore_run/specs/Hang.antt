@@ -1,5 +1,5 @@
 -- What `ir explore --until hang` finds, and what it writes.
-use Rattle.std.specs.Prelude.{◌≡◌, ◌⊎◌, ℕ, ◌+◌, List, [], ◌∷◌, codes, Option, Some, None, Result, Ok, Err, nat_le, if◌then◌else◌}
+use Rattle.std.specs.Prelude.{◌≡◌, ◌⊎◌, ℕ, ◌+◌, List, [], ◌∷◌, codes, Some, None, Result, Ok, Err, nat_le, if◌then◌else◌}
 use Rattle.std.specs.String.{string_bytes}
 use Rattle.ir_explore.specs.declared.search.Ended.{Ended}
 use Rattle.ir_explore.specs.declared.search.Ended.TheVariants.{Finished, Covered, Stopped}

@@ -1,10 +1,9 @@
 //! `ir explore --until hang`: a run that hangs is recorded.
 
-ghost use Rattle.std.specs.Prelude.{◌≡◌, ◌≤◌, ◌⊎◌, ◌++◌, ℕ, List, [], false, true, Ok, Err, IfOk, IfErr, OnOk, length};
-ghost use Rattle.std.specs.String.{string_bytes};
+ghost use Rattle.std.specs.Prelude.{◌≡◌, ◌≤◌, ◌⊎◌, ◌++◌, ℕ, List, false, true, Ok, Err, IfOk, IfErr, OnOk};
 ghost use Rattle.std.specs.Io.KnownBytes.{Appends};
 ghost use Rattle.ir_files.specs.Outputs.{output_writer_of, TookEach};
-ghost use Rattle.ir_files.specs.Writers.{Writer, Took, writer_of, Reports, fault_text};
+ghost use Rattle.ir_files.specs.Writers.{writer_of, Reports, fault_text};
 ghost use Rattle.ir_record_run.specs.Faults as recorded;
 ghost use Rattle.ir_record_run.specs.Faults.{Stops, IsReported, unwritten_of};
 ghost use Rattle.ir_record_run.specs.Recording.{lines_of};

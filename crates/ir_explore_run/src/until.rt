@@ -1,7 +1,6 @@
 //! `ir explore --until`: the first outcome that fulfils conditions is recorded.
 
 ghost use Rattle.std.specs.Prelude.{◌≡◌, ◌⊎◌, ◌++◌, ℕ, List, [], false, true, map, Some, None, Ok, Err, option_map, IfOk, IfErr, OnOk};
-ghost use Rattle.std.specs.String.{string_bytes};
 ghost use Rattle.std.specs.Io.KnownBytes.{Appends};
 ghost use Rattle.ir_chaos.specs.Conditions.{as_condition};
 ghost use Rattle.ir_files.specs.Outputs.{output_writer_of, TookEach};

@@ -5,7 +5,7 @@ ghost use Rattle.std.specs.String.{string_bytes};
 ghost use Rattle.std.specs.Io.KnownBytes.{Appends};
 ghost use Rattle.ir_trace.specs.Encoding.{encoding};
 ghost use Rattle.ir_files.specs.Outputs.{output_writer_of, TookEach};
-ghost use Rattle.ir_files.specs.Writers.{writer_of, Failed, Reports, fault_text};
+ghost use Rattle.ir_files.specs.Writers.{writer_of, Failed, Reports};
 ghost use Rattle.ir_record_run.specs.Faults.{fault_status, Stops, IsReported, unwritten_of};
 ghost use Rattle.ir_record_run.specs.Recording.{lines_of};
 ghost use Rattle.ir_record_run.specs.declared.record_fault.RecordFault.{RecordFault};

@@ -14,7 +14,7 @@ use crate::texts::{object_text, version_text};
 use crate::versions::versions_of;
 use crate::who_err::{Absent, WhoErr};
 use ir_files::{ExitStatus, tell};
-use ir_past::{Opened, PastErr, makers_of, open_trace, readers_of, refuse};
+use ir_past::{Opened, makers_of, open_trace, readers_of, refuse};
 use ir_stream::{Sink, write_all};
 use ir_trace::Trace;
 use std::alloc::{AllocError, Global};
@@ -72,7 +72,7 @@ fn show_trace<O: Sink>(
     ensures fails { IfErr result (λ e. IsUnanswered asked.now (Ok trace.now) e (writer_of (O.written out.old) (O.written out.new) (O.broken out.new))) }
 {
     let text = answer(alloc, trace, asked)?;
-    write_all(out, text.as_bytes()).map_err(PastErr::from)?;
+    write_all(out, text.as_bytes())?;
     Ok(ExitStatus::Done)
 }
 

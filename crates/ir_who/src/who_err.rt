@@ -2,11 +2,12 @@
 
 ghost use Rattle.std.specs.Prelude.{◌≡◌};
 ghost use Rattle.ir_past.specs.declared.past_err.PastErr.{PastErr};
-ghost use Rattle.ir_past.specs.declared.past_err.PastErr.TheVariants.{NoMem};
+ghost use Rattle.ir_past.specs.declared.past_err.PastErr.TheVariants.{NoMem, Write};
 ghost use Rattle.ir_who.specs.declared.who_err.WhoErr.TheVariants.{Unwritten};
 
 use ir_files::ExitStatus;
 use ir_past::PastErr;
+use ir_stream::DeviceErr;
 use std::alloc::AllocError;
 
 /// What the trace doesn't have.
@@ -65,5 +66,13 @@ impl From<AllocError> for WhoErr {
 
     fn from(_e: AllocError) -> WhoErr {
         WhoErr::Unwritten(PastErr::NoMem)
+    }
+}
+
+impl From<DeviceErr> for WhoErr {
+    ghost from_gives = { λ _ e. e ≡ Unwritten Write };
+
+    fn from(_e: DeviceErr) -> WhoErr {
+        WhoErr::Unwritten(PastErr::Write)
     }
 }
