@@ -78,3 +78,10 @@ returns-clause-done g c =
       subst (λ z. TellsLeftOut sought.0 (writer_of (g.E.Sink.written z) (g.E.Sink.written c.tell_left_out-2.new.faults) (g.E.Sink.broken c.tell_left_out-2.new.faults))
           (c.tell_left_out-2.new.faults ≡ z)) c.in_ok-recorded.ensures.quiet (c.tell_left_out-2.ensures sought.0 sought.2),
     )
+
+pub returns-in-Err-clause-stopped : goal.returns-in-Err-clause-stopped
+returns-in-Err-clause-stopped g c = inr (
+  c.in-Err.why,
+  c.told.ensures.status,
+  inl (c.in-Err.ensures.refused, refl, refl, refl, c.told.ensures.told),
+)
