@@ -15,7 +15,7 @@ pub returns-then-threads-clause-fails : goal.returns-then-threads-clause-fails
 returns-then-threads-clause-fails g c =
     let is = IsPairAnswer c.args.a.now c.args.b.now in
     let w : Writer = writer_of (g.O.Sink.written c.args.out.now) (g.O.Sink.written c.put_header.new.out) (g.O.Sink.broken c.put_header.new.out) in
-    let differ : length c.args.a.now.threads ≢ length c.args.b.now.threads = 
+    let differ : length c.args.a.now.threads ≢ length c.args.b.now.threads =
     λ same. c.if-threads.true (ap length c.threads.ensures.value ∙ same ∙ sym (ap length c.threads-2.ensures.value)) in
     if_err_weaker c.put_header.result (λ e. Stops e w (header_line 1)) (λ e. NotAnswered is e w)
     (λ e stops. not_answered_if_stopped is NotFit (header_line 1) e w (inl (differ, refl, refl)) stops)
@@ -25,7 +25,7 @@ pub returns-then-objects-clause-fails : goal.returns-then-objects-clause-fails
 returns-then-objects-clause-fails g c =
     let is = IsPairAnswer c.args.a.now c.args.b.now in
     let w : Writer = writer_of (g.O.Sink.written c.args.out.now) (g.O.Sink.written c.put_header-then-objects.new.out) (g.O.Sink.broken c.put_header-then-objects.new.out) in
-    let threads : length c.args.a.now.threads ≡ length c.args.b.now.threads = 
+    let threads : length c.args.a.now.threads ≡ length c.args.b.now.threads =
     sym (ap length c.threads.ensures.value) ∙ c.if-threads.false ∙ ap length c.threads-2.ensures.value in
     let differ : c.args.a.now.objects ≢ c.args.b.now.objects =
     λ same. c.if-objects.true (c.objects.ensures.value ∙ same ∙ sym c.objects-2.ensures.value) in
@@ -40,7 +40,7 @@ returns-in_err-write_all-clause-fails g c =
     let old = g.O.Sink.written c.args.out.now in
     let new = g.O.Sink.written c.write_all.new.writer in
     let w = writer_of old new (g.O.Sink.broken c.write_all.new.writer) in
-    let threads : length c.args.a.now.threads ≡ length c.args.b.now.threads = 
+    let threads : length c.args.a.now.threads ≡ length c.args.b.now.threads =
     sym (ap length c.threads.ensures.value) ∙ c.if-threads.false ∙ ap length c.threads-2.ensures.value in
     let objects : c.args.a.now.objects ≡ c.args.b.now.objects =
     sym c.objects.ensures.value ∙ c.if-objects.false ∙ c.objects-2.ensures.value in
