@@ -1,7 +1,7 @@
 -- The state that a turn of a thread beside some objects leads to.
-use Rattle.std.proofs.Common.{◌≡◌, ℕ, ◌<◌, Bool, true, false, Some, None, List, length, get_or, refl, sym, ap, ◌∙◌, subst}
+use Rattle.std.proofs.Common.{◌≡◌, ℕ, ◌<◌, Bool, true, false, Some, None, List, length, length-set, get_or, refl, sym, ap, ◌∙◌, subst, arith}
 use Rattle.std.specs.Prelude.{slice_get}
-use Rattle.std.specs.List.{slice_index_or}
+use Rattle.std.specs.List.{AllByRecursion, slice_index_or}
 use Rattle.ir_thread.specs.State.{ask_of}
 use Rattle.ir_object.specs.Cell.{Cell}
 use Rattle.ir_sources.specs.Sources.{Source}
@@ -9,10 +9,10 @@ use Rattle.ir_thread.specs.State.{ThreadState}
 use Rattle.ir_flat.specs.Flat.{thread_of, cell_of}
 use Rattle.ir_object.specs.Empty.{empty}
 use Rattle.ir_flat.proofs.CallerLemmas.{may_step_iff_can_for_ask}
-use Rattle.ir_lemmas.proofs.CallerLemmas.{length_of_map}
+use Rattle.ir_lemmas.proofs.CallerLemmas.{get_or_element_satisfies_all_by_recursion, length_of_map}
 use Rattle.ir_freeze.specs.Frozen.{is_over}
 use Rattle.ir_store.specs.declared.spot.Spot.{Spot}
-use Rattle.ir_store.specs.Nodes.{Shared, Node, SourcedFlat, IsSourced, AreSameLooks, cell_in, cells_at, sourced_in, with_turn}
+use Rattle.ir_store.specs.Nodes.{Shared, Node, SourcedFlat, IsNode, IsSourced, IsWithin, HaveWords, AreSameLooks, cell_in, cells_at, sourced_in, with_turn}
 use Rattle.ir_store.specs.Table.{idle_beside, HaveNoTicks}
 use Rattle.ir_graph.specs.declared.known.Turn.{Turn}
 use Rattle.ir_graph.specs.Setup.{Setup}
@@ -26,7 +26,7 @@ use Rattle.ir_graph.specs.Times.{LeadsTickless}
 use Rattle.ir_graph.proofs.Alike.{look_alike_by_threads_and_words}
 use Rattle.ir_graph.proofs.Found.{leads_nowhere_if_no_step, reached_like, reached_rests, leads_to_node_if_reached_state_looks_alike, leads_tickless_if_reached_state_is}
 use Rattle.ir_graph.proofs.Leads.{no_seen_step_if_done}
-use Rattle.ir_graph.proofs.Hand.{hand_as_many, hand_at_place, hand_at_spots, map_of_with_items, with_items_over_set}
+use Rattle.ir_graph.proofs.Hand.{all_of_with_items, hand_as_many, hand_at_place, hand_at_spots, map_of_with_items, number_at_place, with_items_over_set}
 use Rattle.ir_graph.proofs.LoneSteps.{IsLoneTurn, as_many_after_turn, may_not_step_if_it_must_wait, lone_turn_if_takes_turn, ask_may_go_if_it_begins_turn}
 use Rattle.ir_graph.proofs.Over.{ask_of_over_thread_is_done}
 use Rattle.ir_graph.proofs.Plain.{TakesStep}
@@ -109,6 +109,26 @@ module _ (states : List SourcedFlat) (shared : Shared) (s : SourcedFlat) (t : �
         sources = ap (λ (z : SourcedFlat). z.sources) made i;
       }
 
+  -- the object that the thread enters or tries to
+  pub both_first : get_or turn.numbers.items 0 0 < length s.flat.objects
+  both_first = number_at_place (λ o. o < length s.flat.objects) turn.numbers.items 0 both_hand.within is.is.some
+
+  -- where that object is after the turn
+  pub both_spot : (d : Spot) → (get_or turn.afters.items 0 d).words < length shared.words
+  both_spot d =
+      let a = is.is.some in let b = both_as_many in
+      get_or_element_satisfies_all_by_recursion (λ (x : Spot). x.words < length shared.words) turn.afters.items 0 d is.is.afters (omega (arith, a, b))
+
+  -- all of its objects are among those of a state that it has made of this one
+  pub both_within : (node : Node) (first : Spot)
+      → sourced_in shared node ≡ with_turn s t (slice_index_or shared.threads turn.to idle_beside) (get_or turn.numbers.items 0 0) (cell_in shared.words first)
+      → AllByRecursion (λ o. o < length node.objects) turn.numbers.items
+  both_within node first made =
+      let many : length node.objects ≡ length s.flat.objects =
+      sym (length_of_map (cell_in shared.words) node.objects) ∙ ap (λ (z : SourcedFlat). length z.flat.objects) made
+      ∙ length-set s.flat.objects (get_or turn.numbers.items 0 0) (cell_in shared.words first) in
+      subst (λ n. AllByRecursion (λ o. o < n) turn.numbers.items) (sym many) both_hand.within
+
   step : TakesStep s goes.0 t (result_by refused)
   step = let e = goes.1.enters in record {
     can = e.can;
@@ -121,6 +141,19 @@ module _ (states : List SourcedFlat) (shared : Shared) (s : SourcedFlat) (t : �
 
   pub both_sourced : IsSourced after_turn
   both_sourced = goes.1.goes.state
+
+  pub both_node : (node : Node) (objects : List Spot) (first : Spot) → IsWithin shared node
+      → sourced_in shared node ≡ with_turn s t (slice_index_or shared.threads turn.to idle_beside) (get_or turn.numbers.items 0 0) (cell_in shared.words first)
+      → objects ≡ with_items node.objects turn.numbers.items turn.afters.items
+      → IsNode shared (record node { objects = objects })
+  both_node node objects first within made put = record {
+    within = record {
+      threads = within.threads;
+      words = subst (HaveWords shared.words) (sym put)
+          (all_of_with_items (λ (x : Spot). x.words < length shared.words) node.objects turn.numbers.items turn.afters.items within.words is.is.afters);
+    };
+    sourced = subst IsSourced (sym (both_state node objects first made put)) both_sourced;
+  }
 
   pub both_like : (p : ℕ) (k : SourcedFlat) → slice_get states p ≡ Some k → IsLike after_turn.flat k.flat
   both_like = reached_like states s goes.0 after_turn t (result_by refused) v nodes at less step goes.1.goes.goes

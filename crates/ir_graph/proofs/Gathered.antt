@@ -1,14 +1,16 @@
 -- Objects of a hand, found one by one.
 use Rattle.std.proofs.Common.{◌≡◌, ◌⊎◌, inl, inr, ◌<◌, ◌≤◌, ◌+◌, ℕ, List, [], ◌∷◌, ◌++◌, length, get_or, set, map, take, refl, sym, ap, ◌∙◌, subst, arith}
-use Rattle.std.specs.Prelude.{drop}
+use Rattle.std.specs.Prelude.{drop, slice_get, Option, Some, IfSome, false, not, ◌&&◌, ◌==◌}
+use Rattle.std.specs.Global.{Vec}
 use Rattle.std.specs.List.{AllByRecursion}
+use Rattle.std.proofs.lemmas.Bool.{and_parts, eqb-true, not-false}
 use Rattle.std.proofs.lemmas.List.{take_more, take_all, map_push, drop_more, drop_all}
 use Rattle.ir_object.specs.Cell.{Cell}
 use Rattle.ir_store.specs.declared.spot.Spot.{Spot}
-use Rattle.ir_store.specs.Nodes.{Shared, Grows, HaveWords, cell_in, cells_at}
+use Rattle.ir_store.specs.Nodes.{Shared, SourcedFlat, Grows, HaveWords, cell_in, cells_at}
 use Rattle.ir_store.proofs.CallerLemmas.{all_by_recursion_weaker, all_by_recursion_after_push}
-use Rattle.ir_graph.specs.Hand.{AllPairs, EachOnce, IsHand, with_items}
-use Rattle.ir_graph.proofs.Hand.{each_once_after_push, pairs_after_push}
+use Rattle.ir_graph.specs.Hand.{AllPairs, EachOnce, IsAtSpot, IsHand, with_items}
+use Rattle.ir_graph.proofs.Hand.{each_once_after_push, hand_as_many, hand_at_spots, pairs_after_push}
 use Rattle.ir_graph.proofs.KnownTurns.{cells_grown, have_words_grown}
 
 -- a hand whose numbers after the first are below a limit
@@ -47,6 +49,33 @@ some_in_hand number numbers h = let e = ap length h.is in let n : length (number
 
 pub first_of_hand : (number : ℕ) (numbers : List ℕ) → IsHand number numbers → get_or numbers 0 0 ≡ number
 first_of_hand number numbers h = ap (λ l. get_or l 0 0) h.is
+
+-- two spots that are compared field by field
+pub same_spot : (x y : Spot) → false ≡ not ((x.words == y.words) && ((x.low == y.low) && (x.high == y.high))) → x ≡ y
+same_spot x y e =
+    let a = and_parts (x.words == y.words) ((x.low == y.low) && (x.high == y.high))
+    (not-false ((x.words == y.words) && ((x.low == y.low) && (x.high == y.high))) (sym e)) in
+    let b = and_parts (x.low == y.low) (x.high == y.high) a.1 in λ i. record {
+      words = eqb-true x.words y.words a.0 i;
+      low = eqb-true x.low y.low b.0 i;
+      high = eqb-true x.high y.high b.1 i;
+    }
+
+-- spots that were found for these numbers
+pub spots_there : (items : List SourcedFlat) (node : ℕ) (words : List (List ℕ)) (given numbers : List ℕ) (found : Option (Vec Spot)) (spots : Vec Spot)
+    (s : SourcedFlat) → found ≡ Some spots → given ≡ numbers
+    → IfSome found (λ (x : Vec Spot). (u : SourcedFlat) → slice_get items node ≡ Some u → AllPairs (IsAtSpot words u.flat.objects) given x.items)
+    → slice_get items node ≡ Some s → AllPairs (IsAtSpot words s.flat.objects) numbers spots.items
+spots_there items node words given numbers found spots s is same each at =
+    subst (λ n. AllPairs (IsAtSpot words s.flat.objects) n spots.items) same
+    (subst (λ z. IfSome z (λ (x : Vec Spot). (u : SourcedFlat) → slice_get items node ≡ Some u → AllPairs (IsAtSpot words u.flat.objects) given x.items)) is
+    each s at)
+
+-- as many objects as numbers
+pub cells_at_spots_as_many : (words : List (List ℕ)) (objects : List Cell) (numbers : List ℕ) (spots : List Spot) (cells : List Cell) → EachOnce numbers
+    → AllPairs (IsAtSpot words objects) numbers spots → cells ≡ cells_at words spots → length cells ≡ length numbers
+cells_at_spots_as_many words objects numbers spots cells once there are =
+    ap length are ∙ hand_as_many objects numbers (cells_at words spots) (hand_at_spots words objects numbers spots once there)
 
 -- a pair more
 pub pairs_more : {X Y : Type 0} (P : X → Y → Type 0) (xs : List X) (ys new : List Y) (i : ℕ) (d : X) (y : Y) → i < length xs → AllPairs P (take i xs) ys

@@ -8,10 +8,10 @@ use Rattle.ir_thread.specs.State.{ThreadState, ask_of}
 use Rattle.ir_object.specs.Empty.{empty}
 use Rattle.ir_store.specs.declared.spot.Spot.{Spot}
 use Rattle.ir_store.specs.Table.{idle_beside, Keeps}
-use Rattle.ir_store.specs.Nodes.{Shared, cell_in, cells_at, HaveWords, Grows}
+use Rattle.ir_store.specs.Nodes.{Shared, SourcedFlat, cell_in, cells_at, HaveWords, Grows}
 use Rattle.ir_store.proofs.CallerLemmas.{all_by_recursion_weaker, slice_get_element_satisfies_all_by_recursion, all_by_recursion_after_push, kept_element_is_equal, index_below_length_kept_if_elements_kept}
 use Rattle.ir_graph.specs.declared.known.Turn.{Turn}
-use Rattle.ir_graph.specs.Ahead.{IsTurn, AreTurns}
+use Rattle.ir_graph.specs.Ahead.{IsTurn, IsTurnOf, AreTurns}
 use Rattle.ir_graph.specs.Hand.{AllPairs, EachOnce, IsAtSpot}
 use Rattle.ir_graph.specs.Lone.{MustWait, TakesTurn}
 use Rattle.ir_graph.specs.Plain.{MayGo}
@@ -75,6 +75,14 @@ module _ (code : List ℕ) (old new : Shared) (grows : Grows old new) where
 pub listed_turn_is_turn : (code : List ℕ) (shared : Shared) (turns : List Turn) (i : ℕ) (turn : Turn) → AreTurns code shared turns
     → slice_get turns i ≡ Some turn → IsTurn code shared turn
 listed_turn_is_turn code shared turns i turn all at = slice_get_element_satisfies_all_by_recursion (IsTurn code shared) turns i turn all at
+
+-- a turn that was found for a thread at a node
+pub found_is_turn : (code : List ℕ) (shared : Shared) (items : List SourcedFlat) (node t : ℕ) (refused : Bool) (found : Option Turn) (turn : Turn)
+    (s : SourcedFlat) → found ≡ Some turn
+    → IfSome found (λ (x : Turn). (u : SourcedFlat) → slice_get items node ≡ Some u → IsTurnOf code shared u t refused x)
+    → slice_get items node ≡ Some s → IsTurnOf code shared s t refused turn
+found_is_turn code shared items node t refused found turn s is each at =
+    subst (λ z. IfSome z (λ (x : Turn). (u : SourcedFlat) → slice_get items node ≡ Some u → IsTurnOf code shared u t refused x)) is each s at
 
 pub are_turns_if_unchanged_or_turn_pushed : (code : List ℕ) (shared : Shared) (turns new : List Turn) (turn : Turn) → AreTurns code shared turns
     → IsTurn code shared turn → (new ≡ turns) ⊎ (new ≡ turns ++ turn ∷ []) → AreTurns code shared new

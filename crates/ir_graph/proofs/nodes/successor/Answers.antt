@@ -24,9 +24,8 @@ returns-then-turn-clause-leads c =
     let new = c.turn_of.new.flats in
     let f = element_below_length_exists c.args.flats.now.items c.args.way.node c.requires.node in
     let at = subst (λ z. slice_get z c.args.way.node ≡ Some f.0) (sym c.turn_of.ensures.items) f.1 in
-    let one = subst (λ z. IfSome z (λ (x : Turn). (f : SourcedFlat) → slice_get new.items c.args.way.node ≡ Some f
-    → IsTurnOf c.args.code.now new.shared f c.args.way.thread c.args.way.refused x)) c.in-Some.is c.in_ok-turn.ensures.turn in
-    waiting_turn_leads_nowhere new.items new.shared f.0 c.args.way.thread c.args.way.refused c.args.way.node c.in-Some.turn
+    let one = c.in-Some.ensures.turn in
+    waiting_turn_leads_nowhere new.items new.shared f.0 c.args.way.thread c.args.way.refused c.args.way.node c.turn-turn.result.now
     (subst AreNodes (sym c.turn_of.ensures.items) c.requires.nodes) at (c.requires.thread f.0 f.1) (c.thread_number-number.ensures.sourced f.0 f.1)
     (subst (λ z. IsTurnOf z new.shared f.0 c.args.way.thread c.args.way.refused c.in-Some.turn) (sym (c.requires.code f.0 f.1)) (one f.0 at)) c.if-turn.true
 

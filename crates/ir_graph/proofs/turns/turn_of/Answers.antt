@@ -3,8 +3,8 @@ use Rattle.std.specs.Prelude.{slice_get, IfSome}
 use Rattle.ir_lemmas.proofs.CallerLemmas.{element_below_length_exists}
 use Rattle.ir_graph.specs.declared.known.Turn.{Turn}
 use Rattle.ir_store.specs.Nodes.{SourcedFlat}
-use Rattle.ir_graph.specs.Ahead.{IsTurnOf}
-use Rattle.ir_graph.proofs.KnownTurns.{listed_turn_is_turn, turns_grown, are_turns_if_unchanged_or_turn_pushed}
+use Rattle.ir_graph.specs.Ahead.{IsTurn, IsTurnOf}
+use Rattle.ir_graph.proofs.KnownTurns.{are_turns_if_unchanged_or_turn_pushed, found_is_turn, listed_turn_is_turn, turns_grown}
 use Rattle.ir_graph.proofs.turns.turn_of.Goals as goal
 
 pub returns-in-Some-clause-turn : goal.returns-in-Some-clause-turn
@@ -16,4 +16,41 @@ returns-in-Some-clause-turn c =
         is = listed_turn_is_turn c.args.code.now c.args.flats.now.shared c.args.ahead.now c.in-Some.i known.0 c.requires.turns known.1;
         from = known.2 f at;
       },
+    )
+
+pub returns-in_err-turn-clause-turns : goal.returns-in_err-turn-clause-turns
+returns-in_err-turn-clause-turns c =
+    turns_grown c.args.code.now c.args.flats.now.shared c.new_turn.new.flats.shared c.new_turn.ensures.grows c.args.ahead.now c.requires.turns
+
+pub returns-in_default-2-clause-turns : goal.returns-in_default-2-clause-turns
+returns-in_default-2-clause-turns c =
+    turns_grown c.args.code.now c.args.flats.now.shared c.new_turn.new.flats.shared c.new_turn.ensures.grows c.args.ahead.now c.requires.turns
+
+pub returns-in_err-i-clause-turns : goal.returns-in_err-i-clause-turns
+returns-in_err-i-clause-turns c =
+    let new = c.new_turn.new.flats in
+    let f = element_below_length_exists c.args.flats.now.items c.args.way.node c.requires.node in
+    let at = subst (λ z. slice_get z c.args.way.node ≡ Some f.0) (sym c.new_turn.ensures.items) f.1 in
+    are_turns_if_unchanged_or_turn_pushed c.args.code.now new.shared c.args.ahead.now c.note.new.self c.in-Some-2.turn
+    (turns_grown c.args.code.now c.args.flats.now.shared new.shared c.new_turn.ensures.grows c.args.ahead.now c.requires.turns)
+    (found_is_turn c.args.code.now new.shared new.items c.args.way.node c.args.way.thread c.args.way.refused _ c.in-Some-2.turn f.0 c.in-Some-2.is
+    c.in_ok-turn.ensures.turn at).is c.note.ensures.either
+
+pub returns-clause-turns : goal.returns-clause-turns
+returns-clause-turns c =
+    let new = c.new_turn.new.flats in
+    let f = element_below_length_exists c.args.flats.now.items c.args.way.node c.requires.node in
+    let at = subst (λ z. slice_get z c.args.way.node ≡ Some f.0) (sym c.new_turn.ensures.items) f.1 in
+    are_turns_if_unchanged_or_turn_pushed c.args.code.now new.shared c.args.ahead.now c.note.new.self c.in-Some-2.turn
+    (turns_grown c.args.code.now c.args.flats.now.shared new.shared c.new_turn.ensures.grows c.args.ahead.now c.requires.turns)
+    (found_is_turn c.args.code.now new.shared new.items c.args.way.node c.args.way.thread c.args.way.refused _ c.in-Some-2.turn f.0 c.in-Some-2.is
+    c.in_ok-turn.ensures.turn at).is c.note.ensures.either
+
+pub returns-clause-turn : goal.returns-clause-turn
+returns-clause-turn c =
+    let new = c.new_turn.new.flats in (
+      c.in-Some-2.turn,
+      c.in_ok-i.ensures.found,
+      λ f at. found_is_turn c.args.code.now new.shared new.items c.args.way.node c.args.way.thread c.args.way.refused _ c.in-Some-2.turn f c.in-Some-2.is
+          c.in_ok-turn.ensures.turn at,
     )
