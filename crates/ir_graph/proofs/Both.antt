@@ -119,6 +119,15 @@ module _ (states : List SourcedFlat) (shared : Shared) (s : SourcedFlat) (t : �
       let a = is.is.some in let b = both_as_many in
       get_or_element_satisfies_all_by_recursion (λ (x : Spot). x.words < length shared.words) turn.afters.items 0 d is.is.afters (omega (arith, a, b))
 
+  -- a node that was made of this one by the first object
+  pub both_made : (made node : Node) (o : ℕ) (first : Spot) → node ≡ made
+      → sourced_in shared made ≡ with_turn s t (slice_index_or shared.threads turn.to idle_beside) o (cell_in shared.words first)
+      → o ≡ get_or turn.numbers.items 0 0
+      → sourced_in shared node ≡ with_turn s t (slice_index_or shared.threads turn.to idle_beside) (get_or turn.numbers.items 0 0) (cell_in shared.words first)
+  both_made made node o first same state number =
+      ap (sourced_in shared) same ∙ state
+      ∙ ap (λ p. with_turn s t (slice_index_or shared.threads turn.to idle_beside) p (cell_in shared.words first)) number
+
   -- all of its objects are among those of a state that it has made of this one
   pub both_within : (node : Node) (first : Spot)
       → sourced_in shared node ≡ with_turn s t (slice_index_or shared.threads turn.to idle_beside) (get_or turn.numbers.items 0 0) (cell_in shared.words first)

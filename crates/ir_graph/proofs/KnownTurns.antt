@@ -1,6 +1,9 @@
 -- Turns of threads that are known, while the tables grow.
-use Rattle.std.proofs.Common.{◌≡◌, ◌⊎◌, ℕ, ◌<◌, Bool, true, false, Option, Some, None, List, [], ◌∷◌, ◌++◌, length, get_or, map, sym, ap, ◌∙◌, subst, inl, inr}
-use Rattle.std.specs.Prelude.{slice_get, IfSome, IfErr, Result, Ok, Err}
+use Rattle.std.proofs.Common.{◌≡◌, ◌⊎◌, ℕ, ◌<◌, Bool, true, false, Option, Some, None, List, [], ◌∷◌, ◌++◌, length, get_or, map, refl, sym, ap, ◌∙◌, subst, inl, inr}
+use Rattle.std.specs.Prelude.{slice_get, not, IfSome, IfErr, Result, Ok, Err}
+use mathlib.Core.Bool.{beq}
+use Rattle.std.proofs.lemmas.Bool.{true≢false}
+use Rattle.std.proofs.lemmas.Option.{same_Some, slice_get_within}
 use Rattle.std.specs.List.{slice_index_or}
 use Rattle.ir_object.specs.Cell.{Cell}
 use Rattle.ir_sources.specs.Sources.{Source}
@@ -83,6 +86,30 @@ pub found_is_turn : (code : List ℕ) (shared : Shared) (items : List SourcedFla
     → slice_get items node ≡ Some s → IsTurnOf code shared s t refused turn
 found_is_turn code shared items node t refused found turn s is each at =
     subst (λ z. IfSome z (λ (x : Turn). (u : SourcedFlat) → slice_get items node ≡ Some u → IsTurnOf code shared u t refused x)) is each s at
+
+-- a turn that is known for a thread at a node, by its number
+abbrev pub IsKnown : List ℕ → Shared → List SourcedFlat → List Turn → ℕ → ℕ → Bool → ℕ → Type 0
+IsKnown code shared items turns node t refused i = (x : Turn) × (slice_get turns i ≡ Some x)
+    × ((u : SourcedFlat) → slice_get items node ≡ Some u → IsTurnOf code shared u t refused x)
+
+pub known_within : (code : List ℕ) (shared : Shared) (items : List SourcedFlat) (turns : List Turn) (node t : ℕ) (refused : Bool) (found : Option ℕ)
+    (i : ℕ) → found ≡ Some i → IfSome found (IsKnown code shared items turns node t refused) → i < length turns
+known_within code shared items turns node t refused found i is each =
+    let known : IsKnown code shared items turns node t refused i = subst (λ z. IfSome z (IsKnown code shared items turns node t refused)) is each in
+    slice_get_within turns i known.0 known.1
+
+pub known_is_turn : (code : List ℕ) (shared : Shared) (items : List SourcedFlat) (turns : List Turn) (node t : ℕ) (refused : Bool) (found : Option ℕ)
+    (i : ℕ) (turn : Turn) (s : SourcedFlat) → found ≡ Some i → IfSome found (IsKnown code shared items turns node t refused)
+    → slice_get turns i ≡ Some turn → slice_get items node ≡ Some s → IsTurnOf code shared s t refused turn
+known_is_turn code shared items turns node t refused found i turn s is each at here =
+    let known : IsKnown code shared items turns node t refused i = subst (λ z. IfSome z (IsKnown code shared items turns node t refused)) is each in
+    subst (IsTurnOf code shared s t refused) (same_Some known.0 turn (sym known.1 ∙ at)) (known.2 s here)
+
+pub same_bool : (a b : Bool) → not (beq a b) ≡ false → a ≡ b
+same_bool true true e = refl
+same_bool true false e = absurd (true≢false e)
+same_bool false true e = absurd (true≢false e)
+same_bool false false e = refl
 
 pub are_turns_if_unchanged_or_turn_pushed : (code : List ℕ) (shared : Shared) (turns new : List Turn) (turn : Turn) → AreTurns code shared turns
     → IsTurn code shared turn → (new ≡ turns) ⊎ (new ≡ turns ++ turn ∷ []) → AreTurns code shared new
