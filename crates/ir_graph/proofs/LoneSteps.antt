@@ -362,8 +362,7 @@ goes_among_append code numbers zero j x y z cells mid later (same, too) more =
 goes_among_append code numbers (suc k) j x y z cells mid later (p, less, fair, about, suits, first) more =
     let n : suc k + j ≡ suc (k + j) = omega arith in
     let c = get_or cells p empty in
-    subst (λ m. GoesAmong code numbers m x cells z later) (sym n)
-    (
+    subst (λ m. GoesAmong code numbers m x cells z later) (sym n) (
       p,
       less,
       fair,

@@ -15,11 +15,7 @@ use std::alloc::{AllocError, Global};
 ///
 /// # Errors
 /// Out of memory.
-pub fn hand_of(
-    alloc: Global,
-    number: u8,
-    held: &[Option<Access>],
-) -> Result<Vec<u8>, AllocError>
+pub fn hand_of(alloc: Global, number: u8, held: &[Option<Access>]) -> Result<Vec<u8>, AllocError>
     requires { length held.now ≤ most_objects }
     ensures { IfOk result (λ numbers. IsHand number numbers.items) }
 {

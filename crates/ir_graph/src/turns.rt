@@ -109,7 +109,14 @@ fn new_turn(
             afters: Vec::new(alloc),
         }));
     }
-    if !turn_among(code, &mut own, &mut objects, numbers.as_slice(), way.refused, limit) {
+    if !turn_among(
+        code,
+        &mut own,
+        &mut objects,
+        numbers.as_slice(),
+        way.refused,
+        limit,
+    ) {
         return Ok(None);
     }
     let to = flats.add_thread(&own)?;

@@ -31,8 +31,13 @@ index-requires-2 c =
     let turn = c.args.turn.now in
     let f = element_below_length_exists flats.items c.args.way.node c.requires.node in
     let is = c.requires.turn f.0 f.1 in
-    omega (arith, is.is.some, turn.afters.ok.0, both_as_many flats.items flats.shared f.0 c.args.way.thread c.args.way.refused c.args.way.node turn c.requires.nodes f.1 (c.requires.thread f.0 f.1)
-    (c.thread_number.ensures.sourced f.0 f.1) is c.requires.leads)
+    omega (
+      arith,
+      is.is.some,
+      turn.afters.ok.0,
+      both_as_many flats.items flats.shared f.0 c.args.way.thread c.args.way.refused c.args.way.node turn c.requires.nodes f.1 (c.requires.thread f.0 f.1)
+          (c.thread_number.ensures.sourced f.0 f.1) is c.requires.leads,
+    )
 
 pub with_both-requires-clause-own : goal.with_both-requires-clause-own
 with_both-requires-clause-own c = λ s at.
@@ -249,7 +254,7 @@ returns-clause-has c = λ x before was new.
       | inr ticks ↦ has_timed_run_if_reached_state_has_ticks x h
           (subst (IsReached x) (sym state)
           (both_reached flats.items flats.shared f.0 c.args.way.thread c.args.way.refused c.args.way.node turn c.requires.nodes f.1 (c.requires.thread f.0 f.1)
-    (c.thread_number.ensures.sourced f.0 f.1) is c.requires.leads x (before c.args.way.node f.0 f.1))) ticks
+          (c.thread_number.ensures.sourced f.0 f.1) is c.requires.leads x (before c.args.way.node f.0 f.1))) ticks
     ]
 
 pub returns-clause-tickless : goal.returns-clause-tickless
