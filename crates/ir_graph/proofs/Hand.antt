@@ -1,14 +1,12 @@
 -- Several objects in place of others.
-use Rattle.std.proofs.Common.{◌≡◌, ◌≢◌, ◌⊎◌, ◌<◌, ◌+◌, ℕ, zero, suc, List, [], ◌∷◌, ◌++◌, length, get_or, set, map, take, refl, sym, ap, ◌∙◌, subst, arith}
+use Rattle.std.proofs.Common.{◌≡◌, ◌≢◌, ◌<◌, ℕ, zero, suc, List, [], ◌∷◌, ◌++◌, length, get_or, set, map, refl, sym, ap, ◌∙◌, subst, arith}
 use Rattle.std.specs.List.{AllByRecursion}
-use Rattle.std.proofs.lemmas.List.{set-set, set_comm, set-get_or, get_or-set_same, get_or-set_other, length-set, map-set, take_more}
+use Rattle.std.proofs.lemmas.List.{set-set, set_comm, set-get_or, get_or-set_same, get_or-set_other, length-set, map-set}
 use Rattle.ir_lemmas.proofs.CallerLemmas.{length_of_map, all_by_recursion_after_push}
 use Rattle.ir_flat.specs.Flat.{idle}
 use Rattle.ir_object.specs.Empty.{empty}
-use Rattle.ir_sources.specs.Sources.{Source}
-use Rattle.ir_thread.specs.State.{ThreadState}
 use Rattle.ir_store.specs.declared.spot.Spot.{Spot}
-use Rattle.ir_store.specs.Nodes.{SourcedFlat, sourced_thread, cell_in, cells_at, HaveWords}
+use Rattle.ir_store.specs.Nodes.{SourcedFlat, sourced_thread, cells_at, HaveWords}
 use Rattle.ir_store.specs.Table.{no_source}
 use Rattle.ir_object.specs.Cell.{Cell}
 use Rattle.ir_graph.specs.Hand.{with_items, with_hand, IsHandOf, IsNoneOf, EachOnce, AllPairs, IsAtSpot}

@@ -1,5 +1,5 @@
 use Rattle.std.proofs.Common.{◌∙◌}
-use Rattle.ir_graph.proofs.Gathered.{added_more, added_whole}
+use Rattle.ir_graph.proofs.Gathered.{added_more}
 use Rattle.ir_graph.proofs.hands.add_objects.Goals as goal
 
 pub loop-object-preserved : goal.loop-object-preserved

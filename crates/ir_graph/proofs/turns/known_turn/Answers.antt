@@ -1,4 +1,4 @@
-use Rattle.std.proofs.Common.{sym, ap, ◌∙◌, subst, get_or}
+use Rattle.std.proofs.Common.{ap, ◌∙◌, subst, get_or}
 use Rattle.ir_store.specs.Table.{idle_beside}
 use Rattle.ir_graph.specs.Hand.{AllPairs, IsAtSpot}
 use Rattle.ir_graph.proofs.KnownTurns.{same_bool}

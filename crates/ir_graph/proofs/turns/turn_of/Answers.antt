@@ -1,9 +1,6 @@
 use Rattle.std.proofs.Common.{◌≡◌, Some, sym, subst}
-use Rattle.std.specs.Prelude.{slice_get, IfSome}
+use Rattle.std.specs.Prelude.{slice_get}
 use Rattle.ir_lemmas.proofs.CallerLemmas.{element_below_length_exists}
-use Rattle.ir_graph.specs.declared.known.Turn.{Turn}
-use Rattle.ir_store.specs.Nodes.{SourcedFlat}
-use Rattle.ir_graph.specs.Ahead.{IsTurn, IsTurnOf}
 use Rattle.ir_graph.proofs.KnownTurns.{are_turns_if_unchanged_or_turn_pushed, found_is_turn, listed_turn_is_turn, turns_grown}
 use Rattle.ir_graph.proofs.turns.turn_of.Goals as goal
 
