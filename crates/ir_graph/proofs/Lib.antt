@@ -19,8 +19,10 @@ mod Searched
 mod Standing
 pub mod CallerLemmas
 mod Forms
+mod Hand
 mod LoneSteps
 mod KnownTurns
+mod Gathered
 mod Over
 mod Both
 mod Ticks

@@ -1,4 +1,4 @@
--- A thread that goes on beside one object.
+-- A thread that goes on beside some objects.
 use Rattle.std.proofs.Common.{◌≡◌, ℕ, zero, suc, ◌+◌, ◌<◌, Bool, true, false, List, length, length-set, set, refl, sym, ap, ◌∙◌, subst, arith, get_or, get_or-set_same}
 use Rattle.std.proofs.lemmas.List.{set-get_or, set-set}
 use Rattle.std.specs.Prelude.{slice_set}
@@ -26,8 +26,10 @@ use Rattle.ir_runs.specs.declared.access.Access.{Access}
 use Rattle.ir_runs.specs.declared.access.Access.TheVariants.{Writing}
 use Rattle.ir_store.specs.Nodes.{SourcedFlat, source_of, sourced_thread, with_turn, IsSourced}
 use Rattle.ir_store.specs.Table.{no_source}
-use Rattle.ir_graph.specs.Lone.{IsAbout, IsGiven, answer_from, cell_after, lone_thread, lone_cell, GoesLone, MayBegin, MustWait, TakesTurn, AreBeside, MayTake}
+use Rattle.ir_graph.specs.Hand.{with_hand, EachOnce, IsHandOf}
+use Rattle.ir_graph.specs.Lone.{IsAbout, IsGiven, answer_from, cell_after, lone_thread, lone_cell, GoesAmong, MayBegin, MustWait, TakesTurn, AreAmong, AreBeside, MayTake}
 use Rattle.ir_graph.specs.Plain.{full_by, full_of, IsFair, GoesPlain, MayGo, OthersStay, Rests, result_by, result_of}
+use Rattle.ir_graph.proofs.Hand.{with_items_over_set, number_at_place, with_own_hand, hand_as_many, hand_at_place, hand_after_set}
 use Rattle.ir_graph.proofs.Full.{sourced_step_is_step_beside_updated_sources, lookup_after_source_set_is_upd}
 use Rattle.ir_graph.proofs.Plain.{goes_plain_reflexive, goes_plain_transitive, goes_plain_by_fair_step, others_stay_after_step, others_stay_transitive, thread_after_ask_is_twin_of_thread_before}
 
@@ -65,16 +67,16 @@ next_is_with_thread_and_object_if_ask_is_about_it f t o refused source ask.Print
 next_is_with_thread_and_object_if_ask_is_about_it f t o refused source (ask.End e) h = with_thread_is_with_thread_and_same_object f t o (after_ask f.code (thread_of f t) (ask.End e) Go)
 next_is_with_thread_and_object_if_ask_is_about_it f t o refused source ask.Done h = absurd h
 
-with_own_turn_changes_nothing : (s : SourcedFlat) (t o : ℕ) → with_turn s t (sourced_thread s t) o (cell_of s.flat o) ≡ s
-with_own_turn_changes_nothing s t o i = record {
-  flat = record { code = s.flat.code; threads = set-get_or s.flat.threads t idle i; objects = set-get_or s.flat.objects o empty i };
-  sources = set-get_or s.sources t no_source i;
-}
-
-with_turn_twice_is_later_turn : (s : SourcedFlat) (t : ℕ) (x y : ThreadState × Source) (o : ℕ) (c d : Cell)
-    → with_turn (with_turn s t x o c) t y o d ≡ with_turn s t y o d
-with_turn_twice_is_later_turn s t x y o c d i = record {
-  flat = record { code = s.flat.code; threads = set-set s.flat.threads t x.0 y.0 i; objects = set-set s.flat.objects o c d i };
+-- a step of the thread about one of the objects, and then another hand
+with_hand_over_turn : (s : SourcedFlat) (t : ℕ) (x y : ThreadState × Source) (numbers : List ℕ) (cells : List Cell) (p : ℕ) (c : Cell) → EachOnce numbers
+    → p < length numbers → length cells ≡ length numbers
+    → with_hand (with_turn s t x (get_or numbers p 0) c) t y numbers cells ≡ with_hand s t y numbers cells
+with_hand_over_turn s t x y numbers cells p c once less each i = record {
+  flat = record {
+    code = s.flat.code;
+    threads = set-set s.flat.threads t x.0 y.0 i;
+    objects = with_items_over_set s.flat.objects numbers cells p c once less each i;
+  };
   sources = set-set s.sources t x.1 y.1 i;
 }
 
@@ -176,18 +178,32 @@ lone_run_by_fair_step s t o state less fair about suits =
       others = others_stay_after_step s u t r one.is;
     }
 
-pub lone_run_if_goes_lone : (k : ℕ) (s : SourcedFlat) (t o : ℕ) (x y : ThreadState × Source) (c d : Cell) → IsSourced s → t < length s.flat.threads
-    → o < length s.flat.objects → sourced_thread s t ≡ x → cell_of s.flat o ≡ c → GoesLone s.flat.code o k x c y d → IsLoneRun s t (with_turn s t y o d)
-lone_run_if_goes_lone zero s t o x y c d state less few here there (same, too) =
-    subst (IsLoneRun s t) (sym (with_own_turn_changes_nothing s t o) ∙ (λ i. with_turn s t ((here ∙ same) i) o ((there ∙ too) i)))
+-- so many objects stay so many
+pub as_many_after_run : (code numbers : List ℕ) (k : ℕ) (x y : ThreadState × Source) (cells later : List Cell) → GoesAmong code numbers k x cells y later
+    → length later ≡ length cells
+as_many_after_run code numbers zero x y cells later (same, too) = ap length (sym too)
+as_many_after_run code numbers (suc k) x y cells later (p, less, fair, about, suits, more) =
+    let c = get_or cells p empty in
+    as_many_after_run code numbers k (lone_thread code false x c) y (set cells p (lone_cell code false x c)) later more
+    ∙ length-set cells p (lone_cell code false x c)
+
+pub lone_run_if_goes_among : (k : ℕ) (s : SourcedFlat) (t : ℕ) (numbers : List ℕ) (x y : ThreadState × Source) (cells later : List Cell) → IsSourced s
+    → t < length s.flat.threads → IsHandOf s.flat.objects numbers cells → sourced_thread s t ≡ x → GoesAmong s.flat.code numbers k x cells y later
+    → IsLoneRun s t (with_hand s t y numbers later)
+lone_run_if_goes_among zero s t numbers x y cells later state less hand here (same, too) =
+    subst (IsLoneRun s t) (sym (with_own_hand s t numbers cells hand) ∙ (λ i. with_hand s t ((here ∙ same) i) numbers (too i)))
     (record {
       state = state;
       goes = goes_plain_reflexive s;
       others = record { threads = λ v ne. refl; sources = λ v ne. refl };
     })
-lone_run_if_goes_lone (suc k) s t o x y c d state less few here there (fair, about, suits, more) =
+lone_run_if_goes_among (suc k) s t numbers x y cells later state less hand here (p, few, fair, about, suits, more) =
     let code = s.flat.code in
-    let u = with_turn s t (lone_thread code false x c) o (lone_cell code false x c) in
+    let o = get_or numbers p 0 in
+    let c = get_or cells p empty in
+    let there : cell_of s.flat o ≡ c = hand_at_place s.flat.objects numbers cells p hand few in
+    let d = lone_cell code false x c in
+    let u = with_turn s t (lone_thread code false x c) o d in
     let first : IsLoneRun s t u =
     subst (IsLoneRun s t) (λ i. with_turn s t (lone_thread code false (here i) (there i)) o (lone_cell code false (here i) (there i)))
     (lone_run_by_fair_step s t o state less (subst (λ (z : ThreadState × Source). IsFair (ask_of code z.0)) (sym here) fair)
@@ -195,18 +211,20 @@ lone_run_if_goes_lone (suc k) s t o x y c d state less few here there (fair, abo
     (subst (λ (z : ThreadState × Source). IsGiven z.1 (ask_of code z.0)) (sym here) suits)) in
     let each : t < length s.sources = (let a = state.each in omega (arith, a, less)) in
     let less_u : t < length u.flat.threads = (let a = first.goes.threads in omega (arith, a, less)) in
-    let few_u : o < length u.flat.objects = (let a = first.goes.objects in omega (arith, a, few)) in
     let here_u : sourced_thread u t ≡ lone_thread code false x c = λ i. (
       get_or-set_same s.flat.threads t (lone_thread code false x c).0 idle less i,
       get_or-set_same s.sources t (lone_thread code false x c).1 no_source each i,
     ) in
-    let rest : IsLoneRun u t (with_turn u t y o d) =
-    lone_run_if_goes_lone k u t o (lone_thread code false x c) y (lone_cell code false x c) d first.state less_u few_u here_u
-    (get_or-set_same s.flat.objects o (lone_cell code false x c) empty few) more in
-    subst (IsLoneRun s t) (with_turn_twice_is_later_turn s t (lone_thread code false x c) y o (lone_cell code false x c) d) (record {
+    let rest : IsLoneRun u t (with_hand u t y numbers later) =
+    lone_run_if_goes_among k u t numbers (lone_thread code false x c) y (set cells p d) later first.state less_u
+    (hand_after_set s.flat.objects numbers cells p d hand few) here_u more in
+    let many : length later ≡ length numbers =
+    as_many_after_run code numbers k (lone_thread code false x c) y (set cells p d) later more ∙ length-set cells p d
+    ∙ hand_as_many s.flat.objects numbers cells hand in
+    subst (IsLoneRun s t) (with_hand_over_turn s t (lone_thread code false x c) y numbers later p d hand.once few many) (record {
       state = rest.state;
-      goes = goes_plain_transitive s u (with_turn u t y o d) first.goes rest.goes;
-      others = others_stay_transitive s u (with_turn u t y o d) t first.others rest.others;
+      goes = goes_plain_transitive s u (with_hand u t y numbers later) first.goes rest.goes;
+      others = others_stay_transitive s u (with_hand u t y numbers later) t first.others rest.others;
     })
 
 -- a turn: the entry or try, and where the thread rests then
@@ -284,18 +302,22 @@ result_is_by_way_if_ask_begins_turn o refused fields source ask.Print h = absurd
 result_is_by_way_if_ask_begins_turn o refused fields source (ask.End e) h = absurd h
 result_is_by_way_if_ask_begins_turn o refused fields source ask.Done h = absurd h
 
-pub lone_turn_if_takes_turn : (s : SourcedFlat) (t o : ℕ) (refused : Bool) (x y : ThreadState × Source) (c d : Cell) → IsSourced s → t < length s.flat.threads
-    → o < length s.flat.objects → sourced_thread s t ≡ x → cell_of s.flat o ≡ c → TakesTurn s.flat.code o refused x c y d
-    → (u : SourcedFlat) × IsLoneTurn s t refused u (with_turn s t y o d)
-lone_turn_if_takes_turn s t o refused x y c d state less few here there turn =
+pub lone_turn_if_takes_turn : (s : SourcedFlat) (t : ℕ) (numbers : List ℕ) (refused : Bool) (x y : ThreadState × Source) (cells later : List Cell)
+    → IsSourced s → t < length s.flat.threads → 0 < length numbers → IsHandOf s.flat.objects numbers cells → sourced_thread s t ≡ x
+    → TakesTurn s.flat.code numbers refused x cells y later → (u : SourcedFlat) × IsLoneTurn s t refused u (with_hand s t y numbers later)
+lone_turn_if_takes_turn s t numbers refused x y cells later state less few hand here turn =
     let code = s.flat.code in
+    let o = get_or numbers 0 0 in
+    let c = get_or cells 0 empty in
+    let there : cell_of s.flat o ≡ c = hand_at_place s.flat.objects numbers cells 0 hand few in
+    let d = lone_cell code refused x c in
     let q = ask_of code (thread_of s.flat t) in
     let begins : MayBegin refused o (cell_of s.flat o).fields q =
     subst (λ (z : Cell). MayBegin refused o z.fields q) (sym there)
     (subst (λ (z : ThreadState × Source). MayBegin refused o c.fields (ask_of code z.0)) (sym here) turn.begins) in
     let result : result_of refused q (source_of s t) ≡ result_by refused =
     result_is_by_way_if_ask_begins_turn o refused (cell_of s.flat o).fields (source_of s t) q begins in
-    let u = with_turn s t (lone_thread code refused x c) o (lone_cell code refused x c) in
+    let u = with_turn s t (lone_thread code refused x c) o d in
     let one : IsLoneStep s t (result_by refused) u =
     subst (IsLoneStep s t (result_by refused))
     (λ i. with_turn s t (lone_thread code refused (here i) (there i)) o (lone_cell code refused (here i) (there i)))
@@ -304,64 +326,105 @@ lone_turn_if_takes_turn s t o refused x y c d state less few here there turn =
     (subst (λ r. MayStep s.flat r q) (sym result) (ask_may_step_if_it_begins_turn s.flat o refused q begins)))) in
     let each : t < length s.sources = (let a = state.each in omega (arith, a, less)) in
     let less_u : t < length u.flat.threads = (let a = one.threads in omega (arith, a, less)) in
-    let few_u : o < length u.flat.objects = (let a = one.objects in omega (arith, a, few)) in
     let here_u : sourced_thread u t ≡ lone_thread code refused x c = λ i. (
       get_or-set_same s.flat.threads t (lone_thread code refused x c).0 idle less i,
       get_or-set_same s.sources t (lone_thread code refused x c).1 no_source each i,
     ) in
-    let rest : IsLoneRun u t (with_turn u t y o d) =
-    lone_run_if_goes_lone turn.steps u t o (lone_thread code refused x c) y (lone_cell code refused x c) d one.state less_u few_u here_u
-    (get_or-set_same s.flat.objects o (lone_cell code refused x c) empty few) turn.goes in (
+    let rest : IsLoneRun u t (with_hand u t y numbers later) =
+    lone_run_if_goes_among turn.steps u t numbers (lone_thread code refused x c) y (set cells 0 d) later one.state less_u
+    (hand_after_set s.flat.objects numbers cells 0 d hand few) here_u turn.goes in
+    let many : length later ≡ length numbers =
+    as_many_after_run code numbers turn.steps (lone_thread code refused x c) y (set cells 0 d) later turn.goes ∙ length-set cells 0 d
+    ∙ hand_as_many s.flat.objects numbers cells hand in (
       u,
       record {
         enters = one;
-        goes = subst (IsLoneRun u t) (with_turn_twice_is_later_turn s t (lone_thread code refused x c) y o (lone_cell code refused x c) d) rest;
+        goes = subst (IsLoneRun u t) (with_hand_over_turn s t (lone_thread code refused x c) y numbers later 0 d hand.once few many) rest;
         rests = subst (λ z. Rests (ask_of code z)) (sym (get_or-set_same s.flat.threads t y.0 idle less)) turn.rests;
       },
     )
 
+-- after a turn there are as many objects as before
+pub as_many_after_turn : (code numbers : List ℕ) (refused : Bool) (x y : ThreadState × Source) (cells later : List Cell)
+    → TakesTurn code numbers refused x cells y later → length later ≡ length cells
+as_many_after_turn code numbers refused x y cells later turn =
+    let c = get_or cells 0 empty in
+    as_many_after_run code numbers turn.steps (lone_thread code refused x c) y (set cells 0 (lone_cell code refused x c)) later turn.goes
+    ∙ length-set cells 0 (lone_cell code refused x c)
+
 -- steps one after the other
-pub goes_lone_append : (code : List ℕ) (o k j : ℕ) (x y z : ThreadState × Source) (c d e : Cell) → GoesLone code o k x c y d → GoesLone code o j y d z e
-    → GoesLone code o (k + j) x c z e
-goes_lone_append code o zero j x y z c d e (same, too) more =
+pub goes_among_append : (code numbers : List ℕ) (k j : ℕ) (x y z : ThreadState × Source) (cells mid later : List Cell)
+    → GoesAmong code numbers k x cells y mid → GoesAmong code numbers j y mid z later → GoesAmong code numbers (k + j) x cells z later
+goes_among_append code numbers zero j x y z cells mid later (same, too) more =
     let n : zero + j ≡ j = omega arith in
-    subst (λ m. GoesLone code o m x c z e) (sym n)
-    (subst (λ s. GoesLone code o j s c z e) (sym same) (subst (λ s. GoesLone code o j y s z e) (sym too) more))
-goes_lone_append code o (suc k) j x y z c d e (fair, about, suits, first) more =
+    subst (λ m. GoesAmong code numbers m x cells z later) (sym n)
+    (subst (λ s. GoesAmong code numbers j s cells z later) (sym same) (subst (λ s. GoesAmong code numbers j y s z later) (sym too) more))
+goes_among_append code numbers (suc k) j x y z cells mid later (p, less, fair, about, suits, first) more =
     let n : suc k + j ≡ suc (k + j) = omega arith in
-    subst (λ m. GoesLone code o m x c z e) (sym n)
-    (fair, about, suits, goes_lone_append code o k j (lone_thread code false x c) y z (lone_cell code false x c) d e first more)
+    let c = get_or cells p empty in
+    subst (λ m. GoesAmong code numbers m x cells z later) (sym n) (
+      p,
+      less,
+      fair,
+      about,
+      suits,
+      goes_among_append code numbers k j (lone_thread code false x c) y z (set cells p (lone_cell code false x c)) mid later first more,
+    )
 
 -- private steps
-pub goes_lone_through_private_asks : (code : List ℕ) (o n : ℕ) (x : ThreadState) (source : Source) (c : Cell)
+pub goes_among_through_private_asks : (code numbers : List ℕ) (n : ℕ) (x : ThreadState) (source : Source) (cells : List Cell) → 0 < length numbers
     → ((k : ℕ) → k < n → ask_of code (run_of code k x) ≡ ask.Private)
-    → GoesLone code o n (x, source) c (run_of code n x, source) c
+    → GoesAmong code numbers n (x, source) cells (run_of code n x, source) cells
 unfolding run_of step_of after_reply
-goes_lone_through_private_asks code o zero x source c each = (refl, refl)
-goes_lone_through_private_asks code o (suc n) x source c each =
+goes_among_through_private_asks code numbers zero x source cells some each = (refl, refl)
+goes_among_through_private_asks code numbers (suc n) x source cells some each =
     let y = run_of code n x in
+    let c = get_or cells 0 empty in
     let last : ask_of code y ≡ ask.Private = each n (omega arith) in
-    let one : GoesLone code o 1 (y, source) c (after_ask code y (ask_of code y) Go, source) c = (
+    let one : GoesAmong code numbers 1 (y, source) cells (after_ask code y (ask_of code y) Go, source) cells = (
+      0,
+      some,
       subst IsFair (sym last) tt,
-      subst (IsAbout o) (sym last) tt,
+      subst (IsAbout (get_or numbers 0 0)) (sym last) tt,
       subst (IsGiven source) (sym last) tt,
       (
         (λ i. (after_ask code y (ask_of code y) (answer_from false c source (last i)), left_of given (shared_ask (last i)) source)),
-        ap (cell_after false c) last,
+        ap (λ z. set cells 0 (cell_after false c z)) last ∙ set-get_or cells 0 empty,
       ),
     ) in
     let e : n + 1 ≡ suc n = omega arith in
-    subst (λ z. GoesLone code o z (x, source) c (after_ask code y (ask_of code y) Go, source) c) e
-    (goes_lone_append code o n 1 (x, source) (y, source) (after_ask code y (ask_of code y) Go, source) c c c
-    (goes_lone_through_private_asks code o n x source c (λ k l. each k (omega (arith, l)))) one)
+    subst (λ z. GoesAmong code numbers z (x, source) cells (after_ask code y (ask_of code y) Go, source) cells) e
+    (goes_among_append code numbers n 1 (x, source) (y, source) (after_ask code y (ask_of code y) Go, source) cells cells cells
+    (goes_among_through_private_asks code numbers n x source cells some (λ k l. each k (omega (arith, l)))) one)
 
--- a thread that is beside an object is so after a step that is about it
-pub are_beside_after_ask : (code : List ℕ) (o : ℕ) (refused : Bool) (x : ThreadState) (source : Source) (c : Cell) (asks : Ask) → AreBeside code o x c
-    → ask_of code x ≡ asks → IsAbout o asks → ((f : Flat) → cell_of f o ≡ c → MayStep f (result_of refused asks source) asks)
-    → AreBeside code o (after_ask code x asks (answer_from refused c source asks)) (cell_after refused c asks)
-are_beside_after_ask code o refused x source c asks b is about may =
+-- a thread among some objects is beside each of them
+pub beside_at_place : (code numbers : List ℕ) (x : ThreadState) (cells : List Cell) (p : ℕ) → AreAmong code numbers x cells → p < length numbers
+    → AreBeside code (get_or numbers p 0) x (get_or cells p empty)
+beside_at_place code numbers x cells p b less = record {
+  flat = b.flat;
+  thread = b.thread;
+  is = b.is;
+  runs = b.runs;
+  has_thread = b.has_thread;
+  has_object = number_at_place (λ o. o < length b.flat.objects) numbers p b.hand.within less;
+  here = b.here;
+  there = hand_at_place b.flat.objects numbers cells p b.hand less;
+}
+
+pub cells_as_many : (code numbers : List ℕ) (x : ThreadState) (cells : List Cell) → AreAmong code numbers x cells → length cells ≡ length numbers
+cells_as_many code numbers x cells b = hand_as_many b.flat.objects numbers cells b.hand
+
+-- a thread that is among some objects is so after a step that is about one of them
+pub are_among_after_ask : (code numbers : List ℕ) (refused : Bool) (x : ThreadState) (source : Source) (cells : List Cell) (p : ℕ) (asks : Ask)
+    → AreAmong code numbers x cells → p < length numbers → ask_of code x ≡ asks → IsAbout (get_or numbers p 0) asks
+    → ((f : Flat) → cell_of f (get_or numbers p 0) ≡ get_or cells p empty → MayStep f (result_of refused asks source) asks)
+    → AreAmong code numbers (after_ask code x asks (answer_from refused (get_or cells p empty) source asks))
+    (set cells p (cell_after refused (get_or cells p empty) asks))
+are_among_after_ask code numbers refused x source cells p asks b few is about may =
     let f = b.flat in
     let t = b.thread in
+    let o = get_or numbers p 0 in
+    let there : cell_of f o ≡ get_or cells p empty = hand_at_place f.objects numbers cells p b.hand few in
     let q = ask_of f.code (thread_of f t) in
     let same : q ≡ asks = (λ i. ask_of (b.runs i) (b.here i)) ∙ is in
     let y = after_ask f.code (thread_of f t) q (answer_from refused (cell_of f o) source q) in
@@ -372,23 +435,25 @@ are_beside_after_ask code o refused x source c asks b is about may =
       thread = t;
       is = subst IsFlat (next_is_with_thread_and_object_if_ask_is_about_it f t o refused source q (subst (IsAbout o) (sym same) about))
           (next_is_flat f t (result_of refused q source) q refl b.is b.has_thread
-          (subst (λ z. MayStep f (result_of refused z source) z) (sym same) (may f b.there)));
+          (subst (λ z. MayStep f (result_of refused z source) z) (sym same) (may f there)));
       runs = b.runs;
       has_thread = let a = length-set f.threads t y in let l = b.has_thread in omega (arith, a, l);
-      has_object = let a = length-set f.objects o d in let l = b.has_object in omega (arith, a, l);
       here = get_or-set_same f.threads t y idle b.has_thread
-          ∙ (λ i. after_ask (b.runs i) (b.here i) (same i) (answer_from refused (b.there i) source (same i)));
-      there = get_or-set_same f.objects o d empty b.has_object ∙ (λ i. cell_after refused (b.there i) (same i));
+          ∙ (λ i. after_ask (b.runs i) (b.here i) (same i) (answer_from refused (there i) source (same i)));
+      hand = subst (λ z. IsHandOf g.objects numbers (set cells p z)) (λ i. cell_after refused (there i) (same i))
+          (hand_after_set f.objects numbers cells p d b.hand few);
     }
 
 -- and after more of them
-pub are_beside_after_lone_run : (code : List ℕ) (o k : ℕ) (x y : ThreadState × Source) (c d : Cell) → AreBeside code o x.0 c → GoesLone code o k x c y d
-    → AreBeside code o y.0 d
-are_beside_after_lone_run code o zero x y c d b (same, too) =
-    subst (λ (z : ThreadState × Source). AreBeside code o z.0 d) same (subst (AreBeside code o x.0) too b)
-are_beside_after_lone_run code o (suc k) x y c d b (fair, about, suits, more) =
-    are_beside_after_lone_run code o k (lone_thread code false x c) y (lone_cell code false x c) d
-    (are_beside_after_ask code o false x.0 x.1 c (ask_of code x.0) b refl about (λ f there. fair_ask_may_step f x.1 (ask_of code x.0) fair suits)) more
+pub are_among_after_run : (code numbers : List ℕ) (k : ℕ) (x y : ThreadState × Source) (cells later : List Cell) → AreAmong code numbers x.0 cells
+    → GoesAmong code numbers k x cells y later → AreAmong code numbers y.0 later
+are_among_after_run code numbers zero x y cells later b (same, too) =
+    subst (λ (z : ThreadState × Source). AreAmong code numbers z.0 later) same (subst (AreAmong code numbers x.0) too b)
+are_among_after_run code numbers (suc k) x y cells later b (p, less, fair, about, suits, more) =
+    let c = get_or cells p empty in
+    are_among_after_run code numbers k (lone_thread code false x c) y (set cells p (lone_cell code false x c)) later
+    (are_among_after_ask code numbers false x.0 x.1 cells p (ask_of code x.0) b less refl about
+    (λ f there. fair_ask_may_step f x.1 (ask_of code x.0) fair suits)) more
 
 -- the object may be asked what a thread beside it asks
 pub may_take_fair_ask : (code : List ℕ) (o : ℕ) (x : ThreadState) (c : Cell) (q : Ask) → AreBeside code o x c → ask_of code x ≡ q → IsFair q → IsAbout o q
@@ -432,66 +497,82 @@ may_take_ask_if_it_begins_turn code o refused x c q b begins = by refused q begi
     by refused (ask.End e) h = absurd h
     by refused ask.Done h = absurd h
 
-pub goes_lone_by_private_steps : (code : List ℕ) (o n : ℕ) (x y : ThreadState) (source : Source) (c : Cell) → PrivateSteps code n x y
-    → GoesLone code o n (x, source) c (y, source) c
-goes_lone_by_private_steps code o n x y source c went =
-    subst (λ z. GoesLone code o n (x, source) c (z, source) c) (sym went.steps) (goes_lone_through_private_asks code o n x source c went.each)
+pub goes_among_by_private_steps : (code numbers : List ℕ) (n : ℕ) (x y : ThreadState) (source : Source) (cells : List Cell) → 0 < length numbers
+    → PrivateSteps code n x y → GoesAmong code numbers n (x, source) cells (y, source) cells
+goes_among_by_private_steps code numbers n x y source cells some went =
+    subst (λ z. GoesAmong code numbers n (x, source) cells (z, source) cells) (sym went.steps)
+    (goes_among_through_private_asks code numbers n x source cells some went.each)
 
 -- private steps, and then one that is asked so
-pub goes_lone_by_next_ask : (code : List ℕ) (o n : ℕ) (x y z : ThreadState) (source left : Source) (c e : Cell) (q : Ask) → PrivateSteps code n x y
-    → q ≡ ask_of code y → IsFair q → IsAbout o q → IsGiven source q → z ≡ after_ask code y q (answer_from false c source q)
-    → left ≡ left_of given (shared_ask q) source → e ≡ cell_after false c q → GoesLone code o (n + 1) (x, source) c (z, left) e
-goes_lone_by_next_ask code o n x y z source left c e q went asked fair about suits is gives too =
-    let one : GoesLone code o 1 (y, source) c (z, left) e = (
+pub goes_among_by_next_ask : (code numbers : List ℕ) (n : ℕ) (x y z : ThreadState) (source left : Source) (cells : List Cell) (p : ℕ) (e : Cell) (q : Ask)
+    → 0 < length numbers → PrivateSteps code n x y → q ≡ ask_of code y → p < length numbers → IsFair q → IsAbout (get_or numbers p 0) q → IsGiven source q
+    → z ≡ after_ask code y q (answer_from false (get_or cells p empty) source q) → left ≡ left_of given (shared_ask q) source
+    → e ≡ cell_after false (get_or cells p empty) q → GoesAmong code numbers (n + 1) (x, source) cells (z, left) (set cells p e)
+goes_among_by_next_ask code numbers n x y z source left cells p e q some went asked few fair about suits is gives too =
+    let c = get_or cells p empty in
+    let one : GoesAmong code numbers 1 (y, source) cells (z, left) (set cells p e) = (
+      p,
+      few,
       subst IsFair asked fair,
-      subst (IsAbout o) asked about,
+      subst (IsAbout (get_or numbers p 0)) asked about,
       subst (IsGiven source) asked suits,
       (
         (λ i. (
           sym (is ∙ (λ j. after_ask code y (asked j) (answer_from false c source (asked j)))) i,
           sym (gives ∙ (λ j. left_of given (shared_ask (asked j)) source)) i,
         )),
-        sym (too ∙ (λ i. cell_after false c (asked i))),
+        ap (set cells p) (sym (too ∙ (λ i. cell_after false c (asked i)))),
       ),
     ) in
-    goes_lone_append code o n 1 (x, source) (y, source) (z, left) c c e (goes_lone_by_private_steps code o n x y source c went) one
+    goes_among_append code numbers n 1 (x, source) (y, source) (z, left) cells cells (set cells p e)
+    (goes_among_by_private_steps code numbers n x y source cells some went) one
 
-pub takes_turn_by_beginning_and_run : (code : List ℕ) (o : ℕ) (refused : Bool) (x z : ThreadState) (source left : Source) (y : ThreadState × Source)
-    (c e d : Cell) (q : Ask) → ask_of code x ≡ q → MayBegin refused o c.fields q → z ≡ after_ask code x q (answer_from refused c source q)
-    → left ≡ left_of given (shared_ask q) source → e ≡ cell_after refused c q
-    → (k : ℕ) × GoesLone code o k (z, left) e y d → Rests (ask_of code y.0) → TakesTurn code o refused (x, source) c y d
-takes_turn_by_beginning_and_run code o refused x z source left y c e d q asks begins is gives too goes rests = record {
-  begins = subst (MayBegin refused o c.fields) (sym asks) begins;
-  steps = goes.0;
-  goes = subst (λ s. GoesLone code o goes.0 s (lone_cell code refused (x, source) c) y d)
-      (λ i. (
-        (is ∙ (λ j. after_ask code x (sym asks j) (answer_from refused c source (sym asks j)))) i,
-        (gives ∙ (λ j. left_of given (shared_ask (sym asks j)) source)) i,
-      ))
-      (subst (λ s. GoesLone code o goes.0 (z, left) s y d) (too ∙ (λ i. cell_after refused c (sym asks i))) goes.1);
-  rests = rests;
-}
+pub takes_turn_by_beginning_and_run : (code numbers : List ℕ) (refused : Bool) (x z : ThreadState) (source left : Source) (y : ThreadState × Source)
+    (cells : List Cell) (e : Cell) (later : List Cell) (q : Ask) → ask_of code x ≡ q
+    → MayBegin refused (get_or numbers 0 0) (get_or cells 0 empty).fields q
+    → z ≡ after_ask code x q (answer_from refused (get_or cells 0 empty) source q) → left ≡ left_of given (shared_ask q) source
+    → e ≡ cell_after refused (get_or cells 0 empty) q → (k : ℕ) × GoesAmong code numbers k (z, left) (set cells 0 e) y later → Rests (ask_of code y.0)
+    → TakesTurn code numbers refused (x, source) cells y later
+takes_turn_by_beginning_and_run code numbers refused x z source left y cells e later q asks begins is gives too goes rests =
+    let c = get_or cells 0 empty in
+    record {
+      begins = subst (MayBegin refused (get_or numbers 0 0) c.fields) (sym asks) begins;
+      steps = goes.0;
+      goes = subst (λ s. GoesAmong code numbers goes.0 s (set cells 0 (lone_cell code refused (x, source) c)) y later)
+          (λ i. (
+            (is ∙ (λ j. after_ask code x (sym asks j) (answer_from refused c source (sym asks j)))) i,
+            (gives ∙ (λ j. left_of given (shared_ask (sym asks j)) source)) i,
+          ))
+          (subst (λ s. GoesAmong code numbers goes.0 (z, left) (set cells 0 s) y later) (too ∙ (λ i. cell_after refused c (sym asks i))) goes.1);
+      rests = rests;
+    }
 
--- beside the object the thread is after that too
-pub are_beside_after_turn_begins : (code : List ℕ) (o : ℕ) (refused : Bool) (x z : ThreadState) (source : Source) (c e : Cell) (q : Ask)
-    → AreBeside code o x c → ask_of code x ≡ q → MayBegin refused o c.fields q → z ≡ after_ask code x q (answer_from refused c source q)
-    → e ≡ cell_after refused c q → AreBeside code o z e
-are_beside_after_turn_begins code o refused x z source c e q b asks begins is too =
-    subst (λ s. AreBeside code o s e) (sym is)
-    (subst (AreBeside code o (after_ask code x q (answer_from refused c source q))) (sym too)
-    (are_beside_after_ask code o refused x source c q b asks (ask_is_about_object_if_it_begins_turn o refused c.fields q begins)
+-- among the objects the thread is after that too
+pub are_among_after_turn_begins : (code numbers : List ℕ) (refused : Bool) (x z : ThreadState) (source : Source) (cells : List Cell) (e : Cell) (q : Ask)
+    → AreAmong code numbers x cells → 0 < length numbers → ask_of code x ≡ q → MayBegin refused (get_or numbers 0 0) (get_or cells 0 empty).fields q
+    → z ≡ after_ask code x q (answer_from refused (get_or cells 0 empty) source q) → e ≡ cell_after refused (get_or cells 0 empty) q
+    → AreAmong code numbers z (set cells 0 e)
+are_among_after_turn_begins code numbers refused x z source cells e q b some asks begins is too =
+    let o = get_or numbers 0 0 in
+    let c = get_or cells 0 empty in
+    subst (λ s. AreAmong code numbers s (set cells 0 e)) (sym is)
+    (subst (λ s. AreAmong code numbers (after_ask code x q (answer_from refused c source q)) (set cells 0 s)) (sym too)
+    (are_among_after_ask code numbers refused x source cells 0 q b some asks (ask_is_about_object_if_it_begins_turn o refused c.fields q begins)
     (λ f there. subst (λ r. MayStep f r q) (sym (result_is_by_way_if_ask_begins_turn o refused c.fields source q begins))
     (ask_may_step_if_it_begins_turn f o refused q (subst (λ (s : Cell). MayBegin refused o s.fields q) (sym there) begins)))))
 
 -- the form of the image stays
-form_kept_by_lone_run : (code : List ℕ) (o k : ℕ) (x y : ThreadState × Source) (c d : Cell) → GoesLone code o k x c y d → x.0.form ≡ y.0.form
-form_kept_by_lone_run code o zero x y c d (same, too) = ap (λ (s : ThreadState × Source). s.0.form) same
-form_kept_by_lone_run code o (suc k) x y c d (fair, about, suits, more) =
-    (thread_after_ask_is_twin_of_thread_before code x.0 (ask_of code x.0) (answer_from false c x.1 (ask_of code x.0))).form
-    ∙ form_kept_by_lone_run code o k (lone_thread code false x c) y (lone_cell code false x c) d more
-
-pub form_kept_by_turn : (code : List ℕ) (o : ℕ) (refused : Bool) (x y : ThreadState × Source) (c d : Cell) → TakesTurn code o refused x c y d
+form_kept_by_run : (code numbers : List ℕ) (k : ℕ) (x y : ThreadState × Source) (cells later : List Cell) → GoesAmong code numbers k x cells y later
     → x.0.form ≡ y.0.form
-form_kept_by_turn code o refused x y c d turn =
+form_kept_by_run code numbers zero x y cells later (same, too) = ap (λ (s : ThreadState × Source). s.0.form) same
+form_kept_by_run code numbers (suc k) x y cells later (p, less, fair, about, suits, more) =
+    let c = get_or cells p empty in
+    (thread_after_ask_is_twin_of_thread_before code x.0 (ask_of code x.0) (answer_from false c x.1 (ask_of code x.0))).form
+    ∙ form_kept_by_run code numbers k (lone_thread code false x c) y (set cells p (lone_cell code false x c)) later more
+
+pub form_kept_by_turn : (code numbers : List ℕ) (refused : Bool) (x y : ThreadState × Source) (cells later : List Cell)
+    → TakesTurn code numbers refused x cells y later → x.0.form ≡ y.0.form
+form_kept_by_turn code numbers refused x y cells later turn =
+    let c = get_or cells 0 empty in
     (thread_after_ask_is_twin_of_thread_before code x.0 (ask_of code x.0) (answer_from refused c x.1 (ask_of code x.0))).form
-    ∙ form_kept_by_lone_run code o turn.steps (lone_thread code refused x c) y (lone_cell code refused x c) d turn.goes
+    ∙ form_kept_by_run code numbers turn.steps (lone_thread code refused x c) y (set cells 0 (lone_cell code refused x c)) later turn.goes

@@ -4,6 +4,7 @@ pub mod Nodes
 pub mod Notes
 pub mod Reached
 pub mod Turn
+pub mod Hand
 pub mod Lone
 pub mod Ahead
 pub mod Graph

@@ -1,5 +1,6 @@
--- A thread that goes on beside one object.
+-- A thread that goes on beside some objects.
 use Rattle.std.specs.Prelude.{◌≡◌, ◌<◌, ℕ, zero, suc, Bool, true, false, List, length, slice_index, slice_set}
+use Rattle.std.specs.List.{slice_index_or}
 use Rattle.ir_image.specs.Guest.{most_object_words}
 use Rattle.ir_object.specs.Cell.{Cell}
 use Rattle.ir_object.specs.Standing.{Admitted, CanLeave}
@@ -15,6 +16,8 @@ use Rattle.ir_thread.specs.declared.ask.Reply.TheVariants.{Go, Value}
 use Rattle.ir_sources.specs.Sources.{Source, given}
 use Rattle.ir_flat.specs.Flat.{Flat, IsFlat, thread_of, cell_of}
 use Rattle.ir_flat.specs.Next.{MayTry}
+use Rattle.ir_object.specs.Empty.{empty}
+use Rattle.ir_graph.specs.Hand.{IsHandOf}
 use Rattle.ir_graph.specs.Plain.{IsFair, Rests, result_by}
 
 -- an ask is about no object but this one
@@ -76,12 +79,14 @@ lone_thread code refused x c = (
 abbrev pub lone_cell : List ℕ → Bool → ThreadState × Source → Cell → Cell
 lone_cell code refused x c = cell_after refused c (ask_of code x.0)
 
--- y and d are x and c after so many steps of the thread, none of which can be refused, all of which are about this object alone, and whose calls
--- are answered by its source
-abbrev pub GoesLone : List ℕ → ℕ → ℕ → ThreadState × Source → Cell → ThreadState × Source → Cell → Type 0
-GoesLone code o zero x c y d = (x ≡ y) × (c ≡ d)
-GoesLone code o (suc k) x c y d = IsFair (ask_of code x.0) × IsAbout o (ask_of code x.0) × IsGiven x.1 (ask_of code x.0)
-    × GoesLone code o k (lone_thread code false x c) (lone_cell code false x c) y d
+-- y and after are x and cells, the objects of these numbers, after so many steps of the thread, none of which can be refused, each of which is about
+-- no object but one of them, and whose calls are answered by its source
+abbrev pub GoesAmong : List ℕ → List ℕ → ℕ → ThreadState × Source → List Cell → ThreadState × Source → List Cell → Type 0
+GoesAmong code numbers zero x cells y after = (x ≡ y) × (cells ≡ after)
+GoesAmong code numbers (suc k) x cells y after = (p : ℕ) × (p < length numbers) × IsFair (ask_of code x.0)
+    × IsAbout (slice_index numbers p) (ask_of code x.0) × IsGiven x.1 (ask_of code x.0)
+    × GoesAmong code numbers k (lone_thread code false x (slice_index_or cells p empty))
+    (slice_set cells p (lone_cell code false x (slice_index_or cells p empty))) y after
 
 -- a thread that asks so can begin a turn with this object: it enters, or its try is refused or enters
 abbrev pub MayBegin : Bool → ℕ → Fields → Ask → Type 0
@@ -95,11 +100,13 @@ MustWait refused o fields (ask.Enter p access) = (refused ≡ false) × (p ≡ o
 MustWait refused o fields (ask.Try p) = (refused ≡ false) × (p ≡ o) × (Admitted Writing fields → ⊥)
 MustWait refused o fields _ = ⊥
 
--- a thread that rests enters this object, or tries to, and goes on, by steps about it alone, to where it rests again: x and c become y and d
-pub record TakesTurn (code : List ℕ) (o : ℕ) (refused : Bool) (x : ThreadState × Source) (c : Cell) (y : ThreadState × Source) (d : Cell) : Type 0 where
-  pub begins : MayBegin refused o c.fields (ask_of code x.0)
+-- A thread that rests enters the first of the objects of these numbers, or tries to, and goes on, by steps about these objects alone, to where it
+-- rests again: x and cells become y and after.
+pub record TakesTurn (code numbers : List ℕ) (refused : Bool) (x : ThreadState × Source) (cells : List Cell) (y : ThreadState × Source) (after : List Cell) : Type 0 where
+  pub begins : MayBegin refused (slice_index numbers 0) (slice_index_or cells 0 empty).fields (ask_of code x.0)
   pub steps : ℕ
-  pub goes : GoesLone code o steps (lone_thread code refused x c) (lone_cell code refused x c) y d
+  pub goes : GoesAmong code numbers steps (lone_thread code refused x (slice_index_or cells 0 empty))
+      (slice_set cells 0 (lone_cell code refused x (slice_index_or cells 0 empty))) y after
   pub rests : Rests (ask_of code y.0)
 
 -- a thread and an object of some state of a guest
@@ -112,6 +119,16 @@ pub record AreBeside (code : List ℕ) (o : ℕ) (x : ThreadState) (c : Cell) : 
   pub has_object : o < length flat.objects
   pub here : thread_of flat thread ≡ x
   pub there : cell_of flat o ≡ c
+
+-- a thread and the objects of these numbers of some state of a guest
+pub record AreAmong (code numbers : List ℕ) (x : ThreadState) (cells : List Cell) : Type 0 where
+  pub flat : Flat
+  pub thread : ℕ
+  pub is : IsFlat flat
+  pub runs : flat.code ≡ code
+  pub has_thread : thread < length flat.threads
+  pub here : thread_of flat thread ≡ x
+  pub hand : IsHandOf flat.objects numbers cells
 
 -- the object may be tried so
 abbrev pub MayTakeTry : Bool → Cell → Type 0

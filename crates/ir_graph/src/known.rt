@@ -1,24 +1,24 @@
-//! A turn of a thread beside an object, by numbers.
+//! A turn of a thread beside some objects, by numbers.
 
 use ir_store::Spot;
 
 /// A thread enters an object, or tries to, and goes on to where it rests; or it has to wait for the object.
-#[derive(Clone, Copy, Debug, PartialEq, Eq)]
+#[derive(Drop)]
 pub struct Turn {
     /// The number of the thread before.
     pub from: usize,
-    /// The object that it enters or tries to.
-    pub object: usize,
     /// Whether it tries.
     pub tries: bool,
     /// Whether the try is refused.
     pub refused: bool,
-    /// Whether it has to wait. Then it and the object stay as they are.
+    /// Whether it has to wait. Then there is nothing after.
     pub waits: bool,
-    /// That object before.
-    pub spot: Spot,
     /// The number of the thread after.
     pub to: usize,
-    /// The object after.
-    pub after: Spot,
+    /// The objects that its steps may be about: first the one that it enters or tries to, then those that it holds.
+    pub numbers: Vec<u8>,
+    /// These objects before.
+    pub spots: Vec<Spot>,
+    /// These objects after.
+    pub afters: Vec<Spot>,
 }

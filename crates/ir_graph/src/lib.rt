@@ -3,6 +3,7 @@
 
 mod ahead;
 mod graph;
+mod hands;
 mod known;
 mod likeness;
 mod lone;

@@ -1,7 +1,7 @@
-//! A thread that goes on beside one object.
+//! A thread that goes on beside some objects.
 
-ghost use Rattle.std.specs.Prelude.{◌≡◌, ℕ, true, false, IfSome};
-ghost use Rattle.ir_graph.specs.Lone.{IsAbout, IsGiven, answer_from, cell_after, GoesLone, MayBegin, MustWait, TakesTurn, AreBeside, MayTake};
+ghost use Rattle.std.specs.Prelude.{◌≡◌, ◌<◌, ℕ, true, false, length, slice_index, IfSome};
+ghost use Rattle.ir_graph.specs.Lone.{IsAbout, IsGiven, answer_from, cell_after, GoesAmong, MayBegin, MustWait, TakesTurn, AreAmong, MayTake};
 ghost use Rattle.ir_graph.specs.Plain.{IsFair, Rests};
 ghost use Rattle.ir_sources.specs.Sources.{given};
 ghost use Rattle.ir_states.specs.Sources.{left_of};
@@ -89,21 +89,36 @@ fn take_beside(
     true
 }
 
-// A thread goes on to where it rests, if all its steps up to there, at most `limit`, are about this object; whether it came there.
-fn go_beside(
+// The place of an object of these numbers such that a thread that asks so goes on, and is about no object but this one.
+fn place_of(numbers: &[u8], asked: Ask) -> Option<usize>
+    ensures within { IfSome result (λ p. p < length numbers.now) }
+    ensures fair { IfSome result (λ _. IsFair asked) }
+    ensures about { IfSome result (λ p. IsAbout (slice_index numbers.now p) asked) }
+{
+    for p in 0..numbers.len() {
+        if is_about(numbers[p], asked) {
+            return Some(p);
+        }
+    }
+    None
+}
+
+// A thread goes on to where it rests, if all its steps up to there, at most `limit`, are about these objects; whether it came there.
+fn go_among(
     code: &Code,
     thread: &mut Thread,
     source: &mut Sources<'_>,
-    object: &mut Object,
-    number: u8,
+    objects: &mut [Object],
+    numbers: &[u8],
     limit: u64,
 ) -> bool
-    requires { AreBeside code.now number thread.old object.old }
-    ensures goes { result ≡ true → (k : ℕ) × GoesLone code.now number k (thread.old, source.old) object.old (thread.new, source.new) object.new }
+    requires some { 0 < length numbers.now }
+    requires among { AreAmong code.now numbers.now thread.old objects.old }
+    ensures goes { result ≡ true → (k : ℕ) × GoesAmong code.now numbers.now k (thread.old, source.old) objects.old (thread.new, source.new) objects.new }
     ensures rests { result ≡ true → Rests (ask_of code.now thread.new) }
 {
     let mut left = limit;
-    'beside: loop {
+    'among: loop {
         let (steps, asked) = thread.run_to_ask(code, left);
         left -= steps;
         if is_rest(asked) {
@@ -112,10 +127,10 @@ fn go_beside(
         if left == 0 {
             return false;
         }
-        if !is_about(number, asked) {
+        let Some(p) = place_of(numbers, asked) else {
             return false;
-        }
-        if !take_beside(code, thread, source, object, asked, false) {
+        };
+        if !take_beside(code, thread, source, &mut objects[p], asked, false) {
             return false;
         }
         left -= 1;
@@ -157,39 +172,40 @@ pub fn waits(asked: Ask, object: &Object, number: u8, refused: bool) -> bool
     }
 }
 
-/// A thread that rests enters this object, or its try is refused or enters, and it goes on to where it rests again, if all its steps up to
-/// there, at most `limit`, are about this object alone; whether it did. Its calls of the environment are answered by its source.
-pub fn turn_beside(
+/// A thread that rests enters the first of these objects, or its try is refused or enters, and it goes on to where it rests again, if all its
+/// steps up to there, at most `limit`, are about these objects alone; whether it did. Its calls of the environment are answered by its source.
+pub fn turn_among(
     code: &Code,
     own: &mut SourcedThread<'_>,
-    object: &mut Object,
-    number: u8,
+    objects: &mut [Object],
+    numbers: &[u8],
     refused: bool,
     limit: u64,
 ) -> bool
-    requires { AreBeside code.now number own.old.0 object.old }
-    ensures { result ≡ true → TakesTurn code.now number refused own.old object.old own.new object.new }
+    requires some { 0 < length numbers.now }
+    requires among { AreAmong code.now numbers.now own.old.0 objects.old }
+    ensures { result ≡ true → TakesTurn code.now numbers.now refused own.old objects.old own.new objects.new }
 {
-    let Some(asked) = first_ask(code, &own.thread, object, number, refused) else {
+    let Some(asked) = first_ask(code, &own.thread, &objects[0], numbers[0], refused) else {
         return false;
     };
     let took = take_beside(
         code,
         &mut own.thread,
         &mut own.source,
-        object,
+        &mut objects[0],
         asked,
         refused,
     );
     if !took {
         return false;
     }
-    go_beside(
+    go_among(
         code,
         &mut own.thread,
         &mut own.source,
-        object,
-        number,
+        objects,
+        numbers,
         limit,
     )
 }

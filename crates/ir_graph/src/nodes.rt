@@ -13,6 +13,7 @@ ghost use Rattle.ir_store.specs.Nodes.{Grows, IsNode, SourcedFlat, sourced_in};
 ghost use Rattle.ir_store.specs.Table.{HaveTicks, HaveNoTicks};
 
 use crate::ahead::Ahead;
+use crate::hands::put_spots;
 use crate::known::Turn;
 use crate::rest::run_to_rest;
 use crate::turns::{tries, turn_of};
@@ -75,14 +76,14 @@ fn node_by<'a>(
     flats: &mut Store<'a>,
     timed: &mut bool,
     way: Way,
-    turn: Turn,
+    turn: &Turn,
     most: usize,
 ) -> Result<usize, Stop>
     requires nodes { AreNodes flats.old.items }
     requires node { way.node < length flats.old.items }
     requires thread { (s : SourcedFlat) → slice_get flats.old.items way.node ≡ Some s → way.thread < length s.flat.threads }
-    requires turn { (s : SourcedFlat) → slice_get flats.old.items way.node ≡ Some s → IsTurnOf s.flat.code flats.old.shared s way.thread way.refused turn }
-    requires leads { turn.waits ≡ false }
+    requires turn { (s : SourcedFlat) → slice_get flats.old.items way.node ≡ Some s → IsTurnOf s.flat.code flats.old.shared s way.thread way.refused turn.now }
+    requires leads { turn.now.waits ≡ false }
     requires code { (s : SourcedFlat) → slice_get flats.old.items way.node ≡ Some s → flats.old.code ≡ s.flat.code }
     requires room { length flats.old.items ≤ most }
     ensures nodes { AreNodes flats.new.items }
@@ -102,7 +103,13 @@ fn node_by<'a>(
     ensures tickless { IfOk result (λ w. timed.new ≡ false → LeadsTickless flats.new.items way.thread way.refused way.node w) }
 {
     flats.thread_number(way.node, way.thread);
-    let new = flats.with_both(way.node, way.thread, turn.to, turn.object, turn.after)?;
+    let first = turn.numbers[0] as usize;
+    let mut new = flats.with_both(way.node, way.thread, turn.to, first, turn.afters[0])?;
+    put_spots(
+        new.objects.as_mut_slice(),
+        turn.numbers.as_slice(),
+        turn.afters.as_slice(),
+    );
     node_of(flats, timed, new, most)
 }
 
@@ -194,7 +201,8 @@ pub fn successor<'a>(
     if way.refused && !tries(flats, ahead, code, number)? {
         return Ok(None);
     }
-    if let Some(turn) = turn_of(flats, ahead, code, way, bounds.private)? {
+    if let Some(i) = turn_of(flats, ahead, code, way, bounds.private)? {
+        let turn = ahead.turn(i);
         if turn.waits {
             return Ok(None);
         }

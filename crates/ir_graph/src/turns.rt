@@ -2,36 +2,61 @@
 
 ghost use Rattle.std.specs.Prelude.{◌≡◌, ℕ, ◌<◌, true, false, Some, length, slice_get, IfOk, IfSome};
 ghost use Rattle.std.specs.List.{slice_index_or};
-ghost use Rattle.ir_flat.specs.Flat.{cell_of};
-ghost use Rattle.ir_graph.specs.Ahead.{AreTurns, IsTurnOf};
+ghost use Rattle.ir_graph.specs.Ahead.{AreTurns, IsFrom, IsTurnOf};
 ghost use Rattle.ir_graph.specs.Plain.{MayGo};
-ghost use Rattle.ir_store.specs.Nodes.{Grows, SourcedFlat, cell_in, sourced_thread};
+ghost use Rattle.ir_graph.specs.declared.known.Turn.{Turn};
+ghost use Rattle.ir_store.specs.Nodes.{Grows, SourcedFlat};
 ghost use Rattle.ir_store.specs.Table.{idle_beside};
 ghost use Rattle.ir_thread.specs.State.{ask_of};
 
-use crate::ahead::Ahead;
+use crate::ahead::{Ahead, key_after, thread_key};
+use crate::hands::{add_objects, hand_of, objects_at, spots_of, stand};
 use crate::known::Turn;
-use crate::lone::{turn_beside, waits};
+use crate::lone::{turn_among, waits};
 use crate::way::Way;
 use ir_image::Code;
 use ir_store::Store;
 use ir_thread::Ask;
-use std::alloc::AllocError;
+use std::alloc::{AllocError, Global};
 
-// The turn of a thread at a node, if it is known.
-fn known_turn(flats: &Store<'_>, ahead: &Ahead, way: Way) -> Option<Turn>
+// The hash of a thread's number and of the objects of these numbers at a node, if it has them all.
+fn key_at(flats: &Store<'_>, way: Way, from: usize, numbers: &[u8]) -> Option<u64>
+    requires { way.node < length flats.now.items }
+{
+    let mut key = thread_key(from, way.refused);
+    for number in numbers {
+        let spot = flats.spot(way.node, *number as usize)?;
+        key = key_after(key, spot);
+    }
+    Some(key)
+}
+
+// The number of the turn of a thread at a node, if it is known.
+fn known_turn(flats: &Store<'_>, ahead: &Ahead, way: Way) -> Option<usize>
     requires node { way.node < length flats.now.items }
     requires thread { (s : SourcedFlat) → slice_get flats.now.items way.node ≡ Some s → way.thread < length s.flat.threads }
-    ensures known { IfSome result (λ turn. (i : ℕ) × (slice_get ahead.now i ≡ Some turn)) }
-    ensures way { IfSome result (λ turn. turn.refused ≡ way.refused) }
-    ensures object { IfSome result (λ turn. (s : SourcedFlat) → slice_get flats.now.items way.node ≡ Some s → turn.object < length s.flat.objects) }
-    ensures here { IfSome result (λ turn. (s : SourcedFlat) → slice_get flats.now.items way.node ≡ Some s → slice_index_or flats.now.shared.threads turn.from idle_beside ≡ sourced_thread s way.thread) }
-    ensures there { IfSome result (λ turn. (s : SourcedFlat) → slice_get flats.now.items way.node ≡ Some s → cell_in flats.now.shared.words turn.spot ≡ cell_of s.flat turn.object) }
+    ensures { IfSome result (λ i. (turn : Turn) × (slice_get ahead.now i ≡ Some turn) × ((s : SourcedFlat) → slice_get flats.now.items way.node ≡ Some s → IsFrom flats.now.shared s way.thread way.refused turn)) }
 {
     let from = flats.thread_number(way.node, way.thread);
     let first = ahead.first(from)?;
-    let spot = flats.spot(way.node, first.object)?;
-    ahead.find(from, first.object, way.refused, spot)
+    let key = key_at(flats, way, from, first.numbers.as_slice())?;
+    let i = ahead.noted(key)?;
+    let turn = ahead.turn(i);
+    if turn.from != from {
+        return None;
+    }
+    if turn.refused != way.refused {
+        return None;
+    }
+    if !stand(
+        flats,
+        way.node,
+        turn.numbers.as_slice(),
+        turn.spots.as_slice(),
+    ) {
+        return None;
+    }
+    Some(i)
 }
 
 // The object that a thread enters or tries to, and whether it tries, if it asks one of these.
@@ -45,9 +70,10 @@ fn object_of(asked: Ask) -> Option<(u8, bool)>
     }
 }
 
-// The turn of a thread at a node, if it is about one object alone or the thread has to wait.
+// The turn of a thread at a node, if it is about no objects but the one that it enters or tries to and those that it holds, or it has to wait.
 fn new_turn(
     flats: &mut Store<'_>,
+    alloc: Global,
     code: &Code,
     way: Way,
     limit: u64,
@@ -66,41 +92,49 @@ fn new_turn(
     let Some((number, tries)) = object_of(asked) else {
         return Ok(None);
     };
-    let object = number as usize;
-    let Some(spot) = flats.spot(way.node, object) else {
+    let numbers = hand_of(alloc, number, own.thread.held())?;
+    let Some(spots) = spots_of(alloc, flats, way.node, numbers.as_slice())? else {
         return Ok(None);
     };
-    let mut beside = flats.object(spot);
-    if waits(asked, &beside, number, way.refused) {
+    let mut objects = objects_at(alloc, flats, spots.as_slice())?;
+    if waits(asked, &objects[0], number, way.refused) {
         return Ok(Some(Turn {
             from,
-            object,
             tries,
             refused: way.refused,
             waits: true,
-            spot,
             to: from,
-            after: spot,
+            numbers,
+            spots,
+            afters: Vec::new(alloc),
         }));
     }
-    if !turn_beside(code, &mut own, &mut beside, number, way.refused, limit) {
+    if !turn_among(
+        code,
+        &mut own,
+        &mut objects,
+        numbers.as_slice(),
+        way.refused,
+        limit,
+    ) {
         return Ok(None);
     }
     let to = flats.add_thread(&own)?;
-    let after = flats.add_object(&beside)?;
+    let afters = add_objects(alloc, flats, objects.as_slice())?;
     Ok(Some(Turn {
         from,
-        object,
         tries,
         refused: way.refused,
         waits: false,
-        spot,
         to,
-        after,
+        numbers,
+        spots,
+        afters,
     }))
 }
 
-/// The turn of a thread at a node, if it is about one object alone or the thread has to wait.
+/// The number of the turn of a thread at a node, if it is about no objects but the one that it enters or tries to and those that it holds, or it
+/// has to wait.
 ///
 /// # Errors
 /// Out of memory.
@@ -110,7 +144,7 @@ pub fn turn_of(
     code: &Code,
     way: Way,
     limit: u64,
-) -> Result<Option<Turn>, AllocError>
+) -> Result<Option<usize>, AllocError>
     requires node { way.node < length flats.old.items }
     requires thread { (s : SourcedFlat) → slice_get flats.old.items way.node ≡ Some s → way.thread < length s.flat.threads }
     requires code { (s : SourcedFlat) → slice_get flats.old.items way.node ≡ Some s → s.flat.code ≡ code.now }
@@ -119,16 +153,16 @@ pub fn turn_of(
     ensures grows { Grows flats.old.shared flats.new.shared }
     ensures store { flats.new.code ≡ flats.old.code }
     ensures turns { AreTurns code.now flats.new.shared ahead.new }
-    ensures turn { IfOk result (λ found. IfSome found (λ turn. (s : SourcedFlat) → slice_get flats.new.items way.node ≡ Some s → IsTurnOf code.now flats.new.shared s way.thread way.refused turn)) }
+    ensures turn { IfOk result (λ found. IfSome found (λ i. (turn : Turn) × (slice_get ahead.new i ≡ Some turn) × ((s : SourcedFlat) → slice_get flats.new.items way.node ≡ Some s → IsTurnOf code.now flats.new.shared s way.thread way.refused turn))) }
 {
-    if let Some(turn) = known_turn(flats, ahead, way) {
-        return Ok(Some(turn));
+    if let Some(i) = known_turn(flats, ahead, way) {
+        return Ok(Some(i));
     }
-    let found = new_turn(flats, code, way, limit)?;
-    if let Some(turn) = found {
-        ahead.note(turn)?;
-    }
-    Ok(found)
+    let Some(turn) = new_turn(flats, ahead.alloc(), code, way, limit)? else {
+        return Ok(None);
+    };
+    let i = ahead.note(turn)?;
+    Ok(Some(i))
 }
 
 /// Whether the thread of a number tries to enter.
