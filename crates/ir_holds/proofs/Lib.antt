@@ -1,0 +1,6 @@
+mod Defaults
+mod Rows
+mod Marks
+mod Coming
+mod Needs
+mod Checked

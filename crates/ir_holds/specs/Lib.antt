@@ -1,0 +1,4 @@
+pub mod Spans
+pub mod Held
+pub mod Needing
+pub mod Checks
