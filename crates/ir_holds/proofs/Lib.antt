@@ -1,6 +1,7 @@
 mod Defaults
 mod Rows
-mod Marks
-mod Coming
+mod Opened
+mod Tops
+mod Noted
 mod Needs
 mod Checked

@@ -8,26 +8,6 @@ use Rattle.ir_lemmas.proofs.CallerLemmas.{slice_get_after_push_cases}
 use Rattle.ir_holds.specs.Spans.{IsOver, IsTaken, IsFreeRow, AreRows}
 use Rattle.ir_holds.specs.declared.span.Span.{Span}
 
--- of the first n boxes none has this row where the box begins
-abbrev pub NotTakenBelow : List Span → List ℕ → ℕ → Span → ℕ → Type 0
-NotTakenBelow spans rows n own y = (k : ℕ) (other : Span) → k < n → slice_get spans k ≡ Some other → slice_get rows k ≡ Some y → IsOver other own → ⊥
-
-pub not_taken_below_0 : (spans : List Span) (rows : List ℕ) (own : Span) (y : ℕ) → NotTakenBelow spans rows 0 own y
-not_taken_below_0 spans rows own y = λ k other less at row over. omega (arith, less)
-
-pub not_taken_if_of_none : (spans : List Span) (rows : List ℕ) (n : ℕ) (own : Span) (y : ℕ) → NotTakenBelow spans rows n own y → IsTaken spans rows n own y → ⊥
-not_taken_if_of_none spans rows n own y h taken = h taken.number taken.other taken.before taken.there taken.row taken.over
-
--- the next box doesn't have it either
-pub not_taken_below_next : (spans : List Span) (rows : List ℕ) (n : ℕ) (own : Span) (y : ℕ) → NotTakenBelow spans rows n own y
-    → ((other : Span) → slice_get spans n ≡ Some other → slice_get rows n ≡ Some y → IsOver other own → ⊥) → NotTakenBelow spans rows (n + 1) own y
-not_taken_below_next spans rows n own y h here = λ k other less at row over. elim (cases_lt k n) [
-  | inl before ↦ h k other before at row over
-  | inr past ↦
-      let same : k ≡ n = omega (arith, less, past) in
-      here other (subst (λ z. slice_get spans z ≡ Some other) same at) (subst (λ z. slice_get rows z ≡ Some y) same row) over
-]
-
 -- no box before box n has a row from n on
 pub own_number_is_not_taken : (spans : List Span) (rows : List ℕ) (n : ℕ) (own : Span) → ((m y : ℕ) → slice_get rows m ≡ Some y → y ≤ m)
     → IsTaken spans rows n own n → ⊥

@@ -12,20 +12,6 @@ use Rattle.ir_holds.specs.Held.{IsLeastFrom, MarkedBefore, ComesFrom, AreHeldAt,
 use Rattle.ir_holds.specs.declared.held.HeldBoxes.{HeldBoxes}
 use Rattle.ir_holds.specs.declared.span.Span.{Span}
 
--- a box that isn't too far
-pub record IsNear (b : PlacedBox) : Type 0 where
-  pub start_x : b.start.x < 2 ^ 60
-  pub start_u : b.start.u < 2 ^ 60
-  pub end_x : b.end.x < 2 ^ 60
-  pub end_u : b.end.u < 2 ^ 60
-
-abbrev pub AreNear : List PlacedBox → Type 0
-AreNear boxes = (k : ℕ) (b : PlacedBox) → slice_get boxes k ≡ Some b → IsNear b
-
--- steps that aren't too far
-abbrev pub AreShort : List Span → Type 0
-AreShort spans = (k : ℕ) (s : Span) → slice_get spans k ≡ Some s → (s.first < 2 ^ 60) × (s.last < 2 ^ 60)
-
 -- box b, which goes so, starts as near as it can, where what it needs ends left of a place
 pub record StartsRight (boxes : List PlacedBox) (spans : List Span) (b : PlacedBox) (own : Span) (needed : Point) : Type 0 where
   pub free : ℕ

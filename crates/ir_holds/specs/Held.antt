@@ -75,11 +75,3 @@ pub record AreHeldAt (r : Recorded) (boxes : List PlacedBox) (spans : List Span)
 -- the rows of boxes
 abbrev pub rows_in : List PlacedBox → List ℕ
 rows_in boxes = map (λ (b : PlacedBox). b.row) boxes
-
--- box b, which goes so, starts or ends before step k of thread t, and there its x is z
-abbrev pub PassesBefore : PlacedBox → Span → ℕ → ℕ → ℕ → Type 0
-PassesBefore b s t k z = (s.thread ≡ t) × (((s.first < k) × (b.start.x ≡ z)) ⊎ ((s.last < k) × (b.end.x ≡ z)))
-
--- box b, which goes so, starts or ends before step k of thread t, and from there the thread comes to z by u
-abbrev pub ComesOver : PlacedBox → Span → ℕ → ℕ → ℕ → Type 0
-ComesOver b s t k z = (s.thread ≡ t) × (((s.first < k) × (z ≡ b.start.u + (k - s.first))) ⊎ ((s.last < k) × (z ≡ b.end.u + (k - s.last))))

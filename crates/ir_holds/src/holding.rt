@@ -1,6 +1,6 @@
 //! The places of boxes: they are proposed, and each is looked at.
 
-ghost use Rattle.std.specs.Prelude.{◌≡◌, ◌+◌, ◌^◌, ◌<◌, ℕ, true, Some, length, IfOk, IfSome};
+ghost use Rattle.std.specs.Prelude.{◌≡◌, ◌+◌, ◌^◌, ◌<◌, ℕ, List, true, Some, length, IfOk, IfSome};
 ghost use Rattle.std.specs.List.{slice_get};
 ghost use Rattle.ir_trace.specs.Recorded.{recorded_thread};
 ghost use Rattle.ir_picture.specs.Boxes.{IsBox};
@@ -8,16 +8,18 @@ ghost use Rattle.ir_picture.specs.Placing.{events_of_all};
 ghost use Rattle.ir_picture.specs.Progress.{AreBoxesOf};
 ghost use Rattle.ir_picture.specs.declared.event_box.EventBox.{EventBox};
 ghost use Rattle.ir_picture.specs.declared.placed_box.Point.{Point};
+ghost use Rattle.ir_picture.specs.declared.placed_box.PlacedBox.{PlacedBox};
 ghost use Rattle.ir_holds.specs.Spans.{AreRows};
 ghost use Rattle.ir_holds.specs.Held.{IsHeldEnd, AreHeldAt, rows_in};
-ghost use Rattle.ir_holds.specs.Checks.{AreNear, HoldAll};
+ghost use Rattle.ir_holds.specs.Stops.{HoldsMarks, HasMarks};
+ghost use Rattle.ir_holds.specs.Checks.{HoldAll};
+ghost use Rattle.ir_holds.specs.declared.span.Span.{Span};
 
-use crate::checking::{FAR, are_held, are_near, are_short};
-use crate::coming_by::come_from_marks;
+use crate::checking::are_held;
 use crate::held::HeldBoxes;
-use crate::levels::rows_of;
+use crate::levels::{are_rising, rows_of};
+use crate::marks::{FAR, Marks};
 use crate::needing::ends_of;
-use crate::passing::past_marks;
 use crate::proposing::{Spot, proposed};
 use crate::span::Span;
 use ir_past::thread_count;
@@ -38,7 +40,7 @@ fn steps_of(trace: &Trace, thread: u8) -> u64
 
 // Whether no thread took too many steps.
 fn are_steps_few(trace: &Trace) -> bool
-    ensures { result ≡ true → (t : ℕ) → t < length trace.now.threads → (recorded_thread trace.now t).steps < 2 ^ 60 }
+    ensures { result ≡ true → (t : ℕ) → t < length trace.now.threads → (recorded_thread trace.now t).steps < 2 ^ 54 }
 {
     for thread in 0..thread_count(trace) {
         if steps_of(trace, thread) >= FAR {
@@ -91,36 +93,29 @@ fn boxes_at(
 }
 
 // Where a thread ends.
-fn thread_end(trace: &Trace, boxes: &[PlacedBox], spans: &[Span], thread: u8) -> Point
+fn thread_end(trace: &Trace, marks: &Marks, thread: u8) -> Point
     requires thread { thread < length trace.now.threads }
-    requires size { length spans.now ≡ length boxes.now }
-    requires near { AreNear boxes.now }
-    requires few { (recorded_thread trace.now thread).steps < 2 ^ 60 }
-    ensures { IsHeldEnd trace.now boxes.now spans.now thread result }
+    requires marks { HasMarks marks.now }
+    requires few { (recorded_thread trace.now thread).steps < 2 ^ 54 }
+    ensures { (boxes : List PlacedBox) (spans : List Span) → HoldsMarks boxes spans marks.now → IsHeldEnd trace.now boxes spans thread result }
 {
     let steps = steps_of(trace, thread);
     Point {
-        x: past_marks(boxes, spans, thread, steps, 0),
-        u: come_from_marks(boxes, spans, thread, steps, steps + 1),
+        x: marks.past(thread, steps, 0),
+        u: marks.come(thread, steps, steps + 1),
     }
 }
 
 // Where each thread ends.
-fn thread_ends(
-    alloc: Global,
-    trace: &Trace,
-    boxes: &[PlacedBox],
-    spans: &[Span],
-) -> Result<Vec<Point>, AllocError>
-    requires size { length spans.now ≡ length boxes.now }
-    requires near { AreNear boxes.now }
-    requires few { (t : ℕ) → t < length trace.now.threads → (recorded_thread trace.now t).steps < 2 ^ 60 }
+fn thread_ends(alloc: Global, trace: &Trace, marks: &Marks) -> Result<Vec<Point>, AllocError>
+    requires marks { HasMarks marks.now }
+    requires few { (t : ℕ) → t < length trace.now.threads → (recorded_thread trace.now t).steps < 2 ^ 54 }
     ensures threads { IfOk result (λ v. length v.items ≡ length trace.now.threads) }
-    ensures each { IfOk result (λ v. (t : ℕ) (p : Point) → slice_get v.items t ≡ Some p → IsHeldEnd trace.now boxes.now spans.now t p) }
+    ensures each { IfOk result (λ v. (boxes : List PlacedBox) (spans : List Span) → HoldsMarks boxes spans marks.now → (t : ℕ) (p : Point) → slice_get v.items t ≡ Some p → IsHeldEnd trace.now boxes spans t p) }
 {
     let mut ends = Vec::new(alloc);
     for thread in 0..thread_count(trace) {
-        ends.push(thread_end(trace, boxes, spans, thread))?;
+        ends.push(thread_end(trace, marks, thread))?;
     }
     Ok(ends)
 }
@@ -136,14 +131,17 @@ fn ends_if_held(
     requires size { length spans.now ≡ length boxes.now }
     ensures { IfOk result (λ x. IfSome x (λ ends. AreHeldAt trace.now boxes.now spans.now ends.items)) }
 {
-    if !are_near(boxes) || !are_short(spans) || !are_steps_few(trace) {
+    if !are_steps_few(trace) {
         return Ok(None);
     }
+    let Some(marks) = Marks::of(alloc, boxes, spans)? else {
+        return Ok(None);
+    };
     let needs = ends_of(alloc, trace, boxes)?;
-    if !are_held(trace, boxes, spans, &needs) {
+    if !are_held(trace, boxes, spans, &marks, &needs) {
         return Ok(None);
     }
-    let ends = thread_ends(alloc, trace, boxes, spans)?;
+    let ends = thread_ends(alloc, trace, &marks)?;
     Ok(Some(ends))
 }
 
@@ -166,7 +164,7 @@ fn judged(
 }
 
 /// Boxes of a trace, which go so, with their places and rows, and where their threads end. None, if no places were found: what is proposed may be
-/// wrong, and then it isn't given. Time is quadratic in the boxes.
+/// wrong, and then it isn't given. Time is linear in the events and the boxes, times the threads, times the logarithm of the boxes.
 ///
 /// # Errors
 /// Out of memory.
@@ -180,6 +178,9 @@ pub fn held_boxes(
     requires size { length spans.now ≡ length events.now }
     ensures { IfOk result (λ x. IfSome x (HoldAll trace.now events.now spans.now)) }
 {
+    if !are_rising(spans) {
+        return Ok(None);
+    }
     let rows = rows_of(alloc, spans)?;
     let spots = proposed(alloc, trace, events, spans)?;
     let boxes = boxes_at(alloc, events, &rows, &spots)?;

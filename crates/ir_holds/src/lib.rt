@@ -2,16 +2,17 @@
 #![tactic(auto)]
 
 mod checking;
-mod coming_by;
+mod heights;
 mod held;
 mod holding;
 mod known;
 mod levels;
+mod marks;
 mod moments;
 mod needing;
-mod passing;
 mod proposing;
 mod span;
+mod stops;
 
 pub use held::HeldBoxes;
 pub use holding::held_boxes;

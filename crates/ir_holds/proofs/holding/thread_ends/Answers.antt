@@ -9,9 +9,9 @@ loop-thread-preserved c =
     let size = c.loop-thread.invariant.size in
     rw c.in_ok-push.ensures.items (record {
       size = length_push c.loop-thread.ends.items c.thread_end.result ∙ omega (arith, size);
-      each = λ t p at. elim (slice_get_after_push_cases c.loop-thread.ends.items c.thread_end.result t p at) [
-        | inl old ↦ c.loop-thread.invariant.each t p old
-        | inr last ↦ subst (λ q. IsHeldEnd c.args.trace.now c.args.boxes.now c.args.spans.now t q) last.1
-            (subst (λ k. IsHeldEnd c.args.trace.now c.args.boxes.now c.args.spans.now k c.thread_end.result) (sym (last.0 ∙ size)) c.thread_end.ensures)
+      each = λ boxes spans holds t p at. elim (slice_get_after_push_cases c.loop-thread.ends.items c.thread_end.result t p at) [
+        | inl old ↦ c.loop-thread.invariant.each boxes spans holds t p old
+        | inr last ↦ subst (λ q. IsHeldEnd c.args.trace.now boxes spans t q) last.1
+            (subst (λ k. IsHeldEnd c.args.trace.now boxes spans k c.thread_end.result) (sym (last.0 ∙ size)) (c.thread_end.ensures boxes spans holds))
       ];
     })
