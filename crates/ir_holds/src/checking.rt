@@ -25,7 +25,13 @@ fn starts_right(marks: &Marks, own: &PlacedBox, span: &Span, needed: Point) -> b
 {
     let free = marks.past(span.thread, span.first, 0);
     let came = marks.come(span.thread, span.first, span.first + 1);
-    own.start.x == free.max(needed.x) && own.came == came && own.start.u == came.max(needed.u)
+    if own.start.x != free.max(needed.x) {
+        return false;
+    }
+    if own.came != came {
+        return false;
+    }
+    own.start.u == came.max(needed.u)
 }
 
 // Whether a box of this length ends where it has to.
@@ -38,7 +44,10 @@ fn ends_right(marks: &Marks, own: &PlacedBox, span: &Span, long: u64) -> bool
 {
     let past = marks.past(span.thread, span.last, own.start.x + long);
     let come = marks.come(span.thread, span.last, own.start.u);
-    own.end.x == past && own.end.u == come
+    if own.end.x != past {
+        return false;
+    }
+    own.end.u == come
 }
 
 // Whether the box of a number is where it has to be.
