@@ -1,5 +1,5 @@
 -- A box that starts and ends as near as it can is where it has to be.
-use Rattle.std.proofs.Common.{◌≡◌, ℕ, zero, suc, ◌+◌, ◌-◌, ◌<◌, ◌≤◌, ◌⊎◌, inl, inr, max, Some, List, [], ◌∷◌, length, take, drop, refl, sym, ap, ◌∙◌, subst, arith}
+use Rattle.std.proofs.Common.{◌≡◌, ℕ, zero, suc, ◌+◌, ◌-◌, ◌<◌, inl, inr, Some, List, [], ◌∷◌, take, drop, refl, sym, ap, ◌∙◌, subst, arith}
 use Rattle.std.specs.List.{slice_get}
 use Rattle.std.proofs.lemmas.Bool.{cases_lt}
 use Rattle.std.proofs.lemmas.Option.{none-some, same_Some}
@@ -7,15 +7,15 @@ use Rattle.ir_log.specs.declared.event.Event.{Event}
 use Rattle.ir_log.specs.declared.event.Event.TheVariants.{Answer, Read, Write, Try}
 use Rattle.ir_trace.specs.Recorded.{Recorded, recorded_thread}
 use Rattle.ir_past.specs.Past.{event_at}
-use Rattle.ir_picture.specs.Boxes.{IsInBox, IsBox}
+use Rattle.ir_picture.specs.Boxes.{IsInBox}
 use Rattle.ir_picture.specs.Needs.{Needs}
 use Rattle.ir_picture.specs.Numbers.{events_in}
-use Rattle.ir_picture.specs.Places.{IsLeastAbove, NeedsBox, EndsNeeded, length_of}
+use Rattle.ir_picture.specs.Places.{IsLeastAbove, EndsNeeded, length_of}
 use Rattle.ir_picture.specs.declared.event_box.EventBox.{EventBox}
 use Rattle.ir_picture.specs.declared.placed_box.Point.{Point}
 use Rattle.ir_picture.specs.declared.placed_box.PlacedBox.{PlacedBox}
-use Rattle.ir_holds.specs.Held.{IsLeastFrom, MarkedBefore, ComesFrom, HasToBeLeft, ComesTo, IsHeld}
-use Rattle.ir_holds.specs.Needing.{Makes, NeedsLike, OneNeedsLike, EndsWith, IsAfterThese}
+use Rattle.ir_holds.specs.Held.{MarkedBefore, IsHeld}
+use Rattle.ir_holds.specs.Needing.{NeedsLike, OneNeedsLike, EndsWith, IsAfterThese}
 use Rattle.ir_holds.specs.Checks.{StartsRight, EndsRight}
 use Rattle.ir_holds.specs.declared.span.Span.{Span}
 

@@ -1,18 +1,17 @@
 -- Where the boxes end that have what an event needs.
-use Rattle.std.proofs.Common.{◌≡◌, ℕ, zero, suc, ◌+◌, ◌-◌, ◌<◌, ◌≤◌, ◌⊎◌, inl, inr, max, Bool, true, false, ◌==◌, ◌&&◌, if◌then◌else◌, Some, List, length, refl, sym, ap, ◌∙◌, subst, arith, eq-eqb, ne_eqb}
+use Rattle.std.proofs.Common.{◌≡◌, ℕ, zero, suc, ◌+◌, ◌-◌, ◌<◌, ◌≤◌, ◌⊎◌, inl, inr, max, Bool, ◌==◌, ◌&&◌, if◌then◌else◌, Some, List, length, refl, sym, ap, ◌∙◌, subst, arith, eq-eqb, ne_eqb}
 use Rattle.std.specs.List.{slice_get}
 use Rattle.std.proofs.lemmas.Bool.{cases_eq, cases_lt}
 use Rattle.std.proofs.lemmas.Option.{same_Some, slice_get_within}
 use Rattle.ir_log.specs.declared.event.Event.{Event}
 use Rattle.ir_log.specs.declared.event.Event.TheVariants.{Answer, Read, Write, Try}
-use Rattle.ir_trace.specs.Recorded.{Recorded, recorded_thread}
+use Rattle.ir_trace.specs.Recorded.{Recorded}
 use Rattle.ir_past.specs.Past.{event_at}
-use Rattle.ir_picture.specs.Boxes.{IsInBox, IsBox}
+use Rattle.ir_picture.specs.Boxes.{IsInBox}
 use Rattle.ir_picture.specs.Places.{IsLeastAbove}
 use Rattle.ir_picture.specs.Placing.{first_point, later_of, right_of, version_in, unknown}
 use Rattle.ir_picture.specs.declared.placed_box.Point.{Point}
 use Rattle.ir_picture.specs.declared.placed_box.PlacedBox.{PlacedBox}
-use Rattle.ir_picture.specs.declared.table.Table.{Table}
 use Rattle.ir_picture.specs.declared.table.Version.{Version}
 use Rattle.ir_picture.proofs.CallerLemmas.{least_above_of_equal_sets, least_above_of_empty_set_is_start, least_above_of_union_is_max}
 use Rattle.ir_holds.specs.Needing.{Reads, Writes, Makes, NeedsLike, OneNeedsLike, EndsWith, IsAfterThese, place_in, HoldsEnds, with_end, with_read, with_write, EndsTo, IsAfterTo, HoldsTo}

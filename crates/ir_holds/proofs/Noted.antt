@@ -3,7 +3,7 @@ use Rattle.std.proofs.Common.{◌≡◌, ℕ, ◌+◌, ◌-◌, ◌*◌, ◌^◌
 use Rattle.std.specs.List.{slice_get, Contains}
 use Rattle.std.specs.List.Sorted.{IsPermutation}
 use Rattle.std.proofs.lemmas.Bool.{cases_lt}
-use Rattle.std.proofs.lemmas.Option.{none-some, same_Some, slice_get_within, slice_get-get_or, slice_get-map, get_or_from_slice_get}
+use Rattle.std.proofs.lemmas.Option.{same_Some, slice_get_within, slice_get-get_or, slice_get-map, get_or_from_slice_get}
 use Rattle.std.proofs.lemmas.List.Elements.{Contains-push, Contains-push_cases, Contains-append_left}
 use Rattle.std.proofs.lemmas.List.Sorted.{Contains-permutation, IsPermutation-sym}
 use Rattle.ir_lemmas.proofs.CallerLemmas.{element_below_length_exists, length_of_map}
@@ -97,15 +97,14 @@ near_if_each_is_near stops h s has = h has.0 s (slice_get-get_or stops has.0 s h
 contains_after_map : {X Y : Type 0} (f : X → Y) (xs : List X) (x : X) → Contains xs x → Contains (map f xs) (f x)
 contains_after_map f xs x has =
     let at : slice_get (map f xs) has.0 ≡ Some (f x) =
-        slice_get-map f xs has.0 ∙ ap (option_map f) (slice_get-get_or xs has.0 x has.1 ∙ ap Some has.2) in
+    slice_get-map f xs has.0 ∙ ap (option_map f) (slice_get-get_or xs has.0 x has.1 ∙ ap Some has.2) in
     (has.0, slice_get_within (map f xs) has.0 (f x) at, get_or_from_slice_get (map f xs) has.0 (f x) (f x) at)
 
 contains_before_map : {X Y : Type 0} (f : X → Y) (xs : List X) (y : Y) → Contains (map f xs) y → (x : X) × Contains xs x × (f x ≡ y)
 contains_before_map f xs y has =
     let there = element_below_length_exists xs has.0 (subst (λ n. has.0 < n) (length_of_map f xs) has.1) in
     let at : slice_get (map f xs) has.0 ≡ Some (f there.0) = slice_get-map f xs has.0 ∙ ap (option_map f) there.1 in
-    let same : Some (f there.0) ≡ Some y = sym at ∙ slice_get-get_or (map f xs) has.0 y has.1 ∙ ap Some has.2 in
-    (
+    let same : Some (f there.0) ≡ Some y = sym at ∙ slice_get-get_or (map f xs) has.0 y has.1 ∙ ap Some has.2 in (
       there.0,
       (has.0, slice_get_within xs has.0 there.0 there.1, get_or_from_slice_get xs has.0 there.0 there.0 there.1),
       same_Some (f there.0) y same,
@@ -246,9 +245,9 @@ pub noted_boxes_are_near : (boxes : List PlacedBox) (spans : List Span) (m : Mar
     → slice_get boxes n ≡ Some b → slice_get spans n ≡ Some s → IsStopNear (start_of s b) × IsStopNear (end_of s b)
 noted_boxes_are_near boxes spans m n b s holds there goes = (
   holds.noted.near (start_of s b) (holds.are.all s.thread s.first b.start
-  (record { number = n; box = b; own = s; there = there; goes = goes; thread = refl; is = inl (refl, refl) })),
+      (record { number = n; box = b; own = s; there = there; goes = goes; thread = refl; is = inl (refl, refl) })),
   holds.noted.near (end_of s b) (holds.are.all s.thread s.last b.end
-  (record { number = n; box = b; own = s; there = there; goes = goes; thread = refl; is = inr (refl, refl) })),
+      (record { number = n; box = b; own = s; there = there; goes = goes; thread = refl; is = inr (refl, refl) })),
 )
 
 pub some_marks : (boxes : List PlacedBox) (spans : List Span) (m : Marks) → HoldsMarks boxes spans m → HasMarks m

@@ -1,11 +1,10 @@
 -- The rows of boxes.
-use Rattle.std.proofs.Common.{◌≡◌, ℕ, zero, suc, ◌+◌, ◌<◌, ◌≤◌, inl, inr, Some, List, [], ◌∷◌, ◌++◌, length, refl, sym, ap, ◌∙◌, subst, arith}
+use Rattle.std.proofs.Common.{◌≡◌, ℕ, zero, suc, ◌+◌, ◌≤◌, inl, inr, Some, List, [], ◌∷◌, ◌++◌, length, refl, sym, ap, ◌∙◌, subst, arith}
 use Rattle.std.specs.List.{slice_get}
-use Rattle.std.proofs.lemmas.Bool.{cases_lt}
 use Rattle.std.proofs.lemmas.List.{length_push}
 use Rattle.std.proofs.lemmas.Option.{none-some, same_Some, slice_get_within}
 use Rattle.ir_lemmas.proofs.CallerLemmas.{slice_get_after_push_cases}
-use Rattle.ir_holds.specs.Spans.{IsOver, IsTaken, IsFreeRow, AreRows}
+use Rattle.ir_holds.specs.Spans.{IsTaken, IsFreeRow, AreRows}
 use Rattle.ir_holds.specs.declared.span.Span.{Span}
 
 -- no box before box n has a row from n on

@@ -1,9 +1,8 @@
 -- The greatest of the heights before a place.
-use Rattle.std.proofs.Common.{◌≡◌, ℕ, ◌+◌, ◌<◌, ◌≤◌, inl, inr, max, Some, List, [], ◌∷◌, ◌++◌, length, true, false, refl, sym, ap, ◌∙◌, subst, arith, get_or, ltb}
-use Rattle.std.specs.List.{slice_get, Contains}
-use Rattle.std.specs.List.Sorted.{IsNonDecreasingBy, IsPartitionPoint}
+use Rattle.std.proofs.Common.{◌≡◌, ℕ, ◌+◌, ◌≤◌, inl, inr, max, Some, List, [], ◌∷◌, ◌++◌, length, true, false, refl, sym, ap, ◌∙◌, subst, arith, ltb}
+use Rattle.std.specs.List.{slice_get}
+use Rattle.std.specs.List.Sorted.{IsPartitionPoint}
 use Rattle.std.proofs.lemmas.Bool.{cases_lt, ltb-true, ltb-false}
-use Rattle.std.proofs.lemmas.List.{length_push}
 use Rattle.std.proofs.lemmas.Option.{none-some, same_Some, slice_get_within, slice_get-get_or, get_or_from_slice_get}
 use Rattle.ir_lemmas.proofs.CallerLemmas.{slice_get_after_push_cases}
 use Rattle.ir_holds.specs.Held.{IsLeastFrom}
@@ -52,10 +51,10 @@ pub tops_after_next : (each : List Height) (tops more : List ℕ) (n top : ℕ) 
     → more ≡ tops ++ top ∷ [] → AreTops each more
 tops_after_next each tops more n top h size next is = λ k y at.
     elim (slice_get_after_push_cases tops top k y (subst (λ (xs : List ℕ). slice_get xs k ≡ Some y) is at)) [
-  | inl old ↦ h k y old
-  | inr last ↦ subst (IsLeastFrom 0 (IsAmongFirst each k)) last.1
-      (subst (λ m. IsLeastFrom 0 (IsAmongFirst each m) top) (sym (last.0 ∙ size)) next)
-]
+      | inl old ↦ h k y old
+      | inr last ↦ subst (IsLeastFrom 0 (IsAmongFirst each k)) last.1
+          (subst (λ m. IsLeastFrom 0 (IsAmongFirst each m) top) (sym (last.0 ∙ size)) next)
+    ]
 
 -- ---- heights by rising place
 

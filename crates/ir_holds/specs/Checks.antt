@@ -1,6 +1,5 @@
 -- What is looked at of boxes.
-use Rattle.std.specs.Prelude.{◌≡◌, ℕ, ◌+◌, ◌^◌, ◌<◌, max, List, Some}
-use Rattle.std.specs.List.{slice_get}
+use Rattle.std.specs.Prelude.{◌≡◌, ℕ, ◌+◌, max, List}
 use Rattle.ir_picture.specs.Places.{IsLeastAbove}
 use Rattle.ir_picture.specs.declared.placed_box.Point.{Point}
 use Rattle.ir_picture.specs.declared.placed_box.PlacedBox.{PlacedBox}

@@ -22,11 +22,7 @@ pub struct Stop {
 ///
 /// # Errors
 /// Out of memory.
-pub fn stops_of(
-    alloc: Global,
-    boxes: &[PlacedBox],
-    spans: &[Span],
-) -> Result<Vec<Stop>, AllocError>
+pub fn stops_of(alloc: Global, boxes: &[PlacedBox], spans: &[Span]) -> Result<Vec<Stop>, AllocError>
     requires { length spans.now ≡ length boxes.now }
     ensures { IfOk result (λ v. AreStops boxes.now spans.now v.items) }
 {

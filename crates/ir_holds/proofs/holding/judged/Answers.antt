@@ -1,6 +1,5 @@
-use Rattle.std.proofs.Common.{List, sym, subst}
+use Rattle.std.proofs.Common.{sym, subst}
 use Rattle.ir_picture.specs.Progress.{AreBoxesOf}
-use Rattle.ir_picture.specs.declared.placed_box.PlacedBox.{PlacedBox}
 use Rattle.ir_holds.proofs.holding.judged.Goals as goal
 
 pub ends_if_held-requires-clause-boxes : goal.ends_if_held-requires-clause-boxes

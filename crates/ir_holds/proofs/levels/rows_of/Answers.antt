@@ -1,11 +1,11 @@
-use Rattle.std.proofs.Common.{◌≡◌, ◌+◌, ◌≤◌, ◌<◌, ◌∙◌, ◌++◌, ◌∷◌, [], ℕ, List, length, get_or, refl, sym, ap, subst, arith}
+use Rattle.std.proofs.Common.{◌≡◌, ◌+◌, ◌≤◌, ◌∙◌, ◌++◌, ◌∷◌, [], ℕ, List, length, get_or, sym, ap, subst, arith}
 use Rattle.std.specs.List.{Contains}
 use Rattle.std.proofs.lemmas.Option.{slice_get-get_or}
 use Rattle.ir_holds.specs.Spans.{IsFreeRow}
 use Rattle.ir_holds.specs.Open.{HasAllOver, KeepsLate}
 use Rattle.ir_holds.specs.declared.span.Span.{Span}
 use Rattle.ir_holds.proofs.Rows.{AreRowsTo, no_rows_to_box_0, rows_to_next_box}
-use Rattle.ir_holds.proofs.Opened.{HasAllLater, none_of_no_number, all_later_of_no_box, all_later_if_ended_are_dropped, all_later_after_next_box, of_first_after_next_box}
+use Rattle.ir_holds.proofs.Opened.{none_of_no_number, all_later_of_no_box, all_later_if_ended_are_dropped, all_later_after_next_box, of_first_after_next_box}
 use Rattle.ir_holds.proofs.levels.rows_of.Goals as goal
 
 pub loop-own-init : goal.loop-own-init
@@ -51,7 +51,7 @@ loop-own-preserved c =
     let keeps = subst (λ (xs : List ℕ). KeepsLate spans own xs c.in_ok-held.held.items) c.deref.ensures.value c.in_ok-held.ensures.all in
     let long : length c.loop-own.rows.items ≡ n = c.loop-own.invariant.rows.size in
     let more : c.push.new.self.items ≡ c.in_ok-held.held.items ++ n ∷ [] =
-        c.in_ok-push.ensures.items ∙ ap (λ m. c.in_ok-held.held.items ++ m ∷ []) (c.len.ensures ∙ (c.loop-own.rows.ok.0 ∙ long)) in
+    c.in_ok-push.ensures.items ∙ ap (λ m. c.in_ok-held.held.items ++ m ∷ []) (c.len.ensures ∙ (c.loop-own.rows.ok.0 ∙ long)) in
     record {
       rows = subst (λ (xs : List ℕ). AreRowsTo spans (n + 1) xs) (sym c.in_ok-push-2.ensures.items)
           (rows_to_next_box spans n c.loop-own.rows.items own c.free_row-row.result c.loop-own.invariant.rows at

@@ -1,4 +1,4 @@
-use Rattle.std.proofs.Common.{List, sym, subst, arith}
+use Rattle.std.proofs.Common.{sym, subst, arith}
 use Rattle.std.proofs.lemmas.Option.{slice_get-get_or}
 use Rattle.ir_holds.proofs.Defaults.{no_box, no_span}
 use Rattle.ir_holds.proofs.Noted.{AreStopsTo, stops_to_box_0, stops_to_next_box, stops_of_all_boxes}

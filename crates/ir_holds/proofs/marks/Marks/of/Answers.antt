@@ -1,6 +1,6 @@
-use Rattle.std.proofs.Common.{◌≡◌, ◌∙◌, List, map, ap, subst}
+use Rattle.std.proofs.Common.{◌∙◌, List, map, ap, subst}
 use Rattle.std.specs.List.Sorted.{IsPermutation}
-use Rattle.ir_holds.specs.Stops.{IsStopNear, right_height, late_height}
+use Rattle.ir_holds.specs.Stops.{right_height, late_height}
 use Rattle.ir_holds.specs.declared.heights.Height.{Height}
 use Rattle.ir_holds.specs.declared.stops.Stop.{Stop}
 use Rattle.ir_holds.proofs.Noted.{EachIsNear, near_if_each_is_near}
