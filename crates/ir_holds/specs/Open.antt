@@ -1,4 +1,4 @@
--- Which boxes are looked at for the row of the next one.
+-- Which boxes are looked at for the row of the next box.
 use Rattle.std.specs.Prelude.{◌≡◌, ℕ, ◌<◌, ◌≤◌, List, Some}
 use Rattle.std.specs.List.{slice_get, Contains}
 use Rattle.ir_holds.specs.Spans.{IsOver}
