@@ -58,8 +58,12 @@ WORDS = {"r": "        addi    a0, zero, {}\n        addi    a7, zero, 7        
 
 
 def holding(name):
-    """The text of a guest whose threads hold objects while they enter others."""
-    objects, threads = HOLDING[name]
+    """The text of a guest of HOLDING."""
+    return holding_text(*HOLDING[name])
+
+
+def holding_text(objects, threads):
+    """The text of a guest of so many objects whose threads do this."""
     text = f"        .objects {objects}\n" + "".join(f"        .thread start{t}\n" for t in range(len(threads)))
     for t, words in enumerate(threads):
         text += f"start{t}:\n"
