@@ -6,7 +6,8 @@ python3 tests/view.py PROGRAM [COUNT]
 Records guests COUNT times each (5 if it isn't given) by `ir record --chaos`, and makes ten times as many traces at random, some of them with their
 events in an order in which they need each other in a circle. Looks of each whether the data of `ir view --json` has each event in one box, whether
 each event that another needs ends left of it, and whether boxes, places and stale writes are those that this file finds by slow and plain ways;
-whether the page has that data; whether `--around` shows the boxes near; and whether `--chrome` is in the Trace Event format. Prints a line for
+whether the page has that data; whether `--around` shows the boxes near; and whether `--chrome` is in the Trace Event format. With the image also
+whether boxes go from entering to leaving in rows that don't overlap, and whether the rules of objects allow the order of x. Prints a line for
 each guest, and fails at the first difference.
 """
 import json
@@ -18,7 +19,7 @@ import tempfile
 from pathlib import Path
 
 from lib import parser_of_program
-from view_guests import TOP, guests, many, record
+from view_guests import HOLDING, TOP, guests, holding, many, record
 
 CLOCK, RANDOM, INPUT, READ, WRITE, TRY = range(1, 7)
 MARK = "/*DATA*/"
@@ -140,6 +141,99 @@ def check_order(data, trace):
             assert inside[need][8] < inside[event][7] and inside[need][10] < inside[event][9], (event, need)
 
 
+def spans_of(boxes, steps):
+    """Of each box its thread, first and last step. A fold's thread waits nowhere in it, so its last step is as far from its first by steps as by u."""
+    spans = []
+    for box in boxes:
+        first = steps[box[0], box[1]]
+        spans.append((box[0], first, first + box[10] - box[9] if box[2] > 1 else box[14]))
+    return spans
+
+
+def held_places_of(threads, boxes, spans, needs):
+    """With the image of each box x0, x1, u0, u1 and where it came, and of each thread where it ends; raised until no box moves any more."""
+    inside = {(box[0], box[1] + k): number for number, box in enumerate(boxes) for k in range(box[2])}
+    other = [{inside[need] for k in range(box[2]) for need in needs[box[0], box[1] + k]} for box in boxes]
+    places = [[0, 0, 0, 0, 0] for _ in boxes]
+
+    def before(thread, step):
+        """The x and u of the starts and ends of boxes of a thread before a step of it, and that step."""
+        for (own, first, last), (x0, x1, u0, u1, _) in zip(spans, places):
+            if own == thread:
+                yield from [(x, u, at) for x, u, at in ((x0, u0, first), (x1, u1, last)) if at < step]
+
+    moved = True
+    while moved:
+        moved = False
+        for number, (thread, first, last) in enumerate(spans):
+            marks, ends = list(before(thread, first)), list(before(thread, last))
+            came = max([first + 1] + [u + first - at for _, u, at in marks])
+            x0 = max([0] + [x + 1 for x, *_ in marks] + [places[b][1] + 1 for b in other[number]])
+            u0 = max([came] + [places[b][3] + 1 for b in other[number]])
+            new = [x0, max([x0 + (boxes[number][3] >= READ)] + [x + 1 for x, *_ in ends]), u0, max([u0] + [u + last - at for _, u, at in ends]), came]
+            if new != places[number]:
+                places[number], moved = new, True
+    ends = []
+    for thread, (_, _, steps, _) in enumerate(threads):
+        marks = list(before(thread, steps))
+        ends.append((max([0] + [x + 1 for x, *_ in marks]), max([steps + 1] + [u + steps - at for _, u, at in marks])))
+    return places, ends
+
+
+def rows_of(spans):
+    """The row of each box: the first that no box has that its thread still holds."""
+    rows = []
+    for number, (thread, first, _) in enumerate(spans):
+        taken = {row for (own, begun, last), row in zip(spans[:number], rows) if own == thread and begun < first < last}
+        rows.append(min(set(range(number + 1)) - taken))
+    return rows
+
+
+def goes(log, boxes, spans, turn):
+    """Whether the rules of objects allow the starts and ends of boxes in the order of x, ties by rising or falling threads."""
+    moments = [(box[7], turn * box[0], span[1], False, box) for box, span in zip(boxes, spans)]
+    moments += [(box[8], turn * box[0], span[2], True, box) for box, span in zip(boxes, spans)]
+    version, left, inside = {}, {}, {}
+    for *_, late, (thread, event, count, *_) in sorted(moments, key=lambda moment: moment[:4]):
+        entries = [entry for entry in log[thread][event:event + count] if entry[0] in (READ, WRITE)]
+        for tag, o, found, readers in entries if not late else []:
+            within = inside.setdefault(o, {})
+            if version.get(o, 0) != found or WRITE in within.values() or tag == WRITE and (within or left.get(o, 0) != readers):
+                return False
+        for tag, o, *_ in entries:
+            if not late:
+                inside[o][thread] = tag
+            elif thread in inside[o]:
+                del inside[o][thread]
+        for tag, o, *_ in entries if late else []:
+            left[o] = left.get(o, 0) + 1 if tag == READ else 0
+            version[o] = version.get(o, 0) + (tag == WRITE)
+    return True
+
+
+def check_held(data, trace, steps):
+    """With the image: each event is in one box, which goes from entering to leaving, is right of what it needs, and has a row of its own."""
+    threads, boxes = parsed(trace)[2], data["boxes"]
+    assert data["steps"] is True
+    assert [(box[0], box[1] + k) for box in boxes for k in range(box[2])] == [(t, i) for t, (*_, log) in enumerate(threads) for i in range(len(log))]
+    folds = {(t, i): n for t, i, n in boxes_of(threads)}
+    whole = {(t, i + k): (t, i) for (t, i), n in folds.items() for k in range(n)}
+    for box in boxes:
+        assert box[3:7] == list(threads[box[0]][3][box[1]]), box
+        assert len({whole[box[0], box[1] + k] for k in range(box[2])}) == 1, box
+        assert box[13] == (steps[box[0], box[1]] if box[2] == 1 else -1), box
+        assert box[2] > 1 or (box[14] > box[13] if box[3] in (READ, WRITE) else box[14] == box[13]), box
+    spans = spans_of(boxes, steps)
+    for box, (thread, _, last) in zip(boxes, spans):       # nothing in a fold is held over another event
+        assert box[2] == 1 or (thread, box[1] + box[2]) not in steps or last < steps[thread, box[1] + box[2]], box
+    places, ends = held_places_of(threads, boxes, spans, needs_of(threads))
+    assert [box[7:12] for box in boxes] == places
+    assert [(thread["x"], thread["u"]) for thread in data["threads"]] == ends
+    assert [box[12] for box in boxes] == rows_of(spans)
+    for turn in (1, -1):
+        assert goes([log for *_, log in threads], boxes, spans, turn)
+
+
 def check_part(data, part):
     """A part has the boxes near its event and the stale writes in these."""
     thread, event, span = part.pop("around")
@@ -253,20 +347,21 @@ class Program:
             check_part(data, json.loads(self.run("view", trace, "--json", "--around", box[0], box[1], "--span", 9)))
         return data
 
-
-    def check_image(self, trace, data):
-        """With the image of its guest: the same boxes with their steps, and the stale writes that rest on what was read."""
+    def check_image(self, trace):
+        """With the image of its guest: boxes from entering to leaving, and the stale writes that rest on what was read."""
         image = trace.with_suffix(".img")
         steps = {tuple(map(int, found[:2])): int(found[2]) for found in re.findall(r"thread (\d+) event (\d+) step (\d+) ", self.run("events", image, trace))}
         rests = [(int(t), int(read), int(event), int(word), int(was, 16), int(now, 16), int(reason == "way")) for t, event, read, word, was, now, reason in
                  re.findall(r"thread (\d+) event (\d+) step .* read event (\d+) .* word (\d+) was (\w+) is (\w+) (value|way)\n", self.run("stale", trace, "--image", image))]
-        shown = json.loads(self.run("view", trace, "--image", image, "--json"))
-        assert [box[:13] for box in shown["boxes"]] == [box[:13] for box in data["boxes"]], trace
-        assert all(box[13] == (steps[box[0], box[1]] if box[2] == 1 else -1) for box in shown["boxes"]), trace
-        assert all(box[14] > box[13] if box[3] in (4, 5) else box[14] == box[13] for box in shown["boxes"] if box[2] == 1), trace
+        text = self.run("view", trace, "--image", image, "--json")
+        shown = json.loads(text)
+        check_held(shown, trace.read_bytes(), steps)
         assert [tuple(row) for row in shown["stale"]] == rests, (trace, shown["stale"], rests)
-        assert len(self.run("view", trace, "--image", image)) > len(self.head)
-        json.loads(self.run("view", trace, "--image", image, "--chrome"))
+        assert self.run("view", trace, "--image", image) == self.head + text.removesuffix("\n") + self.tail
+        check_chrome(shown, json.loads(self.run("view", trace, "--image", image, "--chrome")))
+        if shown["boxes"]:
+            box = shown["boxes"][len(shown["boxes"]) // 2]
+            check_part(shown, json.loads(self.run("view", trace, "--image", image, "--json", "--around", box[0], box[1], "--span", 9)))
         return len(rests)
 
 
@@ -284,12 +379,13 @@ def main():
     program, count = Program(asked.program), asked.count
     with tempfile.TemporaryDirectory() as folder:
         folder = Path(folder)
-        for name, text in (guests() | {"many": many(5, 20)}).items():
+        nested = {name: holding(name) for name in HOLDING}
+        for name, text in (guests() | nested | {"many": many(5, 20)}).items():
             found, rests = [], 0
             for seed in range(count):
                 trace = record(asked.program, folder, name, text, seed)
                 found.append(program.check(trace))
-                rests += program.check_image(trace, found[-1])
+                rests += program.check_image(trace)
             print(f"{name}: {summary(found)}, of which {rests} rest on what was read")
         chance, found = random.Random(1), []
         for number in range(10 * count):

@@ -41,6 +41,36 @@ again:  andi    s2, s0, 3
         addi    a7, zero, 1             # END
         ecall
 """
+# Threads that hold an object while they enter others. By name the objects, and what each thread does: enters for reading (r) or writing (w), leaves
+# (l), or takes 100 steps (s).
+HOLDING = {
+    "nested": (2, ["w0 w1 l1 l0", "w0 w1 l1 l0"]),
+    "nested_three": (3, ["w0 w1 w2 l2 l1 l0", "w0 l0"]),
+    "nested_waits": (2, ["w0 w1 l1 l0", "w0 l0", "w1 s l1"]),
+    "hand_over_hand": (4, ["w0 w1 l0 w2 l1 l2", "w1 w0 l0 l1"]),
+    "read_twice_nested": (3, ["r0 r1 l1 l0 r0 r1 l0 l1 r0 l0 r0 l0 w2 l2", "w0 l0 w1 l1", "r2 s l2"]),
+    "read_held": (2, ["r0 l0 r0 l0 r0 w1 l0 l1 r0 l0", "w1 w0 l1 s l0"]),
+}
+WORDS = {"r": "        addi    a0, zero, {}\n        addi    a7, zero, 7             # ENTER_READ\n        ecall\n",
+         "w": "        addi    a0, zero, {}\n        addi    a7, zero, 8             # ENTER_WRITE\n        ecall\n",
+         "l": "        addi    a0, zero, {}\n        addi    a7, zero, 9             # LEAVE\n        ecall\n",
+         "s": "        addi    t0, zero, 50\nspin{0}:  addi    t0, t0, -1\n        bne     t0, zero, spin{0}\n"}
+
+
+def holding(name):
+    """The text of a guest of HOLDING."""
+    return holding_text(*HOLDING[name])
+
+
+def holding_text(objects, threads):
+    """The text of a guest of so many objects whose threads do this."""
+    text = f"        .objects {objects}\n" + "".join(f"        .thread start{t}\n" for t in range(len(threads)))
+    for t, words in enumerate(threads):
+        text += f"start{t}:\n"
+        for n, word in enumerate(words.split()):
+            text += WORDS[word[0]].format(word[1:] or f"{t}x{n}")
+        text += "        addi    a0, zero, 0\n        addi    a7, zero, 1             # END\n        ecall\n"
+    return text
 
 
 def many(threads, times):

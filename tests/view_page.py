@@ -257,8 +257,13 @@ def check_mouse(browser, data):
 
 
 def check_steps(browser, data):
-    """With an image each box of one event has commands that go there, a fold has none, and spacing by steps isn't offered."""
-    assert data["steps"] and browser.value("el('spacing').hidden")
+    """With an image each box of one event has commands that go there, a fold has none, and spacing by steps is offered where a box has a length by it."""
+    spaced = any(box[10] > box[9] for box in data["boxes"])
+    assert data["steps"] and browser.value("el('spacing').hidden") != spaced
+    if spaced:
+        for words in ("Spacing: steps", "Spacing: even"):
+            browser.key("l")
+            assert browser.value("el('spacing').textContent") == words
     for number, box in enumerate(data["boxes"]):
         browser.value(f"choose(boxes[{number}])")
         commands = browser.value("[...el('cmds').querySelectorAll('code')].map(c => c.textContent)")

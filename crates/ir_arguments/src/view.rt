@@ -11,10 +11,11 @@ use std::alloc::{AllocError, Global};
 pub const VIEW_AFTER: &str =
     "The page is a single HTML file for a browser, and loads nothing else: `ir view guest.trc > guest.html`. Each thread has a lane,
 from left to right, and each event a box: filled for a write entry, pale for a read entry. An arrow leads from a write to each
-thread that sees what it wrote. Each box is right of the boxes that it needs, and no further. That isn't its time. An event
-that a thread logs while it holds an object may be drawn right of an event that came after it in every run. Repeated reads of the
-same version, and repeated refused tries, are a single box. The writes that `ir stale` lists are marked. The button Keys lists
-what the keys do, and #T.E after the page's name shows event E of thread T.
+thread that sees what it wrote. Each box is right of the boxes that it needs, and no further. That isn't its time. Without --image
+an event that a thread logs while it holds an object may be drawn right of an event that came after it in every run. With it a
+box goes from entering to leaving, in a row for each object that its thread holds, and waits can be seen. Repeated reads of
+the same version, and repeated refused tries, are a single box. The writes that `ir stale` lists are marked. The button Keys
+lists what the keys do, and #T.E after the page's name shows event E of thread T.
   --json            the data of the page: for each box its thread, its first event, its number of events, the event's
                     number in a trace's bytes, object or value, version, readers, and where it starts and ends
   --chrome          the same as events in the Trace Event format, for Perfetto and other viewers
@@ -102,7 +103,7 @@ pub fn with_arguments<'a>(alloc: Global, command: Command<'a>) -> Result<Command
         .arg(span_arg(alloc).requires_arg(AROUND)?)?
         .arg(from_image_arg(
             alloc,
-            "The file with the image, or an ELF file of the guest: the steps of the boxes, and only stale writes that rest on what was read",
+            "The file with the image, or an ELF file of the guest: boxes from entering to leaving, their steps, and only stale writes that rest on what was read",
         ))
 }
 

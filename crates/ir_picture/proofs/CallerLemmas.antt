@@ -12,3 +12,11 @@ pub use Rattle.ir_picture.proofs.InPieces.{buffered_at_start, prefix_appended_if
 pub use Rattle.ir_picture.proofs.Unrolled.{run_has_no_circle}
 -- answers that are answers of another kind
 pub use Rattle.ir_picture.proofs.ViewAnswers.{answered_of_implied_kind, not_answered_of_implied_kind}
+-- the boxes that are shown are boxes in their order
+pub use Rattle.ir_picture.proofs.Filtered.{shown_of_some_boxes_are_some_boxes}
+-- whether an event is folded with the one before it is told by what both repeat
+pub use Rattle.ir_picture.proofs.Noting.{repeat_is_before_next_event, fold_is_whether_repeats_before_and_now_are_alike}
+-- lists by their places, one of which is changed, or all of which are mapped
+pub use Rattle.ir_picture.proofs.Lists.{slice_get_after_set, slice_get_after_set_elsewhere, slice_get_after_set_cases, length_of_slice_set, slice_get_of_map, slice_get_of_map_inverse}
+-- least numbers above others
+pub use Rattle.ir_picture.proofs.Least.{least_above_of_equal_sets, least_above_of_empty_set_is_start, least_above_of_union_is_max}

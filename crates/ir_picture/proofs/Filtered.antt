@@ -61,15 +61,20 @@ filtered_boxes_are_boxes r test boxes h k b is =
     let at = filtered_element_was_in_list test boxes k x.0 x.1 in
     h at.0 b (slice_get_of_map (λ (z : PlacedBox). z.events) boxes at.0 x.0 at.1 ∙ ap Some x.2)
 
+-- of boxes in their order those that are shown are in their order too
+pub shown_of_some_boxes_are_some_boxes : (r : Recorded) (all shown : List PlacedBox) (near : Option Around) → AreSomeBoxes r (events_of_all all) → AreShown all near shown
+    → AreSomeBoxes r (events_of_all shown)
+shown_of_some_boxes_are_some_boxes r all shown None are is = subst (λ (bs : List PlacedBox). AreSomeBoxes r (events_of_all bs)) (sym is) are
+shown_of_some_boxes_are_some_boxes r all shown (Some near) are is = subst (λ (bs : List PlacedBox). AreSomeBoxes r (events_of_all bs)) (sym is.2) (record {
+  each = filtered_boxes_are_boxes r (is_near is.0 near.span) all are.each;
+  apart = filtered_boxes_are_apart (is_near is.0 near.span) all are.apart;
+})
+
 -- the boxes that are shown are some of the trace's
 pub shown_boxes_are_some_boxes : (r : Recorded) (all shown : List PlacedBox) (near : Option Around) → AreBoxes r (events_of_all all) → AreShown all near shown
     → AreSomeBoxes r (events_of_all shown)
-shown_boxes_are_some_boxes r all shown None are is = subst (λ (bs : List PlacedBox). AreSomeBoxes r (events_of_all bs)) (sym is)
-    (record { each = are.each; apart = boxes_are_apart r (events_of_all all) are })
-shown_boxes_are_some_boxes r all shown (Some near) are is = subst (λ (bs : List PlacedBox). AreSomeBoxes r (events_of_all bs)) (sym is.2) (record {
-  each = filtered_boxes_are_boxes r (is_near is.0 near.span) all are.each;
-  apart = filtered_boxes_are_apart (is_near is.0 near.span) all (boxes_are_apart r (events_of_all all) are);
-})
+shown_boxes_are_some_boxes r all shown near are is =
+    shown_of_some_boxes_are_some_boxes r all shown near (record { each = are.each; apart = boxes_are_apart r (events_of_all all) are }) is
 
 -- the boxes of a picture are some of the trace's
 pub picture_boxes_are_some_boxes : (r : Recorded) (near : Option Around) (p : Picture) → IsPicture r near p → AreSomeBoxes r (events_of_all p.boxes.items)

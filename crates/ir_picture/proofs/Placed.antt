@@ -140,6 +140,7 @@ pub record IsPlacedByEvents (r : Recorded) (boxes : List PlacedBox) (b : PlacedB
   pub end_x : (e : Event) → event_at r b.events.thread b.events.event ≡ Some e → b.end.x ≡ b.start.x + length_of e
   pub end_u : b.end.u ≡ b.start.u
   pub came : IsLeastAbove 1 (EndsWhere boxes (λ q. q.u) (IsOf b.events.thread b.events.event)) b.came
+  pub row : b.row ≡ 0
 
 pub placed_if_placed_by_events : (r : Recorded) (boxes : List PlacedBox) (b : PlacedBox) → AreBoxes r (events_of_all boxes) → IsPlacedByEvents r boxes b → IsPlaced r boxes b
 placed_if_placed_by_events r boxes b are h = record {
@@ -151,6 +152,7 @@ placed_if_placed_by_events r boxes b are h = record {
   end_u = h.end_u;
   came = least_above_of_equal_sets 1 (EndsWhere boxes (λ q. q.u) (IsOf b.events.thread b.events.event)) (EndsEarlier boxes (λ q. q.u) b) b.came
       (ends_earlier_if_ends_where_is_of_own_thread boxes (λ q. q.u) b) (ends_where_is_of_own_thread_if_ends_earlier r boxes (λ q. q.u) b are) h.came;
+  row = h.row;
 }
 
 pub placed_by_events_if_placed : (r : Recorded) (boxes : List PlacedBox) (b : PlacedBox) → AreBoxes r (events_of_all boxes) → IsPlaced r boxes b → IsPlacedByEvents r boxes b
@@ -165,6 +167,7 @@ placed_by_events_if_placed r boxes b are h = record {
   end_u = h.end_u;
   came = least_above_of_equal_sets 1 (EndsEarlier boxes (λ q. q.u) b) (EndsWhere boxes (λ q. q.u) (IsOf b.events.thread b.events.event)) b.came
       (ends_where_is_of_own_thread_if_ends_earlier r boxes (λ q. q.u) b are) (ends_earlier_if_ends_where_is_of_own_thread boxes (λ q. q.u) b) h.came;
+  row = h.row;
 }
 
 -- a box that is placed stays so where another is changed whose events are none that it comes after
@@ -179,6 +182,7 @@ box_stays_placed_if_other_box_set r boxes k old new b at same not h = record {
       (EndsWhere (slice_set boxes k new) (λ q. q.u) (IsOf b.events.thread b.events.event)) b.came
       (ends_where_after_other_box_set boxes k old new (λ q. q.u) (IsOf b.events.thread b.events.event) at (λ i has own. not i has (inl own)))
       (ends_where_before_other_box_set boxes k old new (λ q. q.u) (IsOf b.events.thread b.events.event) at same (λ i has own. not i has (inl own))) h.came;
+  row = h.row;
 }
 
 -- ---- the box that is placed
@@ -225,6 +229,7 @@ new_box_is_placed_by_events r boxes events e free needed are is first of_free of
   end_x = λ a is_a. ap (λ (x : Event). max free.x needed.x + length_of x) (same_Some e a (sym first ∙ is_a));
   end_u = refl;
   came = of_free.u;
+  row = refl;
 }
   where
     own_first : IsInBox events events.thread events.event

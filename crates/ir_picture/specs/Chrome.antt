@@ -1,5 +1,5 @@
 -- A picture as events for other viewers: a slice for each box, an instant for an answer of the environment, an arrow for each version seen.
-use Rattle.std.specs.Prelude.{◌≡◌, ◌≢◌, ℕ, zero, suc, ◌*◌, ◌-◌, ◌<◌, ◌==◌, ◌&&◌, if◌then◌else◌, List, [], ◌∷◌, ◌++◌, codes, decimal, length, flat_map, Option, Some, None}
+use Rattle.std.specs.Prelude.{◌≡◌, ◌≢◌, ℕ, zero, suc, ◌+◌, ◌*◌, ◌-◌, ◌<◌, ◌==◌, ◌&&◌, if◌then◌else◌, List, [], ◌∷◌, ◌++◌, codes, decimal, length, flat_map, Option, Some, None}
 use Rattle.std.specs.List.{slice_get}
 use Rattle.ir_log.specs.Logging.{label_of}
 use Rattle.ir_log.specs.declared.event.Event.{Event}
@@ -17,9 +17,13 @@ use Rattle.ir_picture.specs.declared.placed_box.PlacedBox.{PlacedBox}
 use Rattle.ir_picture.specs.declared.picture.Picture.{Picture}
 use Rattle.ir_picture.specs.declared.sights.Sight.{Sight}
 
--- the number of a thread's row: 64 for each thread, since other viewers want the slices of a row to nest
+-- the number of a thread's first row: 64 for each thread, since other viewers want the slices of a row to nest
 abbrev pub row_number : ℕ → ℕ
 row_number t = t * 64
+
+-- the number of the row of a box
+abbrev pub row_number_of : PlacedBox → ℕ
+row_number_of b = row_number b.events.thread + b.row
 
 -- the process, in which all threads are
 abbrev pub process_line : List ℕ
@@ -75,7 +79,7 @@ drawn_as (e ∷ es) long = codes "\"cat\":\"" ++ (category e ++ (codes "\",\"ph\
 abbrev pub slice_line : List Event → Option ℕ → PlacedBox → List ℕ
 slice_line es read b =
     codes ",\n{\"name\":\"" ++ (box_name es ++ (codes "\"," ++ (drawn_as es (time_of (b.end.x - b.start.x)) ++ (codes ",\"ts\":" ++ (decimal (time_of b.start.x)
-    ++ (codes ",\"pid\":1,\"tid\":" ++ (decimal (row_number b.events.thread) ++ (codes ",\"args\":{\"event\":" ++ (decimal b.events.event
+    ++ (codes ",\"pid\":1,\"tid\":" ++ (decimal (row_number_of b) ++ (codes ",\"args\":{\"event\":" ++ (decimal b.events.event
     ++ (codes ",\"events\":" ++ (decimal b.events.count ++ (stale_argument read ++ codes "}}"))))))))))))
 
 -- the line of a box of a trace with these stale writes
@@ -105,17 +109,17 @@ pub record AreSights (r : Recorded) (boxes : List PlacedBox) (sights : List Sigh
   pub rising : (k m : ℕ) (s z : Sight) → k < m → slice_get sights k ≡ Some s → slice_get sights m ≡ Some z
       → IsBefore s.seer.events.thread s.seer.events.event z.seer.events.thread z.seer.events.event
 
--- one end of the arrow of a number, at a time in a thread's row
+-- one end of the arrow of a number, at a time in the row of this number
 abbrev pub arrow_end : ℕ → List ℕ → ℕ → ℕ → ℕ → List ℕ
-arrow_end object phase number time thread =
+arrow_end object phase number time row =
     codes ",\n{\"name\":\"object " ++ (decimal object ++ (codes "\",\"cat\":\"sees\",\"ph\":" ++ (phase ++ (codes ",\"id\":" ++ (decimal number
-    ++ (codes ",\"ts\":" ++ (decimal time ++ (codes ",\"pid\":1,\"tid\":" ++ (decimal (row_number thread) ++ codes "}")))))))))
+    ++ (codes ",\"ts\":" ++ (decimal time ++ (codes ",\"pid\":1,\"tid\":" ++ (decimal row ++ codes "}")))))))))
 
 -- the lines of an arrow: it leaves at the last time in the maker's slice
 abbrev pub arrow_lines : ℕ → Sight → List ℕ
 arrow_lines k s =
-    arrow_end s.object (codes "\"s\"") k (time_of s.maker.end.x - 1) s.maker.events.thread
-    ++ arrow_end s.object (codes "\"f\",\"bp\":\"e\"") k (time_of s.seer.start.x) s.seer.events.thread
+    arrow_end s.object (codes "\"s\"") k (time_of s.maker.end.x - 1) (row_number_of s.maker)
+    ++ arrow_end s.object (codes "\"f\",\"bp\":\"e\"") k (time_of s.seer.start.x) (row_number_of s.seer)
 
 -- the lines of arrows, of which the first has number k
 unfoldable pub all_arrows : ℕ → List Sight → List ℕ

@@ -52,9 +52,9 @@ abbrev pub first_numbers : List Event → List ℕ
 first_numbers [] = []
 first_numbers (e ∷ es) = event_numbers e
 
--- the places of a box, and its row, which is 0
+-- the places of a box, and its row
 abbrev pub place_numbers : PlacedBox → List ℕ
-place_numbers b = comma b.start.x ++ (comma b.end.x ++ (comma b.start.u ++ (comma b.end.u ++ (comma b.came ++ codes ",0"))))
+place_numbers b = comma b.start.x ++ (comma b.end.x ++ (comma b.start.u ++ (comma b.end.u ++ (comma b.came ++ comma b.row))))
 
 -- the version at which these events read object o, by the first that does
 unfoldable pub version_read : ℕ → List Event → Option ℕ

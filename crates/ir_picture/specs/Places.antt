@@ -57,13 +57,15 @@ length_of (Write object version readers) = 1
 length_of (Try object) = 1
 
 -- the places of a box. x is the longest path over the starts and ends of boxes, by the threads' order and the needs; u is the longest one where
--- a box ends as it starts, and each thread begins at 1; `came` is where it would start in u if it needed no other thread
+-- a box ends as it starts, and each thread begins at 1; `came` is where it would start in u if it needed no other thread. All boxes have
+-- row 0, since a trace doesn't say how long an object is held
 pub record IsPlaced (r : Recorded) (boxes : List PlacedBox) (b : PlacedBox) : Type 0 where
   pub start_x : IsLeastAbove 0 (EndsBefore r boxes (λ p. p.x) b) b.start.x
   pub end_x : (e : Event) → event_at r b.events.thread b.events.event ≡ Some e → b.end.x ≡ b.start.x + length_of e
   pub start_u : IsLeastAbove 1 (EndsBefore r boxes (λ p. p.u) b) b.start.u
   pub end_u : b.end.u ≡ b.start.u
   pub came : IsLeastAbove 1 (EndsEarlier boxes (λ p. p.u) b) b.came
+  pub row : b.row ≡ 0
 
 -- the number at which a box of thread t ends
 pub record EndsIn (boxes : List PlacedBox) (number : Point → ℕ) (t z : ℕ) : Type 0 where

@@ -208,4 +208,5 @@ box_at events e free needed = record {
   start = later_of free needed;
   end = record { x = (later_of free needed).x + length_of e; u = (later_of free needed).u };
   came = free.u;
+  row = 0;
 }

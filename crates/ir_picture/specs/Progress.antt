@@ -9,7 +9,7 @@ use Rattle.ir_picture.specs.Boxing.{AreSomeBoxes}
 use Rattle.ir_picture.specs.Placing.{events_of_all}
 use Rattle.ir_log.specs.declared.event.Event.{Event}
 use Rattle.ir_picture.specs.Numbers.{comma, rows_from, first_numbers, place_numbers, box_row, stale_row, data_start, thread_list}
-use Rattle.ir_picture.specs.Chrome.{row_number, time_of, stale_argument, process_line, all_threads}
+use Rattle.ir_picture.specs.Chrome.{row_number_of, time_of, stale_argument, process_line, all_threads}
 use Rattle.ir_picture.specs.declared.asked.Around.{Around}
 use Rattle.ir_picture.specs.declared.placed_box.Point.{Point}
 use Rattle.ir_picture.specs.declared.placed_box.PlacedBox.{PlacedBox}
@@ -41,9 +41,9 @@ abbrev pub point_part : ℕ → Point → List ℕ
 point_part events p =
     codes ",\"events\":" ++ (decimal events ++ (codes ",\"x\":" ++ (decimal p.x ++ (codes ",\"u\":" ++ (decimal p.u ++ codes "}")))))
 
--- the places of a box behind the first, and its row, which is 0
+-- the places of a box behind the first, and its row
 abbrev pub end_numbers : PlacedBox → List ℕ
-end_numbers b = comma b.end.x ++ (comma b.start.u ++ (comma b.end.u ++ (comma b.came ++ codes ",0")))
+end_numbers b = comma b.end.x ++ (comma b.start.u ++ (comma b.end.u ++ (comma b.came ++ comma b.row)))
 
 -- the row of a box with these events up to its last numbers
 abbrev pub box_start : List Event → PlacedBox → List ℕ
@@ -66,15 +66,15 @@ data_rows r near p =
 -- the line of a box after what it is drawn as
 abbrev pub slice_place : Option ℕ → PlacedBox → List ℕ
 slice_place read b =
-    codes ",\"ts\":" ++ (decimal (time_of b.start.x) ++ (codes ",\"pid\":1,\"tid\":" ++ (decimal (row_number b.events.thread)
+    codes ",\"ts\":" ++ (decimal (time_of b.start.x) ++ (codes ",\"pid\":1,\"tid\":" ++ (decimal (row_number_of b)
     ++ (codes ",\"args\":{\"event\":" ++ (decimal b.events.event ++ (codes ",\"events\":" ++ (decimal b.events.count
     ++ (stale_argument read ++ codes "}}"))))))))
 
--- one end of the arrow of a number, at a time in a thread's row, with these words before the number
+-- one end of the arrow of a number, at a time in the row of this number, with these words before the arrow's
 abbrev pub arrow_with : ℕ → List ℕ → ℕ → ℕ → ℕ → List ℕ
-arrow_with object words number time thread =
+arrow_with object words number time row =
     codes ",\n{\"name\":\"object " ++ (decimal object ++ (words ++ (decimal number ++ (codes ",\"ts\":" ++ (decimal time
-    ++ (codes ",\"pid\":1,\"tid\":" ++ (decimal (row_number thread) ++ codes "}")))))))
+    ++ (codes ",\"pid\":1,\"tid\":" ++ (decimal row ++ codes "}")))))))
 
 -- what comes before the lines of boxes, for this many threads
 abbrev pub chrome_start : ℕ → List ℕ

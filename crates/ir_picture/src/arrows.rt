@@ -4,37 +4,37 @@ ghost use Rattle.std.specs.Prelude.{◌≡◌, ◌-◌, ◌++◌, OnOk, IfErr, c
 ghost use Rattle.ir_files.specs.Writers.{writer_of};
 ghost use Rattle.ir_text.specs.Buffered.{Buffered};
 ghost use Rattle.ir_past.specs.Answers.{Stops};
-ghost use Rattle.ir_picture.specs.Chrome.{time_of, arrow_end, arrow_lines, all_arrows};
+ghost use Rattle.ir_picture.specs.Chrome.{row_number_of, time_of, arrow_end, arrow_lines, all_arrows};
 ghost use Rattle.ir_picture.specs.Progress.{arrow_with};
 
 use crate::pieces::{push_number, push_words, write_piece};
 use crate::sights::Sight;
-use crate::slices::{push_row, time_of};
+use crate::slices::{row_number_of, time_of};
 use ir_past::PastErr;
 use ir_stream::Sink;
 use std::alloc::AllocError;
 
-// Adds one end of the arrow of a number, at a time in a thread's row. The words are those before the number.
+// Adds one end of the arrow of a number, at a time in the row of this number. The words are those before the arrow's number.
 fn push_end(
     text: &mut Vec<u8>,
     object: u8,
     words: &[u8],
     number: usize,
     time: u128,
-    thread: u8,
+    row: u128,
 ) -> Result<(), AllocError>
-    ensures { OnOk result (text.new.items ≡ text.old.items ++ arrow_with object words.now number time thread) }
+    ensures { OnOk result (text.new.items ≡ text.old.items ++ arrow_with object words.now number time row) }
 {
     push_number(text, b",\n{\"name\":\"object ", object)?;
     push_number(text, words, number)?;
     push_number(text, b",\"ts\":", time)?;
-    push_row(text, b",\"pid\":1,\"tid\":", thread)?;
+    push_number(text, b",\"pid\":1,\"tid\":", row)?;
     push_words(text, b"}")
 }
 
 // Adds where the arrow of a number leaves: the last time in the maker's slice.
 fn push_start(text: &mut Vec<u8>, number: usize, sight: &Sight) -> Result<(), AllocError>
-    ensures { OnOk result (text.new.items ≡ text.old.items ++ arrow_end (sight.now).object (codes "\"s\"") number (time_of (sight.now).maker.end.x - 1) (sight.now).maker.events.thread) }
+    ensures { OnOk result (text.new.items ≡ text.old.items ++ arrow_end (sight.now).object (codes "\"s\"") number (time_of (sight.now).maker.end.x - 1) (row_number_of (sight.now).maker)) }
 {
     let time = time_of(sight.maker.end.x).saturating_sub(1);
     push_end(
@@ -43,13 +43,13 @@ fn push_start(text: &mut Vec<u8>, number: usize, sight: &Sight) -> Result<(), Al
         b"\",\"cat\":\"sees\",\"ph\":\"s\",\"id\":",
         number,
         time,
-        sight.maker.events.thread,
+        row_number_of(&sight.maker),
     )
 }
 
 // Adds where it arrives.
 fn push_arrival(text: &mut Vec<u8>, number: usize, sight: &Sight) -> Result<(), AllocError>
-    ensures { OnOk result (text.new.items ≡ text.old.items ++ arrow_end (sight.now).object (codes "\"f\",\"bp\":\"e\"") number (time_of (sight.now).seer.start.x) (sight.now).seer.events.thread) }
+    ensures { OnOk result (text.new.items ≡ text.old.items ++ arrow_end (sight.now).object (codes "\"f\",\"bp\":\"e\"") number (time_of (sight.now).seer.start.x) (row_number_of (sight.now).seer)) }
 {
     push_end(
         text,
@@ -57,7 +57,7 @@ fn push_arrival(text: &mut Vec<u8>, number: usize, sight: &Sight) -> Result<(), 
         b"\",\"cat\":\"sees\",\"ph\":\"f\",\"bp\":\"e\",\"id\":",
         number,
         time_of(sight.seer.start.x),
-        sight.seer.events.thread,
+        row_number_of(&sight.seer),
     )
 }
 

@@ -48,11 +48,12 @@ button.bad { color: var(--mark); border-color: var(--mark); font-weight: 600; }
 .mark { color: var(--mark); } #info .mark { font-weight: 600; }
 #info button.ev { padding: 0 7px; margin: 0 2px; font-size: 12.5px; }
 #cmds { display: grid; grid-template-columns: auto auto auto; gap: 4px 10px; align-content: start; align-items: center; }
+#cmds { font-size: 13px; color: var(--soft); }
 ";
 
 /// Part 2 of what comes before the data.
-pub const HEAD_2: &str = "#cmds { font-size: 13px; color: var(--soft); }
-code, kbd { font-family: ui-monospace, \"DejaVu Sans Mono\", monospace; font-size: 12.5px; color: var(--ink); }
+pub const HEAD_2: &str =
+    "code, kbd { font-family: ui-monospace, \"DejaVu Sans Mono\", monospace; font-size: 12.5px; color: var(--ink); }
 kbd { border: 1px solid var(--line); border-bottom-width: 2px; border-radius: 4px; padding: 0 5px; }
 dialog { color: var(--ink); background: var(--card); border: 1px solid var(--line); border-radius: 10px; max-width: 560px; }
 dialog td { padding: 2px 12px 2px 0; vertical-align: top; } dialog td:first-child { white-space: nowrap; }
@@ -97,7 +98,9 @@ dialog td { padding: 2px 12px 2px 0; vertical-align: top; } dialog td:first-chil
     <tr><td>click</td><td>a box: choose it; an object's name: only that object, and all again</td></tr>
     <tr><td>drag</td><td>the lanes, or the strip above them: move left and right</td></tr>
   </table>
-  <p>Each event is right of all that it needs, and no further. That isn't its time, and not always an order that the run may have had.</p>
+  <p>Each event is right of all that it needs, and no further. That isn't its time<span data-if=\"plain\">, and not always an order that the
+    run may have had</span>.</p>
+  <p data-if=\"steps\">A box goes from entering to leaving, and what another thread had to leave ends left of what waited for it.</p>
   <form method=\"dialog\"><button>Close</button></form>
 </dialog>
 <script type=\"application/json\" id=\"run\">";
@@ -112,7 +115,7 @@ const run = JSON.parse(el('run').textContent);
 // ---- the run -------------------------------------------------------------------------------------------------------
 // A box is one event, or a fold of some that saw nothing new. x: places evenly spaced; u: by steps; came: where it would
 // start if it needed no other thread; s0, s1: the positions before the step that enters and the one that leaves, or -1:
-// a fold has neither, and an entry that is never left has no s1. A page may have a part of a run, the boxes around an event:
+// a fold has neither. Rows: without the image all boxes are in row 0. A page may have a part of a run, the boxes around an event:
 // then what a box needs may not be on the page.
 const READ = 4, WRITE = 5, TRY = 6, KIND = ['', 'clock', 'random', 'input', 'read', 'write', 'try'];
 const boxes = run.boxes.map((b, id) => ({
@@ -553,7 +556,7 @@ function size() {
 el('title').textContent = [many(lanes.length, 'thread'), many(run.objects, 'object'), many(total, 'event')].join(', ') +
   (part ? `; the part around event ${part[1]} of thread ${part[0]}` : '');
 document.title = `Run: ${el('title').textContent}`;
-document.querySelectorAll('[data-if]').forEach(r => { r.hidden = !{ steps: run.steps, spaced, stale: stales.length }[r.dataset.if]; });
+document.querySelectorAll('[data-if]').forEach(r => { r.hidden = !{ steps: run.steps, plain: !run.steps, spaced, stale: stales.length }[r.dataset.if]; });
 el('stale').hidden = !stales.length;
 el('stale').textContent = `\\u26a0 ${many(stales.length, run.steps ? 'stale write' : 'possible stale write')}`;
 el('spacing').hidden = !spaced;

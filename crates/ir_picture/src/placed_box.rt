@@ -7,7 +7,7 @@ use crate::event_box::EventBox;
 pub struct Point {
     /// Where starts and ends of boxes are as near to each other as their order allows.
     pub x: u64,
-    /// Where a box ends as it starts.
+    /// Where a box of a trace ends as it starts, and the gaps of a run are as long as its steps.
     pub u: u64,
 }
 
@@ -22,4 +22,6 @@ pub struct PlacedBox {
     pub end: Point,
     /// Where it would start, by `u`, if it needed no other thread.
     pub came: u64,
+    /// The row of its thread in which it is drawn, from 0.
+    pub row: u64,
 }

@@ -60,6 +60,7 @@ fn unplaced(events: EventBox) -> PlacedBox
         start: nowhere,
         end: nowhere,
         came: 0,
+        row: 0,
     }
 }
 
@@ -74,8 +75,8 @@ fn unplaced_all(alloc: Global, events: &[EventBox]) -> Result<Vec<PlacedBox>, Al
     Ok(boxes)
 }
 
-// How long a box is in x.
-fn length_of(event: Event) -> u64
+/// How long a box with this first event is in x.
+pub fn length_of(event: Event) -> u64
     ensures { result ≡ length_of event }
 {
     match event {
@@ -99,11 +100,12 @@ fn placed_box(events: EventBox, first: Event, free: Point, needed: Point) -> Pla
             u: start.u,
         },
         came: free.u,
+        row: 0,
     }
 }
 
-// The first place right of an end.
-fn right_of(end: Point) -> Point
+/// The first place right of an end.
+pub fn right_of(end: Point) -> Point
     requires x { end.x < 2 ^ 62 }
     requires u { end.u < 2 ^ 62 }
     ensures { result ≡ right_of end }

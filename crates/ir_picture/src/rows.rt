@@ -74,7 +74,7 @@ fn push_first(text: &mut Vec<u8>, events: &[Event]) -> Result<(), AllocError>
     push_event(text, events[0])
 }
 
-// Adds where a box ends, when it starts and ends, when its last event came, and its row, which is 0.
+// Adds where a box ends, when it starts and ends, when its last event came, and its row.
 fn push_ends(text: &mut Vec<u8>, own: &PlacedBox) -> Result<(), AllocError>
     ensures { OnOk result (text.new.items ≡ text.old.items ++ end_numbers own.now) }
 {
@@ -82,7 +82,7 @@ fn push_ends(text: &mut Vec<u8>, own: &PlacedBox) -> Result<(), AllocError>
     push_number(text, b",", own.start.u)?;
     push_number(text, b",", own.end.u)?;
     push_number(text, b",", own.came)?;
-    push_words(text, b",0")
+    push_number(text, b",", own.row)
 }
 
 // Adds the places of a box, and its row.

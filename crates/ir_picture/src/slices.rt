@@ -7,7 +7,7 @@ ghost use Rattle.ir_coherence.specs.Before.{IsBefore};
 ghost use Rattle.ir_past.specs.Past.{IsRising};
 ghost use Rattle.ir_past.specs.declared.stale_write.StaleWrite.{StaleWrite};
 ghost use Rattle.ir_picture.specs.Boxes.{IsBox};
-ghost use Rattle.ir_picture.specs.Chrome.{row_number, time_of, box_name, drawn_as, stale_argument, read_of, slice_line, box_line};
+ghost use Rattle.ir_picture.specs.Chrome.{row_number, row_number_of, time_of, box_name, drawn_as, stale_argument, read_of, slice_line, box_line};
 ghost use Rattle.ir_picture.specs.Progress.{slice_place, comes_before};
 
 use crate::event_box::EventBox;
@@ -20,7 +20,7 @@ use ir_text::{Text, put_event_text};
 use ir_trace::Trace;
 use std::alloc::AllocError;
 
-/// Adds words and the number of a thread's row: other viewers want slices of a row to nest, so each thread has room for 64 rows.
+/// Adds words and the number of a thread's first row: other viewers want slices of a row to nest, so each thread has room for 64 rows.
 ///
 /// # Errors
 /// Out of memory.
@@ -28,6 +28,13 @@ pub fn push_row(text: &mut Vec<u8>, words: &[u8], thread: u8) -> Result<(), Allo
     ensures { OnOk result (text.new.items ≡ text.old.items ++ (words.now ++ decimal (row_number thread))) }
 {
     push_number(text, words, thread as u32 * 64)
+}
+
+/// The number of the row of a box.
+pub fn row_number_of(own: &PlacedBox) -> u128
+    ensures { result ≡ row_number_of own.now }
+{
+    own.events.thread as u128 * 64 + own.row as u128
 }
 
 /// The time at a place.
@@ -96,7 +103,7 @@ fn push_place(text: &mut Vec<u8>, read: Option<u32>, own: &PlacedBox) -> Result<
     ensures { OnOk result (text.new.items ≡ text.old.items ++ slice_place read own.now) }
 {
     push_number(text, b",\"ts\":", time_of(own.start.x))?;
-    push_row(text, b",\"pid\":1,\"tid\":", own.events.thread)?;
+    push_number(text, b",\"pid\":1,\"tid\":", row_number_of(own))?;
     push_number(text, b",\"args\":{\"event\":", own.events.event)?;
     push_number(text, b",\"events\":", own.events.count)?;
     push_stale(text, read)

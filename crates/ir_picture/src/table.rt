@@ -25,12 +25,12 @@ pub fn later(one: Point, other: Point) -> Point
 /// What is placed of a version of an object. Places after ends are the least that are right of these.
 #[derive(Clone, Copy, Debug, PartialEq, Eq)]
 pub struct Version {
-    // After the end of the write entry that made it, if that is placed.
-    made: Option<Point>,
-    // How many of its read entries are placed.
-    readers: u32,
-    // After the ends of these.
-    left: Point,
+    /// After the end of the write entry that made it, if that is placed.
+    pub made: Option<Point>,
+    /// How many of its read entries are placed.
+    pub readers: u32,
+    /// After the ends of these.
+    pub left: Point,
 }
 
 const UNKNOWN: Version = Version {
@@ -119,8 +119,8 @@ impl Table {
         Ok(Table { objects: all })
     }
 
-    // What is placed of a version of an object.
-    fn get(&self, object: u8, version: usize) -> Version
+    /// What is placed of a version of an object.
+    pub fn get(&self, object: u8, version: usize) -> Version
         ensures { result ≡ version_in self.now object version }
     {
         match self.objects.get(object as usize) {
@@ -129,8 +129,11 @@ impl Table {
         }
     }
 
-    // Notes what is placed of a version of an object.
-    fn set(&mut self, object: u8, version: usize, known: Version) -> Result<(), AllocError>
+    /// Notes what is placed of a version of an object.
+    ///
+    /// # Errors
+    /// Out of memory.
+    pub fn set(&mut self, object: u8, version: usize, known: Version) -> Result<(), AllocError>
         requires object { object < vec_len self.old.objects }
         requires version { version < 2 ^ 33 }
         ensures objects { OnOk result (vec_len self.new.objects ≡ vec_len self.old.objects) }

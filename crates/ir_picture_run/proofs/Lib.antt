@@ -1,5 +1,9 @@
 mod Pushed
+mod Boxed
 mod Kept
-mod Circles
 mod Lasts
+mod Going
+mod Behind
+mod InCut
+mod HeldOf
 mod Shown

@@ -1,6 +1,7 @@
 -- What the bytes of an image and of a trace are answered.
-use Rattle.std.proofs.Common.{◌≡◌, ◌≤◌, ℕ, inl, true, List, [], ◌∷◌, ◌++◌, codes, Option, length, refl, sym, ap, ◌∙◌, subst}
-use Rattle.ir_trace.specs.Recorded.{Recorded}
+use Rattle.std.proofs.Common.{◌≡◌, ◌+◌, ◌<◌, ◌≤◌, ℕ, inl, inr, true, arith, List, [], ◌∷◌, ◌++◌, codes, Option, length, refl, sym, ap, ◌∙◌, subst}
+use Rattle.std.proofs.lemmas.Bool.{cases_lt}
+use Rattle.ir_trace.specs.Recorded.{Recorded, recorded_thread}
 use Rattle.ir_fit.specs.Fit.{FittedTrace}
 use Rattle.ir_files.specs.declared.exit_status.ExitStatus.{ExitStatus}
 use Rattle.ir_fit_run.specs.Opened.{IsFit}
@@ -9,17 +10,20 @@ use Rattle.ir_past.specs.declared.stale_write.StaleWrite.{StaleWrite}
 use Rattle.ir_rests.specs.Rests.{AreRests}
 use Rattle.ir_rests.specs.declared.rest.Rest.{Rest}
 use Rattle.ir_picture.specs.Boxing.{AreSomeBoxes}
-use Rattle.ir_picture.specs.Places.{ArePlaced}
 use Rattle.ir_picture.specs.Placing.{events_of_all}
-use Rattle.ir_picture.specs.Shown.{AreShown}
+use Rattle.ir_picture.specs.Boxes.{IsInBox, IsBox}
+use Rattle.ir_picture.specs.Shown.{StartsAt, AreShown}
 use Rattle.ir_picture.specs.Progress.{data_head, stale_head, AreBoxesOf, IsOf}
 use Rattle.ir_picture.specs.declared.asked.Around.{Around}
+use Rattle.ir_picture.specs.declared.event_box.EventBox.{EventBox}
 use Rattle.ir_picture.specs.declared.placed_box.Point.{Point}
 use Rattle.ir_picture.specs.declared.placed_box.PlacedBox.{PlacedBox}
-use Rattle.ir_picture.proofs.CallerLemmas.{four_parts_are_framed_text, data_parts_regroup_with_end, data_parts_regroup_before_last_text, picture_is_of_trace}
+use Rattle.ir_picture.proofs.CallerLemmas.{four_parts_are_framed_text, data_parts_regroup_with_end, data_parts_regroup_before_last_text, shown_of_some_boxes_are_some_boxes, slice_get_of_map, slice_get_of_map_inverse}
+use Rattle.ir_picture_run.specs.Brief.{IsRunBox, AreRunBoxes}
+use Rattle.ir_picture_run.specs.Held.{AreHeld, HaveHeld}
 use Rattle.ir_picture_run.specs.Resting.{resting_writes, writes_of}
 use Rattle.ir_picture_run.proofs.Kept.{kept_writes_are_rising}
-use Rattle.ir_picture.specs.Answers.{page_head, page_tail, IsThere, IsPicture, most_boxes}
+use Rattle.ir_picture.specs.Answers.{page_head, page_tail, IsThere, most_boxes}
 use Rattle.ir_picture.specs.Numbers.{rows_from, listed, data_start, thread_list}
 use Rattle.ir_picture.specs.declared.asked.Form.TheVariants as form
 use Rattle.ir_files.specs.declared.exit_status.ExitStatus.TheVariants as status
@@ -41,29 +45,68 @@ pub picture_form_is_run_answer : (asked : Asked) (f : FittedTrace) (s : ExitStat
     → IsRunPicture f asked.around p kept → IsForm asked.form f asked.around p kept s text → IsRunAnswer asked f s text
 picture_form_is_run_answer asked f s text p kept drawn is = record { picture = p; kept = kept; drawn = drawn; form = is }
 
--- the picture of the trace with the stale writes that rest on their reads
-pub resting_picture_is_run_picture : (f : FittedTrace) (near : Option Around) (p q : Picture) (rows : List StaleWrite) (rests : List (Option Rest)) (kept : List Resting)
-    → IsPicture f.recorded near p → AreStaleWrites f.recorded rows → AreRests f rows rests → kept ≡ resting_writes p.boxes.items rows rests
-    → q.boxes.items ≡ p.boxes.items → q.ends.items ≡ p.ends.items → q.stale.items ≡ writes_of kept
-    → IsRunPicture f near q kept × IsOf f.recorded q
-resting_picture_is_run_picture f near p q rows rests kept is are found same boxes ends stale =
-    let o = picture_is_of_trace f.recorded near p is in (
+-- a box of a run is one of its trace
+pub run_box_is_box : (f : FittedTrace) (b : EventBox) → IsRunBox f b → IsBox f.recorded b
+run_box_is_box f b is = record { thread = is.thread; some = is.some; within = is.within; folds = λ i from below. (is.folds i from below).folded }
+
+-- the boxes of a run are boxes of its trace in their order
+pub run_boxes_are_some_boxes : (f : FittedTrace) (boxes : List EventBox) → AreRunBoxes f boxes → AreSomeBoxes f.recorded boxes
+run_boxes_are_some_boxes f boxes are = record {
+  each = λ k b at. run_box_is_box f b (are.each k b at);
+  apart = λ k m a b less at_k at_m. elim (are.rising k m a b less at_k at_m) [
+    | inl thread ↦ inl thread
+    | inr same ↦ elim (cases_lt b.event (a.event + a.count)) [
+      | inl inside ↦
+          let event = same.1 in
+          let some = (are.each m b at_m).some in
+          let both : k ≡ m = are.one k m b.thread b.event a b at_k at_m (record { thread = same.0; from = omega (arith, event); below = inside })
+          (record { thread = refl; from = omega arith; below = omega (arith, some) }) in
+          absurd (omega (arith, both, less))
+      | inr not ↦ inr (same.0, omega (arith, not))
+    ]
+  ];
+}
+
+-- an event of a run that is there is in a box, which starts somewhere
+pub start_of_run_event_exists : (f : FittedTrace) (boxes : List PlacedBox) (t i : ℕ) → AreRunBoxes f (events_of_all boxes)
+    → i < length (recorded_thread f.recorded t).events → (x : ℕ) × StartsAt boxes t i x
+start_of_run_event_exists f boxes t i are within =
+    let h = are.all t i within in
+    let back = slice_get_of_map_inverse (λ (z : PlacedBox). z.events) boxes h.number h.box h.there in (
+      back.0.start.x,
       record {
-        all = is.all;
-        placed = subst (λ (es : List Point). ArePlaced f.recorded is.all es) (sym ends) is.placed;
-        shown = subst (λ (bs : List PlacedBox). AreShown is.all near bs) (sym boxes) is.shown;
+        number = h.number;
+        box = back.0;
+        there = back.1;
+        has = subst (λ (b : EventBox). IsInBox b t i) (sym back.2) h.has;
+        start = refl;
+      },
+    )
+
+-- the boxes of a run with the stale writes that rest on their reads
+pub held_picture_is_run_picture : (f : FittedTrace) (near : Option Around) (all : List PlacedBox) (ends : List Point) (q : Picture) (rows : List StaleWrite)
+    (rests : List (Option Rest)) (kept : List Resting) → HaveHeld f all ends → AreShown all near q.boxes.items → q.ends.items ≡ ends → AreStaleWrites f.recorded rows
+    → AreRests f rows rests → kept ≡ resting_writes q.boxes.items rows rests → q.stale.items ≡ writes_of kept → IsRunPicture f near q kept × IsOf f.recorded q
+held_picture_is_run_picture f near all ends q rows rests kept have shown last are found same stale =
+    let held = have.1 in
+    let some = shown_of_some_boxes_are_some_boxes f.recorded all q.boxes.items near (run_boxes_are_some_boxes f (events_of_all all) held.all) shown in (
+      record {
+        all = all;
+        spans = have.0;
+        held = subst (λ (es : List Point). AreHeld f all have.0 es) (sym last) held;
+        shown = shown;
         rows = rows;
         are = are;
         rests = rests;
         found = found;
-        are_kept = same ∙ ap (λ (bs : List PlacedBox). resting_writes bs rows rests) (sym boxes);
+        are_kept = same;
         stale = stale;
       },
       record {
-        boxes = subst (λ (bs : List PlacedBox). AreBoxesOf f.recorded bs) (sym boxes) o.boxes;
-        some = subst (λ (bs : List PlacedBox). AreSomeBoxes f.recorded (events_of_all bs)) (sym boxes) o.some;
-        ends = ap (λ (es : List Point). length es) ends ∙ o.ends;
-        stale = subst IsRising (sym (stale ∙ ap writes_of same)) (kept_writes_are_rising p.boxes.items rows rests (length rows) are.rising);
+        boxes = λ k b at. some.each k b.events (slice_get_of_map (λ (z : PlacedBox). z.events) q.boxes.items k b at);
+        some = some;
+        ends = ap (λ (es : List Point). length es) last ∙ held.places.threads;
+        stale = subst IsRising (sym (stale ∙ ap writes_of same)) (kept_writes_are_rising q.boxes.items rows rests (length rows) are.rising);
       },
     )
 

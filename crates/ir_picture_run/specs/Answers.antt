@@ -1,5 +1,5 @@
 -- What `ir view` writes where it is asked with an image.
-use Rattle.std.specs.Prelude.{◌≡◌, ◌⊎◌, ℕ, ◌<◌, ◌≤◌, List, [], ◌∷◌, ◌++◌, length, Option, false}
+use Rattle.std.specs.Prelude.{◌≡◌, ◌⊎◌, ⊤, ℕ, ◌<◌, ◌≤◌, List, [], ◌∷◌, ◌++◌, length, Option, false}
 use Rattle.std.specs.Io.KnownBytes.{Appends}
 use Rattle.ir_fit.specs.Fit.{FittedTrace}
 use Rattle.ir_files.specs.Writers.{Writer}
@@ -13,7 +13,6 @@ use Rattle.ir_fit_run.specs.Opened.{IsFit}
 use Rattle.ir_fit_run.specs.Answers.{IsRefusal}
 use Rattle.ir_rests.specs.Rests.{AreRests}
 use Rattle.ir_rests.specs.declared.rest.Rest.{Rest}
-use Rattle.ir_picture.specs.Places.{ArePlaced}
 use Rattle.ir_picture.specs.Shown.{AreShown}
 use Rattle.ir_picture.specs.Chrome.{IsChromeAnswer}
 use Rattle.ir_picture.specs.Answers.{IsThere, IsAbsent, page_of, many_line, most_boxes}
@@ -24,18 +23,22 @@ use Rattle.ir_picture.specs.declared.asked.Asked.{Asked}
 use Rattle.ir_picture.specs.declared.picture.Picture.{Picture}
 use Rattle.ir_picture.specs.declared.placed_box.PlacedBox.{PlacedBox}
 use Rattle.ir_picture.specs.declared.view_err.Absent.{Absent}
-use Rattle.ir_picture.specs.declared.view_err.ViewErr.{ViewErr}
-use Rattle.ir_picture.specs.declared.view_err.ViewErr.TheVariants as view
+use Rattle.ir_holds.specs.declared.span.Span.{Span}
+use Rattle.ir_picture_run.specs.declared.run_view_err.RunViewErr.{RunViewErr}
+use Rattle.ir_picture_run.specs.declared.run_view_err.RunViewErr.TheVariants as fault
+use Rattle.ir_picture_run.specs.Held.{AreHeld}
 use Rattle.ir_picture_run.specs.Steps.{AreDrawn}
 use Rattle.ir_picture_run.specs.Resting.{resting_writes, writes_of}
 use Rattle.ir_picture_run.specs.Numbers.{data_text}
 use Rattle.ir_picture_run.specs.declared.drawn.Drawn.{Drawn}
 use Rattle.ir_picture_run.specs.declared.resting.Resting.{Resting}
 
--- the picture of a run, or the part of it that is asked for: its boxes with their places, and its stale writes that rest on their reads
+-- the picture of a run, or the part of it that is asked for: its boxes from entering to leaving with their places and rows, and its stale writes that
+-- rest on their reads
 pub record IsRunPicture (f : FittedTrace) (near : Option Around) (p : Picture) (kept : List Resting) : Type 0 where
   pub all : List PlacedBox
-  pub placed : ArePlaced f.recorded all p.ends.items
+  pub spans : List Span
+  pub held : AreHeld f all spans p.ends.items
   pub shown : AreShown all near p.boxes.items
   pub rows : List StaleWrite
   pub are : AreStaleWrites f.recorded rows
@@ -83,10 +86,11 @@ pub record IsFitAnswer (asked : Asked) (image trace : List ℕ) (answered : Exit
 abbrev pub IsViewAnswer : Asked → List ℕ → List ℕ → ExitStatus → List ℕ → Type 0
 IsViewAnswer asked image trace answered text = IsFitAnswer asked image trace answered text ⊎ IsRefusal image trace answered text
 
--- why there is no answer about a run
-abbrev pub IsUnsaid : Asked → FittedTrace → ViewErr → Type 0
-IsUnsaid asked f (view.Absent what) = IsAbsent asked.around f.recorded what
-IsUnsaid asked f (view.Unwritten e) = e ≡ NoMem
+-- why there is no answer about a run. That places are always found isn't said here
+abbrev pub IsUnsaid : Asked → FittedTrace → RunViewErr → Type 0
+IsUnsaid asked f (fault.Absent what) = IsAbsent asked.around f.recorded what
+IsUnsaid asked f fault.Unplaced = ⊤
+IsUnsaid asked f (fault.Unwritten e) = e ≡ NoMem
 
 -- a part is asked for around an event that the run doesn't have, and nothing was written
 pub record IsAroundNothing (asked : Asked) (image trace : List ℕ) (what : Absent) (w : Writer) : Type 0 where
@@ -96,7 +100,15 @@ pub record IsAroundNothing (asked : Asked) (image trace : List ℕ) (what : Abse
   pub none : Appends w.before w.after []
   pub works : w.failed ≡ false
 
+-- no places were found for the boxes of a run, and nothing was written
+pub record IsUnplaced (image trace : List ℕ) (w : Writer) : Type 0 where
+  pub fitted : FittedTrace
+  pub fits : IsFit image trace fitted
+  pub none : Appends w.before w.after []
+  pub works : w.failed ≡ false
+
 -- why there is no answer about bytes, and what that leaves
-abbrev pub IsUnanswered : Asked → List ℕ → List ℕ → ViewErr → Writer → Type 0
-IsUnanswered asked image trace (view.Absent what) w = IsAroundNothing asked image trace what w
-IsUnanswered asked image trace (view.Unwritten e) w = NotAnswered (IsViewAnswer asked image trace) e w
+abbrev pub IsUnanswered : Asked → List ℕ → List ℕ → RunViewErr → Writer → Type 0
+IsUnanswered asked image trace (fault.Absent what) w = IsAroundNothing asked image trace what w
+IsUnanswered asked image trace fault.Unplaced w = IsUnplaced image trace w
+IsUnanswered asked image trace (fault.Unwritten e) w = NotAnswered (IsViewAnswer asked image trace) e w

@@ -1,4 +1,10 @@
 pub mod Steps
+pub mod Spans
+pub mod Brief
+pub mod Boxing
+pub mod Held
+pub mod Laws
 pub mod Resting
 pub mod Numbers
+pub mod Faults
 pub mod Answers

@@ -15,8 +15,8 @@ use ir_past::{Place, event_of};
 use ir_picture::PlacedBox;
 use std::alloc::{AllocError, Global};
 
-// How many steps a thread took before the last step of an event; none, if that is an entry that is never left.
-fn last_step(fitted: &Fitted, place: Place) -> Option<u64>
+/// How many steps a thread took before the last step of an event; none, if that is an entry that is never left.
+pub fn last_step(fitted: &Fitted, place: Place) -> Option<u64>
     requires inside { IsInside fitted.now place.thread place.event }
     ensures { IsLastStep fitted.now place.thread place.event (event_at fitted.now.recorded place.thread place.event) result }
 {

@@ -3,7 +3,7 @@ use Rattle.ir_picture.proofs.Texts.{five_appends_nest_to_the_right}
 use Rattle.ir_picture.proofs.rows.push_ends.Goals as goal
 
 pub returns : goal.returns
-returns c = on_ok_weaker c.push_words.result
+returns c = on_ok_weaker c.push_number-5.result
     (five_appends_nest_to_the_right c.args.text.now.items _ _ _ _ _ _ _ _ _ _ c.in_ok-push_number.ensures c.in_ok-push_number-2.ensures c.in_ok-push_number-3.ensures
     c.in_ok-push_number-4.ensures)
-    c.push_words.ensures
+    c.push_number-5.ensures

@@ -7,5 +7,6 @@ pub returns : goal.returns
 returns c = on_ok_weaker c.push_stale.result
     (five_appends_nest_to_the_right c.args.text.now.items _ _ _ _ _ _ _ _ _ _
     (c.in_ok-push_number.ensures ∙ ap (λ n. c.args.text.now.items ++ (codes ",\"ts\":" ++ decimal n)) c.time_of.ensures)
-    c.in_ok-push_row.ensures c.in_ok-push_number-2.ensures c.in_ok-push_number-3.ensures)
+    (c.in_ok-push_number-2.ensures ∙ ap (λ n. c.push_number.new.text.items ++ (codes ",\"pid\":1,\"tid\":" ++ decimal n)) c.row_number_of.ensures)
+    c.in_ok-push_number-3.ensures c.in_ok-push_number-4.ensures)
     c.push_stale.ensures

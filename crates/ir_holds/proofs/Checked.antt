@@ -1,0 +1,219 @@
+-- A box that starts and ends as near as it can is where it has to be.
+use Rattle.std.proofs.Common.{◌≡◌, ℕ, zero, suc, ◌+◌, ◌-◌, ◌<◌, inl, inr, Some, List, [], ◌∷◌, take, drop, refl, sym, ap, ◌∙◌, subst, arith}
+use Rattle.std.specs.List.{slice_get}
+use Rattle.std.proofs.lemmas.Bool.{cases_lt}
+use Rattle.std.proofs.lemmas.Option.{none-some, same_Some}
+use Rattle.ir_log.specs.declared.event.Event.{Event}
+use Rattle.ir_log.specs.declared.event.Event.TheVariants.{Answer, Read, Write, Try}
+use Rattle.ir_trace.specs.Recorded.{Recorded, recorded_thread}
+use Rattle.ir_past.specs.Past.{event_at}
+use Rattle.ir_picture.specs.Boxes.{IsInBox}
+use Rattle.ir_picture.specs.Needs.{Needs}
+use Rattle.ir_picture.specs.Numbers.{events_in}
+use Rattle.ir_picture.specs.Places.{IsLeastAbove, EndsNeeded, length_of}
+use Rattle.ir_picture.specs.declared.event_box.EventBox.{EventBox}
+use Rattle.ir_picture.specs.declared.placed_box.Point.{Point}
+use Rattle.ir_picture.specs.declared.placed_box.PlacedBox.{PlacedBox}
+use Rattle.ir_holds.specs.Held.{MarkedBefore, IsHeld}
+use Rattle.ir_holds.specs.Needing.{NeedsLike, OneNeedsLike, EndsWith, IsAfterThese}
+use Rattle.ir_holds.specs.Checks.{StartsRight, EndsRight}
+use Rattle.ir_holds.specs.declared.span.Span.{Span}
+
+-- ---- the events of a box
+
+get_of_drop : {X : Type 0} (xs : List X) (n k : ℕ) (x : X) → slice_get (drop n xs) k ≡ Some x → slice_get xs (n + k) ≡ Some x
+get_of_drop xs zero k x is = let same : k ≡ 0 + k = omega arith in subst (λ z. slice_get xs z ≡ Some x) same is
+get_of_drop [] (suc n) k x is = absurd (none-some x is)
+get_of_drop (y ∷ ys) (suc n) k x is =
+    let same : suc (n + k) ≡ suc n + k = omega arith in subst (λ z. slice_get (y ∷ ys) z ≡ Some x) same (get_of_drop ys n k x is)
+
+get_in_drop : {X : Type 0} (xs : List X) (n k : ℕ) (x : X) → slice_get xs (n + k) ≡ Some x → slice_get (drop n xs) k ≡ Some x
+get_in_drop xs zero k x is = let same : 0 + k ≡ k = omega arith in subst (λ z. slice_get xs z ≡ Some x) same is
+get_in_drop [] (suc n) k x is = absurd (none-some x is)
+get_in_drop (y ∷ ys) (suc n) k x is =
+    let same : suc n + k ≡ suc (n + k) = omega arith in get_in_drop ys n k x (subst (λ z. slice_get (y ∷ ys) z ≡ Some x) same is)
+
+get_of_take : {X : Type 0} (xs : List X) (n k : ℕ) (x : X) → slice_get (take n xs) k ≡ Some x → (k < n) × (slice_get xs k ≡ Some x)
+get_of_take [] zero k x is = absurd (none-some x is)
+get_of_take [] (suc n) k x is = absurd (none-some x is)
+get_of_take (y ∷ ys) zero k x is = absurd (none-some x is)
+get_of_take (y ∷ ys) (suc n) zero x is = (omega arith, is)
+get_of_take (y ∷ ys) (suc n) (suc k) x is = let r = get_of_take ys n k x is in ((let l = r.0 in omega (arith, l)), r.1)
+
+get_in_take : {X : Type 0} (xs : List X) (n k : ℕ) (x : X) → k < n → slice_get xs k ≡ Some x → slice_get (take n xs) k ≡ Some x
+get_in_take [] n k x less is = absurd (none-some x is)
+get_in_take (y ∷ ys) zero k x less is = absurd (omega (arith, less))
+get_in_take (y ∷ ys) (suc n) zero x less is = is
+get_in_take (y ∷ ys) (suc n) (suc k) x less is = get_in_take ys n k x (omega (arith, less)) is
+
+event_in_box_is_in_list : (r : Recorded) (b : EventBox) (i : ℕ) (e : Event) → IsInBox b b.thread i → event_at r b.thread i ≡ Some e
+    → slice_get (events_in r b) (i - b.event) ≡ Some e
+event_in_box_is_in_list r b i e has is =
+    let from = has.from in
+    let below = has.below in
+    let es : List Event = (recorded_thread r b.thread).events in
+    let same : i ≡ b.event + (i - b.event) = omega (arith, from) in
+    get_in_take (drop b.event es) b.count (i - b.event) e (omega (arith, from, below))
+    (get_in_drop es b.event (i - b.event) e (subst (λ k. slice_get es k ≡ Some e) same is))
+
+event_in_list_is_in_box : (r : Recorded) (b : EventBox) (k : ℕ) (e : Event) → slice_get (events_in r b) k ≡ Some e
+    → IsInBox b b.thread (b.event + k) × (event_at r b.thread (b.event + k) ≡ Some e)
+event_in_list_is_in_box r b k e is =
+    let es : List Event = (recorded_thread r b.thread).events in
+    let got = get_of_take (drop b.event es) b.count k e is in
+    let less = got.0 in (
+      record { thread = refl; from = omega arith; below = omega (arith, less) },
+      get_of_drop es b.event k e got.1,
+    )
+
+-- ---- what a box needs
+
+need_is_like : (r : Recorded) (t i u j : ℕ) (a e : Event) → event_at r t i ≡ Some a → event_at r u j ≡ Some e → Needs r t i u j → NeedsLike a e
+need_is_like r t i u j a e is_a is_e (inl m) = elim m.entry [
+  | inl read ↦ subst (λ x. NeedsLike x e) (same_Some (Read m.object (suc m.version)) a (sym read ∙ is_a))
+      (m.version, refl, (m.readers, same_Some e (Write m.object m.version m.readers) (sym is_e ∙ m.made)))
+  | inr write ↦ subst (λ x. NeedsLike x e) (same_Some (Write m.object (suc m.version) write.0) a (sym write.1 ∙ is_a))
+      (inl (m.version, refl, (m.readers, same_Some e (Write m.object m.version m.readers) (sym is_e ∙ m.made))))
+]
+need_is_like r t i u j a e is_a is_e (inr d) = subst (λ x. NeedsLike x e) (same_Some (Write d.object d.version d.readers) a (sym d.write ∙ is_a))
+    (inr (same_Some e (Read d.object d.version) (sym is_e ∙ d.read)))
+
+like_is_need : (r : Recorded) (t i u j : ℕ) (a e : Event) → event_at r t i ≡ Some a → event_at r u j ≡ Some e → NeedsLike a e → Needs r t i u j
+like_is_need r t i u j (Answer kind value) e is_a is_e like = absurd like
+like_is_need r t i u j (Read o v) e is_a is_e like = inl record {
+  object = o;
+  version = like.0;
+  readers = like.2.0;
+  entry = inl (is_a ∙ ap (λ k. Some (Read o k)) like.1);
+  made = is_e ∙ ap Some like.2.1;
+}
+like_is_need r t i u j (Write o v l) e is_a is_e (inl m) = inl record {
+  object = o;
+  version = m.0;
+  readers = m.2.0;
+  entry = inr (l, is_a ∙ ap (λ k. Some (Write o k l)) m.1);
+  made = is_e ∙ ap Some m.2.1;
+}
+like_is_need r t i u j (Write o v l) e is_a is_e (inr d) = inr record { object = o; version = v; readers = l; write = is_a; read = is_e ∙ ap Some d }
+like_is_need r t i u j (Try o) e is_a is_e like = absurd like
+
+-- an event that is needed is there
+needed_is_there : (r : Recorded) (t i u j : ℕ) → Needs r t i u j → ((a : Event) × (event_at r t i ≡ Some a)) × ((e : Event) × (event_at r u j ≡ Some e))
+needed_is_there r t i u j (inl m) = (
+  elim m.entry [
+    | inl read ↦ (Read m.object (suc m.version), read)
+    | inr write ↦ (Write m.object (suc m.version) write.0, write.1)
+  ],
+  (Write m.object m.version m.readers, m.made),
+)
+needed_is_there r t i u j (inr d) = ((Write d.object d.version d.readers, d.write), (Read d.object d.version, d.read))
+
+ends_needed_are_ends_with : (r : Recorded) (boxes : List PlacedBox) (number : Point → ℕ) (b : PlacedBox) (z : ℕ) → EndsNeeded r boxes number b z
+    → EndsWith r boxes number (OneNeedsLike (events_in r b.events)) z
+ends_needed_are_ends_with r boxes number b z n =
+    let needs = n.needs in
+    let t = b.events.thread in
+    let u = n.box.events.thread in
+    let there = needed_is_there r t needs.event u needs.needed needs.needs in
+    let a = there.0.0 in
+    let e = there.1.0 in
+    record {
+      at = n.at;
+      box = n.box;
+      event = needs.needed;
+      what = e;
+      there = n.there;
+      has = needs.other;
+      is = there.1.1;
+      these = (
+        needs.event - b.events.event,
+        a,
+        event_in_box_is_in_list r b.events needs.event a needs.own there.0.1,
+        need_is_like r t needs.event u needs.needed a e there.0.1 there.1.1 needs.needs,
+      );
+      ends = n.ends;
+    }
+
+ends_with_are_ends_needed : (r : Recorded) (boxes : List PlacedBox) (number : Point → ℕ) (b : PlacedBox) (z : ℕ)
+    → EndsWith r boxes number (OneNeedsLike (events_in r b.events)) z → EndsNeeded r boxes number b z
+ends_with_are_ends_needed r boxes number b z w =
+    let own = event_in_list_is_in_box r b.events w.these.0 w.these.1 w.these.2 in
+    record {
+      at = w.at;
+      box = w.box;
+      there = w.there;
+      needs = record {
+        event = b.events.event + w.these.0;
+        needed = w.event;
+        own = own.0;
+        other = w.has;
+        needs = like_is_need r b.events.thread (b.events.event + w.these.0) w.box.events.thread w.event w.these.1 w.what own.1 w.is w.these.3;
+      };
+      ends = w.ends;
+    }
+
+-- ---- a box
+
+pub held_if_starts_and_ends_right : (r : Recorded) (boxes : List PlacedBox) (spans : List Span) (b : PlacedBox) (own : Span) (needed : Point) (e : Event)
+    → event_at r b.events.thread b.events.event ≡ Some e → IsAfterThese r boxes (OneNeedsLike (events_in r b.events)) needed
+    → StartsRight boxes spans b own needed → EndsRight boxes spans b own (length_of e) → IsHeld r boxes spans b own
+held_if_starts_and_ends_right r boxes spans b own needed e first after start end = record {
+  start_x = record {
+    start = omega arith;
+    above = λ z c. elim c [
+      | inl mark ↦ let less = start.of_marks.above z mark in let at = start.x in omega (arith, less, at)
+      | inr need ↦
+          let less = after.x.above z (ends_needed_are_ends_with r boxes (λ q. q.x) b z need) in
+          let at = start.x in
+          omega (arith, less, at)
+    ];
+    least = λ w low all.
+        let marks = start.of_marks.least w low (λ z mark. all z (inl mark)) in
+        let needs = after.x.least w low (λ z need. all z (inr (ends_with_are_ends_needed r boxes (λ q. q.x) b z need))) in
+        let at = start.x in
+        omega (arith, marks, needs, at);
+  };
+  end_x = λ d is. subst (λ y. IsLeastAbove (b.start.x + length_of y) (MarkedBefore boxes spans own.thread own.last) b.end.x)
+      (same_Some e d (sym first ∙ is)) end.x;
+  start_u = record {
+    start = let low = start.came.start in let at = start.u in omega (arith, low, at);
+    above = λ z c. elim c [
+      | inl comes ↦ let by = start.came.above z comes in let at = start.u in omega (arith, by, at)
+      | inr need ↦
+          let less = after.u.above need.0 (ends_needed_are_ends_with r boxes (λ q. q.u) b need.0 need.1) in
+          let same = need.2 in
+          let at = start.u in
+          omega (arith, less, same, at)
+    ];
+    least = λ w low all.
+        let comes = start.came.least w low (λ z come. all z (inl come)) in
+        let needs = after.u.least w (omega (arith, low)) (λ z need.
+        let by = all (z + 1) (inr (z, ends_with_are_ends_needed r boxes (λ q. q.u) b z need, refl)) in omega (arith, by)) in
+        let at = start.u in
+        omega (arith, comes, needs, at);
+  };
+  end_u = end.u;
+  came = start.came;
+}
+
+-- a box of this number, where it is looked at
+pub held_if_box_of_number_is_right : (r : Recorded) (boxes : List PlacedBox) (spans : List Span) (n : ℕ) (own : PlacedBox) (span : Span) (needed : Point) (e : Event)
+    (long : ℕ) → slice_get boxes n ≡ Some own → slice_get spans n ≡ Some span → event_at r own.events.thread own.events.event ≡ Some e → long ≡ length_of e
+    → IsAfterThese r boxes (OneNeedsLike (events_in r own.events)) needed → StartsRight boxes spans own span needed → EndsRight boxes spans own span long
+    → (b : PlacedBox) (s : Span) → slice_get boxes n ≡ Some b → slice_get spans n ≡ Some s → IsHeld r boxes spans b s
+held_if_box_of_number_is_right r boxes spans n own span needed e long at there first same after start end b s at_b there_s =
+    subst (λ (x : PlacedBox). IsHeld r boxes spans x s) (same_Some own b (sym at ∙ at_b))
+    (subst (λ (x : Span). IsHeld r boxes spans own x) (same_Some span s (sym there ∙ there_s))
+    (held_if_starts_and_ends_right r boxes spans own span needed e first after start (subst (EndsRight boxes spans own span) same end)))
+
+-- so far as boxes are looked at
+pub held_to_next_box : (r : Recorded) (boxes : List PlacedBox) (spans : List Span) (n : ℕ)
+    → ((k : ℕ) (b : PlacedBox) (s : Span) → k < n → slice_get boxes k ≡ Some b → slice_get spans k ≡ Some s → IsHeld r boxes spans b s)
+    → ((b : PlacedBox) (s : Span) → slice_get boxes n ≡ Some b → slice_get spans n ≡ Some s → IsHeld r boxes spans b s)
+    → (k : ℕ) (b : PlacedBox) (s : Span) → k < n + 1 → slice_get boxes k ≡ Some b → slice_get spans k ≡ Some s → IsHeld r boxes spans b s
+held_to_next_box r boxes spans n h here k b s less at there = elim (cases_lt k n) [
+  | inl before ↦ h k b s before at there
+  | inr past ↦
+      let same : k ≡ n = omega (arith, less, past) in
+      here b s (subst (λ z. slice_get boxes z ≡ Some b) same at) (subst (λ z. slice_get spans z ≡ Some s) same there)
+]

@@ -1,0 +1,163 @@
+-- Which boxes are over the next one.
+use Rattle.std.proofs.Common.{◌≡◌, ℕ, ◌+◌, ◌-◌, ◌<◌, ◌≤◌, inl, inr, Some, List, [], ◌∷◌, ◌++◌, length, sym, ap, ◌∙◌, subst, arith}
+use Rattle.std.specs.List.{slice_get, Contains}
+use Rattle.std.proofs.lemmas.Bool.{cases_lt}
+use Rattle.std.proofs.lemmas.Option.{same_Some, slice_get_within, slice_get-get_or, get_or_from_slice_get}
+use Rattle.std.proofs.lemmas.List.Elements.{Contains-push, Contains-push_cases, Contains-append_left}
+use Rattle.ir_holds.specs.Spans.{IsOver, IsTaken}
+use Rattle.ir_holds.specs.Open.{ComesLater, AreRising, IsLate, AreOfFirst, HasAllOver, KeepsLate}
+use Rattle.ir_holds.specs.declared.span.Span.{Span}
+
+-- ---- boxes that rise
+
+-- the first n do
+abbrev pub AreRisingTo : List Span → ℕ → Type 0
+AreRisingTo spans n = (k m : ℕ) (a b : Span) → m < n → k < m → slice_get spans k ≡ Some a → slice_get spans m ≡ Some b → ComesLater a b
+
+comes_later_than_earlier : (a b c : Span) → ComesLater a b → ComesLater b c → ComesLater a c
+comes_later_than_earlier a b c one two = record {
+  thread = (let x = one.thread in let y = two.thread in omega (arith, x, y));
+  first = λ same.
+      let x = one.thread in
+      let y = two.thread in
+      let p = one.first (omega (arith, x, y, same)) in
+      let q = two.first (omega (arith, x, y, same)) in
+      omega (arith, p, q);
+}
+
+pub rising_to_next_box : (spans : List Span) (n : ℕ) (x y : Span) → 1 ≤ n → slice_get spans (n - 1) ≡ Some x → slice_get spans n ≡ Some y → ComesLater x y
+    → AreRisingTo spans n → AreRisingTo spans (n + 1)
+rising_to_next_box spans n x y some at there later h = λ k m a b below less get_a get_b. elim (cases_lt m n) [
+  | inl before ↦ h k m a b before less get_a get_b
+  | inr past ↦
+      let here : m ≡ n = omega (arith, below, past) in
+      let is_b : y ≡ b = same_Some y b (sym there ∙ ap (slice_get spans) (sym here) ∙ get_b) in
+      subst (λ (z : Span). ComesLater a z) is_b (elim (cases_lt k (n - 1)) [
+        | inl early ↦ comes_later_than_earlier a x y (h k (n - 1) a x (omega (arith, some)) early get_a at) later
+        | inr late ↦
+            let last : k ≡ n - 1 = omega (arith, less, here, late) in
+            let is_a : x ≡ a = same_Some x a (sym at ∙ ap (slice_get spans) (sym last) ∙ get_a) in
+            subst (λ (z : Span). ComesLater z y) is_a later
+      ])
+]
+
+pub rising_of_all_boxes : (spans : List Span) (n : ℕ) → length spans ≤ n → AreRisingTo spans n → AreRising spans
+rising_of_all_boxes spans n all h = λ k m a b less get_a get_b. h k m a b (let within = slice_get_within spans m b get_b in omega (arith, within, all)) less get_a get_b
+
+-- ---- boxes that haven't ended
+
+-- the numbers of all of the first n boxes that are over a box from box m on
+abbrev pub HasAllLater : List Span → ℕ → ℕ → List ℕ → Type 0
+HasAllLater spans n m held = (j : ℕ) (b : Span) → m ≤ j → slice_get spans j ≡ Some b → HasAllOver spans n b held
+
+-- so far as numbers were looked at, those of boxes that haven't ended are kept
+pub record AreKeptTo (spans : List Span) (held : List ℕ) (own : Span) (i : ℕ) (still : List ℕ) : Type 0 where
+  pub some : (k : ℕ) → Contains still k → Contains held k
+  pub all : (j k : ℕ) (a : Span) → j < i → slice_get held j ≡ Some k → slice_get spans k ≡ Some a → IsLate a own → Contains still k
+
+pub kept_to_number_0 : (spans : List Span) (held : List ℕ) (own : Span) → AreKeptTo spans held own 0 []
+kept_to_number_0 spans held own = record {
+  some = λ k has. let less = has.1 in absurd (omega (arith, less));
+  all = λ j k a less at there late. absurd (omega (arith, less));
+}
+
+pub kept_after_late_box : (spans : List Span) (held : List ℕ) (own : Span) (i n : ℕ) (still more : List ℕ) → AreKeptTo spans held own i still → slice_get held i ≡ Some n
+    → more ≡ still ++ n ∷ [] → AreKeptTo spans held own (i + 1) more
+kept_after_late_box spans held own i n still more h at is = record {
+  some = λ k has. elim (Contains-push_cases still n k (subst (λ (xs : List ℕ). Contains xs k) is has)) [
+    | inl old ↦ h.some k old
+    | inr same ↦ subst (Contains held) same (i, slice_get_within held i n at, get_or_from_slice_get held i n n at)
+  ];
+  all = λ j k a less there get late. subst (λ (xs : List ℕ). Contains xs k) (sym is) (elim (cases_lt j i) [
+    | inl before ↦ Contains-append_left still (n ∷ []) k (h.all j k a before there get late)
+    | inr past ↦
+        let here : j ≡ i = omega (arith, less, past) in
+        let same : n ≡ k = same_Some n k (sym at ∙ ap (slice_get held) (sym here) ∙ there) in
+        subst (Contains (still ++ n ∷ [])) same (Contains-push still n)
+  ]);
+}
+
+pub kept_after_other_box : (spans : List Span) (held : List ℕ) (own : Span) (i n : ℕ) (still : List ℕ) → AreKeptTo spans held own i still → slice_get held i ≡ Some n
+    → ((a : Span) → slice_get spans n ≡ Some a → IsLate a own → ⊥) → AreKeptTo spans held own (i + 1) still
+kept_after_other_box spans held own i n still h at not = record {
+  some = h.some;
+  all = λ j k a less there get late. elim (cases_lt j i) [
+    | inl before ↦ h.all j k a before there get late
+    | inr past ↦
+        let here : j ≡ i = omega (arith, less, past) in
+        let same : k ≡ n = same_Some k n (sym there ∙ ap (slice_get held) here ∙ at) in
+        absurd (not a (subst (λ m. slice_get spans m ≡ Some a) same get) late)
+  ];
+}
+
+pub kept_of_all_numbers : (spans : List Span) (held : List ℕ) (own : Span) (i : ℕ) (still : List ℕ) → length held ≤ i → AreKeptTo spans held own i still
+    → KeepsLate spans own held still
+kept_of_all_numbers spans held own i still all h k a has get late =
+    h.all has.0 k a (let within = has.1 in omega (arith, within, all)) (slice_get-get_or held has.0 k has.1 ∙ ap Some has.2) get late
+
+-- what is left of the numbers, where those of boxes are taken away that have ended where box n begins
+pub all_later_if_ended_are_dropped : (spans : List Span) (n : ℕ) (own : Span) (held still : List ℕ) → AreRising spans → slice_get spans n ≡ Some own
+    → HasAllLater spans n n held → KeepsLate spans own held still → HasAllLater spans n n still
+all_later_if_ended_are_dropped spans n own held still rising at h keeps = λ j b from get k a less get_a over.
+    keeps k a (h j b from get k a less get_a over) get_a (elim (cases_lt n j) [
+      | inl after ↦
+          let one = rising k n a own less get_a at in
+          let two = rising n j own b after at get in
+          let x = one.thread in
+          let y = two.thread in
+          let same = over.thread in
+          let first = two.first (omega (arith, x, y, same)) in
+          let held = over.held in
+          record { thread = omega (arith, x, y, same); held = omega (arith, first, held) }
+      | inr not ↦
+          let here : n ≡ j = omega (arith, from, not) in
+          let is : b ≡ own = same_Some b own (sym get ∙ ap (slice_get spans) (sym here) ∙ at) in
+          record {
+            thread = over.thread ∙ ap (λ (z : Span). z.thread) is;
+            held = subst (λ (z : Span). z.first < a.last) is over.held;
+          }
+    ])
+
+pub all_later_after_next_box : (spans : List Span) (n : ℕ) (still more : List ℕ) → HasAllLater spans n n still → more ≡ still ++ n ∷ []
+    → HasAllLater spans (n + 1) (n + 1) more
+all_later_after_next_box spans n still more h is = λ j b from get k a less get_a over. subst (λ (xs : List ℕ). Contains xs k) (sym is) (elim (cases_lt k n) [
+  | inl before ↦ Contains-append_left still (n ∷ []) k (h j b (omega (arith, from)) get k a before get_a over)
+  | inr past ↦ let here : n ≡ k = omega (arith, less, past) in subst (Contains (still ++ n ∷ [])) here (Contains-push still n)
+])
+
+pub of_first_after_next_box : (n : ℕ) (still more : List ℕ) → AreOfFirst n still → more ≡ still ++ n ∷ [] → AreOfFirst (n + 1) more
+of_first_after_next_box n still more h is = λ k has. elim (Contains-push_cases still n k (subst (λ (xs : List ℕ). Contains xs k) is has)) [
+  | inl old ↦ let less = h k old in omega (arith, less)
+  | inr same ↦ omega (arith, same)
+]
+
+-- ---- rows
+
+-- none of the first i of these boxes has the row and is over the box
+abbrev pub IsNotTakenTo : List Span → List ℕ → List ℕ → Span → ℕ → ℕ → Type 0
+IsNotTakenTo spans rows held own y i = (j k : ℕ) (a : Span) → j < i → slice_get held j ≡ Some k → slice_get spans k ≡ Some a → slice_get rows k ≡ Some y → IsOver a own → ⊥
+
+pub not_taken_to_next_number : (spans : List Span) (rows held : List ℕ) (own : Span) (y i n : ℕ) → IsNotTakenTo spans rows held own y i → slice_get held i ≡ Some n
+    → ((a : Span) → slice_get spans n ≡ Some a → slice_get rows n ≡ Some y → IsOver a own → ⊥) → IsNotTakenTo spans rows held own y (i + 1)
+not_taken_to_next_number spans rows held own y i n h at not = λ j k a less there get row over. elim (cases_lt j i) [
+  | inl before ↦ h j k a before there get row over
+  | inr past ↦
+      let here : j ≡ i = omega (arith, less, past) in
+      let same : k ≡ n = same_Some k n (sym there ∙ ap (slice_get held) here ∙ at) in
+      not a (subst (λ m. slice_get spans m ≡ Some a) same get) (subst (λ m. slice_get rows m ≡ Some y) same row) over
+]
+
+pub not_taken_by_any_box : (spans : List Span) (rows held : List ℕ) (own : Span) (y i n : ℕ) → IsNotTakenTo spans rows held own y i → length held ≤ i
+    → HasAllOver spans n own held → IsTaken spans rows n own y → ⊥
+not_taken_by_any_box spans rows held own y i n h all has taken =
+    let among = has taken.number taken.other taken.before taken.there taken.over in
+    h among.0 taken.number taken.other (let within = among.1 in omega (arith, within, all))
+    (slice_get-get_or held among.0 taken.number among.1 ∙ ap Some among.2) taken.there taken.row taken.over
+
+-- ---- at first
+
+pub none_of_no_number : (n : ℕ) (held : List ℕ) → held ≡ [] → AreOfFirst n held
+none_of_no_number n held is = λ k has. let less = has.1 in let none = ap (λ (xs : List ℕ). length xs) is in absurd (omega (arith, less, none))
+
+pub all_later_of_no_box : (spans : List Span) (held : List ℕ) → HasAllLater spans 0 0 held
+all_later_of_no_box spans held = λ j b from get k a less get_a over. absurd (omega (arith, less))

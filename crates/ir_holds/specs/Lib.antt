@@ -1,0 +1,7 @@
+pub mod Spans
+pub mod Held
+pub mod Open
+pub mod Heights
+pub mod Stops
+pub mod Needing
+pub mod Checks

@@ -1,0 +1,18 @@
+//! What holds of the places and rows of the boxes of a run. The functions do nothing: their contracts are the laws.
+
+ghost use Rattle.ir_picture_run.specs.Laws.{BehindIsInCut, BehindIsLeft, RowsDontOverlap};
+
+/// A consistent cut that has the step of an event has what the thread of an event that it needs logged before it left what is needed.
+pub fn behind_is_in_cut()
+    ensures { BehindIsInCut }
+{}
+
+/// What an event needs, and what the thread of that logged before it left what is needed, is drawn left of the event.
+pub fn behind_is_left()
+    ensures { BehindIsLeft }
+{}
+
+/// Two boxes of a thread that have the same row don't overlap.
+pub fn rows_do_not_overlap()
+    ensures { RowsDontOverlap }
+{}
