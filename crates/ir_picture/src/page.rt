@@ -47,14 +47,14 @@ button.bad { color: var(--mark); border-color: var(--mark); font-weight: 600; }
 #info h2 { font-size: 15px; margin: 0 0 2px; font-weight: 650; } #info p { margin: 2px 0; }
 .mark { color: var(--mark); } #info .mark { font-weight: 600; }
 #info button.ev { padding: 0 7px; margin: 0 2px; font-size: 12.5px; }
-#cmds { display: grid; grid-template-columns: auto auto auto; gap: 4px 10px; align-content: start; align-items: center; }
+#cmds { display: grid; grid-template-columns: auto auto auto auto; gap: 4px 10px; align-content: start; align-items: center; }
 #cmds { font-size: 13px; color: var(--soft); }
+code, kbd { font-family: ui-monospace, \"DejaVu Sans Mono\", monospace; font-size: 12.5px; color: var(--ink); }
 ";
 
 /// Part 2 of what comes before the data.
 pub const HEAD_2: &str =
-    "code, kbd { font-family: ui-monospace, \"DejaVu Sans Mono\", monospace; font-size: 12.5px; color: var(--ink); }
-kbd { border: 1px solid var(--line); border-bottom-width: 2px; border-radius: 4px; padding: 0 5px; }
+    "kbd { border: 1px solid var(--line); border-bottom-width: 2px; border-radius: 4px; padding: 0 5px; }
 dialog { color: var(--ink); background: var(--card); border: 1px solid var(--line); border-radius: 10px; max-width: 560px; }
 dialog td { padding: 2px 12px 2px 0; vertical-align: top; } dialog td:first-child { white-space: nowrap; }
 @media (max-width: 760px) { #info { grid-template-columns: minmax(0, 1fr); } }
@@ -64,6 +64,7 @@ dialog td { padding: 2px 12px 2px 0; vertical-align: top; } dialog td:first-chil
 <body>
 <header>
   <h1 id=\"title\"></h1>
+  <button id=\"bad\" class=\"bad\" hidden></button>
   <button id=\"stale\" class=\"bad\" hidden></button>
   <span class=\"grow\"></span>
   <input id=\"find\" placeholder=\"thread event\" title=\"a thread and an event, as 0 12; key G\" autocomplete=\"off\"
@@ -87,6 +88,7 @@ dialog td { padding: 2px 12px 2px 0; vertical-align: top; } dialog td:first-chil
     <tr><td><kbd>&larr;</kbd> <kbd>&rarr;</kbd></td><td>the thread's event before, after</td></tr>
     <tr><td><kbd>&uarr;</kbd> <kbd>&darr;</kbd></td><td>the thread above, below, near the same place</td></tr>
     <tr><td><kbd>Home</kbd> <kbd>End</kbd></td><td>the thread's first, last event</td></tr>
+    <tr data-if=\"bad\"><td><kbd>B</kbd></td><td>the last event of the next thread that ended badly</td></tr>
     <tr data-if=\"stale\"><td><kbd>N</kbd> <kbd>P</kbd></td><td>the next, the previous stale write</td></tr>
     <tr><td><kbd>M</kbd></td><td>the write that made the version which this event found</td></tr>
     <tr data-if=\"steps\"><td><kbd>C</kbd></td><td>copy the command that goes there in a session</td></tr>
@@ -146,6 +148,11 @@ function boxAt(t, e) {
   while (a < z) { const m = (a + z + 1) >> 1; if (lanes[t][m].i <= e) a = m; else z = m - 1; }
   return lanes[t][a];
 }
+// How threads end, by the number of the end; a thread that ends by END with another code than 0 ended badly too.
+const ENDS = ['', 'end', 'breakpoint', 'no instruction', 'misaligned jump', 'outside the code', 'bad load', 'bad store', 'unknown call',
+  'no such object or word', 'entry out of order', 'not held', 'too much output', 'budget spent', 'too many events'];
+const isBad = th => th.end !== 1 || th.code !== 0, endWords = th => th.end !== 1 ? ENDS[th.end] : th.code ? `code ${th.code}` : 'end';
+const bads = run.threads.map((th, t) => t).filter(t => isBad(run.threads[t])), lastOf = t => lanes[t][lanes[t].length - 1];
 const has = (b, e) => b && b.i <= e && e < b.i + b.n;
 const part = run.around, spaced = boxes.some(b => b.u1 > b.u0);   // whether boxes are as wide as their steps
 const maker = b => isEntry(b) ? made.get(key(b.o, b.v - 1)) : undefined;
@@ -170,10 +177,10 @@ function oversOf(b) {             // writes of other threads over what b read
 
 // ---- places --------------------------------------------------------------------------------------------------------
 const main = el('main'), over = el('over'), scroll = el('scroll'), g = main.getContext('2d'), og = over.getContext('2d');
-const GUT = 118, PAD = 15, FACE = 'system-ui, \"DejaVu Sans\", sans-serif';
+const GUT = 118, PAD = lanes.length > 8 ? 7 : 15, FACE = 'system-ui, \"DejaVu Sans\", sans-serif';
 let css, W = 0, H = 0, scale = 20, left = 0, steps = false, chosen = null, hover = null, only = -1, drag = null;
 const rowsOf = lanes.map(l => 1 + l.reduce((m, b) => Math.max(m, b.row), 0));
-const deep = Math.max(...rowsOf), RH = deep > 8 ? 14 : deep > 3 ? 20 : 26, BH = RH - 4;
+const deep = Math.max(...rowsOf), RH = deep > 8 ? 14 : deep > 3 || lanes.length > 8 ? 20 : 26, BH = RH - 4;
 const laneTop = rowsOf.map((r, t) => 6 + rowsOf.slice(0, t).reduce((y, q) => y + q * RH + 2 * PAD, 0));
 const tall = 12 + rowsOf.reduce((y, q) => y + q * RH + 2 * PAD, 0);
 const X0 = b => steps ? b.u0 : b.x0, X1 = b => steps ? b.u1 : b.x1, endOf = th => steps ? th.u : th.x;
@@ -184,7 +191,8 @@ const limit = { x: part ? most(b => b.x1) + 1 : last(th => th.x), u: part ? most
 const start = () => steps ? edge.u : edge.x, span = () => (steps ? limit.u - edge.u : limit.x - edge.x) + 0.6;
 const sx = x => GUT + 8 + (x - left) * scale, wide = b => Math.max((X1(b) - X0(b)) * scale, 3);
 const yOf = b => laneTop[b.t] + PAD + b.row * RH + 2, midOf = b => yOf(b) + BH / 2;
-const room = () => W - GUT - 56;
+const wordRoom = () => Math.max(56, ...run.threads.map(th => widthOf(endWords(th), 11) + 16));   // right of the last box
+const room = () => W - GUT - Math.min(wordRoom(), (W - GUT) / 2);
 function clamp() {
   const f = room() / span();
   scale = Math.min(Math.max(scale, Math.min(f, 60)), Math.max(140, f));
@@ -207,15 +215,14 @@ function nameOf(b) {
 }
 function text(s, x, y, colour, size = 11, align = 'left', weight = '') {
   g.font = `${weight} ${size}px ${FACE}`; g.textAlign = align; g.textBaseline = 'middle'; g.fillStyle = colour; g.fillText(s, x, y);
-}
-function widthOf(s, size) { g.font = `${size}px ${FACE}`; return g.measureText(s).width; }
-function path(x, y, w, h, r) { g.beginPath(); g.roundRect(x, y, w, h, Math.min(r, w / 2, h / 2)); }
-function outline(colour, width, dash = []) { g.strokeStyle = colour; g.lineWidth = width; g.setLineDash(dash); g.stroke(); g.setLineDash([]); }
 ";
 
 /// Part 2 of what comes after the data.
-pub const TAIL_2: &str =
-    "function line(x, y, x2, y2, colour, width, dash) { g.beginPath(); g.moveTo(x, y); g.lineTo(x2, y2); outline(colour, width, dash); }
+pub const TAIL_2: &str = "}
+function widthOf(s, size) { g.font = `${size}px ${FACE}`; return g.measureText(s).width; }
+function path(x, y, w, h, r) { g.beginPath(); g.roundRect(x, y, w, h, Math.min(r, w / 2, h / 2)); }
+function outline(colour, width, dash = []) { g.strokeStyle = colour; g.lineWidth = width; g.setLineDash(dash); g.stroke(); g.setLineDash([]); }
+function line(x, y, x2, y2, colour, width, dash) { g.beginPath(); g.moveTo(x, y); g.lineTo(x2, y2); outline(colour, width, dash); }
 function triangle(a, b, c, d, e, f, colour) {
   g.beginPath(); g.moveTo(a, b); g.lineTo(c, d); g.lineTo(e, f); g.closePath(); g.fillStyle = colour; g.fill();
 }
@@ -266,11 +273,12 @@ function drawLanes() {
 }
 function drawEnds() {
   run.threads.forEach((th, t) => {
-    const x = sx(endOf(th)), y = laneTop[t] + PAD, good = th.end === 1, colour = good ? css.soft : css.mark;
+    const x = sx(endOf(th)), y = laneTop[t] + PAD, word = endWords(th), w = widthOf(word, 11), colour = isBad(th) ? css.mark : css.soft;
     if (x < GUT) return;
     g.fillStyle = colour; g.fillRect(x - 1.5, y, 3, RH - 2);
-    const word = good ? `end${th.code ? ' ' + th.code : ''}` : `fault ${th.end}`;
-    if (x + 8 + widthOf(word, 11) < W) text(word, x + 5, y + RH / 2, colour);
+    if (x + 8 + w > W) return;
+    g.fillStyle = css.lane; g.fillRect(x + 3, y + RH / 2 - 8, w + 4, 15);
+    text(word, x + 5, y + RH / 2, colour);
   });
 }
 function drawGutter() {
@@ -340,12 +348,12 @@ function sharp(canvas, c, w, h) {
 function draw() {
   sharp(main, g, W, H); main.style.width = W + 'px';
   const a = left - 2, z = left + (W - GUT) / scale + 2, visible = boxes.filter(b => X1(b) >= a && X0(b) <= z);
+  drawLanes();
+  if (visible.length < 1500 && visible.length * 7 < (W - GUT) * lanes.length) drawNear(visible); else drawStrips(visible);
 ";
 
 /// Part 3 of what comes after the data.
-pub const TAIL_3: &str = "  drawLanes();
-  if (visible.length < 1500 && visible.length * 7 < (W - GUT) * lanes.length) drawNear(visible); else drawStrips(visible);
-  if (chosen) drawChosen();
+pub const TAIL_3: &str = "  if (chosen) drawChosen();
   drawEnds(); drawGutter(); drawOver();
 }
 function drawOver() {
@@ -390,7 +398,8 @@ function tell() {
   const b = chosen;
   if (!b) {
     const more = stales.length ? 'N goes to the stale writes.' : 'No stale write was found.';
-    el('what').innerHTML = `<h2>Nothing is chosen</h2><p>Click a box, or press an arrow key. ${more}</p>`; el('cmds').innerHTML = '';
+    const ends = bads.map(t => `<p class=\"mark\">Thread ${t} ended: ${endWords(run.threads[t])}.</p>`).join('');
+    el('what').innerHTML = `<h2>Nothing is chosen</h2><p>Click a box, or press an arrow key. ${more}</p>${ends}`; el('cmds').innerHTML = '';
     return;
   }
   let h = `<h2>thread ${b.t} ${headline(b)}</h2>` + b.stale.map(staleWords).join('');
@@ -401,11 +410,13 @@ function tell() {
       (rs.length ? ` These readers left before it: ${links(rs)}.` : '') + (ss.length ? ` Seen by ${links(ss)}.` : '') +
       (next && next !== b ? ` Written over by ${link(next)}.` : '') + '</p>';
   }
+  if (b === lastOf(b.t) && isBad(run.threads[b.t]) && !part) h += `<p class=\"mark\">It is the last event of its thread, which ended: ${endWords(run.threads[b.t])}.</p>`;
   el('what').innerHTML = h;
   const inside = [[b.s0, 'before it enters'], [b.s0 + 1, 'after it entered']].concat(b.s1 < 0 ? [] : [[b.s1 + 1, 'after it left']]);
   const rows = b.s0 < 0 ? [] : isEntry(b) ? inside : [[b.s0, 'before'], [b.s1 + 1, 'after']];
   el('cmds').innerHTML = !run.steps ? '<span><code>ir events IMAGE TRACE</code> prints the positions of events.</span>' :
-    rows.map(([s, w]) => `<code>goto ${b.t} ${s}</code><span>${w}</span><button data-copy=\"goto ${b.t} ${s}\">Copy</button>`).join('');
+    rows.map(([s, w]) => `<code>goto ${b.t} ${s}</code><span>${w}</span><button data-copy=\"goto ${b.t} ${s}\">Copy</button>` +
+      `<button data-copy=\"ir-goto ${b.t} ${s}\" title=\"the command of examples/ir.gdb\">Copy for gdb</button>`).join('');
 }
 function legend() {
   const pic = s => `<svg width=\"26\" height=\"16\" fill=\"none\" stroke=\"currentColor\" stroke-width=\"1.7\">${s}</svg>`;
@@ -443,11 +454,15 @@ function nextStale(d) {
   if (chosen && k < 0) { k = stales.findIndex(s => X0(s.box) > X0(chosen)); if (k < 0) k = stales.length; if (d > 0) k -= 1; }
   choose(stales[(k + d + 2 * stales.length) % stales.length].box, true);
 }
-function along(d) {
+function nextBad() {
+  const there = bads.filter(t => lanes[t].length), at = chosen ? there.indexOf(chosen.t) : -1;
+  if (there.length) choose(lastOf(there[(at + 1) % there.length]), true);
+}
 ";
 
 /// Part 4 of what comes after the data.
-pub const TAIL_4: &str = "  if (!chosen) return choose((lanes.find(l => l.length) || [])[0], true);
+pub const TAIL_4: &str = "function along(d) {
+  if (!chosen) return choose((lanes.find(l => l.length) || [])[0], true);
   const l = lanes[chosen.t];
   choose(l[Math.min(Math.max(l.indexOf(chosen) + d, 0), l.length - 1)], true);
 }
@@ -465,7 +480,8 @@ function spacing() {
   legend(); clamp(); draw();
 }
 function copy(s, button) {
-  const done = word => { if (button) { button.textContent = word; setTimeout(() => { button.textContent = 'Copy'; }, 1500); } };
+  const label = button && (button.dataset.label || button.textContent);
+  const done = word => { if (button) { button.dataset.label = label; button.textContent = word; setTimeout(() => { button.textContent = label; }, 1500); } };
   if (navigator.clipboard) navigator.clipboard.writeText(s).then(() => done('Copied'), () => done('Not allowed'));
 }
 function find(t, e) {             // whether the page has event e of thread t; then it is chosen
@@ -476,7 +492,7 @@ function find(t, e) {             // whether the page has event e of thread t; t
 const KEYS = {
   ArrowLeft: () => along(-1), ArrowRight: () => along(1), ArrowUp: () => across(-1), ArrowDown: () => across(1),
   Home: () => chosen && choose(lanes[chosen.t][0], true), End: () => chosen && choose(lanes[chosen.t][lanes[chosen.t].length - 1], true),
-  n: () => nextStale(1), p: () => nextStale(-1), m: () => chosen && maker(chosen) && choose(maker(chosen), true),
+  b: nextBad, n: () => nextStale(1), p: () => nextStale(-1), m: () => chosen && maker(chosen) && choose(maker(chosen), true),
   c: () => chosen && run.steps && chosen.s0 >= 0 && copy(`goto ${chosen.t} ${chosen.s0}`), l: spacing, 0: whole, Escape: () => choose(null),
   '+': () => zoom(1.5, middle()), '=': () => zoom(1.5, middle()), '-': () => zoom(1 / 1.5, middle()),
   g: () => el('find').focus(), '?': () => el('keys').showModal(),
@@ -532,7 +548,7 @@ document.addEventListener('click', e => {
   if (c) copy(c.dataset.copy, c);
   if (o) { only = only === +o.dataset.object ? -1 : +o.dataset.object; legend(); draw(); }
 });
-for (const [id, k] of [['whole', 0], ['spacing', 'l'], ['help', '?'], ['stale', 'n'], ['in', '+'], ['out', '-']]) el(id).onclick = KEYS[k];
+for (const [id, k] of [['whole', 0], ['spacing', 'l'], ['help', '?'], ['bad', 'b'], ['stale', 'n'], ['in', '+'], ['out', '-']]) el(id).onclick = KEYS[k];
 el('find').addEventListener('keydown', e => {
   if (e.key === 'Escape') main.focus();
   if (e.key !== 'Enter') return;
@@ -556,14 +572,19 @@ function size() {
 el('title').textContent = [many(lanes.length, 'thread'), many(run.objects, 'object'), many(total, 'event')].join(', ') +
   (part ? `; the part around event ${part[1]} of thread ${part[0]}` : '');
 document.title = `Run: ${el('title').textContent}`;
-document.querySelectorAll('[data-if]').forEach(r => { r.hidden = !{ steps: run.steps, plain: !run.steps, spaced, stale: stales.length }[r.dataset.if]; });
+document.querySelectorAll('[data-if]').forEach(r => { r.hidden = !{ steps: run.steps, plain: !run.steps, spaced, bad: bads.length, stale: stales.length }[r.dataset.if]; });
+el('bad').hidden = !bads.length;
+el('bad').textContent = bads.length === 1 ? `thread ${bads[0]}: ${endWords(run.threads[bads[0]])}` : `${bads.length} threads ended badly`;
 el('stale').hidden = !stales.length;
 el('stale').textContent = `\\u26a0 ${many(stales.length, run.steps ? 'stale write' : 'possible stale write')}`;
 el('spacing').hidden = !spaced;
 theme(); legend(); size(); tell();
 const wanted = location.hash.match(/^#(\\d+)\\.(\\d+)/);
 if (location.hash === '#all') whole();
-else if (!(wanted && find(+wanted[1], +wanted[2]))) choose(part ? boxAt(part[0], part[1]) : stales.length ? stales[0].box : null, true);
+else if (!(wanted && find(+wanted[1], +wanted[2]))) {
+  const bad = bads.find(t => lanes[t].length);
+  choose(part ? boxAt(part[0], part[1]) : stales.length ? stales[0].box : bad === undefined ? null : lastOf(bad), true);
+}
 addEventListener('hashchange', () => { const m = location.hash.match(/^#(\\d+)\\.(\\d+)/); if (m) find(+m[1], +m[2]); });
 matchMedia('(prefers-color-scheme: dark)').addEventListener('change', () => { theme(); draw(); });
 new ResizeObserver(size).observe(scroll);
