@@ -1,5 +1,6 @@
 # For gdb on recordings: source examples/ir.gdb, and then target remote | ir gdb IMAGE TRACE
 set remotetimeout unlimited
+handle SIGILL SIGABRT SIGBUS SIGSEGV SIGSYS SIGTERM SIGXCPU SIGXFSZ nopass
 # gdb keeps what it read of threads that it didn't resume, and they may have moved along, or by a session's command.
 define hook-stop
 maint flush register-cache

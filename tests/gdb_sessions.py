@@ -371,6 +371,45 @@ def check_calls(folder):
         check_session(Session("calls", steps, [r"caller_body \(\) at .*calls.c:7$", *stops]), folder)
 
 
+# Ends by their numbers: the signal that gdb shows, and the words in its list of threads.
+ENDS = {
+    1: ("SIGTERM", "code 41"),
+    2: ("SIGABRT", "EBREAK"),
+    3: ("SIGILL", "no instruction"),
+    4: ("SIGBUS", "misaligned jump"),
+    5: ("SIGSEGV", "outside the code"),
+    6: ("SIGSEGV", "bad load"),
+    7: ("SIGSEGV", "bad store"),
+    8: ("SIGSYS", "unknown call"),
+    9: ("SIGSYS", "no such object"),
+    10: ("SIGSYS", "entry out of order"),
+    11: ("SIGSYS", "object not held"),
+    12: ("SIGXFSZ", "too much output"),
+    13: ("SIGXCPU", "budget spent"),
+}
+
+
+def check_bad_ends(folder):
+    """A thread that ends badly is named by its signal: at the end of the recording, and where the thread itself comes to its end."""
+    for way, (signal_name, words) in ENDS.items():
+        command = [GCC, str(GUESTS / "ends.c"), "@guest/ir.opts", "-O0", f"-DWAY={way}", "-Wno-all", "-o", "ends.elf"]
+        subprocess.run(command, cwd=folder, check=True)
+        for text in ("elf ends.elf ends.img", "record ends.img ends.trc --budget 400000"):
+            ended = run(text, folder)
+            if ended.returncode:
+                raise Wrong(f"{text} with end {way}: {ended!r}")
+        told = rf'Thread 2 "thread 1" received signal {signal_name}'
+        all_words = [rf'\d +Thread 1 .*\(at (\d+) of \1 done\)', rf'\* 2 +Thread 2 .*\(at (\d+) of \1 ended: {words}\)']
+        lines = ["continue", "info threads", "continue", "reverse-continue", "thread 1", "continue", "thread 1", "reverse-stepi", "stepi", "info threads"]
+        wanted = [told, *all_words, OVER, OVER, told, r"\(gdb\) stepi\n0x", r"\* 1 +Thread 1 "]
+        check_session(Session("ends", lines, wanted, locked=False), folder)
+        check_session(Session("ends", ["thread 2", "continue", "continue", "thread 1", "continue"], [told, OVER, OVER]), folder)
+    # a step over a breakpoint, and a single step, to the thread's end
+    told = 'Thread 2 "thread 1" received signal SIGXCPU'
+    lines = ["thread 2", "continue", "reverse-stepi", "break *$pc", "stepi", "reverse-stepi", "delete", "stepi"]
+    check_session(Session("ends", lines, [told, told, told], locked=False), folder)
+
+
 def check_forged(folder):
     """What can't be opened is named on standard error, and nothing is read."""
     (folder / "none.trc").write_bytes(b"nothing")
@@ -513,6 +552,7 @@ CHECKS = {
     "23-guide": check_guide,
     "24-at-a-call": check_at_a_call,
     "25-at-an-end": check_at_an_end,
+    "26-bad-ends": check_bad_ends,
 }
 
 

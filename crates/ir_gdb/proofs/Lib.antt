@@ -13,6 +13,7 @@ mod Setting
 mod Seen
 mod Answering
 mod Threads
+mod Endings
 mod Stopping
 mod Ranging
 mod Telling

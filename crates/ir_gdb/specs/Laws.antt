@@ -18,7 +18,7 @@ use Rattle.ir_gdb.specs.declared.stopped.Stopped.{Stopped}
 use Rattle.ir_gdb.specs.Points.{watch_points, break_points}
 use Rattle.ir_gdb.specs.Stops.{position_of, watches_if, upwards_of, downwards_of, is_hit, direction_of}
 use Rattle.ir_gdb.specs.Together.{Halt, halt, Comes, stop_among, AreStops, meets, FirstMet, ContinuesAmong, MovesAmong}
-use Rattle.ir_gdb.specs.Moves.{settled, with_together}
+use Rattle.ir_gdb.specs.Moves.{arrived, with_together}
 use Rattle.ir_gdb.specs.Over.{waits, pc_of, OtherHasHit, LeadsAlone}
 
 -- ---- a thread that moves alone
@@ -111,7 +111,7 @@ ShowsHit u k h = (h.thread ≡ u) × (cut_of h.cut u ≡ k) × (is_hit h.reason 
 
 -- the stub behind the reply to a move of the threads together
 abbrev pub behind : Stub → Halt → Stub
-behind s h = spoken (with_together (settled s h) true)
+behind s h = spoken (with_together (arrived s true h) true)
 
 -- threads continue in a direction, one after the other, with these stops: each is at a hit but the last
 unfoldable pub ContinuesToEnd : List Step → Stub → Direction → List (ℕ × Halt) → Type 0

@@ -4,6 +4,7 @@
 
 mod connection;
 mod console;
+mod ending;
 mod fixed;
 mod holders;
 mod laws;
