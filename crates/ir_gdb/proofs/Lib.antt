@@ -30,3 +30,4 @@ mod Ways
 mod Blocked
 mod Unpassed
 mod ShownOnce
+mod Untold

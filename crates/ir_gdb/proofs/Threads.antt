@@ -5,7 +5,7 @@ use Rattle.ir_gdb.specs.Stub.{Stub}
 use Rattle.ir_packet.specs.Replies.{number_text}
 use Rattle.ir_cut.specs.Positions.{last_of}
 use Rattle.ir_gdb.specs.Stops.{position_of}
-use Rattle.ir_gdb.specs.Endings.{end_at, end_text}
+use Rattle.ir_gdb.specs.Endings.{end_of_thread, words_of_end}
 use Rattle.ir_gdb.specs.Texts.{place_text, thread_text, first_threads_text}
 
 first_threads_text_step : (s : Stub) (n : ℕ) → first_threads_text s (n + 1) ≡ first_threads_text s n ++ thread_text s n
@@ -51,20 +51,20 @@ module _ (s : Stub) (t p last : ℕ) (at : p ≡ position_of s t) (end : last �
       ∙ append_of_seven_texts_reassociated (codes "\" name=\"thread ") (decimal t) (codes "\">at ") (decimal (position_of s t)) (codes " of ")
       (decimal (last_of s.desk.fitted t)) more
 
-  pub place_ended : (out mid new : List ℕ) → p ≡ last → mid ≡ out ++ t3 → new ≡ mid ++ end_text (end_at s.desk.fitted t) → new ≡ out ++ place_text s t
-  place_ended out mid new e put ends = ends ∙ ap (λ (xs : List ℕ). xs ++ end_text (end_at s.desk.fitted t)) put ∙ append_assoc out t3 (end_text (end_at s.desk.fitted t))
+  pub place_ended : (out mid new : List ℕ) → p ≡ last → mid ≡ out ++ t3 → new ≡ mid ++ words_of_end (end_of_thread s.desk.fitted t) → new ≡ out ++ place_text s t
+  place_ended out mid new e put ends = ends ∙ ap (λ (xs : List ℕ). xs ++ words_of_end (end_of_thread s.desk.fitted t)) put ∙ append_assoc out t3 (words_of_end (end_of_thread s.desk.fitted t))
       ∙ ap (λ (xs : List ℕ). out ++ xs) (
-      ap (λ (xs : List ℕ). t3 ++ xs) (sym (end_text_at_last_position (eqb p last) p last (end_text (end_at s.desk.fitted t)) refl e))
-      ∙ ap (λ (n : ℕ). t3 ++ (if eqb n last then end_text (end_at s.desk.fitted t) else [])) at
-      ∙ ap (λ (n : ℕ). t3 ++ (if eqb (position_of s t) n then end_text (end_at s.desk.fitted t) else [])) end
-      ∙ before_end (if eqb (position_of s t) (last_of s.desk.fitted t) then end_text (end_at s.desk.fitted t) else []))
+      ap (λ (xs : List ℕ). t3 ++ xs) (sym (end_text_at_last_position (eqb p last) p last (words_of_end (end_of_thread s.desk.fitted t)) refl e))
+      ∙ ap (λ (n : ℕ). t3 ++ (if eqb n last then words_of_end (end_of_thread s.desk.fitted t) else [])) at
+      ∙ ap (λ (n : ℕ). t3 ++ (if eqb (position_of s t) n then words_of_end (end_of_thread s.desk.fitted t) else [])) end
+      ∙ before_end (if eqb (position_of s t) (last_of s.desk.fitted t) then words_of_end (end_of_thread s.desk.fitted t) else []))
 
   pub place_going : (out new : List ℕ) → (p ≡ last → ⊥) → new ≡ out ++ t3 → new ≡ out ++ place_text s t
   place_going out new going put = put ∙ ap (λ (xs : List ℕ). out ++ xs) (sym (append-nil t3)
-      ∙ ap (λ (xs : List ℕ). t3 ++ xs) (sym (no_end_text_before_last_position (eqb p last) p last (end_text (end_at s.desk.fitted t)) refl going))
-      ∙ ap (λ (n : ℕ). t3 ++ (if eqb n last then end_text (end_at s.desk.fitted t) else [])) at
-      ∙ ap (λ (n : ℕ). t3 ++ (if eqb (position_of s t) n then end_text (end_at s.desk.fitted t) else [])) end
-      ∙ before_end (if eqb (position_of s t) (last_of s.desk.fitted t) then end_text (end_at s.desk.fitted t) else []))
+      ∙ ap (λ (xs : List ℕ). t3 ++ xs) (sym (no_end_text_before_last_position (eqb p last) p last (words_of_end (end_of_thread s.desk.fitted t)) refl going))
+      ∙ ap (λ (n : ℕ). t3 ++ (if eqb n last then words_of_end (end_of_thread s.desk.fitted t) else [])) at
+      ∙ ap (λ (n : ℕ). t3 ++ (if eqb (position_of s t) n then words_of_end (end_of_thread s.desk.fitted t) else [])) end
+      ∙ before_end (if eqb (position_of s t) (last_of s.desk.fitted t) then words_of_end (end_of_thread s.desk.fitted t) else []))
 
 append_of_five_texts_reassociated : (o a b c d : List ℕ) → (((o ++ a) ++ b) ++ c) ++ d ≡ o ++ (a ++ b ++ c ++ d)
 append_of_five_texts_reassociated o a b c d = simp append_assoc

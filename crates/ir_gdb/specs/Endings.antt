@@ -39,34 +39,34 @@ abbrev pub code_text : ℕ → List ℕ
 code_text code = if code == 0 then codes " done" else codes " ended: code " ++ decimal code
 
 -- an end in words
-unfoldable pub end_text : End → List ℕ
-end_text (end.Exit code) = code_text code
-end_text end.Breakpoint = codes " ended: EBREAK"
-end_text end.IllegalWord = codes " ended: no instruction"
-end_text end.TargetMisaligned = codes " ended: misaligned jump"
-end_text end.OutsideCode = codes " ended: outside the code"
-end_text end.BadLoad = codes " ended: bad load"
-end_text end.BadStore = codes " ended: bad store"
-end_text end.UnknownCall = codes " ended: unknown call"
-end_text end.NoSuchObject = codes " ended: no such object"
-end_text end.EntryOutOfOrder = codes " ended: entry out of order"
-end_text end.NotHeld = codes " ended: object not held"
-end_text end.OutputFull = codes " ended: too much output"
-end_text end.BudgetSpent = codes " ended: budget spent"
-end_text end.LogFull = codes " ended: too many events"
+unfoldable pub words_of_end : End → List ℕ
+words_of_end (end.Exit code) = code_text code
+words_of_end end.Breakpoint = codes " ended: EBREAK"
+words_of_end end.IllegalWord = codes " ended: no instruction"
+words_of_end end.TargetMisaligned = codes " ended: misaligned jump"
+words_of_end end.OutsideCode = codes " ended: outside the code"
+words_of_end end.BadLoad = codes " ended: bad load"
+words_of_end end.BadStore = codes " ended: bad store"
+words_of_end end.UnknownCall = codes " ended: unknown call"
+words_of_end end.NoSuchObject = codes " ended: no such object"
+words_of_end end.EntryOutOfOrder = codes " ended: entry out of order"
+words_of_end end.NotHeld = codes " ended: object not held"
+words_of_end end.OutputFull = codes " ended: too much output"
+words_of_end end.BudgetSpent = codes " ended: budget spent"
+words_of_end end.LogFull = codes " ended: too many events"
 
 -- ---- which end a move tells
 
 -- how a thread ended
-abbrev pub end_at : FittedTrace → ℕ → End
-end_at f t = (recorded_thread f.recorded t).end
+abbrev pub end_of_thread : FittedTrace → ℕ → End
+end_of_thread f t = (recorded_thread f.recorded t).end
 
 abbrev pub told_ended : ℕ → Signal → Told
 told_ended t how = record { interrupted = false; thread = t; reason = reason.Ended how }
 
 -- a thread's end, if it is a bad one
 abbrev pub bad_end : FittedTrace → ℕ → Option Told
-bad_end f t = option_map (told_ended t) (signal_of (end_at f t))
+bad_end f t = option_map (told_ended t) (signal_of (end_of_thread f t))
 
 -- whether a move from one cut to another brings a thread to its last position
 abbrev pub comes_to_end : FittedTrace → List ℕ → List ℕ → ℕ → Bool
@@ -90,13 +90,13 @@ or_told None next = next
 or_told (Some told) next = Some told
 
 -- the first bad end of the first n threads
-unfoldable pub first_bad : FittedTrace → ℕ → Option Told
-first_bad f zero = None
-first_bad f (suc t) = or_told (first_bad f t) (bad_end f t)
+unfoldable pub first_bad_end : FittedTrace → ℕ → Option Told
+first_bad_end f zero = None
+first_bad_end f (suc t) = or_told (first_bad_end f t) (bad_end f t)
 
 -- that of all, where a move that runs out of history comes to the end of the recording
 abbrev pub last_end : FittedTrace → List ℕ → List ℕ → Bool → Option Told
-last_end f from to out = if out && (is_end f to && not (is_end f from)) then first_bad f (threads_of f) else None
+last_end f from to out = if out && (is_end f to && not (is_end f from)) then first_bad_end f (threads_of f) else None
 
 -- the bad end that a move tells: of the thread that it stops, or else the first
 abbrev pub ended : FittedTrace → List ℕ → List ℕ → ℕ → Bool → Option Told

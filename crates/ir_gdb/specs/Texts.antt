@@ -4,7 +4,7 @@ use Rattle.ir_cut.specs.Positions.{threads_of, last_of}
 use Rattle.ir_packet.specs.Replies.{number_text}
 use Rattle.ir_gdb.specs.Stub.{Stub}
 use Rattle.ir_gdb.specs.Stops.{position_of}
-use Rattle.ir_gdb.specs.Endings.{end_at, end_text}
+use Rattle.ir_gdb.specs.Endings.{end_of_thread, words_of_end}
 
 -- what the server can
 abbrev pub supported_text : List ℕ
@@ -17,7 +17,7 @@ description_text = codes "<?xml version=\"1.0\"?><!DOCTYPE target SYSTEM \"gdb-t
 -- where a thread is, and at its last position how it ended
 abbrev pub place_text : Stub → ℕ → List ℕ
 place_text s t = codes "\" name=\"thread " ++ decimal t ++ codes "\">at " ++ decimal (position_of s t) ++ codes " of " ++ decimal (last_of s.desk.fitted t)
-    ++ (if position_of s t == last_of s.desk.fitted t then end_text (end_at s.desk.fitted t) else [])
+    ++ (if position_of s t == last_of s.desk.fitted t then words_of_end (end_of_thread s.desk.fitted t) else [])
 
 abbrev pub thread_text : Stub → ℕ → List ℕ
 thread_text s t = codes "<thread id=\"" ++ number_text (t + 1) ++ place_text s t ++ codes "</thread>"

@@ -2,7 +2,7 @@
 
 ghost use Rattle.std.specs.Prelude.{◌≡◌, ◌<◌, ◌≤◌, ◌+◌, ◌++◌, length, vec_len, vec_capacity, IfSome};
 ghost use Rattle.ir_cut.specs.Positions.{threads_of};
-ghost use Rattle.ir_gdb.specs.Endings.{signal_of, code_text, end_text, end_at, bad_end, comes_to_end, own_end, is_end, first_bad, last_end, ended, is_over};
+ghost use Rattle.ir_gdb.specs.Endings.{signal_of, code_text, words_of_end, end_of_thread, bad_end, comes_to_end, own_end, is_end, first_bad_end, last_end, ended, is_over};
 
 use crate::stopped::Told;
 use ir_cut::Cut;
@@ -48,10 +48,10 @@ fn put_code(out: &mut Vec<u8>, code: u32)
 }
 
 /// Puts an end in words at the end.
-#[tactic(auto, unfolding(crate::specs::Endings::end_text))]
+#[tactic(auto, unfolding(crate::specs::Endings::words_of_end))]
 pub fn put_end(out: &mut Vec<u8>, end: End)
     requires { vec_len out.old + 33 ≤ vec_capacity out.old }
-    ensures bytes { out.new.items ≡ out.old.items ++ end_text end }
+    ensures bytes { out.new.items ≡ out.old.items ++ words_of_end end }
     ensures len { vec_len out.new ≤ vec_len out.old + 33 }
     ensures capacity { vec_capacity out.new ≡ vec_capacity out.old }
 {
@@ -74,9 +74,9 @@ pub fn put_end(out: &mut Vec<u8>, end: End)
 }
 
 /// How a thread ended.
-pub fn end_at(fitted: &Fitted, thread: u32) -> End
+pub fn end_of_thread(fitted: &Fitted, thread: u32) -> End
     requires { thread < threads_of fitted.now }
-    ensures { result ≡ end_at fitted.now thread }
+    ensures { result ≡ end_of_thread fitted.now thread }
 {
     fitted.known();
     fitted.trace().threads()[thread as usize].end()
@@ -88,7 +88,7 @@ fn bad_end(fitted: &Fitted, thread: u32) -> Option<Told>
     ensures value { result ≡ bad_end fitted.now thread }
     ensures thread { IfSome result (λ told. told.thread ≡ thread) }
 {
-    let signal = signal_of(end_at(fitted, thread))?;
+    let signal = signal_of(end_of_thread(fitted, thread))?;
     let interrupted = false;
     let reason = Reason::Ended(signal);
     Some(Told {
@@ -150,8 +150,8 @@ fn is_end(fitted: &Fitted, cut: &Cut) -> bool
 
 // The first bad end of all threads.
 #[tactic(auto, using(crate::proofs::Endings::no_threads_end_badly, crate::proofs::Endings::none_bad_with_next_good, crate::proofs::Endings::first_bad_is_next_if_none_before))]
-fn first_bad(fitted: &Fitted) -> Option<Told>
-    ensures value { result ≡ first_bad fitted.now (threads_of fitted.now) }
+fn first_bad_end(fitted: &Fitted) -> Option<Told>
+    ensures value { result ≡ first_bad_end fitted.now (threads_of fitted.now) }
     ensures thread { IfSome result (λ told. told.thread < threads_of fitted.now) }
 {
     let count = count(fitted);
@@ -171,7 +171,7 @@ fn last_end(fitted: &Fitted, from: &Cut, to: &Cut, out: bool) -> Option<Told>
     ensures thread { IfSome result (λ told. told.thread < threads_of fitted.now) }
 {
     if out && is_end(fitted, to) && !is_end(fitted, from) {
-        return first_bad(fitted);
+        return first_bad_end(fitted);
     }
     None
 }

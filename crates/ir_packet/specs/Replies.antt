@@ -18,7 +18,7 @@ number_text n = encode_lower (n / 2 ^ 24 % 256 ∷ n / 2 ^ 16 % 256 ∷ n / 256 
 abbrev pub word_text : ℕ → List ℕ
 word_text word = encode_lower (word_bytes word)
 
--- replies that are always the same; an error's number is that of Linux
+-- replies that are always the same; an error's number is that of Linux, and gdb shows a text behind `E.`
 unfoldable pub reply_text : Reply → List ℕ
 reply_text reply.Done = codes "OK"
 reply_text reply.Nothing = []
@@ -26,7 +26,7 @@ reply_text reply.NotPermitted = codes "E01"
 reply_text reply.NoMemory = codes "E0C"
 reply_text reply.BadAddress = codes "E0E"
 reply_text reply.NoSpace = codes "E1C"
-reply_text reply.ReadOnly = codes "E1E"
+reply_text reply.ReadOnly = codes "E.a recording can't be changed"
 reply_text reply.Attached = codes "1"
 reply_text reply.Offsets = codes "Text=0;Data=0;Bss=0"
 reply_text reply.Motions = codes "vCont;c;C;s;S;r"

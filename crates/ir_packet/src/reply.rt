@@ -15,7 +15,7 @@ pub enum Reply {
     BadAddress,
     /// `E1C`: as many points as there may be.
     NoSpace,
-    /// `E1E`: a recording can't be changed.
+    /// In words: a recording can't be changed.
     ReadOnly,
     /// Gdb came to a process that was there, so `quit` detaches.
     Attached,

@@ -21,7 +21,7 @@ pub fn reply_text(reply: Reply) -> &'static [u8]
         Reply::NoMemory => b"E0C",
         Reply::BadAddress => b"E0E",
         Reply::NoSpace => b"E1C",
-        Reply::ReadOnly => b"E1E",
+        Reply::ReadOnly => b"E.a recording can't be changed",
         Reply::Attached => b"1",
         Reply::Offsets => b"Text=0;Data=0;Bss=0",
         Reply::Motions => b"vCont;c;C;s;S;r",

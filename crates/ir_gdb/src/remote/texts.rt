@@ -5,7 +5,7 @@ ghost use Rattle.ir_cut.specs.Positions.{threads_of};
 ghost use Rattle.ir_packet.specs.Replies.{piece_text};
 ghost use Rattle.ir_gdb.specs.Texts.{place_text, thread_text, threads_text};
 
-use crate::ending::{end_at, put_end};
+use crate::ending::{end_of_thread, put_end};
 use crate::remote::Remote;
 use ir_packet::{put_number, put_piece, put_text};
 use ir_text::Text;
@@ -31,7 +31,7 @@ impl Remote {
         ir_text::put_number(&mut text, b" of ", last);
         put_text(out, text.as_slice());
         if position == last {
-            put_end(out, end_at(self.debugger.fitted(), thread));
+            put_end(out, end_of_thread(self.debugger.fitted(), thread));
         }
     }
 
