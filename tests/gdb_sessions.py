@@ -129,6 +129,15 @@ SESSIONS = {
          "Old value = 20", "New value = 10", "No more reverse-execution history|Old value = 10", "point 1", "SIGTRAP", "log 1 of 1",
          "Cannot access memory at address 0x80000004"],
     ),
+    "12-writers": Session(
+        "objs",
+        ["ir-owatch account[0].object.balance", "continue", "print account[0].object", "continue", "print account[0].object", "continue", "reverse-continue",
+         "reverse-continue", "reverse-continue", "monitor clear 1"],
+        ["point 1", r'Thread (\d) "thread \d" received signal SIGTRAP', r"\{owner = \d, balance = 10", r'Thread (\d) "thread \d" received signal SIGTRAP',
+         r"\{owner = \d, balance = 20", "No more reverse-execution history", "received signal SIGTRAP", "received signal SIGTRAP",
+         "No more reverse-execution history", "cleared 1"],
+        locked=False,
+    ),
     "13-read-only": Session(
         "over",
         ["tbreak fill", "continue", "set var table.limit = 3", "print table.limit = 4", "set var $a0 = 5", "set var $pc = 0x10000", "call square(3)",
@@ -411,6 +420,14 @@ def check_bad_ends(folder):
     check_session(Session("ends", lines, [told, told, told], locked=False), folder)
 
 
+def check_other_file(folder):
+    """A file of another program than the one that was recorded is told on connecting."""
+    for name in ("img", "trc"):
+        shutil.copy(folder / f"objs.{name}", folder / f"other.{name}")
+    shutil.copy(folder / "over.elf", folder / "other.elf")
+    check_session(Session("other", [], ["The program of this file isn't the one that was recorded"]), folder)
+
+
 def check_forged(folder):
     """What can't be opened is named on standard error, and nothing is read."""
     (folder / "none.trc").write_bytes(b"nothing")
@@ -554,6 +571,7 @@ CHECKS = {
     "24-at-a-call": check_at_a_call,
     "25-at-an-end": check_at_an_end,
     "26-bad-ends": check_bad_ends,
+    "27-other-file": check_other_file,
 }
 
 
