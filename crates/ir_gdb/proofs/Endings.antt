@@ -1,6 +1,6 @@
 -- Ends of threads, one by one.
-use Rattle.std.proofs.Common.{◌≡◌, ◌≢◌, ◌<◌, ◌+◌, ◌-◌, ◌∙◌, ℕ, zero, suc, Bool, true, false, List, Option, Some, None, ⊤, tt, refl, sym, ap, arith, if◌then◌else◌}
-use Rattle.std.specs.Prelude.{◌&&◌, ◌==◌, not, option_map}
+use Rattle.std.proofs.Common.{◌≡◌, ◌≢◌, ◌<◌, ◌+◌, ◌-◌, ◌∙◌, ℕ, zero, suc, Bool, true, false, List, Option, Some, None, refl, sym, ap, arith, if◌then◌else◌}
+use Rattle.std.specs.Prelude.{◌&&◌, ◌==◌, not, option_map, ⊤}
 use Rattle.std.proofs.lemmas.Bool.{eqb-true, eqb-false}
 use Rattle.ir_lemmas.proofs.CallerLemmas.{conjunction_with_false}
 use Rattle.ir_fit.specs.Fit.{FittedTrace}
