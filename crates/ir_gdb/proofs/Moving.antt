@@ -13,12 +13,10 @@ use Rattle.ir_packet.specs.declared.reply.Reason.TheVariants as reason
 use Rattle.ir_packet.specs.declared.request.Motion.{Motion}
 use Rattle.ir_gdb.specs.declared.stopped.Moving.{Moving}
 use Rattle.ir_gdb.specs.declared.stopped.Stopped.{Stopped}
-use Rattle.ir_gdb.specs.declared.stopped.Told.{Told}
 use Rattle.ir_gdb.specs.Stub.{Stub, spoken}
 use Rattle.ir_gdb.specs.Stops.{stopped, GoesTo, MovesTo, direction_of, end_of}
 use Rattle.ir_gdb.specs.Together.{Halt, halt, Comes, OwnStop, stop_among, AreStops, AreWithin, passes, is_free, moves, moves_other, IsMet, IsNotMet, FirstMet, first_met, or_else, MetBy, StepsAmong, StopsAmong, NoneStops, FirstStop, furthest, ContinuesAmong, MovesAlone}
-use Rattle.ir_gdb.specs.Moves.{settled, after_told, told_of, arrived, interrupted_at, told_text, Leads, Moves, MovesBy}
-use Rattle.ir_gdb.specs.Endings.{ended, is_over, told_or}
+use Rattle.ir_gdb.specs.Moves.{settled, after_told, interrupted_at, told_text, Moves, MovesBy}
 use Rattle.ir_gdb.specs.Replies.{RepliesToMove}
 use Rattle.ir_gdb.proofs.Together.{below_next_cases, holds_below_next_number_except_one}
 
@@ -215,28 +213,6 @@ continues_among_and_settles s u v t d each stop h same stops first is settles =
       λ run whole. (each, stops run whole, (first_met each stop, first_stop_if_first_stop_of_spoken run s d each t (first_met each stop) (said run whole), ends)),
       settled_ignores_spoken s u v h same settles,
     )
-
--- ---- what gdb is told
-
--- the stop itself where no bad end is told
-pub leads_and_tells_stop : (s v : Stub) (who : Moving) (m : Motion) (told : Option Told)
-    → ((h : Halt) × EachRun s.desk.fitted (λ run. Leads run s who.among who.thread m h) × (v ≡ settled s h))
-    → told ≡ ended v.desk.fitted s.desk.at v.desk.at v.told.thread (who.among && is_over v.told.reason) → told ≡ None
-    → (h : Halt) × EachRun s.desk.fitted (λ run. Leads run s who.among who.thread m h) × (v ≡ arrived s who.among h)
-leads_and_tells_stop s v who m told (h, leads, settles) is none =
-    let found = ap (λ (x : Stub). ended x.desk.fitted s.desk.at x.desk.at x.told.thread (who.among && is_over x.told.reason)) settles in
-    let lacks : ended s.desk.fitted s.desk.at h.cut h.thread (who.among && is_over h.reason) ≡ None = sym found ∙ sym is ∙ none in
-    (h, leads, settles ∙ ap (λ (x : Option Told). after_told (settled s h) (told_or x (told_of h))) (sym lacks))
-
--- the bad end where one is told
-pub leads_and_tells_bad_end : (s v w : Stub) (who : Moving) (m : Motion) (told : Option Told) (bad : Told)
-    → ((h : Halt) × EachRun s.desk.fitted (λ run. Leads run s who.among who.thread m h) × (v ≡ settled s h))
-    → told ≡ ended v.desk.fitted s.desk.at v.desk.at v.told.thread (who.among && is_over v.told.reason) → told ≡ Some bad → w ≡ after_told v bad
-    → (h : Halt) × EachRun s.desk.fitted (λ run. Leads run s who.among who.thread m h) × (w ≡ arrived s who.among h)
-leads_and_tells_bad_end s v w who m told bad (h, leads, settles) is some tells =
-    let found = ap (λ (x : Stub). ended x.desk.fitted s.desk.at x.desk.at x.told.thread (who.among && is_over x.told.reason)) settles in
-    let has : ended s.desk.fitted s.desk.at h.cut h.thread (who.among && is_over h.reason) ≡ Some bad = sym found ∙ sym is ∙ some in
-    (h, leads, tells ∙ ap (λ (x : Stub). after_told x bad) settles ∙ ap (λ (x : Option Told). after_told (settled s h) (told_or x (told_of h))) (sym has))
 
 -- ---- the first stop
 
