@@ -1,5 +1,7 @@
 # For gdb on recordings: source examples/ir.gdb, and then target remote | ir gdb IMAGE TRACE
 set remotetimeout unlimited
+# Signals say how threads ended, and go to none.
+handle SIGILL SIGABRT SIGBUS SIGSEGV SIGSYS SIGTERM SIGXCPU SIGXFSZ nopass
 # gdb keeps what it read of threads that it didn't resume, and they may have moved along, or by a session's command.
 define hook-stop
 maint flush register-cache
@@ -16,4 +18,21 @@ end
 define ir-load
 monitor load $arg0
 frame
+end
+# ir-owatch WORD, such as account[0].to, without blanks: stops each thread where it leaves the object of this word after writing.
+define ir-owatch
+eval "monitor owatch %u", ((unsigned int) &($arg0) - 0x80000000) / 64
+end
+# Says on connecting if the program of gdb's file isn't the one that was recorded.
+define ir-compare
+python
+if gdb.current_progspace().filename and "MIS-MATCHED" in gdb.execute("compare-sections .text", to_string=True):
+    print("The program of this file isn't the one that was recorded.")
+end
+end
+define target hookpost-remote
+ir-compare
+end
+define target hookpost-extended-remote
+ir-compare
 end

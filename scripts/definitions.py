@@ -90,12 +90,13 @@ CLAIMS = [
     ], (1350, 530)),
     Claim("gdb", "`ir gdb` answers gdb, and its moves are a session's.", {
         "ir_gdb/src/session.rt": ["connect"],
-        "ir_gdb/src/laws.rt": ["alone_is_session", "no_hit_is_passed", "none_is_blocked", "each_hit_is_shown_once"],
+        "ir_gdb/src/laws.rt": ["alone_is_session", "no_hit_is_passed", "none_is_blocked", "each_hit_is_shown_once", "no_bad_end_is_hidden"],
     }, [
         ("ir_gdb", "Stub", "`Stub`: the small machine, and what gdb has set"),
         ("ir_gdb", "Stops", "where a thread stops"),
         ("ir_gdb", "Together", "`ContinuesAmong`, `FirstMet`: how all threads move"),
         ("ir_gdb", "Over", "`LeadsAlone`: how a thread moves by itself"),
+        ("ir_gdb", "Endings", "`signal_of`, `ended`: which bad ends a move tells"),
         ("ir_gdb", "Replies", "`Replies`: the reply to each request"),
         ("ir_gdb", "Connection", "`Answers`: the bytes of packets and acknowledgements"),
         ("ir_gdb", "Laws", "the laws"),

@@ -71,7 +71,7 @@ SESSIONS = {
         "over",
         ["continue", "print table.limit", "watch table.limit", "reverse-continue", "bt", "print i", "print last", "continue", "reverse-continue",
          "reverse-continue"],
-        ["No more reverse-execution history", "= 16", "Hardware watchpoint 1: table.limit", "Old value = 16", "New value = 100",
+        ['Thread 1 "thread 0" received signal SIGTERM', "= 16", "Hardware watchpoint 1: table.limit", "Old value = 16", "New value = 100",
          r"0x\w+ in fill \(last=4\) at .*over.c:17", r"#1 .*filler_body \(\)", "= 4", "= 4", "Old value = 100", "New value = 16", "over.c:18",
          "Old value = 16", "New value = 100", "No more reverse-execution history"],
     ),
@@ -129,12 +129,22 @@ SESSIONS = {
          "Old value = 20", "New value = 10", "No more reverse-execution history|Old value = 10", "point 1", "SIGTRAP", "log 1 of 1",
          "Cannot access memory at address 0x80000004"],
     ),
+    "12-writers": Session(
+        "objs",
+        ["ir-owatch account[0].object.balance", "continue", "print account[0].object", "continue", "print account[0].object", "continue", "reverse-continue",
+         "reverse-continue", "reverse-continue", "monitor clear 1"],
+        ["point 1", r'Thread (\d) "thread \d" received signal SIGTRAP', r"\{owner = \d, balance = 10", r'Thread (\d) "thread \d" received signal SIGTRAP',
+         r"\{owner = \d, balance = 20", "No more reverse-execution history", "received signal SIGTRAP", "received signal SIGTRAP",
+         "No more reverse-execution history", "cleared 1"],
+        locked=False,
+    ),
     "13-read-only": Session(
         "over",
         ["tbreak fill", "continue", "set var table.limit = 3", "print table.limit = 4", "set var $a0 = 5", "set var $pc = 0x10000", "call square(3)",
          "jump 37", "print table.limit", "print $pc", "continue"],
-        ["Cannot access memory at address 0x", "Cannot access memory", "Could not write register", "Could not write register",
-         "Cannot access memory|Could not write", "Could not write", "= 100", r"0x\w+ <fill\+\d+>", "No more reverse-execution history"],
+        ["Cannot access memory at address 0x", "Cannot access memory", "Could not write register .*E.a recording can't be changed",
+         "Could not write register",
+         "Cannot access memory|Could not write", "Could not write", "= 100", r"0x\w+ <fill\+\d+>", "received signal SIGTERM"],
     ),
     "14-nowhere": Session(
         "over",
@@ -142,7 +152,7 @@ SESSIONS = {
          "break *0x10002", "continue", "delete", "rwatch table.limit", "continue", "delete", "continue"],
         ["Cannot access memory at address 0x20000", r"0x00\s+0x00\s+0x00\s+0x00\s+Cannot access memory at address 0x110000|0x10fffc.*\n?.*Cannot access memory at address 0x110000",
          "Cannot access memory at address 0x0", "Cannot insert breakpoint", "Could not insert hardware watchpoint", "Cannot insert breakpoint",
-         "Could not insert hardware (read )?watchpoint|does not support", "No more reverse-execution history"],
+         "Could not insert hardware (read )?watchpoint|does not support", "received signal SIGTERM"],
     ),
     "15-run": Session(
         "lost",
@@ -207,8 +217,8 @@ BY_HAND = [
     (packet(b"Z2,100000,101"), [b"E0E"]),
     (packet(b"Z3,100000,4"), [b""]),
     (packet(b"p21"), [b"E01"]),
-    (packet(b"G00"), [b"E1E"]),
-    (packet(b"M100000,1:00"), [b"E1E"]),
+    (packet(b"G00"), [b"E.a recording can't be changed"]),
+    (packet(b"M100000,1:00"), [b"E.a recording can't be changed"]),
     (packet(b"vCont;s:9"), [b"E01"]),
     (packet(b"vCont;t:1"), [b"E01"]),
     (packet(b"c10000"), [b"E01"]),
@@ -371,6 +381,53 @@ def check_calls(folder):
         check_session(Session("calls", steps, [r"caller_body \(\) at .*calls.c:7$", *stops]), folder)
 
 
+# Ends by their numbers: the signal that gdb shows, and the words in its list of threads.
+ENDS = {
+    1: ("SIGTERM", "code 41"),
+    2: ("SIGABRT", "EBREAK"),
+    3: ("SIGILL", "no instruction"),
+    4: ("SIGBUS", "misaligned jump"),
+    5: ("SIGSEGV", "outside the code"),
+    6: ("SIGSEGV", "bad load"),
+    7: ("SIGSEGV", "bad store"),
+    8: ("SIGSYS", "unknown call"),
+    9: ("SIGSYS", "no such object"),
+    10: ("SIGSYS", "entry out of order"),
+    11: ("SIGSYS", "object not held"),
+    12: ("SIGXFSZ", "too much output"),
+    13: ("SIGXCPU", "budget spent"),
+}
+
+
+def check_bad_ends(folder):
+    """A thread that ends badly is named by its signal: at the end of the recording, and where the thread itself comes to its end."""
+    for way, (signal_name, words) in ENDS.items():
+        command = [GCC, str(GUESTS / "ends.c"), "@guest/ir.opts", "-O0", f"-DWAY={way}", "-Wno-all", "-o", "ends.elf"]
+        subprocess.run(command, cwd=folder, check=True)
+        for text in ("elf ends.elf ends.img", "record ends.img ends.trc --budget 400000"):
+            ended = run(text, folder)
+            if ended.returncode:
+                raise Wrong(f"{text} with end {way}: {ended!r}")
+        told = rf'Thread 2 "thread 1" received signal {signal_name}'
+        all_words = [rf'\d +Thread 1 .*\(at (\d+) of \1 done\)', rf'\* 2 +Thread 2 .*\(at (\d+) of \1 ended: {words}\)']
+        lines = ["continue", "info threads", "continue", "reverse-continue", "thread 1", "continue", "thread 1", "reverse-stepi", "stepi", "info threads"]
+        wanted = [told, *all_words, OVER, OVER, told, r"\(gdb\) stepi\n0x", r"\* 1 +Thread 1 "]
+        check_session(Session("ends", lines, wanted, locked=False), folder)
+        check_session(Session("ends", ["thread 2", "continue", "continue", "thread 1", "continue"], [told, OVER, OVER]), folder)
+    # a step over a breakpoint, and a single step, to the thread's end
+    told = 'Thread 2 "thread 1" received signal SIGXCPU'
+    lines = ["thread 2", "continue", "reverse-stepi", "break *$pc", "stepi", "reverse-stepi", "delete", "stepi"]
+    check_session(Session("ends", lines, [told, told, told], locked=False), folder)
+
+
+def check_other_file(folder):
+    """A file of another program than the one that was recorded is told on connecting."""
+    for name in ("img", "trc"):
+        shutil.copy(folder / f"objs.{name}", folder / f"other.{name}")
+    shutil.copy(folder / "over.elf", folder / "other.elf")
+    check_session(Session("other", [], ["The program of this file isn't the one that was recorded"]), folder)
+
+
 def check_forged(folder):
     """What can't be opened is named on standard error, and nothing is read."""
     (folder / "none.trc").write_bytes(b"nothing")
@@ -513,6 +570,8 @@ CHECKS = {
     "23-guide": check_guide,
     "24-at-a-call": check_at_a_call,
     "25-at-an-end": check_at_an_end,
+    "26-bad-ends": check_bad_ends,
+    "27-other-file": check_other_file,
 }
 
 

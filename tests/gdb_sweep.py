@@ -38,6 +38,9 @@ gdb.events.stop.connect(seen.append)
 def through(move):
     while True:
         gdb.execute(move, to_string=True)
+        # a signal says that a thread has ended badly
+        if isinstance(seen[-1], gdb.SignalEvent):
+            continue
         if not isinstance(seen[-1], gdb.BreakpointEvent):
             break
         thread = gdb.selected_thread().num - 1

@@ -13,6 +13,7 @@ mod Setting
 mod Seen
 mod Answering
 mod Threads
+mod Endings
 mod Stopping
 mod Ranging
 mod Telling
@@ -29,3 +30,4 @@ mod Ways
 mod Blocked
 mod Unpassed
 mod ShownOnce
+mod Untold

@@ -19,7 +19,7 @@ use Rattle.ir_gdb.specs.Stub.{Stub, spoken}
 use Rattle.ir_gdb.specs.Stops.{position_of, MovesTo}
 use Rattle.ir_gdb.specs.Together.{Halt, Comes, MovesAlone}
 use Rattle.ir_gdb.specs.Over.{pc_of, points_over, OnWay, HasHit, NoneHasHit, OtherHasHit, PassesHit, over, StepsOver, is_step, waits, no_more, LeadsBy, LeadsAlone}
-use Rattle.ir_gdb.specs.Moves.{settled, told_text, Leads, Moves, MovesBy, together_after, with_together}
+use Rattle.ir_gdb.specs.Moves.{settled, arrived, told_text, Leads, Moves, MovesBy, together_after, with_together}
 use Rattle.ir_gdb.proofs.Together.{holds_below_next_number_except_one}
 
 -- ---- hits of a thread on its way
@@ -158,12 +158,12 @@ leads_alone_by_move s v t m free step (h, moves, settles) = (
 -- ---- a move, and its reply
 
 pub moves_and_replies_unless_interrupted : (s u v x : Stub) (who : Moving) (m : Motion) (together : Bool) (old new : List ℕ) → s.interrupted ≡ false
-    → ((h : Halt) × EachRun s.desk.fitted (λ run. Leads run s who.among who.thread m h) × (u ≡ settled s h))
+    → ((h : Halt) × EachRun s.desk.fitted (λ run. Leads run s who.among who.thread m h) × (u ≡ arrived s who.among h))
     → together ≡ together_after s who m → v ≡ with_together u together → EachRun v.desk.fitted (λ run. new ≡ old ++ told_text run v) → x ≡ spoken v
     → (after : Stub) × EachRun s.desk.fitted (λ run. Moves run s who m after × (new ≡ old ++ told_text run after)) × (x ≡ spoken after)
 moves_and_replies_unless_interrupted s u v x who m together old new goes (h, leads, settles) says is told last =
-    let after : Stub = with_together (settled s h) (together_after s who m) in
-    let same : v ≡ after = is ∙ ap (λ (y : Stub). with_together y together) settles ∙ ap (λ (b : Bool). with_together (settled s h) b) says in
+    let after : Stub = with_together (arrived s who.among h) (together_after s who m) in
+    let same : v ≡ after = is ∙ ap (λ (y : Stub). with_together y together) settles ∙ ap (λ (b : Bool). with_together (arrived s who.among h) b) says in
     let text = subst (λ (y : Stub). EachRun y.desk.fitted (λ run. new ≡ old ++ told_text run y)) same told in (
       after,
       λ run whole. (subst (λ (b : Bool). MovesBy b run s who m after) (sym goes) (h, leads run whole, refl), text run whole),

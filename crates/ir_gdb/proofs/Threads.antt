@@ -5,6 +5,7 @@ use Rattle.ir_gdb.specs.Stub.{Stub}
 use Rattle.ir_packet.specs.Replies.{number_text}
 use Rattle.ir_cut.specs.Positions.{last_of}
 use Rattle.ir_gdb.specs.Stops.{position_of}
+use Rattle.ir_gdb.specs.Endings.{end_of_thread, words_of_end}
 use Rattle.ir_gdb.specs.Texts.{place_text, thread_text, first_threads_text}
 
 first_threads_text_step : (s : Stub) (n : ℕ) → first_threads_text s (n + 1) ≡ first_threads_text s n ++ thread_text s n
@@ -25,24 +26,24 @@ append_of_three_put_texts old new head threads tail is put = put ∙ ap (λ (xs 
 
 -- ---- a thread's element
 
-done_text_at_last_position : (b : Bool) (p last : ℕ) → eqb p last ≡ b → p ≡ last → (if b then codes " done" else []) ≡ codes " done"
-done_text_at_last_position true p last test e = refl
-done_text_at_last_position false p last test e = absurd (eqb-false p last test e)
+end_text_at_last_position : (b : Bool) (p last : ℕ) (text : List ℕ) → eqb p last ≡ b → p ≡ last → (if b then text else []) ≡ text
+end_text_at_last_position true p last text test e = refl
+end_text_at_last_position false p last text test e = absurd (eqb-false p last test e)
 
-no_done_text_before_last_position : (b : Bool) (p last : ℕ) → eqb p last ≡ b → (p ≡ last → ⊥) → (if b then codes " done" else []) ≡ []
-no_done_text_before_last_position true p last test going = absurd (going (eqb-true p last test))
-no_done_text_before_last_position false p last test going = refl
+no_end_text_before_last_position : (b : Bool) (p last : ℕ) (text : List ℕ) → eqb p last ≡ b → (p ≡ last → ⊥) → (if b then text else []) ≡ []
+no_end_text_before_last_position true p last text test going = absurd (going (eqb-true p last test))
+no_end_text_before_last_position false p last text test going = refl
 
 append_of_seven_texts_reassociated : (a b c d e f more : List ℕ) → (((a ++ b) ++ (c ++ d)) ++ (e ++ f)) ++ more ≡ a ++ b ++ c ++ d ++ e ++ f ++ more
 append_of_seven_texts_reassociated a b c d e f more = simp append_assoc
 
--- the text with the name and the positions, and then whether the thread is done
+-- the text with the name and the positions, and then how the thread ended
 module _ (s : Stub) (t p last : ℕ) (at : p ≡ position_of s t) (end : last ≡ last_of s.desk.fitted t) (t0 t1 t2 t3 : List ℕ) (none : t0 ≡ [])
     (name : t1 ≡ t0 ++ (codes "\" name=\"thread " ++ decimal t)) (here : t2 ≡ t1 ++ (codes "\">at " ++ decimal p))
     (whole : t3 ≡ t2 ++ (codes " of " ++ decimal last)) where
-  before_done : (more : List ℕ)
+  before_end : (more : List ℕ)
       → t3 ++ more ≡ codes "\" name=\"thread " ++ decimal t ++ codes "\">at " ++ decimal (position_of s t) ++ codes " of " ++ decimal (last_of s.desk.fitted t) ++ more
-  before_done more = ap (λ (xs : List ℕ). xs ++ more)
+  before_end more = ap (λ (xs : List ℕ). xs ++ more)
       (whole ∙ ap (λ (xs : List ℕ). xs ++ (codes " of " ++ decimal last)) (here ∙ ap (λ (xs : List ℕ). xs ++ (codes "\">at " ++ decimal p))
       (name ∙ ap (λ (xs : List ℕ). xs ++ (codes "\" name=\"thread " ++ decimal t)) none)))
       ∙ ap (λ (n : ℕ). (((codes "\" name=\"thread " ++ decimal t) ++ (codes "\">at " ++ decimal n)) ++ (codes " of " ++ decimal last)) ++ more) at
@@ -50,19 +51,20 @@ module _ (s : Stub) (t p last : ℕ) (at : p ≡ position_of s t) (end : last �
       ∙ append_of_seven_texts_reassociated (codes "\" name=\"thread ") (decimal t) (codes "\">at ") (decimal (position_of s t)) (codes " of ")
       (decimal (last_of s.desk.fitted t)) more
 
-  pub place_done : (text out new : List ℕ) → p ≡ last → text ≡ t3 ++ codes " done" → new ≡ out ++ text → new ≡ out ++ place_text s t
-  place_done text out new e done put = put ∙ ap (λ (xs : List ℕ). out ++ xs) (done
-      ∙ ap (λ (xs : List ℕ). t3 ++ xs) (sym (done_text_at_last_position (eqb p last) p last refl e))
-      ∙ ap (λ (n : ℕ). t3 ++ (if eqb n last then codes " done" else [])) at
-      ∙ ap (λ (n : ℕ). t3 ++ (if eqb (position_of s t) n then codes " done" else [])) end
-      ∙ before_done (if eqb (position_of s t) (last_of s.desk.fitted t) then codes " done" else []))
+  pub place_ended : (out mid new : List ℕ) → p ≡ last → mid ≡ out ++ t3 → new ≡ mid ++ words_of_end (end_of_thread s.desk.fitted t) → new ≡ out ++ place_text s t
+  place_ended out mid new e put ends = ends ∙ ap (λ (xs : List ℕ). xs ++ words_of_end (end_of_thread s.desk.fitted t)) put ∙ append_assoc out t3 (words_of_end (end_of_thread s.desk.fitted t))
+      ∙ ap (λ (xs : List ℕ). out ++ xs) (
+      ap (λ (xs : List ℕ). t3 ++ xs) (sym (end_text_at_last_position (eqb p last) p last (words_of_end (end_of_thread s.desk.fitted t)) refl e))
+      ∙ ap (λ (n : ℕ). t3 ++ (if eqb n last then words_of_end (end_of_thread s.desk.fitted t) else [])) at
+      ∙ ap (λ (n : ℕ). t3 ++ (if eqb (position_of s t) n then words_of_end (end_of_thread s.desk.fitted t) else [])) end
+      ∙ before_end (if eqb (position_of s t) (last_of s.desk.fitted t) then words_of_end (end_of_thread s.desk.fitted t) else []))
 
-  pub place_going : (text out new : List ℕ) → (p ≡ last → ⊥) → text ≡ t3 → new ≡ out ++ text → new ≡ out ++ place_text s t
-  place_going text out new going same put = put ∙ ap (λ (xs : List ℕ). out ++ xs) (same ∙ sym (append-nil t3)
-      ∙ ap (λ (xs : List ℕ). t3 ++ xs) (sym (no_done_text_before_last_position (eqb p last) p last refl going))
-      ∙ ap (λ (n : ℕ). t3 ++ (if eqb n last then codes " done" else [])) at
-      ∙ ap (λ (n : ℕ). t3 ++ (if eqb (position_of s t) n then codes " done" else [])) end
-      ∙ before_done (if eqb (position_of s t) (last_of s.desk.fitted t) then codes " done" else []))
+  pub place_going : (out new : List ℕ) → (p ≡ last → ⊥) → new ≡ out ++ t3 → new ≡ out ++ place_text s t
+  place_going out new going put = put ∙ ap (λ (xs : List ℕ). out ++ xs) (sym (append-nil t3)
+      ∙ ap (λ (xs : List ℕ). t3 ++ xs) (sym (no_end_text_before_last_position (eqb p last) p last (words_of_end (end_of_thread s.desk.fitted t)) refl going))
+      ∙ ap (λ (n : ℕ). t3 ++ (if eqb n last then words_of_end (end_of_thread s.desk.fitted t) else [])) at
+      ∙ ap (λ (n : ℕ). t3 ++ (if eqb (position_of s t) n then words_of_end (end_of_thread s.desk.fitted t) else [])) end
+      ∙ before_end (if eqb (position_of s t) (last_of s.desk.fitted t) then words_of_end (end_of_thread s.desk.fitted t) else []))
 
 append_of_five_texts_reassociated : (o a b c d : List ℕ) → (((o ++ a) ++ b) ++ c) ++ d ≡ o ++ (a ++ b ++ c ++ d)
 append_of_five_texts_reassociated o a b c d = simp append_assoc

@@ -46,15 +46,15 @@ answer_text_is_packet_of_piece_and_rest bytes piece more n some least is-n rest-
     ∙ ap (λ (x : List ℕ). packet_of (output_text piece) ++ answer_text x) (sym e.1 ∙ sym rest)
 
 -- replies that are always the same are short
-pub reply_text_has_at_most_19_bytes : (r : Reply) → length (reply_text r) ≤ 19
+pub reply_text_has_at_most_30_bytes : (r : Reply) → length (reply_text r) ≤ 30
 unfolding reply_text
-reply_text_has_at_most_19_bytes reply.Done = omega arith
-reply_text_has_at_most_19_bytes reply.Nothing = omega arith
-reply_text_has_at_most_19_bytes reply.NotPermitted = omega arith
-reply_text_has_at_most_19_bytes reply.NoMemory = omega arith
-reply_text_has_at_most_19_bytes reply.BadAddress = omega arith
-reply_text_has_at_most_19_bytes reply.NoSpace = omega arith
-reply_text_has_at_most_19_bytes reply.ReadOnly = omega arith
-reply_text_has_at_most_19_bytes reply.Attached = omega arith
-reply_text_has_at_most_19_bytes reply.Offsets = omega arith
-reply_text_has_at_most_19_bytes reply.Motions = omega arith
+reply_text_has_at_most_30_bytes reply.Done = omega arith
+reply_text_has_at_most_30_bytes reply.Nothing = omega arith
+reply_text_has_at_most_30_bytes reply.NotPermitted = omega arith
+reply_text_has_at_most_30_bytes reply.NoMemory = omega arith
+reply_text_has_at_most_30_bytes reply.BadAddress = omega arith
+reply_text_has_at_most_30_bytes reply.NoSpace = omega arith
+reply_text_has_at_most_30_bytes reply.ReadOnly = omega arith
+reply_text_has_at_most_30_bytes reply.Attached = omega arith
+reply_text_has_at_most_30_bytes reply.Offsets = omega arith
+reply_text_has_at_most_30_bytes reply.Motions = omega arith

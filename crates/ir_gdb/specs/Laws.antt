@@ -18,7 +18,9 @@ use Rattle.ir_gdb.specs.declared.stopped.Stopped.{Stopped}
 use Rattle.ir_gdb.specs.Points.{watch_points, break_points}
 use Rattle.ir_gdb.specs.Stops.{position_of, watches_if, upwards_of, downwards_of, is_hit, direction_of}
 use Rattle.ir_gdb.specs.Together.{Halt, halt, Comes, stop_among, AreStops, meets, FirstMet, ContinuesAmong, MovesAmong}
-use Rattle.ir_gdb.specs.Moves.{settled, with_together}
+use Rattle.ir_gdb.specs.declared.stopped.Moving.{Moving}
+use Rattle.ir_gdb.specs.Endings.{signal_of, end_of_thread, is_end, is_over}
+use Rattle.ir_gdb.specs.Moves.{arrived, with_together, Moves}
 use Rattle.ir_gdb.specs.Over.{waits, pc_of, OtherHasHit, LeadsAlone}
 
 -- ---- a thread that moves alone
@@ -111,7 +113,7 @@ ShowsHit u k h = (h.thread ≡ u) × (cut_of h.cut u ≡ k) × (is_hit h.reason 
 
 -- the stub behind the reply to a move of the threads together
 abbrev pub behind : Stub → Halt → Stub
-behind s h = spoken (with_together (settled s h) true)
+behind s h = spoken (with_together (arrived s true h) true)
 
 -- threads continue in a direction, one after the other, with these stops: each is at a hit but the last
 unfoldable pub ContinuesToEnd : List Step → Stub → Direction → List (ℕ × Halt) → Type 0
@@ -137,3 +139,11 @@ IsShownOnce ms u k = (i : ℕ) × ShowsAt ms u k i × ((j : ℕ) → ShowsAt ms 
 abbrev pub EachHitIsShownOnce : Type 0
 EachHitIsShownOnce = (run : List Step) (s : Stub) (d : Direction) (ms : List (ℕ × Halt)) → Stands run s → s.watches ≡ [] → ContinuesToEnd run s d ms
     → (u k : ℕ) → u < threads_of s.desk.fitted → IsHitBeyond run s d u k → IsShownOnce ms u k
+
+-- ---- bad ends
+
+-- where a move of the threads together comes to the end of the recording, and gdb is told only that there is no more history, no thread ended badly
+abbrev pub NoBadEndIsHidden : Type 0
+NoBadEndIsHidden = (run : List Step) (s : Stub) (who : Moving) (m : Motion) (next : Stub) → who.among ≡ true → Moves run s who m next
+    → is_end s.desk.fitted s.desk.at ≡ false → is_end s.desk.fitted next.desk.at ≡ true → is_over next.told.reason ≡ true
+    → (t : ℕ) → t < threads_of s.desk.fitted → signal_of (end_of_thread s.desk.fitted t) ≡ None

@@ -7,6 +7,7 @@ pub mod Setting
 pub mod Stops
 pub mod Together
 pub mod Over
+pub mod Endings
 pub mod Moves
 pub mod Restarts
 pub mod Texts

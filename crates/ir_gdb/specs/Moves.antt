@@ -1,5 +1,5 @@
 -- Moves that packets ask for, and the stops that they are answered by.
-use Rattle.std.specs.Prelude.{◌≡◌, ℕ, ◌+◌, Bool, true, false, List, Option, Some, None, option_map, if◌then◌else◌}
+use Rattle.std.specs.Prelude.{◌≡◌, ◌&&◌, ℕ, ◌+◌, Bool, true, false, List, Option, Some, None, option_map, if◌then◌else◌}
 use Rattle.ir_mach.specs.Core.{Core, register}
 use Rattle.ir_runs.specs.Run.{Step}
 use Rattle.ir_debug.specs.Machine.{moved_to}
@@ -15,6 +15,7 @@ use Rattle.ir_gdb.specs.Stub.{Stub, spoken}
 use Rattle.ir_gdb.specs.Reads.{thread_of_id, current_of}
 use Rattle.ir_gdb.specs.Together.{Halt, MovesAmong}
 use Rattle.ir_gdb.specs.Over.{LeadsAlone, after_alone}
+use Rattle.ir_gdb.specs.Endings.{ended, is_over, told_or}
 
 -- a stop, with the registers that spare gdb a `g`
 abbrev pub stop_with : Told → Core → Stop
@@ -42,6 +43,14 @@ told_of h = record { interrupted = false; thread = h.thread; reason = h.reason }
 -- all threads have gone to the cut of a stop
 abbrev pub settled : Stub → Halt → Stub
 settled s h = after_told (record s { desk = moved_to s.desk h.cut }) (told_of h)
+
+-- what gdb is told of a stop: the bad end to which the move has come, or the stop itself
+abbrev pub told_at : Stub → Bool → Halt → Told
+told_at s among h = told_or (ended s.desk.fitted s.desk.at h.cut h.thread (among && is_over h.reason)) (told_of h)
+
+-- all threads have gone to the cut of a stop, and gdb is told of it
+abbrev pub arrived : Stub → Bool → Halt → Stub
+arrived s among h = after_told (settled s h) (told_at s among h)
 
 -- a thread is interrupted where it is
 abbrev pub interrupted_at : ℕ → Told
@@ -76,7 +85,7 @@ with_together s together = record s { together = together }
 -- a move, by whether gdb has interrupted it
 abbrev pub MovesBy : Bool → List Step → Stub → Moving → Motion → Stub → Type 0
 MovesBy true run s who m next = next ≡ after_told (spoken s) (interrupted_at who.thread)
-MovesBy false run s who m next = (h : Halt) × Leads run s who.among who.thread m h × (next ≡ with_together (settled s h) (together_after s who m))
+MovesBy false run s who m next = (h : Halt) × Leads run s who.among who.thread m h × (next ≡ with_together (arrived s who.among h) (together_after s who m))
 
 abbrev pub Moves : List Step → Stub → Moving → Motion → Stub → Type 0
 Moves run s who m next = MovesBy s.interrupted run s who m next

@@ -72,6 +72,7 @@ is_waiting reason.HardwareBreak = false
 is_waiting (reason.Watch address) = false
 is_waiting reason.End = false
 is_waiting reason.Begin = false
+is_waiting (reason.Ended how) = false
 
 -- whether the last stop says so of thread t
 abbrev pub waits : Stub → ℕ → Bool

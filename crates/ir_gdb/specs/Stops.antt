@@ -204,6 +204,7 @@ is_hit reason.HardwareBreak = true
 is_hit (reason.Watch address) = true
 is_hit reason.End = false
 is_hit reason.Begin = false
+is_hit (reason.Ended how) = false
 is_hit reason.Waits = false
 
 -- why all threads stop that have no hit in a direction

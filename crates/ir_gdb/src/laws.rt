@@ -1,6 +1,6 @@
 //! What holds of gdb's moves. The functions do nothing: their contracts are the laws.
 
-ghost use Rattle.ir_gdb.specs.Laws.{ContinueIsSession, ContinueBackIsSession, StepIsSession, StepBackIsSession, NoHitIsPassed, NoneIsBlocked, EachHitIsShownOnce};
+ghost use Rattle.ir_gdb.specs.Laws.{ContinueIsSession, ContinueBackIsSession, StepIsSession, StepBackIsSession, NoHitIsPassed, NoneIsBlocked, EachHitIsShownOnce, NoBadEndIsHidden};
 
 /// A thread that moves alone ends where a session's command leads, with gdb's breakpoints set there too; no watch is set, and the
 /// thread doesn't wait.
@@ -25,4 +25,10 @@ pub fn none_is_blocked()
 /// `continue` repeated to the end, or `reverse-continue`, shows each hit of each thread once; no watch is set.
 pub fn each_hit_is_shown_once()
     ensures { EachHitIsShownOnce }
+{}
+
+/// Where a move of the threads together comes to the end of the recording, and gdb is told only that there is no more history, no thread
+/// ended badly.
+pub fn no_bad_end_is_hidden()
+    ensures { NoBadEndIsHidden }
 {}

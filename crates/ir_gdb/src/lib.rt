@@ -4,6 +4,7 @@
 
 mod connection;
 mod console;
+mod ending;
 mod fixed;
 mod holders;
 mod laws;
@@ -17,7 +18,10 @@ mod texts;
 
 pub use connection::Connection;
 pub use fixed::fixed_reply;
-pub use laws::{alone_is_session, each_hit_is_shown_once, no_hit_is_passed, none_is_blocked};
+pub use laws::{
+    alone_is_session, each_hit_is_shown_once, no_bad_end_is_hidden, no_hit_is_passed,
+    none_is_blocked,
+};
 pub use point::{Breakpoint, Watched};
 pub use remote::Remote;
 pub use session::{MOST_INPUT, connect};

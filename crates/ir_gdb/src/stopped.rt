@@ -34,7 +34,10 @@ pub struct Moving {
 pub fn is_hit(reason: Reason) -> bool
     ensures { result ≡ is_hit reason }
 {
-    !matches!(reason, Reason::End | Reason::Begin | Reason::Waits)
+    !matches!(
+        reason,
+        Reason::End | Reason::Begin | Reason::Ended(_) | Reason::Waits
+    )
 }
 
 /// Why a thread stops at the watch of a number; without one at a point of the session.

@@ -6,6 +6,8 @@ use Rattle.ir_packet.specs.declared.reply.Reply.{Reply}
 use Rattle.ir_packet.specs.declared.reply.Reply.TheVariants as reply
 use Rattle.ir_packet.specs.declared.reply.Reason.{Reason}
 use Rattle.ir_packet.specs.declared.reply.Reason.TheVariants as reason
+use Rattle.ir_packet.specs.declared.reply.Signal.{Signal}
+use Rattle.ir_packet.specs.declared.reply.Signal.TheVariants as signal
 use Rattle.ir_packet.specs.declared.reply.Stop.{Stop}
 
 -- a number as eight lower-case digits, the highest first
@@ -16,7 +18,7 @@ number_text n = encode_lower (n / 2 ^ 24 % 256 ∷ n / 2 ^ 16 % 256 ∷ n / 256 
 abbrev pub word_text : ℕ → List ℕ
 word_text word = encode_lower (word_bytes word)
 
--- replies that are always the same; an error's number is that of Linux
+-- replies that are always the same; an error's number is that of Linux, and gdb shows a text behind `E.`
 unfoldable pub reply_text : Reply → List ℕ
 reply_text reply.Done = codes "OK"
 reply_text reply.Nothing = []
@@ -24,7 +26,7 @@ reply_text reply.NotPermitted = codes "E01"
 reply_text reply.NoMemory = codes "E0C"
 reply_text reply.BadAddress = codes "E0E"
 reply_text reply.NoSpace = codes "E1C"
-reply_text reply.ReadOnly = codes "E1E"
+reply_text reply.ReadOnly = codes "E.a recording can't be changed"
 reply_text reply.Attached = codes "1"
 reply_text reply.Offsets = codes "Text=0;Data=0;Bss=0"
 reply_text reply.Motions = codes "vCont;c;C;s;S;r"
@@ -37,7 +39,19 @@ reason_text reason.HardwareBreak = codes "hwbreak:;"
 reason_text (reason.Watch address) = codes "watch:" ++ number_text address ++ codes ";"
 reason_text reason.End = codes "replaylog:end;"
 reason_text reason.Begin = codes "replaylog:begin;"
+reason_text (reason.Ended how) = []
 reason_text reason.Waits = []
+
+-- a signal by the number that gdb's protocol gives it
+abbrev pub ended_signal : Signal → List ℕ
+ended_signal signal.Illegal = codes "T04"
+ended_signal signal.Aborted = codes "T06"
+ended_signal signal.Misaligned = codes "T0a"
+ended_signal signal.Outside = codes "T0b"
+ended_signal signal.BadCall = codes "T0c"
+ended_signal signal.Terminated = codes "T0f"
+ended_signal signal.TooLong = codes "T18"
+ended_signal signal.TooLarge = codes "T19"
 
 -- the signal of a stop: 24 in hexadecimal, that a process waits, is one that gdb neither shows nor stops at
 abbrev pub reason_signal : Reason → List ℕ
@@ -47,6 +61,7 @@ reason_signal reason.HardwareBreak = codes "T05"
 reason_signal (reason.Watch address) = codes "T05"
 reason_signal reason.End = codes "T05"
 reason_signal reason.Begin = codes "T05"
+reason_signal (reason.Ended how) = ended_signal how
 reason_signal reason.Waits = codes "T24"
 
 -- that of an interrupt is 2

@@ -1,5 +1,5 @@
 -- What the payload of a packet asks: one table of the bytes that packets begin with.
-use Rattle.std.specs.Prelude.{ℕ, ◌==◌, nat_le, List, [], ◌∷◌, codes, drop, Bool, true, false, Option, Some, None, if◌then◌else◌}
+use Rattle.std.specs.Prelude.{ℕ, ◌==◌, ◌-◌, nat_le, List, [], ◌∷◌, length, codes, drop, Bool, true, false, Option, Some, None, if◌then◌else◌}
 use Rattle.std.specs.Str.{bytes_eq}
 use Rattle.ir_packet.specs.Packets.{two_digits}
 use Rattle.ir_packet.specs.Numbers.{number, decimal_number, index_of, before, behind, are_pairs, bytes_of_pairs}
@@ -97,9 +97,9 @@ unfoldable pub thread_behind : List ℕ → Option Who
 thread_behind [] = Some who.Any
 thread_behind (b ∷ id) = who_of id
 
--- what the other threads do: nothing, or `;c`
+-- what the other threads do: nothing, or, by the last action, `;c`. What gdb says before it of a thread that has had a signal counts for nothing
 unfoldable pub others_of : List ℕ → Option Bool
-others_of rest = if bytes_eq rest [] then Some false else if bytes_eq rest (codes ";c") then Some true else None
+others_of rest = if bytes_eq rest [] then Some false else if bytes_eq (drop (length rest - 2) rest) (codes ";c") then Some true else None
 
 abbrev pub move_of : Option Motion → Option Who → Option Bool → Request
 move_of None w others = request.Malformed

@@ -172,7 +172,7 @@ fn thread_behind(rest: &[u8]) -> Option<Who>
     }
 }
 
-// What the other threads do: nothing, or `;c`.
+// What the other threads do: nothing, or, by the last action, `;c`.
 #[tactic(auto, unfolding(crate::specs::Requests::others_of))]
 fn others_of(rest: &[u8]) -> Option<bool>
     ensures { result ≡ requests.others_of rest.now }
@@ -180,7 +180,8 @@ fn others_of(rest: &[u8]) -> Option<bool>
     if rest == b"".as_slice() {
         return Some(false);
     }
-    if rest == b";c".as_slice() {
+    let last = &rest[rest.len().saturating_sub(2)..];
+    if last == b";c".as_slice() {
         return Some(true);
     }
     None

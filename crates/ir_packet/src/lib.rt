@@ -24,7 +24,7 @@ pub use laws::{
 };
 pub use parse::{put_line, request_of};
 pub use reader::Reader;
-pub use reply::{Reason, Reply, Stop};
+pub use reply::{Reason, Reply, Signal, Stop};
 pub use replying::{
     MOST_STOP, put_number, put_output, put_piece, put_stop, put_text, put_words, reply_text,
 };

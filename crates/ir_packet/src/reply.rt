@@ -15,7 +15,7 @@ pub enum Reply {
     BadAddress,
     /// `E1C`: as many points as there may be.
     NoSpace,
-    /// `E1E`: a recording can't be changed.
+    /// In words: a recording can't be changed.
     ReadOnly,
     /// Gdb came to a process that was there, so `quit` detaches.
     Attached,
@@ -23,6 +23,27 @@ pub enum Reply {
     Offsets,
     /// The motions of `vCont`.
     Motions,
+}
+
+/// A signal by which gdb is told how a thread ended.
+#[derive(Clone, Copy, Debug, PartialEq, Eq)]
+pub enum Signal {
+    /// SIGILL, an illegal instruction.
+    Illegal,
+    /// SIGABRT, aborted.
+    Aborted,
+    /// SIGBUS, an address that isn't aligned.
+    Misaligned,
+    /// SIGSEGV, outside the memory.
+    Outside,
+    /// SIGSYS, a call that can't be made.
+    BadCall,
+    /// SIGTERM, terminated.
+    Terminated,
+    /// SIGXCPU, too many steps.
+    TooLong,
+    /// SIGXFSZ, too much output.
+    TooLarge,
 }
 
 /// Why a thread stopped.
@@ -38,6 +59,8 @@ pub enum Reason {
     End,
     /// The thread is at 0.
     Begin,
+    /// The thread has come to its last position, and ended so.
+    Ended(Signal),
     /// The thread waits where gdb steps it alone over a breakpoint. Gdb doesn't show this, and lets the thread go on as the user asked.
     Waits,
 }

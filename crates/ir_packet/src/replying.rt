@@ -1,9 +1,9 @@
 //! Payloads of replies, into room that was made before.
 
 ghost use Rattle.std.specs.Prelude.{◌≡◌, ◌≤◌, ◌+◌, ◌*◌, ◌++◌, length, vec_len, vec_capacity};
-ghost use Rattle.ir_packet.specs.Replies.{number_text, reply_text, reason_text, stop_registers, stop_text, words_text, piece_text, output_text, signal_text};
+ghost use Rattle.ir_packet.specs.Replies.{number_text, reply_text, reason_text, stop_registers, stop_text, words_text, piece_text, output_text, signal_text, ended_signal};
 
-use crate::reply::{Reason, Reply, Stop};
+use crate::reply::{Reason, Reply, Signal, Stop};
 use crate::writing::{put_hex, put_word};
 
 /// The most bytes of a stop reply.
@@ -21,7 +21,7 @@ pub fn reply_text(reply: Reply) -> &'static [u8]
         Reply::NoMemory => b"E0C",
         Reply::BadAddress => b"E0E",
         Reply::NoSpace => b"E1C",
-        Reply::ReadOnly => b"E1E",
+        Reply::ReadOnly => b"E.a recording can't be changed",
         Reply::Attached => b"1",
         Reply::Offsets => b"Text=0;Data=0;Bss=0",
         Reply::Motions => b"vCont;c;C;s;S;r",
@@ -69,7 +69,25 @@ fn put_reason(out: &mut Vec<u8>, reason: Reason)
         }
         Reason::End => put_text(out, b"replaylog:end;"),
         Reason::Begin => put_text(out, b"replaylog:begin;"),
+        Reason::Ended(_) => {}
         Reason::Waits => {}
+    }
+}
+
+// The signal by which a thread is said to have ended, by its number in gdb's protocol.
+fn ended_signal(signal: Signal) -> &'static [u8]
+    ensures value { result.now ≡ ended_signal signal }
+    ensures len { length result.now ≡ 3 }
+{
+    match signal {
+        Signal::Illegal => b"T04",
+        Signal::Aborted => b"T06",
+        Signal::Misaligned => b"T0a",
+        Signal::Outside => b"T0b",
+        Signal::BadCall => b"T0c",
+        Signal::Terminated => b"T0f",
+        Signal::TooLong => b"T18",
+        Signal::TooLarge => b"T19",
     }
 }
 
@@ -81,6 +99,7 @@ fn signal_text(interrupted: bool, reason: Reason) -> &'static [u8]
     match reason {
         _ if interrupted => b"T02",
         Reason::Waits => b"T24",
+        Reason::Ended(signal) => ended_signal(signal),
         _ => b"T05",
     }
 }

@@ -179,9 +179,14 @@ fn packets_about_registers_memory_and_points_are_read(rt: HostRuntime) -> Result
 
 #[test]
 fn moves_are_read(rt: HostRuntime) -> Result<(), Fail> {
-    let cases: [(&[u8], Request); 9] = [
+    let cases: [(&[u8], Request); 11] = [
         (b"vCont;s:1", Request::Move(Motion::Step, Mover::Alone(1))),
         (b"vCont;s:1;c", Request::Move(Motion::Step, Mover::Among(1))),
+        (
+            b"vCont;s:1;C0b:2;c",
+            Request::Move(Motion::Step, Mover::Among(1)),
+        ),
+        (b"vCont;s:1;C0b:2", Request::Malformed),
         (
             b"vCont;C05:2;c",
             Request::Move(Motion::Continue, Mover::Among(2)),

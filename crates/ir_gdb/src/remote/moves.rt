@@ -8,9 +8,10 @@ ghost use Rattle.ir_gdb.specs.Serving.{IsThere};
 ghost use Rattle.ir_gdb.specs.Stub.{Stub, spoken};
 ghost use Rattle.ir_gdb.specs.Stops.{direction_of};
 ghost use Rattle.ir_gdb.specs.Together.{Halt, halt, MovesAlone};
-ghost use Rattle.ir_gdb.specs.Moves.{stop_with, told_text, after_told, interrupted_at, settled, moving, moving_of, Leads, Moves, together_after, with_together};
+ghost use Rattle.ir_gdb.specs.Moves.{stop_with, told_text, after_told, interrupted_at, settled, arrived, moving, moving_of, Leads, Moves, together_after, with_together};
 ghost use Rattle.ir_gdb.specs.Replies.{RepliesToMove};
 
+use crate::ending::{ended, is_over};
 use crate::remote::{Remote, thread_of_id};
 use crate::stopped::{Moving, Told};
 use ir_command::Direction;
@@ -204,6 +205,26 @@ impl Remote {
         }
     }
 
+    // A thread moves, and gdb is told where it stops, or of the bad end to which the move has come.
+    fn arrive<H: Hands>(&mut self, hands: &H, who: Moving, motion: Motion) -> Result<(), AllocError>
+        requires { who.thread < threads_of self.old.stub.desk.fitted }
+        ensures ok { OnOk result ((h : Halt) × EachRun self.old.stub.desk.fitted (λ run. Leads run self.old.stub who.among who.thread motion h) × (self.new.stub ≡ arrived self.old.stub who.among h)) }
+        ensures err { OnErr result (self.new.stub ≡ spoken self.old.stub) }
+    {
+        let Ok(from) = self.here() else {
+            self.speak();
+            return Err(AllocError);
+        };
+        self.travel(hands, who, motion)?;
+        let to = self.debugger.at();
+        let thread = self.told.thread;
+        let out = who.among && is_over(self.told.reason);
+        if let Some(told) = ended(self.debugger.fitted(), &from, to, thread, out) {
+            self.tell(told);
+        }
+        Ok(())
+    }
+
     // Whether gdb moves the threads together, as this move says.
     fn together_after(&self, who: Moving, motion: Motion) -> bool
         ensures { result ≡ together_after self.now.stub who motion }
@@ -231,7 +252,7 @@ impl Remote {
             return Ok(());
         }
         let together = self.together_after(who, motion);
-        self.travel(hands, who, motion)?;
+        self.arrive(hands, who, motion)?;
         self.together = together;
         self.put_stop_here(hands, out);
         Ok(())

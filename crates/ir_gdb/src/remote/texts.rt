@@ -5,22 +5,22 @@ ghost use Rattle.ir_cut.specs.Positions.{threads_of};
 ghost use Rattle.ir_packet.specs.Replies.{piece_text};
 ghost use Rattle.ir_gdb.specs.Texts.{place_text, thread_text, threads_text};
 
+use crate::ending::{end_of_thread, put_end};
 use crate::remote::Remote;
 use ir_packet::{put_number, put_piece, put_text};
-use ir_stream::append;
 use ir_text::Text;
 use std::alloc::{AllocError, Global};
 
 // The most bytes of the list.
-const MOST_LIST: usize = 2000;
+const MOST_LIST: usize = 2400;
 
 impl Remote {
-    // Puts the name and the position of a thread at the end, as text of its element.
+    // Puts the name and the position of a thread at the end, and at its last position how it ended, as text of its element.
     fn put_place(&self, out: &mut Vec<u8>, thread: u32)
         requires thread { thread < threads_of self.now.stub.desk.fitted }
-        requires room { vec_len out.old + 89 ≤ vec_capacity out.old }
+        requires room { vec_len out.old + 117 ≤ vec_capacity out.old }
         ensures bytes { out.new.items ≡ out.old.items ++ place_text self.now.stub thread }
-        ensures len { vec_len out.new ≤ vec_len out.old + 89 }
+        ensures len { vec_len out.new ≤ vec_len out.old + 117 }
         ensures capacity { vec_capacity out.new ≡ vec_capacity out.old }
     {
         let mut text = Text::new();
@@ -29,19 +29,19 @@ impl Remote {
         ir_text::put_number(&mut text, b"\" name=\"thread ", thread as u64);
         ir_text::put_number(&mut text, b"\">at ", position);
         ir_text::put_number(&mut text, b" of ", last);
-        if position == last {
-            append(&mut text, b" done");
-        }
         put_text(out, text.as_slice());
+        if position == last {
+            put_end(out, end_of_thread(self.debugger.fitted(), thread));
+        }
     }
 
     // Puts the element of a thread at the end.
     fn put_thread(&self, out: &mut Vec<u8>, thread: u32)
         requires thread { thread < threads_of self.now.stub.desk.fitted }
         requires small { thread < 16 }
-        requires room { vec_len out.old + 118 ≤ vec_capacity out.old }
+        requires room { vec_len out.old + 146 ≤ vec_capacity out.old }
         ensures bytes { out.new.items ≡ out.old.items ++ thread_text self.now.stub thread }
-        ensures len { vec_len out.new ≤ vec_len out.old + 118 }
+        ensures len { vec_len out.new ≤ vec_len out.old + 146 }
         ensures capacity { vec_capacity out.new ≡ vec_capacity out.old }
     {
         put_text(out, b"<thread id=\"");
@@ -54,7 +54,7 @@ impl Remote {
     #[tactic(auto, using(ir_image::proofs::CallerLemmas::guest_threads_at_most_limit, crate::proofs::Threads::first_threads_text_put_at_start, crate::proofs::Threads::first_threads_text_put_step, crate::proofs::Threads::append_of_three_put_texts))]
     fn thread_list(&self, alloc: Global) -> Result<Vec<u8>, AllocError>
         ensures text { IfOk result (λ list. list.items ≡ threads_text self.now.stub) }
-        ensures len { IfOk result (λ list. vec_len list ≤ 2000) }
+        ensures len { IfOk result (λ list. vec_len list ≤ 2400) }
     {
         let mut list = Vec::with_capacity(alloc, MOST_LIST)?;
         put_text(&mut list, b"<?xml version=\"1.0\"?><threads>");
@@ -77,7 +77,7 @@ impl Remote {
         most: u32,
         out: &mut Vec<u8>,
     ) -> Result<(), AllocError>
-        requires { vec_len out.old + 2001 ≤ vec_capacity out.old }
+        requires { vec_len out.old + 2401 ≤ vec_capacity out.old }
         ensures ok { OnOk result (out.new.items ≡ out.old.items ++ piece_text (threads_text self.now.stub) from most) }
         ensures err { OnErr result (out.new.items ≡ out.old.items) }
         ensures capacity { vec_capacity out.new ≡ vec_capacity out.old }

@@ -1,6 +1,6 @@
-use Rattle.std.proofs.Common.{◌≡◌, refl, [], ◌∷◌}
+use Rattle.std.proofs.Common.{refl, [], ◌∷◌}
 use Rattle.std.specs.Prelude.{codes}
-use Rattle.ir_packet.specs.Requests.{row, plain, two, whatever, asked_texts}
+use Rattle.ir_packet.specs.Requests.{row, two, asked_texts}
 use Rattle.ir_packet.specs.declared.request.Request.TheVariants as request
 use Rattle.ir_packet.proofs.Rows.{asked_in_rows_is_request_of_first_if_name_matches, asked_in_rows_skips_first_if_name_differs}
 use Rattle.ir_packet.proofs.parse.asked_texts.Goals as goal

@@ -15,7 +15,7 @@ returns-then-self-clause-ok g c =
 pub returns-clause-ok : goal.returns-clause-ok
 returns-clause-ok g c =
     let together = c.together_after-together.result in
-    moves_and_replies_unless_interrupted c.args.self.now.stub c.travel.new.self.stub (with_together (serving_seen c.self-2.view_is).stub together) c.put_stop_here.new.self.stub c.args.who
+    moves_and_replies_unless_interrupted c.args.self.now.stub c.arrive.new.self.stub (with_together (serving_seen c.self-2.view_is).stub together) c.put_stop_here.new.self.stub c.args.who
     c.args.motion together c.args.out.now.items c.put_stop_here.new.out.items
-    (ap (λ (x : Serving). x.stub.interrupted) (sym c.self.view_is) ∙ c.if-self.false) c.in_ok-travel.ensures.ok c.together_after-together.ensures
+    (ap (λ (x : Serving). x.stub.interrupted) (sym c.self.view_is) ∙ c.if-self.false) c.in_ok-arrive.ensures.ok c.together_after-together.ensures
     (ap (λ (x : Serving). with_together x.stub together) c.self-2.view_is) c.put_stop_here.ensures.bytes c.put_stop_here.ensures.stub

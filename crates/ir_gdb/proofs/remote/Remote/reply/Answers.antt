@@ -1,7 +1,7 @@
 use Rattle.std.proofs.Common.{◌≡◌, ◌∙◌, ◌++◌, ℕ, List, length, None, sym, ap, arith}
 use Rattle.ir_gdb.specs.Stub.{Stub}
 use Rattle.ir_gdb.specs.Replies.{plain_reply}
-use Rattle.ir_gdb.proofs.Written.{reply_text_has_at_most_19_bytes}
+use Rattle.ir_gdb.proofs.Written.{reply_text_has_at_most_30_bytes}
 use Rattle.ir_gdb.proofs.Answering.{on_ok_of_implied, on_err_of_implied}
 use Rattle.ir_gdb.proofs.Replying.{reply_put_if_plain_reply_text_is_appended, after_plain_keeps_stub_without_plain_reply, reply_put_of_equal_stub, lacks_of_equal_stub}
 use Rattle.ir_gdb.proofs.remote.Remote.reply.Goals as goal
@@ -9,7 +9,7 @@ use Rattle.ir_gdb.proofs.remote.Remote.reply.Goals as goal
 pub put_text-requires : goal.put_text-requires
 put_text-requires g c =
     let text = ap (λ (xs : List ℕ). length xs) c.reply_text.ensures in
-    let short = reply_text_has_at_most_19_bytes c.in-Some.reply in
+    let short = reply_text_has_at_most_30_bytes c.in-Some.reply in
     let room = c.requires.room in
     omega (arith, text, short, room)
 
