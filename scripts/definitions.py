@@ -100,7 +100,7 @@ CLAIMS = [
         ("ir_gdb", "Replies", "`Replies`: the reply to each request"),
         ("ir_gdb", "Connection", "`Answers`: the bytes of packets and acknowledgements"),
         ("ir_gdb", "Laws", "the laws"),
-    ], (2250, 1170)),
+    ], (2380, 1250)),
     Claim("Insight", "The lines of `ir stale`, `who`, `why`, `diff` and `view`.", {
         "ir_past/src/run.rt": ["stale_run"],
         "ir_rests/src/run.rt": ["rests_run"],
