@@ -119,7 +119,7 @@ fn ends_are_answered(rt: HostRuntime) -> Result<(), Fail> {
     Ok(())
 }
 
-// What is reported at a terminal of files that aren't as they should be, beside what is written.
+// What is reported of files that aren't as they should be, beside what is written.
 const REFUSED: [(&str, &str, &str); 4] = [
     (
         "ir debug e.trc ending.img",
@@ -144,16 +144,18 @@ const REFUSED: [(&str, &str, &str); 4] = [
 ];
 
 #[test]
-fn refused_files_are_explained_at_a_terminal(rt: HostRuntime) -> Result<(), Fail> {
+fn refused_files_are_explained(rt: HostRuntime) -> Result<(), Fail> {
     let shelf = prepared(&rt)?;
     shelf.add_file("ending.s", ENDING)?;
     for line in ["ir asm ending.s ending.img", "ir record ending.img e.trc"] {
         ran_at(&rt, &shelf, line, b"", ENDLESS, false)?;
     }
     for &(line, written, told) in &REFUSED {
-        let (_, out, faults) = ran_at(&rt, &shelf, line, b"", ENDLESS, true)?;
-        assert!(rt; out.bytes.as_slice() == written.as_bytes(), "{line}");
-        assert!(rt; faults.bytes.as_slice() == told.as_bytes(), "{line}");
+        for at_terminal in [true, false] {
+            let (_, out, faults) = ran_at(&rt, &shelf, line, b"", ENDLESS, at_terminal)?;
+            assert!(rt; out.bytes.as_slice() == written.as_bytes(), "{line}");
+            assert!(rt; faults.bytes.as_slice() == told.as_bytes(), "{line}");
+        }
     }
     Ok(())
 }

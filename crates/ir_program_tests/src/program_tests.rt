@@ -456,40 +456,61 @@ fn a_fault_is_explained_at_a_terminal(rt: HostRuntime) -> Result<(), Fail> {
 
 const LINE: &str = "thread 0 end 1 code 144 steps 6 events 0\n";
 
-// In turn: the words, what is read, the exit status, and what is written.
-const TURNS: [(&str, &[u8], u8, &str); 8] = [
-    ("ir record d.img d.trc --order 0", b"", 0, LINE),
-    ("ir record d.img d2.trc --budget 1000", b"", 0, LINE),
+// In turn: the words, what is read, the exit status, what is written, and what is reported.
+const TURNS: [(&str, &[u8], u8, &str, &str); 8] = [
+    ("ir record d.img d.trc --order 0", b"", 0, LINE, ""),
+    ("ir record d.img d2.trc --budget 1000", b"", 0, LINE, ""),
     (
         "ir trace d.trc",
         b"",
         0,
         "threads 1 objects 0 budget 1000000 profile 1\nthread 0 end 1 code 144 steps 6 events 0\nlog 0 of 0\n",
+        "",
     ),
-    ("ir trace d.img", b"", 3, "trace refused 2\n"),
+    (
+        "ir trace d.img",
+        b"",
+        3,
+        "trace refused 2\n",
+        "ir: the trace is refused: these bytes are no trace\n",
+    ),
     (
         "ir debug d.img d.trc",
         b"end\nout 0\nfoo\nquit\n",
         0,
         "ready\nat 6\nout 1\n48\nrefused 1 unknown command\nbye\n",
+        "",
     ),
-    ("ir debug d.s d.trc", b"end\n", 3, "image refused 2\n"),
-    ("ir debug d.img d.img", b"end\n", 3, "trace refused 2\n"),
+    (
+        "ir debug d.s d.trc",
+        b"end\n",
+        3,
+        "image refused 2\n",
+        "ir: the image is refused: these bytes are no image\n",
+    ),
+    (
+        "ir debug d.img d.img",
+        b"end\n",
+        3,
+        "trace refused 2\n",
+        "ir: the trace is refused: these bytes are no trace\n",
+    ),
     (
         "ir",
         b"495249310100060000000000000000000100130580049308200073000000\
 3305a5009308100073000000\n4952543101000000e8030000000000000700000000000000019000000000000000\n",
         4,
         "thread 0 disagrees event 0 step 5\n",
+        "",
     ),
 ];
 
 #[test]
 fn what_is_done_is_written(rt: HostRuntime) -> Result<(), Fail> {
     let shelf = prepared(&rt)?;
-    for &(line, input, status, written) in &TURNS {
+    for &(line, input, status, written, told) in &TURNS {
         assert!(rt;
-            says(&rt, &shelf, line, input, (status, written, ""))?,
+            says(&rt, &shelf, line, input, (status, written, told))?,
             "{line}"
         );
     }

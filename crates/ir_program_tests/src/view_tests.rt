@@ -68,6 +68,10 @@ pub fn traces<R: Threads + Wait + Sync + Clock + Eprint + AllocGlobal>(
     Ok(shelf)
 }
 
+// What is said of a trace of which there is no picture.
+const NO_PICTURE: &str =
+    "ir: no run has this trace, or a page would have too many boxes (--around T E shows a part): see the line that was printed\n";
+
 // The words, the exit status, what is written, and what is reported.
 const ROWS: [(&str, u8, &str, &str); 14] = [
     (
@@ -112,25 +116,35 @@ const ROWS: [(&str, u8, &str, &str); 14] = [
         "",
         "ir: the thread has no event of this number\n",
     ),
-    ("ir view short.trc", 3, "trace refused 1\n", ""),
+    (
+        "ir view short.trc",
+        3,
+        "trace refused 1\n",
+        "ir: the trace is refused: a field passes the end\n",
+    ),
     (
         "ir view broken.trc",
         4,
         "incoherent thread 1 event 1 cause 3\n",
-        "",
+        NO_PICTURE,
     ),
     (
         "ir view broken.trc --around 9 9",
         4,
         "incoherent thread 1 event 1 cause 3\n",
-        "",
+        NO_PICTURE,
     ),
-    ("ir view circle.trc", 4, "circle thread 0 event 0\n", ""),
+    (
+        "ir view circle.trc",
+        4,
+        "circle thread 0 event 0\n",
+        NO_PICTURE,
+    ),
     (
         "ir view circle.trc --chrome",
         4,
         "circle thread 0 event 0\n",
-        "",
+        NO_PICTURE,
     ),
     ("ir view lost.trc --json", 0, DATA, ""),
     ("ir view lost.trc --json --around 1 1 --span 1", 0, PART, ""),

@@ -56,7 +56,12 @@ const ROWS: [(&str, u8, &str, &str); 13] = [
         "",
         "ir: the thread has no event of this number\n",
     ),
-    ("ir why short.trc 0 0", 3, "trace refused 1\n", ""),
+    (
+        "ir why short.trc 0 0",
+        3,
+        "trace refused 1\n",
+        "ir: the trace is refused: a field passes the end\n",
+    ),
     (
         "ir why broken.trc 9 9",
         4,
