@@ -91,7 +91,7 @@ fn with_one_switch_the_first_is_printed(rt: HostRuntime) -> Result<(), Fail> {
 fn too_many_states_stop_it(rt: HostRuntime) -> Result<(), Fail> {
     let (status, out, _) = printed(&rt, LOST_UPDATE, &within(3, 100, Profile::One))?;
     assert!(rt; out.bytes.as_slice().starts_with(b"stopped states covered "));
-    assert_eq!(rt; status, 5);
+    assert_eq!(rt; status, 6);
     Ok(())
 }
 
@@ -102,7 +102,7 @@ fn a_thread_that_goes_on_for_ever_stops_it(rt: HostRuntime) -> Result<(), Fail> 
         out.bytes.as_slice(),
         b"stopped private 0 covered - outcomes 0 states 0\n".as_slice()
     );
-    assert_eq!(rt; status, 5);
+    assert_eq!(rt; status, 6);
     Ok(())
 }
 
@@ -118,7 +118,7 @@ fn what_is_printed_by_threads_is_shown(rt: HostRuntime) -> Result<(), Fail> {
 fn a_thread_that_waits_for_what_never_comes_hangs(rt: HostRuntime) -> Result<(), Fail> {
     let (status, out, _) = printed(&rt, POLLS, &within(100, 100, Profile::One))?;
     assert_eq!(rt; out.bytes.as_slice(), HANGING);
-    assert_eq!(rt; status, 0);
+    assert_eq!(rt; status, 7);
     Ok(())
 }
 
