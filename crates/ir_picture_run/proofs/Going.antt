@@ -15,7 +15,7 @@ use Rattle.ir_fit_run.proofs.CallerLemmas.{recorded_event_is_inside, entering_ev
 use Rattle.ir_picture.specs.Boxes.{IsBox}
 use Rattle.ir_picture.specs.declared.event_box.EventBox.{EventBox}
 use Rattle.ir_picture_run.specs.Steps.{IsLastStep}
-use Rattle.ir_picture_run.specs.Spans.{last_event, IsOver, IsTaken, IsFreeRow, AreRows}
+use Rattle.ir_picture_run.specs.Spans.{last_event}
 use Rattle.ir_holds.specs.declared.span.Span.{Span}
 
 -- the last event of a box is one of the guest's thread
