@@ -147,7 +147,6 @@ fn text_about<W: Observer>(
 }
 
 // Writes it: the order of a hang, or the exit status if none is known.
-#[tactic(auto, using(crate::proofs::Sought::no_guest_is_no_hang_answer))]
 fn tell_hang<W: Observer, O: Sink>(
     alloc: Global,
     plan: &HangPlan<'_, '_, '_, W>,

@@ -131,7 +131,6 @@ fn text_about<W: Observer>(
 }
 
 // Writes it: the list of the outcome that was found, or the exit status if none was.
-#[tactic(auto, using(crate::proofs::Sought::no_guest_is_no_answer))]
 fn tell_sought<W: Observer, O: Sink>(
     alloc: Global,
     plan: &UntilPlan<'_, '_, '_, W>,
