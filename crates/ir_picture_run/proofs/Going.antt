@@ -1,10 +1,7 @@
--- The steps of the boxes of a run, and their rows.
-use Rattle.std.proofs.Common.{◌≡◌, ℕ, zero, suc, ◌+◌, ◌-◌, ◌<◌, ◌≤◌, inl, inr, Option, Some, None, List, [], ◌∷◌, ◌++◌, length, get_or, refl, sym, ap, ◌∙◌, subst, arith}
+-- The steps of the boxes of a run.
+use Rattle.std.proofs.Common.{◌≡◌, ℕ, ◌+◌, ◌-◌, ◌<◌, Option, Some, None, List, length, get_or, refl, arith}
 use Rattle.std.specs.List.{slice_get}
-use Rattle.std.proofs.lemmas.Bool.{cases_lt}
-use Rattle.std.proofs.lemmas.List.{length_push}
-use Rattle.std.proofs.lemmas.Option.{none-some, same_Some, slice_get-get_or, slice_get_within}
-use Rattle.ir_lemmas.proofs.CallerLemmas.{slice_get_after_push_cases}
+use Rattle.std.proofs.lemmas.Option.{none-some, slice_get-get_or}
 use Rattle.ir_log.specs.declared.event.Event.{Event}
 use Rattle.ir_log.specs.declared.event.Event.TheVariants.{Answer, Read, Write, Try}
 use Rattle.ir_trace.specs.Recorded.{recorded_thread}
@@ -15,8 +12,7 @@ use Rattle.ir_fit_run.proofs.CallerLemmas.{recorded_event_is_inside, entering_ev
 use Rattle.ir_picture.specs.Boxes.{IsBox}
 use Rattle.ir_picture.specs.declared.event_box.EventBox.{EventBox}
 use Rattle.ir_picture_run.specs.Steps.{IsLastStep}
-use Rattle.ir_picture_run.specs.Spans.{last_event, IsOver, IsTaken, IsFreeRow, AreRows}
-use Rattle.ir_holds.specs.declared.span.Span.{Span}
+use Rattle.ir_picture_run.specs.Spans.{last_event}
 
 -- the last event of a box is one of the guest's thread
 pub box_last_event_is_inside : (f : FittedTrace) → HasRun f → (b : EventBox) → IsBox f.recorded b → IsInside f b.thread (last_event b)

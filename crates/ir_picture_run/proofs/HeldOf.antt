@@ -1,12 +1,11 @@
 -- Boxes of a run with their places.
-use Rattle.std.proofs.Common.{◌≡◌, ℕ, Option, Some, None, Result, Ok, Err, List, length, sym, ap, ◌∙◌, subst}
+use Rattle.std.proofs.Common.{◌≡◌, Option, Some, None, Result, Ok, Err, List, length, sym, ap, ◌∙◌, subst}
 use Rattle.std.specs.List.{slice_get}
 use Rattle.std.specs.Prelude.{IfSome, IfOk}
 use Rattle.ir_trace.specs.Recorded.{Recorded}
 use Rattle.ir_fit.specs.Fit.{FittedTrace}
 use Rattle.ir_fit_run.specs.Paired.{ArePaired}
 use Rattle.ir_lemmas.proofs.CallerLemmas.{length_of_map}
-use Rattle.ir_picture.specs.Placing.{events_of_all}
 use Rattle.ir_picture.specs.declared.event_box.EventBox.{EventBox}
 use Rattle.ir_picture.specs.declared.placed_box.PlacedBox.{PlacedBox}
 use Rattle.ir_picture.proofs.CallerLemmas.{slice_get_of_map}
@@ -15,7 +14,7 @@ use Rattle.ir_holds.specs.declared.held.HeldBoxes.{HeldBoxes}
 use Rattle.ir_holds.specs.declared.span.Span.{Span}
 use Rattle.ir_picture_run.specs.Brief.{AreRunBoxes}
 use Rattle.ir_picture_run.specs.Spans.{IsSpan}
-use Rattle.ir_picture_run.specs.Held.{AreHeld, HaveHeld}
+use Rattle.ir_picture_run.specs.Held.{HaveHeld}
 
 -- boxes that hold are those of a run, if their events and steps are
 pub held_boxes_are_of_run : (f : FittedTrace) (events : List EventBox) (spans : List Span) (h : HeldBoxes) → AreRunBoxes f events → ArePaired (IsSpan f) events spans

@@ -1,4 +1,3 @@
-mod Pushed
 mod Boxed
 mod Kept
 mod Lasts

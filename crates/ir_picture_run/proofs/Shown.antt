@@ -13,7 +13,7 @@ use Rattle.ir_picture.specs.Boxing.{AreSomeBoxes}
 use Rattle.ir_picture.specs.Placing.{events_of_all}
 use Rattle.ir_picture.specs.Boxes.{IsInBox, IsBox}
 use Rattle.ir_picture.specs.Shown.{StartsAt, AreShown}
-use Rattle.ir_picture.specs.Progress.{data_head, stale_head, AreBoxesOf, IsOf}
+use Rattle.ir_picture.specs.Progress.{data_head, stale_head, IsOf}
 use Rattle.ir_picture.specs.declared.asked.Around.{Around}
 use Rattle.ir_picture.specs.declared.event_box.EventBox.{EventBox}
 use Rattle.ir_picture.specs.declared.placed_box.Point.{Point}

@@ -70,6 +70,7 @@ fn picture_of_held(
     ensures drawn { IfOk result (λ x. IsRunPicture fitted.now near.now x.picture x.kept.items) }
     ensures of_trace { IfOk result (λ x. IsOf fitted.now.recorded x.picture) }
 {
+    fitted.known();
     let HeldBoxes { boxes, ends } = held;
     let shown = shown_boxes(alloc, &boxes, near)?;
     let rows = stale_writes(alloc, fitted.trace())?;

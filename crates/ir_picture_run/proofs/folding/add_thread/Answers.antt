@@ -1,7 +1,6 @@
-use Rattle.std.proofs.Common.{◌≡◌, ◌+◌, ◌<◌, ◌∙◌, List, length, ap, sym, subst, arith, rules}
+use Rattle.std.proofs.Common.{◌+◌, ◌∙◌, List, length, ap, sym, subst, arith, rules}
 use Rattle.ir_log.specs.declared.event.Event.{Event}
 use Rattle.ir_trace.specs.Recorded.{Recorded, recorded_thread}
-use Rattle.ir_past.specs.Progress.{Fits}
 use Rattle.ir_picture.specs.Boxing.{Notes, IsRepeat, IsFold}
 use Rattle.ir_picture.proofs.CallerLemmas.{repeat_is_before_next_event, fold_is_whether_repeats_before_and_now_are_alike}
 use Rattle.ir_picture_run.proofs.Behind.{event_below_length_is_inside}

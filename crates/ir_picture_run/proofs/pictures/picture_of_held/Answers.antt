@@ -1,5 +1,6 @@
-use Rattle.std.proofs.Common.{◌∙◌, ℕ, List, Option, Some, ap, refl, sym, subst}
+use Rattle.std.proofs.Common.{◌∙◌, ℕ, List, Option, Some, ap, refl, sym, subst, arith}
 use Rattle.ir_trace.specs.Recorded.{Recorded}
+use Rattle.ir_trace.proofs.CallerLemmas.{recorded_threads_at_most_limit}
 use Rattle.ir_past.specs.Past.{AreStaleWrites}
 use Rattle.ir_past.specs.declared.stale_write.StaleWrite.{StaleWrite}
 use Rattle.ir_rests.specs.Rests.{AreRests}
@@ -23,6 +24,13 @@ shown_boxes-requires-clause-there c = λ a is.
     let there : IsThere c.args.fitted.now.recorded (Some a) = subst (IsThere c.args.fitted.now.recorded) is c.requires.there in
     subst (λ (bs : List PlacedBox). (x : ℕ) × StartsAt bs a.thread a.event x) (sym c.deref.ensures.value)
     (start_of_run_event_exists c.args.fitted.now c.args.held.boxes.items a.thread a.event c.requires.held.1.all there.1)
+
+pub shown_boxes-requires-clause-small : goal.shown_boxes-requires-clause-small
+shown_boxes-requires-clause-small c = λ a is.
+    let there : IsThere c.args.fitted.now.recorded (Some a) = subst (IsThere c.args.fitted.now.recorded) is c.requires.there in
+    let below = there.0 in
+    let few = recorded_threads_at_most_limit c.args.fitted.now.recorded c.known.ensures.within in
+    omega (arith, below, few)
 
 pub resting_writes-requires-clause-apart : goal.resting_writes-requires-clause-apart
 resting_writes-requires-clause-apart c =

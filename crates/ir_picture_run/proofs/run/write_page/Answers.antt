@@ -1,9 +1,12 @@
-use Rattle.std.proofs.Common.{◌++◌, ℕ, List, sym, subst, arith}
-use Rattle.std.proofs.lemmas.Result.{err_from_is_err_and}
+use Rattle.std.proofs.Common.{◌≡◌, ◌++◌, ◌∙◌, ℕ, List, length, inr, ap, sym, subst, arith}
+use Rattle.std.proofs.lemmas.Result.{err_from_is_err_and, IfErr-weaker}
 use Rattle.ir_files.proofs.CallerLemmas.{if_err_holds_if_holds_of_handed_on_error}
+use Rattle.ir_files.specs.Writers.{writer_of}
 use Rattle.ir_files.specs.declared.exit_status.ExitStatus.TheVariants.{Done}
+use Rattle.ir_past.specs.Answers.{NotAnswered, Stops}
 use Rattle.ir_past.specs.declared.past_err.PastErr.TheVariants.{NoMem}
 use Rattle.ir_past.proofs.CallerLemmas.{answered_if_written, not_answered_if_no_memory, not_answered_if_stopped}
+use Rattle.ir_picture.specs.Answers.{many_line}
 use Rattle.ir_picture.specs.Progress.{AreBoxesOf}
 use Rattle.ir_picture.specs.declared.asked.Form.TheVariants as form
 use Rattle.ir_picture.specs.declared.placed_box.PlacedBox.{PlacedBox}
@@ -64,3 +67,14 @@ returns-clause-ok g c =
     (subst (λ (bs : List PlacedBox). AreDrawn f bs c.in_ok-drawn.drawn.items) c.deref.ensures.value c.in_ok-drawn.ensures)) (omega (arith, c.if-len-gt-MOST_BOXES.false))
     c.in_ok-frame.ensures.before c.in_ok-frame.ensures.after))
     c.in_ok-write_data.ensures.ok c.in_ok-write_data.ensures.works
+
+pub returns-then-len-gt-MOST_BOXES-clause-fails : goal.returns-then-len-gt-MOST_BOXES-clause-fails
+returns-then-len-gt-MOST_BOXES-clause-fails g c =
+    let is = IsForm form.Page c.args.fitted.now c.args.near.now c.args.shown.now.picture c.args.shown.now.kept.items in
+    let a = c.in_ok-many_answer.field-0 in
+    let w = writer_of (g.O.Sink.written c.args.out.now) (g.O.Sink.written c.put_answer.new.out) (g.O.Sink.broken c.put_answer.new.out) in
+    let count : c.len-then-len-gt-MOST_BOXES.result ≡ length c.args.shown.now.picture.boxes.items = omega (arith, c.len-then-len-gt-MOST_BOXES.ensures) in
+    IfErr-weaker c.put_answer.result (λ e. Stops e w a.text.items) (λ e. NotAnswered is e w)
+    (λ e stops. not_answered_if_stopped is a.status a.text.items e w
+    (inr (omega (arith, c.if-len-gt-MOST_BOXES.true), c.in_ok-many_answer.ensures.0, c.in_ok-many_answer.ensures.1 ∙ ap many_line count)) stops)
+    c.put_answer.ensures.fails
