@@ -10,7 +10,7 @@ use Rattle.ir_gdb.specs.declared.stopped.Moving.{Moving}
 use Rattle.ir_gdb.specs.declared.stopped.Told.{Told}
 use Rattle.ir_gdb.specs.Stub.{Stub}
 use Rattle.ir_gdb.specs.Together.{Halt}
-use Rattle.ir_gdb.specs.Endings.{signal_of, end_of_thread, told_ended, bad_end, own_end, is_end, or_told, first_bad_end, last_end, is_over, told_or}
+use Rattle.ir_gdb.specs.Endings.{signal_of, end_of_thread, told_ended, own_end, is_end, or_told, first_bad_end, last_end, is_over, told_or}
 use Rattle.ir_gdb.specs.Moves.{told_of, told_at, MovesBy, Moves}
 use Rattle.ir_gdb.proofs.Endings.{IsNotOver, own_end_is_not_over, last_end_is_not_over, no_bad_end_if_first_is_none}
 
