@@ -128,25 +128,23 @@ where
         Ok(beside) => beside,
         Err(status) => return status,
     };
-    let (image, observer) = (&image, around.gate);
-    let explore = arguments.explore.plan(input.as_slice());
     let places = Places {
         trace: paths.trace,
         outputs: outputs.as_ref().map(|each| each.as_slice()),
     };
     let found = if arguments.hang {
         let plan = HangPlan {
-            image,
-            explore,
-            observer,
+            image: &image,
+            explore: arguments.explore.plan(input.as_slice()),
+            observer: around.gate,
         };
         hang_into(around, places, &plan, out, faults)
     } else {
         let plan = UntilPlan {
-            image,
-            explore,
+            image: &image,
+            explore: arguments.explore.plan(input.as_slice()),
             conditions: conditions.as_slice(),
-            observer,
+            observer: around.gate,
         };
         found_into(around, places, &plan, out, faults)
     };
