@@ -73,7 +73,7 @@ where
 fn hang_into<R, D, G, O, E>(
     around: &Surroundings<'_, R, D, G>,
     places: Places<'_, '_>,
-    plan: &HangPlan<'_, '_, '_, G>,
+    plan: &UntilPlan<'_, '_, '_, G>,
     out: &mut O,
     faults: &mut E,
 ) -> Result<Trace, ExitStatus>
@@ -88,7 +88,12 @@ where
 {
     let Surroundings { rt, folder, .. } = *around;
     let mut files = record_files(rt.alloc(), folder, places.trace, places.outputs);
-    explore_hang(rt, plan, &mut files, out, faults)
+    let hang = HangPlan {
+        image: plan.image,
+        explore: plan.explore.within(plan.explore.most()),
+        observer: plan.observer,
+    };
+    explore_hang(rt, &hang, &mut files, out, faults)
 }
 
 // Looks for an outcome of a guest, or a run that hangs, and records such a run into a file, and what its threads print into others where they are asked
@@ -132,20 +137,15 @@ where
         trace: paths.trace,
         outputs: outputs.as_ref().map(|each| each.as_slice()),
     };
+    let plan = UntilPlan {
+        image: &image,
+        explore: arguments.explore.plan(input.as_slice()),
+        conditions: conditions.as_slice(),
+        observer: around.gate,
+    };
     let found = if arguments.hang {
-        let plan = HangPlan {
-            image: &image,
-            explore: arguments.explore.plan(input.as_slice()),
-            observer: around.gate,
-        };
         hang_into(around, places, &plan, out, faults)
     } else {
-        let plan = UntilPlan {
-            image: &image,
-            explore: arguments.explore.plan(input.as_slice()),
-            conditions: conditions.as_slice(),
-            observer: around.gate,
-        };
         found_into(around, places, &plan, out, faults)
     };
     match found {
