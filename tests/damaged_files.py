@@ -332,7 +332,7 @@ def unborne(folder):
         (folder / "long.trc").write_bytes(long)
         ended, most = measured(counting, [program(), "debug", "hello.img", "long.trc"], COMMANDS, folder)
         print(f"{what}: {most} bytes at most", flush=True)
-        is_wanted = (ended.returncode, ended.stdout, ended.stderr) == (3, want, b"") and len(long) <= most <= 3 * len(long)
+        is_wanted = (ended.returncode, ended.stdout, ended.stderr[:26]) == (3, want, b"ir: the trace is refused: ") and len(long) <= most <= 3 * len(long)
         yield "" if is_wanted else f"{what}: {ended.returncode} {ended.stdout[:200]!r} {ended.stderr[:200]!r}, {most} bytes"
 
 

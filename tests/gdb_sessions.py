@@ -372,7 +372,7 @@ def check_calls(folder):
         lines = [*(f"break calls.c:{line}" for line in CALLS), *(text for _ in CALLS for text in ("continue", "info locals")), "continue"]
         wanted = [*(rf"^Breakpoint \d at 0x\w+: file .*calls.c, line {line}\.$" for line in CALLS),
                   *(rf"hit Breakpoint \d, caller_body \(\) at .*calls.c:{line}\n.*\n\(gdb\) info locals\n(local = .*|No locals\.)\n\(gdb\)"
-                    for line in CALLS), OVER]
+                    for line in CALLS), "received signal SIGTERM"]
         check_session(Session("calls", lines, wanted), folder)
         if level == "-O2":  # there the instructions of lines are mixed
             continue

@@ -7,10 +7,13 @@ import time
 
 from lib import TOP, assembled, examples, interrupted, run, said, shell, wants
 
+# What is said beside a text that is no condition.
+KINDS = ": there are end, code, word, out, fault, bad, budget and stale, `!` before one and ` | ` between two"
 # Each row: the arguments, the exit status, and what standard error says.
 REFUSED = [
     ("hunt lost.img h.trc --seeds 0..9", 2, "the following required arguments were not provided: --until <COND>"),
-    ("hunt lost.img h.trc --until fault", 2, "the following required arguments were not provided: --seeds <SEEDS>"),
+    ("hunt lost.img h.trc --until fault --jobs 0", 2, "--jobs: '0' is no number from 1 to 64"),
+    ("hunt lost.img h.trc --until fault --jobs 65", 2, "--jobs: '65' is no number from 1 to 64"),
     ("hunt lost.img h.trc --seeds 9..8 --until fault", 2,
      "--seeds: '9..8' is neither A..B, A not above B, nor A+N, of numbers up to 18446744073709551615"),
     ("hunt lost.img h.trc --seeds 9 --until fault", 2,
@@ -19,10 +22,10 @@ REFUSED = [
      "--seeds: '5+0' is neither A..B, A not above B, nor A+N, of numbers up to 18446744073709551615"),
     ("hunt lost.img h.trc --seeds 18446744073709551615+2 --until fault", 2,
      "--seeds: '18446744073709551615+2' is neither A..B, A not above B, nor A+N, of numbers up to 18446744073709551615"),
-    ("hunt lost.img h.trc --seeds 0..9 --until never", 2, "--until: 'never' is no condition"),
-    ("hunt lost.img h.trc --seeds 0..9 --until fault --until 'word 0 0'", 2, "--until: 'word 0 0' is no condition"),
-    ("hunt lost.img h.trc --seeds 0..9 --until 'end 0 15'", 2, "--until: 'end 0 15' is no condition"),
-    ("hunt lost.img h.trc --seeds 0..9 --until 'stale 0'", 2, "--until: 'stale 0' is no condition"),
+    ("hunt lost.img h.trc --seeds 0..9 --until never", 2, f"--until: 'never' is no condition{KINDS}"),
+    ("hunt lost.img h.trc --seeds 0..9 --until fault --until 'word 0 0'", 2, f"--until: 'word 0 0' is no condition{KINDS}"),
+    ("hunt lost.img h.trc --seeds 0..9 --until 'end 0 15'", 2, f"--until: 'end 0 15' is no condition{KINDS}"),
+    ("hunt lost.img h.trc --seeds 0..9 --until 'stale 0'", 2, f"--until: 'stale 0' is no condition{KINDS}"),
     ("hunt lost.img h.trc --seeds 0..9 --until stale --until '!stale'", 2, "--until: 'stale' and '!stale' exclude each other"),
     ("hunt lost.img h.trc --seeds 0..9 --until fault --by pct:0", 2, "--by: 'pct:0' is none of mix, walk and pct:D, D from 1 to 1000"),
     ("hunt lost.img h.trc --seeds 0..9 --until fault --by run", 2, "--by: 'run' is none of mix, walk and pct:D, D from 1 to 1000"),

@@ -9,7 +9,7 @@ import re
 import sys
 from dataclasses import dataclass
 
-from lib import TOP, assembled, counters, examples, profile_of, recorded, run, said, shell, wants
+from lib import TOP, Wrong, assembled, counters, examples, profile_of, recorded, run, said, shell, wants
 
 sys.path.append(str(TOP / "bench"))
 
@@ -699,7 +699,10 @@ def refused(folder):
     """What can't be answered is named, with its status."""
     for arguments, status, line, message in REFUSED:
         ended = run(arguments, folder)
-        wants(arguments, (ended.returncode, ended.stdout.decode(), ended.stderr.decode()), (status, line, message))
+        said = ended.stderr.decode()
+        wants(arguments, (ended.returncode, ended.stdout.decode(), said if message or not line else ""), (status, line, message))
+        if status == 3 and line and not re.fullmatch(r"(ir: the (image|trace|first trace|second trace) is refused: .*\n|ir: IMAGE and TRACE are exchanged\n)+", said):
+            raise Wrong(f"{arguments}: standard error: {said!r}")
     # A trace that is refused, or incoherent, is so as in a session.
     for name in ("odd", "cut"):
         opened = run(f"debug lost.img {name}.trc", folder)

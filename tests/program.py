@@ -410,7 +410,8 @@ def test_trace(folder):
         ("trace d.img", 3, b"trace refused 2\n"),
     ):
         ended = run(arguments, folder)
-        wants(arguments, (ended.returncode, ended.stdout, ended.stderr), (status, lines, b""))
+        why = b"ir: the trace is refused: these bytes are no trace\n" if status else b""
+        wants(arguments, (ended.returncode, ended.stdout, ended.stderr), (status, lines, why))
     for command in ("./ir trace whole.trc >/dev/full", "./ir trace whole.trc >&-", "./ir trace d.img >/dev/full"):
         ended = shell(command, folder)
         wants(command, (ended.returncode, ended.stdout, ended.stderr), (1, b"", FULL))
