@@ -5,7 +5,7 @@ use Rattle.std.proofs.lemmas.Bool.{cases_lt}
 use Rattle.std.proofs.lemmas.List.{get_or_past}
 use Rattle.ir_thread.specs.State as thread
 use Rattle.ir_thread.specs.State.{ask_of, a0, after_ask, after_reply, shared_ask, reply_of}
-use Rattle.ir_thread.specs.Permitted.{step_of, run_of, Suits}
+use Rattle.ir_thread.specs.Permitted.{step_of, run_of, ReplySuits}
 use Rattle.ir_thread.specs.Private.{PrivateSteps}
 use Rattle.ir_thread.specs.declared.ask.Ask.{Ask}
 use Rattle.ir_thread.specs.declared.ask.Ask.TheVariants as ask
@@ -45,7 +45,7 @@ try_reply_in_register_is_one_or_zero xs v a (inr zeroed) e = elim (slice_index_a
 
 -- what is read of an answer fits what was asked
 reply_in_register_suits_ask : (f : FittedTrace) (code : List ℕ) (x y : thread.ThreadState) (q : Ask) (r : ℕ) (b : Object) → Admits (machine_of f) (act_of (shared_ask q) r) b
-    → y ≡ after_ask code x q (reply_of q (reply (act_of (shared_ask q) r) b)) → Suits q (reply_of q (a0 y))
+    → y ≡ after_ask code x q (reply_of q (reply (act_of (shared_ask q) r) b)) → ReplySuits q (reply_of q (a0 y))
 reply_in_register_suits_ask f code x y ask.Private r b can e = refl
 reply_in_register_suits_ask f code x y (ask.Env kind) r b can e = tt
 reply_in_register_suits_ask f code x y (ask.Enter o a) r b can e = refl
@@ -61,7 +61,7 @@ reply_in_register_suits_ask f code x y ask.Done r b can e = absurd can
 
 next_thread_of_run_is_after_ask : (f : FittedTrace) (run : List Step) → IsRunOf f.guest f.recorded run → (t k : ℕ) → k < count (machine_of f) (start_of f) run t
     → (v : ℕ) × (thread_at f run t (suc k) ≡ after_ask f.guest.code (thread_at f run t k) (ask_at f run t k) (reply_of (ask_at f run t k) v))
-    × Suits (ask_at f run t k) (reply_between f.guest.code (thread_at f run t k) (thread_at f run t (suc k)))
+    × ReplySuits (ask_at f run t k) (reply_between f.guest.code (thread_at f run t k) (thread_at f run t (suc k)))
 unfolding after_reply
 next_thread_of_run_is_after_ask f run of t k l =
     let at = step_below_count_emits f run t k l in
@@ -139,7 +139,7 @@ no_calls_taken_in_no_step f t k n e = record {
   suit = tt;
 }
 
-call_by_suiting_reply_suits : (q : Ask) (r : Reply) → Suits q r → AllSuit (call_by q r)
+call_by_suiting_reply_suits : (q : Ask) (r : Reply) → ReplySuits q r → AllSuit (call_by q r)
 call_by_suiting_reply_suits ask.Private r s = tt
 call_by_suiting_reply_suits (ask.Env kind) r s = (s, tt)
 call_by_suiting_reply_suits (ask.Enter o a) r s = (s, tt)

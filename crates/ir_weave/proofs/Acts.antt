@@ -33,7 +33,7 @@ use Rattle.ir_trace.specs.Recorded.{recorded_thread}
 use Rattle.ir_fit.specs.Fit.{FittedTrace, HasRun}
 use Rattle.ir_cut.specs.Positions.{machine_of, start_of, EachRun, thread_at}
 use Rattle.ir_runs.proofs.CallerLemmas.{admitted_persists_at_later_cut}
-use Rattle.ir_weave.specs.Ahead.{IsRefused, IsAlone, GoesAlone, event_of, HasStep, IsAhead, IsEntering, IsNextObject, AreAlone}
+use Rattle.ir_weave.specs.Ahead.{IsRefusedTry, IsAlone, GoesAlone, event_of, HasStep, IsAhead, IsEntering, IsNextObject, AreAlone}
 use Rattle.ir_weave.specs.Standing.{IsStateAt, positions}
 use Rattle.ir_object.specs.Layout.{word_place, content_place}
 use Rattle.ir_weave.specs.Table.{IsTable, object_in}
@@ -93,7 +93,7 @@ step_is_next_on_object_if_not_alone f t i y q ahead is touches = record {
 }
 
 -- a try that is refused enters nothing
-refused_event_does_not_enter : (o : ℕ) (a : Access) (e : Event) → event_ask e ≡ Enter o a → IsRefused (Some e) → ⊥
+refused_event_does_not_enter : (o : ℕ) (a : Access) (e : Event) → event_ask e ≡ Enter o a → IsRefusedTry (Some e) → ⊥
 refused_event_does_not_enter o a (Answered kind value) enters h = h
 refused_event_does_not_enter o a (Read object version) enters h = h
 refused_event_does_not_enter o a (Write object version readers) enters h = h
@@ -104,7 +104,7 @@ pub entering_ask_is_not_alone : (q : Ask) (o : ℕ) (a : Access) (e : Event) (x 
     → IsAlone q x → ⊥
 entering_ask_is_not_alone q o a e x is suits enters h = elim (ask_suited_by_entry_event_is_enter_or_try q o a e suits enters) [
   | inl same ↦ subst (λ p. IsAlone p x) same h
-  | inr same ↦ refused_event_does_not_enter o a e enters (subst IsRefused is (subst (λ p. IsAlone p x) same.0 h))
+  | inr same ↦ refused_event_does_not_enter o a e enters (subst IsRefusedTry is (subst (λ p. IsAlone p x) same.0 h))
 ]
 
 -- ---- words

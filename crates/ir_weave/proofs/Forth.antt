@@ -23,7 +23,7 @@ use Rattle.ir_runs.specs.Admitted.{further}
 use Rattle.ir_fit.specs.Fit.{FittedTrace, HasRun, IsRunOf}
 use Rattle.ir_runs.specs.Verdicts.{unlogged}
 use Rattle.ir_cut.specs.Positions.{machine_of, start_of, thread_at}
-use Rattle.ir_weave.specs.Ahead.{IsRefused, IsAlone, GoesAlone, HasStep, ask_at, event_of, IsThreadAt, AreAlone}
+use Rattle.ir_weave.specs.Ahead.{IsRefusedTry, IsAlone, GoesAlone, HasStep, ask_at, event_of, IsThreadAt, AreAlone}
 use Rattle.ir_weave.specs.Standing.{IsStateAt, positions}
 use Rattle.ir_weave.specs.Stepping.{LogsNext}
 use Rattle.ir_weave.specs.Woven.{AdmittedAt}
@@ -106,7 +106,7 @@ step_goes_on_if_admitted f s t q h flat at l is ad =
 -- no entry, nor a try that the trace says got in
 abbrev pub IsFree : Ask → Option Event → Type 0
 IsFree (Enter o a) e = ⊥
-IsFree (Try o) e = IsRefused e
+IsFree (Try o) e = IsRefusedTry e
 IsFree _ e = ⊤
 
 free_shared_ask_is_no_entry : (q : Ask) (e : Option Event) → IsFree q e → ((o : ℕ) → q ≢ Try o) → (o : ℕ) (a : Access) → shared_ask q ≢ machine.Enter o a
@@ -156,7 +156,7 @@ refused_label_needs_nothing (machine.Out p Reading v) o h = h
 refused_label_needs_nothing (machine.Out p Writing v) o h = h
 
 -- the event of a refused try
-refused_option_is_refused_event : (x : Option Event) → IsRefused x → (o : ℕ) × (x ≡ Some (Refused o))
+refused_option_is_refused_event : (x : Option Event) → IsRefusedTry x → (o : ℕ) × (x ≡ Some (Refused o))
 refused_option_is_refused_event None h = absurd h
 refused_option_is_refused_event (Some (Answered kind value)) h = absurd h
 refused_option_is_refused_event (Some (Read object version)) h = absurd h

@@ -24,7 +24,7 @@ use Rattle.ir_log.specs.declared.event.Event.TheVariants.{Answer as Answered, Re
 use Rattle.ir_trace.specs.Recorded.{recorded_thread}
 use Rattle.ir_fit.specs.Fit.{FittedTrace, IsRunOf}
 use Rattle.ir_cut.specs.Positions.{machine_of, start_of, thread_at}
-use Rattle.ir_weave.specs.Ahead.{IsRefused, IsAlone, event_of, HasStep, IsAhead, IsAsking, IsEntering, ask_at}
+use Rattle.ir_weave.specs.Ahead.{IsRefusedTry, IsAlone, event_of, HasStep, IsAhead, IsAsking, IsEntering, ask_at}
 use Rattle.ir_weave.specs.Woven.{View, M, trace_in, Met, progress, met_of, Rises, HasMet, Answers, IsFor, IsOpened, IsSeated, HasStepped, HasWaited, HasRunOn, WasStopped}
 use Rattle.ir_weave.specs.declared.plan.Plan.{Plan}
 use Rattle.ir_weave.proofs.Lone.{TakesStep, HasNoValue, IsNotDone, ahead_after_alone_step, ahead_by_nothing_after_object_step, ahead_of_own_position, takes_step_with_go_if_ask_has_no_value, takes_step_of_call_with_logged_answer, takes_step_of_try_with_logged_result, try_result, ahead_thread_asks_in_run, logged_step_has_recorded_event, steps_after_ask_are_one_more_if_not_done, number_after_ask_is_unchanged, thread_with_step_is_not_done}
@@ -363,7 +363,7 @@ pub stepped_by_refused_try : (k : Plan) (f : FittedTrace) (code : List ℕ) (me 
     → HasStepped k me me x y
 stepped_by_refused_try k f code me x y o p for same seated asking event is =
     stepped_by_alone_step k f code me x y (Try o) (Value 0) for same seated
-    (subst IsRefused (sym (subst (λ z. slice_get (recorded_thread z.recorded x.number).events x.events ≡ Some (Refused p)) (sym for) event))
+    (subst IsRefusedTry (sym (subst (λ z. slice_get (recorded_thread z.recorded x.number).events x.events ≡ Some (Refused p)) (sym for) event))
     tt) tt (seated_thread_takes_try_with_logged_result k f me.0 x o (Refused p) for seated asking event) is
 
 -- a thread of the guest

@@ -15,16 +15,16 @@ use Rattle.ir_fit.specs.Fit.{FittedTrace, HasRun}
 use Rattle.ir_cut.specs.Positions.{machine_of, start_of, thread_at, EachRun}
 
 -- a try that is logged so was refused
-abbrev pub IsRefused : Option Event → Type 0
-IsRefused (Some (event.Try object)) = ⊤
-IsRefused _ = ⊥
+abbrev pub IsRefusedTry : Option Event → Type 0
+IsRefusedTry (Some (event.Try object)) = ⊤
+IsRefusedTry _ = ⊥
 
 -- a step that asks so, of which the trace emits this event next, touches no object
 abbrev pub IsAlone : Ask → Option Event → Type 0
 IsAlone ask.Private e = ⊤
 IsAlone (ask.Env kind) e = ⊤
 IsAlone (ask.Enter object access) e = ⊥
-IsAlone (ask.Try object) e = IsRefused e
+IsAlone (ask.Try object) e = IsRefusedTry e
 IsAlone (ask.Leave object access) e = ⊥
 IsAlone (ask.Get object index) e = ⊥
 IsAlone (ask.Put object index value) e = ⊥
