@@ -5,7 +5,7 @@ use Rattle.std.proofs.lemmas.List.{map-append, length-map}
 use Rattle.ir_flat.specs.Alone.{WentAlone}
 use Rattle.ir_flat.specs.Flat.{Flat, IsFlat, tables, machine, thread_of}
 use Rattle.ir_record.specs.Progress.{all_left}
-use Rattle.ir_record.specs.Worlds.{answers_at, Answered, answers_in, NoneFailed}
+use Rattle.ir_record.specs.Worlds.{answers_at, AnsweredCall, answers_in, NoneFailed}
 use Rattle.ir_record.specs.Recording.{order_of_turns}
 use Rattle.ir_record.specs.declared.turns.Turns.{Turns}
 use Rattle.ir_runs.proofs.CallerLemmas.{end_append, log_append, upd_at_other_place}
@@ -151,7 +151,7 @@ no_answer_unless_call (asks.End e) r b h = refl
 no_answer_unless_call asks.Done r b h = refl
 
 -- thread t of the guest took a step, and its world answered it if it was a call of the environment
-pub record Acted {W : Type 0} (answers : W → List Answered) (broken : W → Bool) (t : ℕ) (old new : Runner W) : Type 0 where
+pub record Acted {W : Type 0} (answers : W → List AnsweredCall) (broken : W → Bool) (t : ℕ) (old new : Runner W) : Type 0 where
   pub result : ℕ
   pub moved : Moved t result old.flat new.flat
   pub turns : new.turns ≡ old.turns
@@ -161,7 +161,7 @@ pub record Acted {W : Type 0} (answers : W → List Answered) (broken : W → Bo
   pub ready : IsReady broken new
 
 -- no world is asked
-pub acted_if_ask_is_no_call : {W : Type 0} (answers : W → List Answered) (broken : W → Bool) (t r : ℕ) (q : Ask) (old new : Runner W)
+pub acted_if_ask_is_no_call : {W : Type 0} (answers : W → List AnsweredCall) (broken : W → Bool) (t r : ℕ) (q : Ask) (old new : Runner W)
     → IsReady broken old → Moved t r old.flat new.flat → q ≡ ask_of old.flat.code (thread_of old.flat t) → IsNoCall q
     → new.turns ≡ old.turns → new.worlds ≡ old.worlds → Acted answers broken t old new
 acted_if_ask_is_no_call answers broken t r q old new ready s is quiet turns same = record {
@@ -185,7 +185,7 @@ label_of_call_step_is_answer f t r kind is =
     ap (λ (z : Ask). emitted (act_of (shared_ask z) r) ((tables f).objects (target (act_of (shared_ask z) r)))) (sym is)
 
 -- its world answers
-pub acted_by_answered_call : {W : Type 0} (answers : W → List Answered) (broken : W → Bool) (t r : ℕ) (kind : EnvKind) (old new : Runner W)
+pub acted_by_answered_call : {W : Type 0} (answers : W → List AnsweredCall) (broken : W → Bool) (t r : ℕ) (kind : EnvKind) (old new : Runner W)
     → IsReady broken old → t < length old.flat.threads → Moved t r old.flat new.flat
     → asks.Env kind ≡ ask_of old.flat.code (thread_of old.flat t) → new.turns ≡ old.turns
     → map answers new.worlds.items ≡ set (map answers old.worlds.items) t (answers_at (map answers old.worlds.items) t ++ (kind, r) ∷ [])
@@ -205,7 +205,7 @@ acted_by_answered_call answers broken t r kind old new ready l s is turns gained
 }
 
 -- it is noted
-pub took_if_acted_and_noted : {W : Type 0} (answers : W → List Answered) (broken : W → Bool) (t : ℕ) (old new : Runner W) (turns : List Turns)
+pub took_if_acted_and_noted : {W : Type 0} (answers : W → List AnsweredCall) (broken : W → Bool) (t : ℕ) (old new : Runner W) (turns : List Turns)
     → Acted answers broken t old new → order_of_turns turns ≡ order_of_turns new.turns.items ++ replicate 1 t
     → Took t (moment_of answers old) (record (moment_of answers new) { turns = turns })
 took_if_acted_and_noted answers broken t old new turns a order = record {

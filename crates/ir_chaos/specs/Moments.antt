@@ -3,7 +3,7 @@ use Rattle.std.specs.Prelude.{◌≡◌, ◌≢◌, ◌<◌, ◌≤◌, ◌+◌,
 use Rattle.ir_flat.specs.Flat.{Flat, tables, machine, start_flat}
 use Rattle.ir_image.specs.Guest.{Guest}
 use Rattle.ir_record.specs.Progress.{all_left}
-use Rattle.ir_record.specs.Worlds.{answers_at, Answered, answers_in, NoneFailed, IsFirstFailed}
+use Rattle.ir_record.specs.Worlds.{answers_at, AnsweredCall, answers_in, NoneFailed, IsFirstFailed}
 use Rattle.ir_record.specs.Recording.{order_of_turns}
 use Rattle.ir_record.specs.declared.turns.Turns.{Turns}
 use Rattle.ir_runs.specs.Run.{Step, Can, after, end, log, EntersIfFree}
@@ -20,10 +20,10 @@ use Rattle.ir_chaos.specs.declared.stop.Stop.TheVariants.{World, TooLong}
 pub record Moment : Type 0 where
   pub flat : Flat
   pub turns : List Turns
-  pub answers : List (List Answered)
+  pub answers : List (List AnsweredCall)
 
 -- the same of what runs it
-abbrev pub moment_of : {W : Type 0} → (W → List Answered) → Runner W → Moment
+abbrev pub moment_of : {W : Type 0} → (W → List AnsweredCall) → Runner W → Moment
 moment_of answers r = record { flat = r.flat; turns = r.turns.items; answers = map answers r.worlds.items }
 
 -- what is asked is no try

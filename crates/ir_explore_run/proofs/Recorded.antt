@@ -19,7 +19,7 @@ use Rattle.ir_outcomes.specs.Explored.{IsOutcomeOf}
 use Rattle.ir_outcomes.specs.Shown.{outcome_by}
 use Rattle.ir_record.specs.Recording.{IsRecordingOf, AreAnswers}
 use Rattle.ir_record.specs.Recordings.{IsRecordingOfSome}
-use Rattle.ir_record.specs.Worlds.{Answered, answers_in}
+use Rattle.ir_record.specs.Worlds.{AnsweredCall, answers_in}
 use Rattle.ir_record_run.specs.Plan.{Plan}
 use Rattle.ir_record_run.specs.Recording.{unasked, IsRecordedBy, IsRecordedOf}
 use Rattle.ir_runs.specs.Bounds.{IsIdle}
@@ -78,12 +78,12 @@ answers_from_sources_are_all true es h = refl
 answers_from_sources_are_all false es h = untimed_answers_are_all es h
 
 -- the answers that were kept of a thread are those in its log
-kept_answers_are_in_log : (guest : Guest) (budget : ℕ) (profile : Profile) (run : List Step) (answers : List (List Answered)) (t : ℕ) → t < length guest.entries
+kept_answers_are_in_log : (guest : Guest) (budget : ℕ) (profile : Profile) (run : List Step) (answers : List (List AnsweredCall)) (t : ℕ) → t < length guest.entries
     → AreAnswers guest budget profile run (unasked guest) answers
     → get_or answers t [] ≡ answers_in (log (thread_machine guest.code) (tables (start_flat guest budget profile)) run t)
 kept_answers_are_in_log guest budget profile run answers t l h =
     get_or_from_slice_get answers t _ [] (h.each t l)
-    ∙ ap (λ (z : List Answered). z ++ answers_in (log (thread_machine guest.code) (tables (start_flat guest budget profile)) run t))
+    ∙ ap (λ (z : List AnsweredCall). z ++ answers_in (log (thread_machine guest.code) (tables (start_flat guest budget profile)) run t))
     (get_or-replicate (length guest.entries) t [] [] l)
 
 first_source_is_source : (setup : Setup) (t : ℕ) → t < length setup.guest.entries → first_source setup t ≡ source (seed_of setup.random t) setup.input
@@ -103,7 +103,7 @@ thread_of_missing_number_is_idle guest budget profile t l = get_or_past (start_f
 
 -- ---- a run that was recorded counts
 
-module _ (setup : Setup) (budget : ℕ) (counted : Bool) (run : List Step) (trace : Recorded) (outputs : List (List ℕ)) (answers : List (List Answered))
+module _ (setup : Setup) (budget : ℕ) (counted : Bool) (run : List Step) (trace : Recorded) (outputs : List (List ℕ)) (answers : List (List AnsweredCall))
     (r : IsRecordingOf setup.guest budget setup.profile run (unasked setup.guest) trace outputs answers)
     (answered : (t : ℕ) → t < length setup.guest.entries → IsAnswered (origin_of counted setup.random setup.input t) (get_or answers t []))
     (uncut : AreUncut (length setup.guest.entries) trace) where
@@ -177,7 +177,7 @@ module _ (setup : Setup) (budget : ℕ) (counted : Bool) (run : List Step) (trac
 
 -- what was recorded, by a list or by threads, is of some run
 recording_is_of_some_run : (order : Option (List ℕ)) (guest : Guest) (budget : ℕ) (profile : Profile) (trace : Recorded) (outputs : List (List ℕ))
-    (answers : List (List Answered)) → IsRecordedBy order guest budget profile trace outputs answers
+    (answers : List (List AnsweredCall)) → IsRecordedBy order guest budget profile trace outputs answers
     → IsRecordingOfSome guest budget profile (unasked guest) trace outputs answers
 recording_is_of_some_run (Some list) guest budget profile trace outputs answers r = (r.2.0, r.2.2)
 recording_is_of_some_run None guest budget profile trace outputs answers r = r

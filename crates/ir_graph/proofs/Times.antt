@@ -7,7 +7,7 @@ use Rattle.ir_runs.specs.Machine.{Machine, Done, Admits, act_of, target}
 use Rattle.ir_runs.specs.Lawful.{IsLawful}
 use Rattle.ir_runs.specs.Run.{State, Step, asked, act, Can, after, end, log}
 use Rattle.ir_runs.proofs.CallerLemmas.{StateInvariant, upd_at_own_place, thread_after_step_of_other}
-use Rattle.ir_states.specs.Counting.{Answers, is_own, Counts, GoesAhead, entering}
+use Rattle.ir_states.specs.Counting.{Answers, is_own, RunCounts, GoesAhead, entering}
 use Rattle.ir_states.specs.Nodes.{LeadsTo, Noted, IsClosed, Chain}
 use Rattle.ir_states.specs.Orders.{is_refusal}
 use Rattle.ir_states.specs.Sources.{left_of}
@@ -201,7 +201,7 @@ module _ (x : Setup) (flats : List SourcedFlat) (noted : ℕ → BothWays) (thre
     }
 
     -- a run that counts ends before any call for the time is answered
-    seen_end_is_tickless : (steps : List Step) → Counts m answers start steps → IsTickless (end m start steps)
+    seen_end_is_tickless : (steps : List Step) → RunCounts m answers start steps → IsTickless (end m start steps)
     seen_end_is_tickless steps counts t =
         let begins = known.begins refl (flat_of x flats noted threads g 0) (at x flats noted threads g 0 g.some) in
         let first : State (ThreadState × Source) = end m start begins.ahead in

@@ -8,7 +8,7 @@ use Rattle.ir_flat.proofs.CallerLemmas.{length_of_start_threads}
 use Rattle.ir_runs.specs.Run.{Step, log}
 use Rattle.ir_runs.specs.Orders.{IsByOrder}
 use Rattle.ir_trace.specs.Recorded.{Recorded}
-use Rattle.ir_record.specs.Worlds.{answers_at, Answered, answers_in}
+use Rattle.ir_record.specs.Worlds.{answers_at, AnsweredCall, answers_in}
 use Rattle.ir_record.specs.Recording.{order_of_turns}
 use Rattle.ir_sources.specs.Sources.{origin_of, IsAnswered}
 use Rattle.ir_record_run.specs.Plan.{Plan}
@@ -31,7 +31,7 @@ use Rattle.ir_hunt.specs.Tried.{Fails}
 use Rattle.ir_hunt.specs.declared.plan.HuntPlan.{HuntPlan}
 
 -- no world had answered
-get_or_of_replicated_empty_is_empty : (n t : ℕ) → get_or {A = List Answered} (replicate n []) t [] ≡ []
+get_or_of_replicated_empty_is_empty : (n t : ℕ) → get_or {A = List AnsweredCall} (replicate n []) t [] ≡ []
 get_or_of_replicated_empty_is_empty zero t = refl
 get_or_of_replicated_empty_is_empty (suc n) zero = refl
 get_or_of_replicated_empty_is_empty (suc n) (suc t) = get_or_of_replicated_empty_is_empty n t

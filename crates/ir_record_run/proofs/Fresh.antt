@@ -6,7 +6,7 @@ use Rattle.ir_image.specs.Guest.{Guest, guest_at}
 use Rattle.ir_trace.specs.Recorded.{Recorded}
 use Rattle.ir_record.specs.Recordings.{IsRecordingByTurns, IsRecordingOfSome}
 use Rattle.ir_record.specs.Refusing.{Turn}
-use Rattle.ir_record.specs.Worlds.{Answered}
+use Rattle.ir_record.specs.Worlds.{AnsweredCall}
 use Rattle.ir_record_run.specs.Order.{order_of}
 use Rattle.ir_record_run.specs.Plan.{Plan}
 use Rattle.ir_record_run.specs.Recording.{IsRecordedBy, IsRecordedOf}
@@ -14,7 +14,7 @@ use Rattle.ir_sources.specs.Sources.{origin_of, IsAnswered}
 
 -- what was recorded in an order, with fresh worlds
 pub fresh_recording_by_order_is_recorded : (image list : List ℕ) (plan : Plan) (guest : Guest) (entries : List ℕ) (order given : List Turn)
-    (before : List (List Answered)) (trace : Recorded) (outputs : List (List ℕ)) (answers : List (List Answered))
+    (before : List (List AnsweredCall)) (trace : Recorded) (outputs : List (List ℕ)) (answers : List (List AnsweredCall))
     → plan.order ≡ Some list
     → guest_at image ≡ Ok guest → entries ≡ guest.entries → order_of (length entries) list ≡ Some order → given ≡ order
     → before ≡ replicate (length entries) [] → IsRecordingByTurns guest plan.budget plan.profile given before trace outputs answers
@@ -29,7 +29,7 @@ fresh_recording_by_order_is_recorded image list plan guest entries order given b
       recorded = subst (λ (o : Option (List ℕ)). IsRecordedBy o guest plan.budget plan.profile trace outputs answers) (sym listed) (
         order,
         ap (λ (n : ℕ). order_of n list) (sym long) ∙ spelled,
-        subst (λ (z : List (List Answered)). IsRecordingByTurns guest plan.budget plan.profile order z trace outputs answers)
+        subst (λ (z : List (List AnsweredCall)). IsRecordingByTurns guest plan.budget plan.profile order z trace outputs answers)
             (silent ∙ ap (λ (n : ℕ). replicate n []) long)
             (subst (λ (z : List Turn). IsRecordingByTurns guest plan.budget plan.profile z before trace outputs answers) e h),
       );
@@ -38,8 +38,8 @@ fresh_recording_by_order_is_recorded image list plan guest entries order given b
     }
 
 -- the same, by threads
-pub fresh_recording_by_threads_is_recorded : (image : List ℕ) (plan : Plan) (guest : Guest) (entries : List ℕ) (before : List (List Answered))
-    (trace : Recorded) (outputs : List (List ℕ)) (answers : List (List Answered))
+pub fresh_recording_by_threads_is_recorded : (image : List ℕ) (plan : Plan) (guest : Guest) (entries : List ℕ) (before : List (List AnsweredCall))
+    (trace : Recorded) (outputs : List (List ℕ)) (answers : List (List AnsweredCall))
     → plan.order ≡ None
     → guest_at image ≡ Ok guest → entries ≡ guest.entries → before ≡ replicate (length entries) []
     → IsRecordingOfSome guest plan.budget plan.profile before trace outputs answers
@@ -52,7 +52,7 @@ fresh_recording_by_threads_is_recorded image plan guest entries before trace out
       is = is;
       answers = answers;
       recorded = subst (λ (o : Option (List ℕ)). IsRecordedBy o guest plan.budget plan.profile trace outputs answers) (sym unlisted)
-          (subst (λ (z : List (List Answered)). IsRecordingOfSome guest plan.budget plan.profile z trace outputs answers)
+          (subst (λ (z : List (List AnsweredCall)). IsRecordingOfSome guest plan.budget plan.profile z trace outputs answers)
           (silent ∙ ap (λ (n : ℕ). replicate n []) long) h);
       answered = λ t l. subst (λ (o : Option (List ℕ)). IsAnswered (origin_of (is_some o) plan.random plan.input t) (get_or answers t []))
           (sym unlisted) (answered t (omega (arith, l, long)));

@@ -17,11 +17,11 @@ const A0: u8 = 10;
 const LINE_FEED: u8 = 10;
 
 impl Reply {
-    ghost use Rattle.ir_thread.specs.State.{answer_of};
+    ghost use Rattle.ir_thread.specs.State.{value_of_reply};
 
     // What goes into a0.
     fn answer(self) -> Option<u32>
-        ensures { result ≡ answer_of self }
+        ensures { result ≡ value_of_reply self }
     {
         match self {
             Reply::Go => None,
