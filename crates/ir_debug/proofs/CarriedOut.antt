@@ -18,7 +18,7 @@ use Rattle.ir_command.specs.declared.refusal.Refusal.{Refusal}
 use Rattle.ir_command.specs.declared.refusal.Refusal.TheVariants.{NoSuchThread}
 use Rattle.ir_debug.specs.declared.answer.Answer.{Answer}
 use Rattle.ir_debug.specs.declared.answer.Answer.TheVariants as answer
-use Rattle.ir_debug.specs.Machine.{Desk, moved_to, spoken, if_some, thread_named, refusal_of, is_at_hand, show_text, Answers, AnswersBy, current}
+use Rattle.ir_debug.specs.Machine.{Desk, moved_to, spoken, if_some, thread_named, refusal_of, is_at_hand, show_text, AnswersCommand, AnswersBy, current}
 use Rattle.ir_command.specs.declared.command.Point.{Point}
 use Rattle.ir_text.specs.Texts.{number_line, next_text, core_text, bytes_from, memory_text, output_text, object_text, log_text}
 use Rattle.ir_debug.specs.Debugging.{Debugging, IsThere, answer_text, with_point, without_point, IsLast, IsText, IsDesk, logged_so_far}
@@ -111,14 +111,14 @@ unfolding refusal_of
 refusal_after_spoken_is_unchanged d next c is = ap (λ z. refusal_of z c) is
 
 pub refused_command_answers_refusal : (d next : Desk) (c : Command) (r : Refusal) (a : Answer) → refusal_of d c ≡ Some r → next ≡ spoken d
-    → a ≡ answer.Refused r → EachRun d.fitted (λ run. Answers run d c (answer_text run next a) next)
-unfolding Answers
+    → a ≡ answer.Refused r → EachRun d.fitted (λ run. AnswersCommand run d c (answer_text run next a) next)
+unfolding AnswersCommand
 refused_command_answers_refusal d next c r a why is says run whole =
     subst (λ o. AnswersBy o run d c (answer_text run next a) next) (sym why) (ap (λ z. answer_text run next z) says, is)
 
 pub permitted_command_is_answered_by_text_of_its_answer : (d next : Desk) (c asked : Command) (a : Answer) → c ≡ asked → refusal_of d c ≡ None → AnswersInEachRun d asked a next
-    → EachRun d.fitted (λ run. Answers run d c (answer_text run next a) next)
-unfolding Answers
+    → EachRun d.fitted (λ run. AnswersCommand run d c (answer_text run next a) next)
+unfolding AnswersCommand
 permitted_command_is_answered_by_text_of_its_answer d next c asked a same none so run whole =
     subst (λ o. AnswersBy o run d c (answer_text run next a) next) (sym none)
     (subst (λ z. AnswersBy None run d z (answer_text run next a) next) (sym same) (so run whole))

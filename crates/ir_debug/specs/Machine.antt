@@ -251,12 +251,12 @@ AnswersBy (Some r) run d c text next = Refuses r d text next
 AnswersBy None run d c text next = CarriesOut run d c text next ⊎ ((may_lack d c ≡ true) × Refuses NoMemory d text next)
 
 -- the machine may answer a command so, and is then the next
-unfoldable pub Answers : List runs.Step → Desk → Command → List ℕ → Desk → Type 0
-Answers run d c text next = AnswersBy (refusal_of d c) run d c text next
+unfoldable pub AnswersCommand : List runs.Step → Desk → Command → List ℕ → Desk → Type 0
+AnswersCommand run d c text next = AnswersBy (refusal_of d c) run d c text next
 
 -- the answer by what a line asks; one without words has none
 abbrev pub RepliesBy : Result (Option Command) Refusal → List runs.Step → Desk → List ℕ → Desk → Type 0
-RepliesBy (Ok (Some c)) run d text next = Answers run d c text next
+RepliesBy (Ok (Some c)) run d text next = AnswersCommand run d c text next
 RepliesBy (Ok None) run d text next = AnswersWith [] d text next
 RepliesBy (Err r) run d text next = Refuses r d text next
 
