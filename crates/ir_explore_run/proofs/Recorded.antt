@@ -9,7 +9,7 @@ use Rattle.std.proofs.lemmas.Option.{get_or_from_slice_get}
 use Rattle.ir_flat.specs.Flat.{start_flat, tables, thread_of, idle}
 use Rattle.ir_flat.proofs.CallerLemmas.{length_of_start_threads, guest_start_is_idle}
 use Rattle.ir_graph.specs.Setup.{Setup, first_source, IsCountedOf}
-use Rattle.ir_graph.specs.Outcomes.{Outcome}
+use Rattle.ir_graph.specs.Outcomes.{RunOutcome}
 use Rattle.ir_image.specs.Guest.{Guest, guest_at}
 use Rattle.ir_log.specs.Logging.{label_of}
 use Rattle.ir_log.specs.declared.event.Event.{Event}
@@ -27,7 +27,7 @@ use Rattle.ir_runs.specs.Machine.{Machine, Label, Quiet, Answer, In, Refused, Ou
 use Rattle.ir_runs.specs.Run.{State, Step, IsRun, IsWhole, after, end, trail, events, log}
 use Rattle.ir_runs.specs.declared.env_kind.EnvKind.TheVariants.{Clock, Random, Input}
 use Rattle.ir_runs.proofs.CallerLemmas.{step_below_idle_keeps_idle, thread_after_step_of_other, trail_of_cons_other_thread}
-use Rattle.ir_sources.specs.Sources.{Source, source, given, Gave, untimed, from_sources, IsAnswered, origin_of, seed_of}
+use Rattle.ir_sources.specs.Sources.{Source, source, given, Gave, untimed, from_sources, IsAnsweredFrom, origin_of, seed_of}
 use Rattle.ir_states.specs.Sources.{Gives}
 use Rattle.ir_store.specs.Table.{no_source}
 use Rattle.ir_thread.specs.State.{ThreadState, thread_machine}
@@ -105,7 +105,7 @@ thread_of_missing_number_is_idle guest budget profile t l = get_or_past (start_f
 
 module _ (setup : Setup) (budget : ℕ) (counted : Bool) (run : List Step) (trace : Recorded) (outputs : List (List ℕ)) (answers : List (List AnsweredCall))
     (r : IsRecordingOf setup.guest budget setup.profile run (unasked setup.guest) trace outputs answers)
-    (answered : (t : ℕ) → t < length setup.guest.entries → IsAnswered (origin_of counted setup.random setup.input t) (get_or answers t []))
+    (answered : (t : ℕ) → t < length setup.guest.entries → IsAnsweredFrom (origin_of counted setup.random setup.input t) (get_or answers t []))
     (uncut : AreUncut (length setup.guest.entries) trace) where
   abbrev n : ℕ
   n = length setup.guest.entries
@@ -188,7 +188,7 @@ recorded_setup image plan trace outputs r = record { guest = r.guest; profile = 
 
 recorded_setup_has_outcome : (image : List ℕ) (plan : Plan) (trace : Recorded) (outputs : List (List ℕ)) (r : IsRecordedOf image plan trace outputs)
     → AreUntimed (length r.guest.entries) trace → AreUncut (length r.guest.entries) trace
-    → (x : Outcome) × IsOfOutcome (recorded_setup image plan trace outputs r) plan.budget trace outputs x
+    → (x : RunOutcome) × IsOfOutcome (recorded_setup image plan trace outputs r) plan.budget trace outputs x
     × IsOutcomeOf (recorded_setup image plan trace outputs r) x
 recorded_setup_has_outcome image plan trace outputs r no_clock uncut =
     let some : IsRecordingOfSome r.guest plan.budget plan.profile (unasked r.guest) trace outputs r.answers =
@@ -214,7 +214,7 @@ same_setup setup image plan trace outputs h =
 pub recordings_have_outcomes : RecordingsHaveOutcomes
 recordings_have_outcomes setup image plan trace outputs (h, no_clock) =
     let e = same_setup setup image plan trace outputs h in
-    subst (λ z. (x : Outcome) × IsOfOutcome z plan.budget trace outputs x × IsOutcomeOf z x) e
+    subst (λ z. (x : RunOutcome) × IsOfOutcome z plan.budget trace outputs x × IsOutcomeOf z x) e
     (recorded_setup_has_outcome image plan trace outputs h.recorded
     (subst (λ (z : Setup). AreUntimed (length z.guest.entries) trace) (sym e) no_clock)
     (subst (λ (z : Setup). AreUncut (length z.guest.entries) trace) (sym e) h.uncut))

@@ -12,7 +12,7 @@ use Rattle.ir_record.specs.Recordings.{IsRecordingByTurns}
 use Rattle.ir_record.specs.Refusing.{plain_turns}
 use Rattle.ir_record.specs.Worlds.{AnsweredCall}
 use Rattle.ir_record_run.specs.Plan.{Plan}
-use Rattle.ir_sources.specs.Sources.{origin_of, IsAnswered}
+use Rattle.ir_sources.specs.Sources.{origin_of, IsAnsweredFrom}
 use Rattle.ir_order.proofs.CallerLemmas.{recording_in_turns_is_of_run}
 use Rattle.ir_rests.specs.Stale.{HasRests}
 use Rattle.ir_hunt.specs.Stale.{HasStaleBy, IsTraceBy}
@@ -38,7 +38,7 @@ recording_has_run guest budget profile order before trace outputs answers r = (r
 pub fresh_recording_is_trace_by_order : (guest : Guest) (plan : Plan) (entries order : List ℕ) (before : List (List AnsweredCall)) (trace : Recorded) (outputs : List (List ℕ))
     (answers : List (List AnsweredCall)) → entries ≡ guest.entries → before ≡ replicate (length entries) []
     → IsRecordingByTurns guest plan.budget plan.profile (plain_turns order) before trace outputs answers
-    → ((t : ℕ) → t < length entries → IsAnswered (origin_of true plan.random plan.input t) (get_or answers t []))
+    → ((t : ℕ) → t < length entries → IsAnsweredFrom (origin_of true plan.random plan.input t) (get_or answers t []))
     → IsTraceBy guest plan order trace
 fresh_recording_is_trace_by_order guest plan entries order before trace outputs answers same fresh r answered run planned =
     let long : length entries ≡ length guest.entries = ap (λ (z : List ℕ). length z) same in (

@@ -17,7 +17,7 @@ use Rattle.ir_record.specs.Worlds.{AnsweredCall, answers_in}
 use Rattle.ir_record_run.specs.Order.{order_of}
 use Rattle.ir_record_run.specs.Plan.{Plan}
 use Rattle.ir_record_run.specs.Recording.{unasked, IsRecordedBy, IsRecordedOf}
-use Rattle.ir_sources.specs.Sources.{origin_of, IsAnswered}
+use Rattle.ir_sources.specs.Sources.{origin_of, IsAnsweredFrom}
 use Rattle.ir_order.specs.OneRun.{AreSame, IsAnsweredByTurns}
 use Rattle.ir_order.specs.Recording.{IsPlanned, IsPlannedInTurns, IsOfRun, RecordingsAreOfTheRun, OneRecordingByAList}
 use Rattle.ir_order.proofs.OneRun.{one_run_by_turns, answered_by_turns_if_answered_by_order}
@@ -67,19 +67,19 @@ kept_answers_are_logged guest budget profile run answers t l h =
 -- the run that was recorded was answered by the plan's sources
 recorded_run_is_planned : (guest : Guest) (plan : Plan) (list : List ℕ) (turns : List Turn) (trace : Recorded) (outputs : List (List ℕ)) (answers : List (List AnsweredCall))
     → plan.order ≡ Some list → (r : IsRecordingByTurns guest plan.budget plan.profile turns (unasked guest) trace outputs answers)
-    → ((t : ℕ) → t < length guest.entries → IsAnswered (origin_of (is_some plan.order) plan.random plan.input t) (get_or answers t []))
+    → ((t : ℕ) → t < length guest.entries → IsAnsweredFrom (origin_of (is_some plan.order) plan.random plan.input t) (get_or answers t []))
     → IsPlannedInTurns guest plan turns r.0
 recorded_run_is_planned guest plan list turns trace outputs answers is r answered = record {
   by_turns = r.1;
-  answered = λ t l. subst (IsAnswered (origin_of true plan.random plan.input t))
+  answered = λ t l. subst (IsAnsweredFrom (origin_of true plan.random plan.input t))
       (kept_answers_are_logged guest plan.budget plan.profile r.0 answers t l r.2.answered)
-      (subst (λ c. IsAnswered (origin_of c plan.random plan.input t) (get_or answers t [])) (ap is_some is) (answered t l));
+      (subst (λ c. IsAnsweredFrom (origin_of c plan.random plan.input t) (get_or answers t [])) (ap is_some is) (answered t l));
 }
 
 recording_is_of_planned_run : (guest : Guest) (plan : Plan) (list : List ℕ) (turns : List Turn) (run : List Step) (trace : Recorded) (outputs : List (List ℕ))
     (answers : List (List AnsweredCall)) → plan.order ≡ Some list → IsPlannedInTurns guest plan turns run
     → IsRecordingByTurns guest plan.budget plan.profile turns (unasked guest) trace outputs answers
-    → ((t : ℕ) → t < length guest.entries → IsAnswered (origin_of (is_some plan.order) plan.random plan.input t) (get_or answers t []))
+    → ((t : ℕ) → t < length guest.entries → IsAnsweredFrom (origin_of (is_some plan.order) plan.random plan.input t) (get_or answers t []))
     → IsOfRun guest plan.budget plan.profile run trace outputs
 recording_is_of_planned_run guest plan list turns run trace outputs answers is x r answered =
     recording_is_of_same_run guest plan.budget plan.profile turns run r.0 (unasked guest) trace outputs answers (origin_of true plan.random plan.input) x
@@ -94,7 +94,7 @@ planned_in_turns_if_planned_by_order guest plan order run x = answered_by_turns_
 -- what is recorded in turns is of each run that the guest makes by their order with the same answers
 pub recording_in_turns_is_of_run : (guest : Guest) (plan : Plan) (order : List ℕ) (run : List Step) (trace : Recorded) (outputs : List (List ℕ)) (answers : List (List AnsweredCall))
     → IsPlanned guest plan order run → IsRecordingByTurns guest plan.budget plan.profile (plain_turns order) (unasked guest) trace outputs answers
-    → ((t : ℕ) → t < length guest.entries → IsAnswered (origin_of true plan.random plan.input t) (get_or answers t []))
+    → ((t : ℕ) → t < length guest.entries → IsAnsweredFrom (origin_of true plan.random plan.input t) (get_or answers t []))
     → IsOfRun guest plan.budget plan.profile run trace outputs
 recording_in_turns_is_of_run guest plan order run trace outputs answers x r answered =
     recording_is_of_planned_run guest (record plan { order = Some [] }) [] (plain_turns order) run trace outputs answers refl (planned_in_turns_if_planned_by_order guest plan order run x) r
@@ -105,7 +105,7 @@ recording_by_list_is_of_run : (guest : Guest) (plan : Plan) (list : List ℕ) (t
     (answers : List (List AnsweredCall)) → plan.order ≡ Some list → order_of (length guest.entries) list ≡ Some turns
     → IsPlannedInTurns guest plan turns run
     → IsRecordedBy (Some list) guest plan.budget plan.profile trace outputs answers
-    → ((t : ℕ) → t < length guest.entries → IsAnswered (origin_of (is_some plan.order) plan.random plan.input t) (get_or answers t []))
+    → ((t : ℕ) → t < length guest.entries → IsAnsweredFrom (origin_of (is_some plan.order) plan.random plan.input t) (get_or answers t []))
     → IsOfRun guest plan.budget plan.profile run trace outputs
 recording_by_list_is_of_run guest plan list turns run trace outputs answers is spelled x (other, spelled', r) answered =
     let same : other ≡ turns = cc (spelled, spelled') in
@@ -146,7 +146,7 @@ record RecordedRun (image : List ℕ) (plan : Plan) (list : List ℕ) (guest : G
 
 recording_by_list_has_run : (image : List ℕ) (plan : Plan) (list : List ℕ) (guest : Guest) (trace : Recorded) (outputs : List (List ℕ)) (answers : List (List AnsweredCall))
     → plan.order ≡ Some list → IsRecordedBy (Some list) guest plan.budget plan.profile trace outputs answers
-    → ((t : ℕ) → t < length guest.entries → IsAnswered (origin_of (is_some plan.order) plan.random plan.input t) (get_or answers t []))
+    → ((t : ℕ) → t < length guest.entries → IsAnsweredFrom (origin_of (is_some plan.order) plan.random plan.input t) (get_or answers t []))
     → RecordedRun image plan list guest trace outputs
 recording_by_list_has_run image plan list guest trace outputs answers is (turns, spelled, r) answered = record {
   turns = turns;

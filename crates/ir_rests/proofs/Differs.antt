@@ -11,7 +11,7 @@ use Rattle.ir_thread.specs.declared.ask.Reply.{Reply}
 use Rattle.ir_thread.specs.declared.ask.Reply.TheVariants.{Value}
 use Rattle.ir_walk.specs.Calls.{AllSuit}
 use Rattle.ir_rests.proofs.Same.{reply_suits_same_call}
-use Rattle.ir_rests.specs.WhatIf.{hold_after, answer, answer_by, same_call, difference, is_other_value, is_writing, is_private, or_later, what_if}
+use Rattle.ir_rests.specs.WhatIf.{hold_after, answer, answer_by, same_call, difference, is_other_value, is_writing_hold, is_private, or_later, what_if}
 use Rattle.ir_walk.specs.declared.exchange.Exchange.{Exchange}
 use Rattle.ir_rests.specs.declared.hold.Hold.{Hold}
 use Rattle.ir_rests.specs.declared.hold.Hold.TheVariants.{Reading, Between, Writing}
@@ -165,7 +165,7 @@ pub answer_suits_ask_if_no_difference : (h : Hold) (o : ℕ) (fresh : List ℕ) 
 answer_suits_ask_if_no_difference h o fresh n cs c asked reply l all same answered =
     let first : AllSuit (get_or cs n c ∷ drop (n + 1) cs) = subst AllSuit (drop_more cs n c l) all in
     reply_suits_same_call asked (get_or cs n c).asked reply
-    (test_true_if_choice_is_none (same_call asked (get_or cs n c).asked) (if is_writing h && is_other_value o asked (get_or cs n c).asked then Some reason.Value else None) same)
+    (test_true_if_choice_is_none (same_call asked (get_or cs n c).asked) (if is_writing_hold h && is_other_value o asked (get_or cs n c).asked then Some reason.Value else None) same)
     (subst (ReplySuits (get_or cs n c).asked) (sym answered) (answer_by_suits_if_reply_suits h o fresh (get_or cs n c).asked (get_or cs n c).reply first.0))
 
 -- so do the others

@@ -1,8 +1,6 @@
 -- What a thread would have done, had it read other words.
 use Rattle.std.specs.Prelude.{ℕ, zero, suc, ◌==◌, ◌&&◌, ◌||◌, Bool, true, false, not, List, [], ◌∷◌, slice_index, if◌then◌else◌, Option, Some, None}
 use Rattle.ir_image.specs.Guest.{most_object_words}
-use Rattle.ir_runs.specs.declared.access.Access.{Access}
-use Rattle.ir_runs.specs.declared.access.Access.TheVariants as access
 use Rattle.ir_runs.specs.declared.env_kind.EnvKind.{EnvKind}
 use Rattle.ir_runs.specs.declared.env_kind.EnvKind.TheVariants.{Clock, Random, Input}
 use Rattle.ir_thread.specs.State.{ThreadState, end_number, end_code, ask_of, after_reply}
@@ -11,6 +9,7 @@ use Rattle.ir_thread.specs.declared.ask.Ask.{Ask}
 use Rattle.ir_thread.specs.declared.ask.Ask.TheVariants as ask
 use Rattle.ir_thread.specs.declared.ask.Reply.{Reply}
 use Rattle.ir_thread.specs.declared.ask.Reply.TheVariants.{Go, Value}
+use Rattle.ir_fit.specs.Placed.{same_access}
 use Rattle.ir_walk.specs.declared.exchange.Exchange.{Exchange}
 use Rattle.ir_rests.specs.declared.hold.Hold.{Hold}
 use Rattle.ir_rests.specs.declared.hold.Hold.TheVariants.{Reading, Between, Writing}
@@ -28,14 +27,14 @@ leaves o (ask.Leave object access) = object == o
 leaves o _ = false
 
 -- whether a reply is 1
-abbrev pub is_one : Reply → Bool
-is_one Go = false
-is_one (Value value) = value == 1
+abbrev pub is_reply_one : Reply → Bool
+is_reply_one Go = false
+is_reply_one (Value value) = value == 1
 
 -- whether a call enters object o, by an entry or a try that gets in
 abbrev pub enters : ℕ → Ask → Reply → Bool
 enters o (ask.Enter object access) reply = object == o
-enters o (ask.Try object) reply = (object == o) && is_one reply
+enters o (ask.Try object) reply = (object == o) && is_reply_one reply
 enters o _ reply = false
 
 -- where the thread is with object o after a call
@@ -56,12 +55,6 @@ abbrev pub answer : Hold → ℕ → List ℕ → Exchange → Reply
 answer h o fresh c = answer_by h o fresh c.asked c.reply
 
 -- ---- where it differs
-
--- whether two accesses are the same
-abbrev pub same_access : Access → Access → Bool
-same_access access.Reading access.Reading = true
-same_access access.Writing access.Writing = true
-same_access _ _ = false
 
 -- whether two calls of the environment are the same
 abbrev pub same_kind : EnvKind → EnvKind → Bool
@@ -85,9 +78,9 @@ same_call ask.Done ask.Done = true
 same_call _ _ = false
 
 -- whether the thread is in the write's hold
-abbrev pub is_writing : Hold → Bool
-is_writing Writing = true
-is_writing _ = false
+abbrev pub is_writing_hold : Hold → Bool
+is_writing_hold Writing = true
+is_writing_hold _ = false
 
 -- whether both are a PUT into object o, of another value
 abbrev pub is_other_value : ℕ → Ask → Ask → Bool
@@ -99,7 +92,7 @@ is_other_value o _ _ = false
 abbrev pub difference : Hold → ℕ → Ask → Ask → Option Reason
 difference h o asked was =
     if same_call asked was
-    then (if is_writing h && is_other_value o asked was then Some reason.Value else None)
+    then (if is_writing_hold h && is_other_value o asked was then Some reason.Value else None)
     else Some reason.Way
 
 -- a reason, or else the next
@@ -148,7 +141,7 @@ is_put o _ = false
 -- whether the calls put a word into object o in the write's hold
 unfoldable pub puts : ℕ → Hold → List Exchange → Bool
 puts o h [] = false
-puts o h (c ∷ cs) = (is_writing h && is_put o c.asked) || puts o (hold_after o c h) cs
+puts o h (c ∷ cs) = (is_writing_hold h && is_put o c.asked) || puts o (hold_after o c h) cs
 
 -- whether the calls get a word of object o in the read's hold that was this and is another
 abbrev pub is_changed : ℕ → List ℕ → List ℕ → List Exchange → ℕ → Bool

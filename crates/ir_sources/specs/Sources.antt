@@ -67,8 +67,8 @@ from_sources true answers = answers
 from_sources false answers = untimed answers
 
 -- a world that was made so has given these answers, in turn those that come from its sources
-abbrev pub IsAnswered : MadeWith → List AnsweredCall → Type 0
-IsAnswered made answers = (left : Source) × Gave (source made.seed made.file) (from_sources made.counted answers) left
+abbrev pub IsAnsweredFrom : MadeWith → List AnsweredCall → Type 0
+IsAnsweredFrom made answers = (left : Source) × Gave (source made.seed made.file) (from_sources made.counted answers) left
 
 -- the seed of the random words of thread t
 abbrev pub seed_of : ℕ → ℕ → ℕ

@@ -20,13 +20,13 @@ call_by ask.Private reply = []
 call_by asked reply = record { asked = asked; reply = reply } ∷ []
 
 -- the call of step k of a thread that is `at` k after k of its steps
-abbrev pub call_at : List ℕ → (ℕ → ThreadState) → ℕ → List Exchange
-call_at code at k = call_by (ask_of code (at k)) (reply_between code (at k) (at (suc k)))
+abbrev pub exchange_at : List ℕ → (ℕ → ThreadState) → ℕ → List Exchange
+exchange_at code at k = call_by (ask_of code (at k)) (reply_between code (at k) (at (suc k)))
 
 -- the calls of its n steps from step k on
 unfoldable pub calls_in : List ℕ → (ℕ → ThreadState) → ℕ → ℕ → List Exchange
 calls_in code at k zero = []
-calls_in code at k (suc n) = calls_in code at k n ++ call_at code at (k + n)
+calls_in code at k (suc n) = calls_in code at k n ++ exchange_at code at (k + n)
 
 -- each reply fits what was asked
 abbrev pub AllSuit : List Exchange → Type 0
