@@ -195,6 +195,21 @@ impl Debugger {
         self.timeline.go_to(hands, &self.at)
     }
 
+    /// Sees that the run in hand is at the cut, and what the last answer was stays. After a move it is there.
+    ///
+    /// # Errors
+    /// Out of memory.
+    pub fn be_here<H: Hands>(&mut self, hands: &H) -> Result<(), AllocError>
+        ensures desk { self.new.desk ≡ self.old.desk }
+        ensures there { OnOk result (IsThere self.new) }
+        ensures lacks { OnErr result (self.old.desk.fresh ≡ false) }
+    {
+        if self.fresh {
+            return Ok(());
+        }
+        self.timeline.go_to(hands, &self.at)
+    }
+
     // Sets a point, and answers its number.
     fn set(&mut self, point: Point) -> u32
         requires { refusal_of self.old.desk (command.Set point) ≡ None }

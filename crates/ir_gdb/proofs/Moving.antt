@@ -264,16 +264,16 @@ stop_of_met_thread_ignores_default s u each ys stop other cut x same are all is 
 -- ---- replies
 
 pub moves_by_interruption_if_stub_is_interrupted : (s v : Stub) (who : Moving) (m : Motion) (old new : List ℕ) → s.interrupted ≡ true
-    → v ≡ after_told (stub_spoken s) (interrupted_at who.thread) → EachRun v.desk.fitted (λ run. new ≡ old ++ told_text run v)
-    → (x : Stub) × EachRun s.desk.fitted (λ run. Moves run s who m x × (new ≡ old ++ told_text run x)) × (v ≡ stub_spoken x)
+    → v ≡ after_told s (interrupted_at who.thread) → EachRun v.desk.fitted (λ run. new ≡ old ++ told_text run v)
+    → (x : Stub) × EachRun s.desk.fitted (λ run. Moves run s who m x × (new ≡ old ++ told_text run x)) × (v ≡ x)
 moves_by_interruption_if_stub_is_interrupted s v who m old new stopped is told =
-    let after = after_told (stub_spoken s) (interrupted_at who.thread) in
+    let after = after_told s (interrupted_at who.thread) in
     let said = subst (λ (x : Stub). EachRun x.desk.fitted (λ run. new ≡ old ++ told_text run x)) is told in
     (after, λ run whole. (subst (λ (b : Bool). MovesBy b run s who m after) (sym stopped) refl, said run whole), is)
 
 pub replies_to_move : (s v : Stub) (moving : Option Moving) (who : Moving) (m : Motion) (old new : List ℕ) → HasRun s.desk.fitted
     → moving ≡ Some who
-    → ((after : Stub) × EachRun s.desk.fitted (λ run. Moves run s who m after × (new ≡ old ++ told_text run after)) × (v ≡ stub_spoken after))
+    → ((after : Stub) × EachRun s.desk.fitted (λ run. Moves run s who m after × (new ≡ old ++ told_text run after)) × (v ≡ after))
     → (text : List ℕ) × EachRun s.desk.fitted (λ run. RepliesToMove moving run s m text v) × (new ≡ old ++ text)
 replies_to_move s v moving who m old new has is (after, moves, said) =
     let text = told_text has.run after in

@@ -159,13 +159,13 @@ leads_alone_by_move s v t m free step (h, moves, settles) = (
 
 pub moves_and_replies_unless_interrupted : (s u v x : Stub) (who : Moving) (m : Motion) (together : Bool) (old new : List ℕ) → s.interrupted ≡ false
     → ((h : Halt) × EachRun s.desk.fitted (λ run. MotionLeads run s who.among who.thread m h) × (u ≡ arrived s who.among h))
-    → together ≡ together_after s who m → v ≡ with_together u together → EachRun v.desk.fitted (λ run. new ≡ old ++ told_text run v) → x ≡ stub_spoken v
-    → (after : Stub) × EachRun s.desk.fitted (λ run. Moves run s who m after × (new ≡ old ++ told_text run after)) × (x ≡ stub_spoken after)
+    → together ≡ together_after s who m → v ≡ with_together u together → EachRun v.desk.fitted (λ run. new ≡ old ++ told_text run v) → x ≡ v
+    → (after : Stub) × EachRun s.desk.fitted (λ run. Moves run s who m after × (new ≡ old ++ told_text run after)) × (x ≡ after)
 moves_and_replies_unless_interrupted s u v x who m together old new goes (h, leads, settles) says is told last =
     let after : Stub = with_together (arrived s who.among h) (together_after s who m) in
     let same : v ≡ after = is ∙ ap (λ (y : Stub). with_together y together) settles ∙ ap (λ (b : Bool). with_together (arrived s who.among h) b) says in
     let text = subst (λ (y : Stub). EachRun y.desk.fitted (λ run. new ≡ old ++ told_text run y)) same told in (
       after,
       λ run whole. (subst (λ (b : Bool). MovesBy b run s who m after) (sym goes) (h, leads run whole, refl), text run whole),
-      last ∙ ap (λ (y : Stub). stub_spoken y) same,
+      last ∙ same,
     )

@@ -1,5 +1,5 @@
 -- Replies to requests, from what puts them.
-use Rattle.std.proofs.Common.{◌≡◌, ◌⊎◌, ◌∙◌, ◌++◌, ℕ, true, false, not, List, length, Option, Some, None, Result, Ok, Err, OnErr, inr, refl, sym, ap, subst}
+use Rattle.std.proofs.Common.{◌≡◌, ◌⊎◌, ◌∙◌, ◌++◌, ℕ, true, false, not, List, length, Option, Some, None, Result, Ok, Err, OnErr, inl, refl, sym, ap, subst}
 use Rattle.std.proofs.lemmas.List.{append_cancel_left}
 use Rattle.ir_runs.specs.Run.{Step}
 use Rattle.ir_fit.specs.Fit.{HasRun}
@@ -167,7 +167,7 @@ module _ (s : Stub) (asked : Request) (next : Stub) (old new : List ℕ) where
   threads_put from most is same put = over (request.Threads from most) is
       (reply_put_if_text_carries_out_in_all_runs s (request.Threads from most) next old new (piece_text (thread_list_text s) from most) (λ run. (refl, same)) put)
 
-  module _ (has : HasRun s.desk.fitted) (said : next ≡ stub_spoken s) where
+  module _ (has : HasRun s.desk.fitted) (said : next ≡ s) where
     pub reason_put : asked ≡ request.Reason → EachRun s.desk.fitted (λ run. new ≡ old ++ told_text run s) → ReplyPut s asked next old new
     reason_put is each = over request.Reason is
         (reply_put_if_text_of_each_run_carries_out s request.Reason next old new (λ run. told_text run s) has (λ run text e. (e, said)) each)
@@ -206,11 +206,11 @@ lacks_if_request_may_lack_and_nothing_is_put s asked r next old new is may same 
 
 -- what reads the run at the cut lacks memory only if that isn't in hand
 pub lacks_if_reading_fails : {X E : Type 0} (result : Result X E) (s : Stub) (asked r : Request) (next : Stub) (old new : List ℕ) → asked ≡ r
-    → reply_may_lack s r ≡ not s.desk.fresh → next ≡ stub_spoken s → OnErr result (s.desk.fresh ≡ false) → OnErr result (new ≡ old)
+    → reply_may_lack s r ≡ not s.desk.fresh → next ≡ s → OnErr result (s.desk.fresh ≡ false) → OnErr result (new ≡ old)
     → OnErr result (Lacks s asked next × (new ≡ old))
 lacks_if_reading_fails (Ok x) s asked r next old new is may same stale kept = tt
 lacks_if_reading_fails (Err e) s asked r next old new is may same stale kept =
-    lacks_if_request_may_lack_and_nothing_is_put s asked r next old new is (may ∙ ap not stale) (inr same) kept
+    lacks_if_request_may_lack_and_nothing_is_put s asked r next old new is (may ∙ ap not stale) (inl same) kept
 
 -- ---- what was put after a request that changes nothing
 

@@ -36,7 +36,7 @@ module _ (s u : Stub) (number : Option ℕ) (next : Stub) (old new : List ℕ) (
   )
 
   pub restart_put_at : (mid : Stub) (cut : List ℕ) → HasRun s.desk.fitted → u.extended ≡ true → restart_cut u number ≡ Some cut
-      → mid ≡ all_at_stop u (halt 0 cut reason.Step) → next ≡ stub_spoken mid → EachRun mid.desk.fitted (λ run. new ≡ old ++ told_text run mid)
+      → mid ≡ all_at_stop u (halt 0 cut reason.Step) → next ≡ mid → EachRun mid.desk.fitted (λ run. new ≡ old ++ told_text run mid)
       → RestartPut s number next old new
   restart_put_at mid cut has may some moves said told =
       let is : mid ≡ restarted s cut = moves ∙ ap (λ (x : Stub). all_at_stop x (halt 0 cut reason.Step)) at in
@@ -49,7 +49,7 @@ module _ (s u : Stub) (number : Option ℕ) (next : Stub) (old new : List ℕ) (
             (subst (λ (m : Option (List ℕ)). RestartsAt m run s (told_text has.run (restarted s cut)) next)
             (sym some ∙ ap (λ (x : Stub). restart_cut x number) at) (
               append_cancel_left old (told_text has.run (restarted s cut)) (told_text run (restarted s cut)) (sym first ∙ each run of),
-              said ∙ ap stub_spoken is,
+              said ∙ is,
             )),
         first,
       )

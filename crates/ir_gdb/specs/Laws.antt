@@ -13,7 +13,7 @@ use Rattle.ir_debug.specs.Machine.{Desk, CarriesOut, moved_to}
 use Rattle.ir_packet.specs.declared.reply.Reason.TheVariants as reason
 use Rattle.ir_packet.specs.declared.request.Motion.{Motion}
 use Rattle.ir_packet.specs.declared.request.Motion.TheVariants as motion
-use Rattle.ir_gdb.specs.Stub.{Stub, stub_spoken}
+use Rattle.ir_gdb.specs.Stub.{Stub}
 use Rattle.ir_gdb.specs.declared.stopped.Stopped.{Stopped}
 use Rattle.ir_gdb.specs.Points.{watch_points, break_points}
 use Rattle.ir_gdb.specs.Stops.{position_of, watches_if, upwards_of, downwards_of, is_hit, direction_of}
@@ -113,7 +113,7 @@ ShowsHit u k h = (h.thread ≡ u) × (cut_of h.cut u ≡ k) × (is_hit h.reason 
 
 -- the stub behind the reply to a move of the threads together
 abbrev pub stub_behind : Stub → Halt → Stub
-stub_behind s h = stub_spoken (with_together (arrived s true h) true)
+stub_behind s h = with_together (arrived s true h) true
 
 -- threads continue in a direction, one after the other, with these stops: each is at a hit but the last
 unfoldable pub ContinuesToEnd : List Step → Stub → Direction → List (ℕ × Halt) → Type 0

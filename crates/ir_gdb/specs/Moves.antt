@@ -11,7 +11,7 @@ use Rattle.ir_packet.specs.declared.request.Mover.{Mover}
 use Rattle.ir_packet.specs.declared.request.Mover.TheVariants as mover
 use Rattle.ir_gdb.specs.declared.stopped.Told.{Told}
 use Rattle.ir_gdb.specs.declared.stopped.Moving.{Moving}
-use Rattle.ir_gdb.specs.Stub.{Stub, stub_spoken}
+use Rattle.ir_gdb.specs.Stub.{Stub}
 use Rattle.ir_gdb.specs.Reads.{thread_of_id, current_of}
 use Rattle.ir_gdb.specs.Together.{Halt, MovesAmong}
 use Rattle.ir_gdb.specs.Over.{LeadsAlone, after_alone}
@@ -84,7 +84,7 @@ with_together s together = record s { together = together }
 
 -- a move, by whether gdb has interrupted it
 abbrev pub MovesBy : Bool → List Step → Stub → Moving → Motion → Stub → Type 0
-MovesBy true run s who m next = next ≡ after_told (stub_spoken s) (interrupted_at who.thread)
+MovesBy true run s who m next = next ≡ after_told s (interrupted_at who.thread)
 MovesBy false run s who m next = (h : Halt) × MotionLeads run s who.among who.thread m h × (next ≡ with_together (arrived s who.among h) (together_after s who m))
 
 abbrev pub Moves : List Step → Stub → Moving → Motion → Stub → Type 0

@@ -36,7 +36,7 @@ watched address size = record { address = address; size = size }
 -- a move, by the thread that makes it, if there is one: the stop that ends it
 abbrev pub RepliesToMove : Option Moving → List Step → Stub → Motion → List ℕ → Stub → Type 0
 RepliesToMove None run s m text next = Says reply.NotPermitted s text next
-RepliesToMove (Some who) run s m text next = (after : Stub) × Moves run s who m after × StubAfter (told_text run after) (stub_spoken after) text next
+RepliesToMove (Some who) run s m text next = (after : Stub) × Moves run s who m after × StubAfter (told_text run after) after text next
 
 -- the reply to a request that neither reads the run nor moves it, if it is such a one
 abbrev pub plain_reply : Stub → Request → Option Reply
@@ -72,10 +72,10 @@ abbrev pub RepliesIfMemory : List Step → Stub → Request → List ℕ → Stu
 RepliesIfMemory run s request.Supported text next = StubAfter supported_text s text next
 RepliesIfMemory run s (request.Description from most) text next = StubAfter (piece_text description_text from most) s text next
 RepliesIfMemory run s (request.Threads from most) text next = StubAfter (piece_text (thread_list_text s) from most) s text next
-RepliesIfMemory run s request.Reason text next = StubAfter (told_text run s) (stub_spoken s) text next
-RepliesIfMemory run s request.Registers text next = StubAfter (registers_reply run s) (stub_spoken s) text next
-RepliesIfMemory run s (request.Register n) text next = StubAfter (register_reply run s n) (stub_spoken s) text next
-RepliesIfMemory run s (request.Memory address size) text next = StubAfter (memory_reply run s address size) (stub_spoken s) text next
+RepliesIfMemory run s request.Reason text next = StubAfter (told_text run s) s text next
+RepliesIfMemory run s request.Registers text next = StubAfter (registers_reply run s) s text next
+RepliesIfMemory run s (request.Register n) text next = StubAfter (register_reply run s n) s text next
+RepliesIfMemory run s (request.Memory address size) text next = StubAfter (memory_reply run s address size) s text next
 RepliesIfMemory run s (request.Move m who) text next = RepliesToMove (moving_of s who) run s m text next
 RepliesIfMemory run s request.Restart text next = RepliesToRestart run s None text next
 RepliesIfMemory run s (request.RestartAt n) text next = RepliesToRestart run s (Some n) text next
@@ -87,7 +87,8 @@ has_reply request.Console = false
 has_reply request.Kill = false
 has_reply asked = true
 
--- whether the reply may want memory. What reads the run at the cut wants none before the small machine's first answer, and after a move of it
+-- whether the reply may want memory. What reads the run at the cut wants none while the small machine is fresh: before its first answer, and
+-- after a move of it
 abbrev pub reply_may_lack : Stub → Request → Bool
 reply_may_lack s (request.Threads from most) = true
 reply_may_lack s request.Reason = not s.desk.fresh

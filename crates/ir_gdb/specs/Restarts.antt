@@ -34,7 +34,7 @@ restarted s cut = all_at_stop s (halt 0 cut reason.Step)
 
 abbrev pub RestartsAt : Option (List ℕ) → List Step → Stub → List ℕ → Stub → Type 0
 RestartsAt None run s text next = (text ≡ reply_text reply.NotPermitted) × (next ≡ stub_spoken s)
-RestartsAt (Some cut) run s text next = (text ≡ told_text run (restarted s cut)) × (next ≡ stub_spoken (restarted s cut))
+RestartsAt (Some cut) run s text next = (text ≡ told_text run (restarted s cut)) × (next ≡ restarted s cut)
 
 -- `vRun`, after `!` alone
 abbrev pub RestartsBy : Bool → List Step → Stub → Option ℕ → List ℕ → Stub → Type 0

@@ -204,13 +204,13 @@ impl Remote {
         self.debugger.fitted().known();
     }
 
-    // Brings the run in hand to the cut.
-    fn bring_here<H: Hands>(&mut self, hands: &H) -> Result<(), AllocError>
-        ensures stub { self.new.stub ≡ stub_spoken self.old.stub }
+    // Sees that the run in hand is at the cut.
+    fn be_here<H: Hands>(&mut self, hands: &H) -> Result<(), AllocError>
+        ensures stub { self.new.stub ≡ self.old.stub }
         ensures there { OnOk result (IsThere self.new) }
         ensures lacks { OnErr result (self.old.stub.desk.fresh ≡ false) }
     {
-        self.debugger.bring_here(hands)
+        self.debugger.be_here(hands)
     }
 
     // A thread in hand, where all are at a cut.

@@ -65,13 +65,13 @@ impl Remote {
     /// Out of memory.
     pub fn reason<H: Hands>(&mut self, hands: &H, out: &mut Vec<u8>) -> Result<(), AllocError>
         requires { vec_len out.old + 96 ≤ vec_capacity out.old }
-        ensures stub { self.new.stub ≡ stub_spoken self.old.stub }
+        ensures stub { self.new.stub ≡ self.old.stub }
         ensures ok { OnOk result (EachRun self.old.stub.desk.fitted (λ run. out.new.items ≡ out.old.items ++ told_text run self.old.stub)) }
         ensures err { OnErr result (out.new.items ≡ out.old.items) }
         ensures lacks { OnErr result (self.old.stub.desk.fresh ≡ false) }
         ensures capacity { vec_capacity out.new ≡ vec_capacity out.old }
     {
-        self.bring_here(hands)?;
+        self.be_here(hands)?;
         self.put_told(out);
         Ok(())
     }
@@ -115,7 +115,7 @@ impl Remote {
     pub(crate) fn put_stop_here<H: Hands>(&mut self, hands: &H, out: &mut Vec<u8>)
         requires moved { self.old.stub.desk.fresh ≡ true }
         requires room { vec_len out.old + 96 ≤ vec_capacity out.old }
-        ensures stub { self.new.stub ≡ stub_spoken self.old.stub }
+        ensures stub { self.new.stub ≡ self.old.stub }
         ensures bytes { EachRun self.old.stub.desk.fitted (λ run. out.new.items ≡ out.old.items ++ told_text run self.old.stub) }
         ensures capacity { vec_capacity out.new ≡ vec_capacity out.old }
     {
@@ -177,11 +177,14 @@ impl Remote {
     // A thread that gdb has interrupted stays where it is.
     fn stay<H: Hands>(&mut self, hands: &H, thread: u32) -> Result<(), AllocError>
         requires { thread < threads_of self.old.stub.desk.fitted }
-        ensures ok { OnOk result (self.new.stub ≡ after_told (stub_spoken self.old.stub) (interrupted_at thread)) }
+        ensures ok { OnOk result (self.new.stub ≡ after_told self.old.stub (interrupted_at thread)) }
         ensures there { OnOk result (IsThere self.new) }
         ensures err { OnErr result (self.new.stub ≡ stub_spoken self.old.stub) }
     {
-        self.bring_here(hands)?;
+        let Ok(_) = self.be_here(hands) else {
+            self.speak();
+            return Err(AllocError);
+        };
         let interrupted = true;
         let reason = Reason::Step;
         self.tell(Told {
@@ -242,7 +245,7 @@ impl Remote {
     ) -> Result<(), AllocError>
         requires room { vec_len out.old + 96 ≤ vec_capacity out.old }
         requires thread { who.thread < threads_of self.old.stub.desk.fitted }
-        ensures ok { OnOk result ((after : Stub) × EachRun self.old.stub.desk.fitted (λ run. Moves run self.old.stub who motion after × (out.new.items ≡ out.old.items ++ told_text run after)) × (self.new.stub ≡ stub_spoken after)) }
+        ensures ok { OnOk result ((after : Stub) × EachRun self.old.stub.desk.fitted (λ run. Moves run self.old.stub who motion after × (out.new.items ≡ out.old.items ++ told_text run after)) × (self.new.stub ≡ after)) }
         ensures err { OnErr result ((self.new.stub ≡ stub_spoken self.old.stub) × (out.new.items ≡ out.old.items)) }
         ensures capacity { vec_capacity out.new ≡ vec_capacity out.old }
     {
