@@ -4,6 +4,7 @@ ghost use Rattle.std.specs.Prelude.{◌≡◌};
 
 use crossbeam_utils::CachePadded;
 use ir_explore::Observer;
+use ir_hunt::{ERASED, ROW, ROW_END};
 use ir_image::MOST_THREADS;
 use ir_object::Gate;
 use ir_runs::Access;
@@ -21,9 +22,6 @@ const NEVER: u32 = u32::MAX;
 
 // How many states are found between two looks at the clock.
 const STATES_FOR_A_LOOK: usize = 1 << 12;
-
-// As long as the longest line.
-const BLANKS: &str = "                                                            ";
 
 /// Shows on standard error, once a second, how many steps all threads have taken since the program wrote something last: of a
 /// recording the private ones; of a search for all outcomes how many states and outcomes it has found, after how many switches.
@@ -84,7 +82,9 @@ impl<R: Clock + Eprint> Progress<'_, R> {
             sum = sum.saturating_add(steps.load(Ordering::Relaxed));
         }
         let millions = sum / 1_000_000;
-        let _ = self.rt.eprint(format_args!("{millions} million steps\r"));
+        let _ = self
+            .rt
+            .eprint(format_args!("{ROW}{millions} million steps{ROW_END}"));
     }
 
     // Counts steps of a thread, and now and then shows the sum.
@@ -106,7 +106,7 @@ impl<R: Clock + Eprint> Progress<'_, R> {
             return;
         }
         if self.stands.swap(false, Ordering::Relaxed) {
-            let _ = self.rt.eprint(format_args!("{BLANKS}\r"));
+            let _ = self.rt.eprint(format_args!("{ERASED}"));
         }
         for steps in &self.steps {
             steps.store(0, Ordering::Relaxed);
@@ -138,13 +138,13 @@ impl<R: Clock + Eprint> Observer for Progress<'_, R> {
             return;
         }
         self.stands.store(true, Ordering::Relaxed);
-        // A search for more switches begins again: none of its outcomes is known before its first level ends, and its line is shorter.
+        // A search for more switches begins again: none of its outcomes is known before its first level ends.
         let outcomes = match switches {
             0 => 0,
             _ => self.outcomes.load(Ordering::Relaxed),
         };
         let _ = self.rt.eprint(format_args!(
-            "{BLANKS}\r{states} states, {switches} switches, {outcomes} outcomes\r"
+            "{ROW}{states} states, {switches} switches, {outcomes} outcomes{ROW_END}"
         ));
     }
 

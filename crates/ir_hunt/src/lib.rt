@@ -16,3 +16,4 @@ mod worker;
 
 pub use hunting::{hunt_run, order_of_seed};
 pub use plan::{HuntPlan, Seeds};
+pub use shown::{ERASED, ROW, ROW_END};

@@ -4,9 +4,14 @@ use crate::plan::Seeds;
 use ir_sources::millis_since;
 use std::time::{Clock, Instant};
 
-// No line of a hunt that a person waits for is longer, and no row of a terminal shorter.
-const BLANKS: &str =
-    "                                                                               ";
+/// Erases the terminal's row from the cursor on (EL of ECMA-48).
+pub const ERASED: &str = "\x1b[K";
+
+/// Begins a line that stays in its row: the terminal cuts what is longer at its right edge (mode DECAWM of the VT100, off).
+pub const ROW: &str = "\x1b[K\x1b[?7l";
+
+/// Ends such a line, and goes back to the row's first column.
+pub const ROW_END: &str = "\x1b[?7h\r";
 
 /// What is shown of a hunt on the way, once a second.
 #[derive(Clone, Copy, Debug)]
@@ -38,9 +43,8 @@ impl Shown {
         self.stands = true;
         let seconds = (self.millis / 1000).max(1) as u64;
         let (seeds, rate) = (self.seeds, self.seeds / seconds);
-        // The rate may have lost a digit, and then the line is shorter than the one before.
         let _ = rt.eprint(format_args!(
-            "{BLANKS}\r{seeds} seeds, {rate} per second, up to {last}\r"
+            "{ROW}{seeds} seeds, {rate} per second, up to {last}{ROW_END}"
         ));
     }
 
@@ -63,7 +67,7 @@ impl Shown {
     pub fn end<R: Eprint>(&mut self, rt: &R) {
         if self.stands {
             self.stands = false;
-            let _ = rt.eprint(format_args!("{BLANKS}\r"));
+            let _ = rt.eprint(format_args!("{ERASED}"));
         }
     }
 }
