@@ -6,6 +6,7 @@ use clap::error::ErrorKind;
 use clap::{ArgMatches, Command, Error};
 use std::alloc::{AllocError, Global};
 use std::{env, io};
+use strsim::levenshtein;
 
 const ABOUT: &str = "A proved record and replay debugger for guests of RV32IM threads";
 
@@ -26,10 +27,13 @@ Without a subcommand `ir` reads standard input: a line with an image in hexadeci
 hexadecimal, and then the commands of `ir debug`, a line each. With xxd for the hexadecimal:
   { for file in guest.img guest.trc; do xxd -p $file | tr -d '\\n'; echo; done; echo end; echo regs 0; } | ir
 Exit status: 0 done, 1 a fault, 2 bad arguments, 3 a refused source, ELF file, MAP, LIST, COND, image or trace, or a guest that
-needs the second profile, 4 a trace that doesn't fit or contradicts itself, 5 a thread that didn't end by END with code 0, if
-`ir record` was called with --status, no seed that `ir hunt` found, or a search of `ir explore` that stopped, or found no outcome
-that was asked for.
+needs the second profile, 4 a trace that doesn't fit or contradicts itself, 5 no seed or outcome is as COND says, or, with
+`ir record --status`, a thread didn't end by END with code 0, 6 `ir hunt` or `ir explore` gave up, 7 `ir explore` finished, and
+some run hangs.
 ";
+
+// So many edits make a word another one.
+const OTHER_WORD: usize = 3;
 
 // The parser of all arguments.
 fn command<'a>(alloc: Global) -> Result<Command<'a>, AllocError> {
@@ -60,12 +64,45 @@ fn in_one_line(alloc: Global, error: &Error) -> Result<String, AllocError> {
     Ok(line)
 }
 
-fn asked_for(alloc: Global, error: &Error) -> Result<Asked, AllocError> {
-    if error.use_stderr() {
-        Ok(Asked::Nothing(in_one_line(alloc, error)?))
-    } else {
-        Ok(Asked::Help(error.to_string(alloc)?))
+// The name of the subcommand that takes the fewest edits of a word, if it isn't quite another word.
+fn nearest<'a>(alloc: Global, word: &str) -> Result<Option<&'a str>, AllocError> {
+    let mut found = None;
+    let mut fewest = OTHER_WORD;
+    for subcommand in &SUBCOMMANDS {
+        let name = subcommand.row().name;
+        let edits = levenshtein(alloc, word, name)?;
+        if edits < fewest {
+            found = Some(name);
+            fewest = edits;
+        }
     }
+    Ok(found)
+}
+
+// Says where to look, behind a word that is no subcommand.
+fn push_hint(alloc: Global, line: &mut String, word: &str) -> Result<(), AllocError> {
+    match nearest(alloc, word)? {
+        Some(name) => {
+            line.push_str(": did you mean '")?;
+            line.push_str(name)?;
+            line.push_str("'?")
+        }
+        None => line.push_str(": see ir --help"),
+    }
+}
+
+// What an error says, with the help that it asks for, or why nothing is asked.
+fn asked_for(alloc: Global, error: &Error, arguments: &[String]) -> Result<Asked, AllocError> {
+    if !error.use_stderr() {
+        return Ok(Asked::Help(error.to_string(alloc)?));
+    }
+    let mut line = in_one_line(alloc, error)?;
+    if error.kind() == ErrorKind::InvalidSubcommand {
+        if let Some(word) = arguments.get(1) {
+            push_hint(alloc, &mut line, word.as_str())?;
+        }
+    }
+    Ok(Asked::Nothing(line))
 }
 
 // What the arguments of the subcommand ask for; without one a session.
@@ -89,7 +126,7 @@ pub fn parsed(alloc: Global, arguments: &[String]) -> Asked {
     match command.try_get_matches_from(arguments) {
         Ok(matches) => by_subcommand(alloc, &matches).unwrap_or(Asked::NoMem),
         Err(error) if error.kind() == ErrorKind::OutOfMemory => Asked::NoMem,
-        Err(error) => asked_for(alloc, &error).unwrap_or(Asked::NoMem),
+        Err(error) => asked_for(alloc, &error, arguments).unwrap_or(Asked::NoMem),
     }
 }
 

@@ -207,7 +207,8 @@ impl Debugger {
         if self.fresh {
             return Ok(());
         }
-        self.timeline.go_to(hands, &self.at)
+        let at = &self.at;
+        self.timeline.go_to(hands, at)
     }
 
     // Sets a point, and answers its number.

@@ -149,7 +149,7 @@ pub fn prepared<R: Threads + Wait + Sync + Clock + Eprint + AllocGlobal>(
 const EXPLAINED: &str = "line 2 error 2\nbad.s:2: an unknown instruction or directive: x\n";
 
 // The words, the exit status, and what is reported.
-const ROWS: [(&str, u8, &str); 57] = [
+const ROWS: [(&str, u8, &str); 58] = [
     (
         "ir asm",
         2,
@@ -170,7 +170,16 @@ const ROWS: [(&str, u8, &str); 57] = [
         2,
         "ir: the following required arguments were not provided: <TRACE>\n",
     ),
-    ("ir play", 2, "ir: unrecognized subcommand 'play'\n"),
+    (
+        "ir play",
+        2,
+        "ir: unrecognized subcommand 'play': see ir --help\n",
+    ),
+    (
+        "ir exploer",
+        2,
+        "ir: unrecognized subcommand 'exploer': did you mean 'explore'?\n",
+    ),
     (
         "ir asm d.s d2.img --fast",
         2,
