@@ -1,6 +1,6 @@
 //! The turn of a thread at a node.
 
-ghost use Rattle.std.specs.Prelude.{◌≡◌, ℕ, ◌<◌, true, false, Some, length, slice_get, IfOk, IfSome};
+ghost use Rattle.std.specs.Prelude.{◌≡◌, ℕ, ◌<◌, [], true, false, Some, length, slice_get, IfOk, IfSome};
 ghost use Rattle.std.specs.List.{slice_index_or};
 ghost use Rattle.ir_graph.specs.Ahead.{AreTurns, IsFrom, IsTurnOf};
 ghost use Rattle.ir_graph.specs.Plain.{MayGo};
@@ -15,7 +15,7 @@ use crate::known::Turn;
 use crate::lone::{turn_among, waits};
 use crate::way::Way;
 use ir_image::Code;
-use ir_store::Store;
+use ir_store::{Spot, Store};
 use ir_thread::Ask;
 use std::alloc::{AllocError, Global};
 
@@ -70,6 +70,30 @@ fn object_of(asked: Ask) -> Option<(u8, bool)>
     }
 }
 
+// A thread that has to wait for the first of these objects.
+fn waiting_turn(
+    alloc: Global,
+    from: usize,
+    tries: bool,
+    refused: bool,
+    numbers: Vec<u8>,
+    spots: Vec<Spot>,
+) -> Turn
+    ensures turn { result ≡ record { from = from; tries = tries; refused = refused; waits = true; to = from; numbers = numbers; spots = spots; afters = result.afters } }
+    ensures none { result.afters.items ≡ [] }
+{
+    Turn {
+        from,
+        tries,
+        refused,
+        waits: true,
+        to: from,
+        numbers,
+        spots,
+        afters: Vec::new(alloc),
+    }
+}
+
 // The turn of a thread at a node, if it is about no objects but the one that it enters or tries to and those that it holds, or it has to wait.
 fn new_turn(
     flats: &mut Store<'_>,
@@ -98,16 +122,8 @@ fn new_turn(
     };
     let mut objects = objects_at(alloc, flats, spots.as_slice())?;
     if waits(asked, &objects[0], number, way.refused) {
-        return Ok(Some(Turn {
-            from,
-            tries,
-            refused: way.refused,
-            waits: true,
-            to: from,
-            numbers,
-            spots,
-            afters: Vec::new(alloc),
-        }));
+        let turn = waiting_turn(alloc, from, tries, way.refused, numbers, spots);
+        return Ok(Some(turn));
     }
     if !turn_among(
         code,

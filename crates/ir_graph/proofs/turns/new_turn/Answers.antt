@@ -9,6 +9,8 @@ use Rattle.ir_thread.specs.State.{ThreadState, ask_of}
 use Rattle.ir_store.specs.Nodes.{HaveWords, cells_at}
 use Rattle.ir_store.specs.Table.{idle_beside}
 use Rattle.ir_store.proofs.CallerLemmas.{kept_element_is_equal}
+use Rattle.ir_graph.specs.declared.known.Turn.{Turn}
+use Rattle.ir_graph.specs.Ahead.{IsTurnOf}
 use Rattle.ir_graph.specs.Hand.{IsHandOf}
 use Rattle.ir_graph.specs.Lone.{AreAmong, MustWait, TakesTurn}
 use Rattle.ir_graph.specs.Plain.{MayGo}
@@ -96,24 +98,25 @@ returns-then-waits-clause-turn c = λ f at.
     let must : MustWait refused number (get_or objects 0 empty).fields (ask_of c.args.code.now c.in_ok-own.own.0) =
     subst (MustWait refused number (get_or objects 0 empty).fields) asked
     (subst (λ (k : Cell). MustWait refused number k.fields c.ask-asked.result) first (c.waits.ensures c.if-waits.true)) in
-    record {
-      is = waiting_turn_is_turn c.args.code.now c.args.flats.now.shared
-          (record {
-            from = c.thread_number-from.result;
-            tries = c.in-Some.tries;
-            refused = refused;
-            waits = true;
-            to = c.thread_number-from.result;
-            numbers = c.in_ok-numbers.numbers;
-            spots = c.in-Some-2.spots;
-            afters = c.new.result;
-          }) refl refl c.new.ensures.items c.in_ok-own.own objects c.thread_number-from.ensures.within c.in_ok-own.ensures.found some
+    let turn : Turn = record {
+      from = c.thread_number-from.result;
+      tries = c.in-Some.tries;
+      refused = refused;
+      waits = true;
+      to = c.thread_number-from.result;
+      numbers = c.in_ok-numbers.numbers;
+      spots = c.in-Some-2.spots;
+      afters = c.waiting_turn-turn.result.afters;
+    } in
+    subst (λ (z : Turn). IsTurnOf c.args.code.now c.args.flats.now.shared f c.args.way.thread refused z) (sym c.waiting_turn-turn.ensures.turn)
+    (record {
+      is = waiting_turn_is_turn c.args.code.now c.args.flats.now.shared turn refl refl c.waiting_turn-turn.ensures.none c.in_ok-own.own objects c.thread_number-from.ensures.within c.in_ok-own.ensures.found some
           c.in_ok-numbers.ensures.once (known_at_spots words f.flat.objects numbers spots there) cells
           (λ no. subst (λ q. MayGo true q → ⊥) asked (c.in-Some.ensures no))
           (subst (λ o. MustWait refused o (get_or objects 0 empty).fields (ask_of c.args.code.now c.in_ok-own.own.0))
           (sym (first_of_hand number numbers c.in_ok-numbers.ensures)) must);
       from = record { way = refl; here = c.thread_number-from.ensures.thread f at; there = there };
-    }
+    })
 
 pub returns-clause-turn : goal.returns-clause-turn
 returns-clause-turn c = λ f at.
