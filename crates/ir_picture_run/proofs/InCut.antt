@@ -19,7 +19,7 @@ use Rattle.ir_fit_run.proofs.CallerLemmas.{slice_get_is_get_or_below_length, rec
 use Rattle.ir_picture_run.specs.Laws.{BehindIsInCut}
 
 -- the step of an event emits what is logged as it
-event_step_emits_its_label : (f : FittedTrace) (h : HasRun f) (t i : ℕ) (e : Event) → event_at f.recorded t i ≡ Some e
+pub event_step_emits_its_label : (f : FittedTrace) (h : HasRun f) (t i : ℕ) (e : Event) → event_at f.recorded t i ≡ Some e
     → Emits (machine_of f) (start_of f) h.run t (entry_of f t i) (label_of e)
 event_step_emits_its_label f h t i e there =
     let es : List Event = (recorded_thread f.recorded t).events in

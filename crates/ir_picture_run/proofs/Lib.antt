@@ -4,5 +4,8 @@ mod Lasts
 mod Going
 mod Behind
 mod InCut
+mod Entered
+mod Moments
+mod LeftCut
 mod HeldOf
 mod Shown
