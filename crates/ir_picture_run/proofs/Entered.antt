@@ -257,9 +257,9 @@ left_object_was_entered m law s good (e ∷ run) ok t j o a v x = elim (cases_eq
   | inl own ↦ by own (λ k y. left_object_was_entered m law (after m s e) (state_invariant_after_step m law s good e ok.0) run ok.1 t k o a v y) j x
   | inr other ↦ elim (left_object_was_entered m law (after m s e) (state_invariant_after_step m law s good e ok.0) run ok.1 t j o a v
       (rest_emits_same m s e run t j (Out o a v) (λ same. other (sym same)) x)) [
-    | inl inside ↦ inl (inside_before_other_step m law s good e run t j o a v other inside)
-    | inr entered ↦ inr (entered_before_other_step m s e run t j o a v (λ same. other (sym same)) entered)
-  ]
+        | inl inside ↦ inl (inside_before_other_step m law s good e run t j o a v other inside)
+        | inr entered ↦ inr (entered_before_other_step m s e run t j o a v (λ same. other (sym same)) entered)
+      ]
 ]
   where
     by : e.0 ≡ t → ((k : ℕ) → Emits m (after m s e) run t k (Out o a v) → IsInsideTo m (after m s e) run t k o a v ⊎ IsEnteredTo m (after m s e) run t k o a v)
