@@ -7,5 +7,6 @@ mod InCut
 mod Entered
 mod Moments
 mod LeftCut
+mod FirstRight
 mod HeldOf
 mod Shown

@@ -1,6 +1,6 @@
 //! What holds of the places and rows of the boxes of a run. The functions do nothing: their contracts are the laws.
 
-ghost use Rattle.ir_picture_run.specs.Laws.{BehindIsInCut, BehindIsLeft, LeftIsConsistent, RowsDontOverlap};
+ghost use Rattle.ir_picture_run.specs.Laws.{BehindIsInCut, BehindIsLeft, LeftIsConsistent, LeftIsCut, RowsDontOverlap};
 
 /// A consistent cut that has the step of an event has what the thread of an event that it needs logged before it left what is needed.
 pub fn behind_is_in_cut()
@@ -15,6 +15,11 @@ pub fn behind_is_left()
 /// What is left of an x is a consistent cut.
 pub fn left_is_consistent()
     ensures { LeftIsConsistent }
+{}
+
+/// For each x there is such a cut.
+pub fn left_is_cut()
+    ensures { LeftIsCut }
 {}
 
 /// Two boxes of a thread that have the same row don't overlap.
