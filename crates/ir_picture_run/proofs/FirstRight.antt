@@ -274,19 +274,21 @@ pub left_of_x_is_cut : LeftIsCut
 left_of_x_is_cut f run boxes spans ends h x =
     let n = threads_of f in
     let found = left_cut_exists f run boxes spans ends h x in
-    let c = found.0 in
-    (map c (range_with_len 0 n), record {
-      size = length-map-range_with_len c 0 n;
-      within = λ t. elim (cases_lt t n) [
-        | inl there ↦ (let same = listed_cut_is_cut c n t there in let within = found.1.within t in omega (arith, same, within))
-        | inr past ↦ (let none = listed_cut_is_zero_past_end c n t past in omega (arith, none))
-      ];
-      left = λ t k z m left.
-          let there = (moment_is_within_thread f run boxes spans ends h t k z m).0 in
-          let same = listed_cut_is_cut c n t there in
-          let before = found.1.left t k z m left in omega (arith, same, before);
-      rest = λ t k z m far.
-          let there = (moment_is_within_thread f run boxes spans ends h t k z m).0 in
-          let same = listed_cut_is_cut c n t there in
-          let behind = found.1.rest t k z m far in omega (arith, same, behind);
-    })
+    let c = found.0 in (
+      map c (range_with_len 0 n),
+      record {
+        size = length-map-range_with_len c 0 n;
+        within = λ t. elim (cases_lt t n) [
+          | inl there ↦ (let same = listed_cut_is_cut c n t there in let within = found.1.within t in omega (arith, same, within))
+          | inr past ↦ (let none = listed_cut_is_zero_past_end c n t past in omega (arith, none))
+        ];
+        left = λ t k z m left.
+            let there = (moment_is_within_thread f run boxes spans ends h t k z m).0 in
+            let same = listed_cut_is_cut c n t there in
+            let before = found.1.left t k z m left in omega (arith, same, before);
+        rest = λ t k z m far.
+            let there = (moment_is_within_thread f run boxes spans ends h t k z m).0 in
+            let same = listed_cut_is_cut c n t there in
+            let behind = found.1.rest t k z m far in omega (arith, same, behind);
+      },
+    )

@@ -213,21 +213,23 @@ leave_is_in_cut f run boxes spans ends h x c cut u j k within a leave left =
     let inside = cut.left u a.own.last a.box.end.x moment left in
     omega (arith, by, inside)
 
+-- a thread that there isn't has no last position
+pub missing_thread_has_no_step : (f : FittedTrace) → HasRun f → (t : ℕ) → threads_of f ≤ t → last_of f t ≡ 0
+missing_thread_has_no_step f run t past =
+    let threads = run.whole.0.threads in
+    ap (λ (z : RecordedThread). z.steps) (get_or_past f.recorded.threads t absent (omega (arith, threads, past)))
+
 -- no position is past the thread's last
-left_cut_is_cut : (f : FittedTrace) (boxes : List PlacedBox) (spans : List Span) (x : ℕ) (c : Cut) → IsLeftCut f boxes spans x c
-    → EachRun f (λ run. IsCut (machine_of f) (start_of f) run c)
-left_cut_is_cut f boxes spans x c cut run of t = elim (cases_lt t (threads_of f)) [
-  | inl there ↦ let steps = of.1.steps t there in let within = cut.within t in omega (arith, steps, within)
-  | inr past ↦
-      let threads = of.0.threads in
-      let none = ap (λ (z : RecordedThread). z.steps) (get_or_past f.recorded.threads t absent (omega (arith, threads, past))) in
-      let within = cut.within t in omega (arith, none, within)
+pub positions_within_last_are_cut : (f : FittedTrace) (c : Cut) → ((t : ℕ) → c t ≤ last_of f t) → EachRun f (λ run. IsCut (machine_of f) (start_of f) run c)
+positions_within_last_are_cut f c within run of t = elim (cases_lt t (threads_of f)) [
+  | inl there ↦ (let steps = of.1.steps t there in let low = within t in omega (arith, steps, low))
+  | inr past ↦ (let none = missing_thread_has_no_step f (record { run = run; whole = of }) t past in let low = within t in omega (arith, none, low))
 ]
 
 pub left_cut_is_consistent : (f : FittedTrace) → HasRun f → (boxes : List PlacedBox) (spans : List Span) (ends : List Point) → AreHeld f boxes spans ends
     → (x : ℕ) (c : Cut) → IsLeftCut f boxes spans x c
     → EachRun f (λ run. IsCut (machine_of f) (start_of f) run c × Consistent (machine_of f) (start_of f) run c)
-left_cut_is_consistent f some boxes spans ends h x c cut run of = (left_cut_is_cut f boxes spans x c cut run of, consistent)
+left_cut_is_consistent f some boxes spans ends h x c cut run of = (positions_within_last_are_cut f c cut.within run of, consistent)
   where
     own : HasRun f
     own = record { run = run; whole = of }

@@ -8,5 +8,7 @@ mod Entered
 mod Moments
 mod LeftCut
 mod FirstRight
+mod Walk
+mod Orders
 mod HeldOf
 mod Shown

@@ -79,10 +79,10 @@ step_of_cut_is_before run c x n t k step inside = elim (cases_lt n x.at) [
 pub step_outside_cut_is_behind : (run : List Step) (c : Cut) (x : Passes run c) (n t k : ℕ) → IsStepAt run n t k → c t ≤ k → x.at ≤ n
 step_outside_cut_is_behind run c x n t k step outside = elim (cases_lt n x.at) [
   | inl less ↦ absurd (
-    let more = number_of_more_is_no_less t (n + 1) x.at run (omega (arith, less)) in
-    let next = number_of_own_step t step.result n run step.there in
-    let all = x.numbers t in
-    let own = step.before in omega (arith, more, next, all, own, outside))
+      let more = number_of_more_is_no_less t (n + 1) x.at run (omega (arith, less)) in
+      let next = number_of_own_step t step.result n run step.there in
+      let all = x.numbers t in
+      let own = step.before in omega (arith, more, next, all, own, outside))
   | inr past ↦ past
 ]
 
@@ -248,24 +248,48 @@ comes_to_same_cut m s run steps p q same x =
     let one : p ≡ q = λ i t. same t i in
     subst (ComesTo m s run steps) one x
 
-pub come_to_target : {T : Type 0} (m : Machine T) → IsLawful m → (s : State T) → StateInvariant m s → (run : List Step) → IsRun m s run → (n fuel : ℕ)
-    (steps : List Step) (p q : Cut) → IsCut m s run p → Consistent m s run p → IsTarget m s run n p q → ComesTo m s run steps p
-    → sum_below n q ≤ sum_below n p + fuel → (more : List Step) × ComesTo m s run (steps ++ more) q
-come_to_target m law s good run ok n fuel steps p q cut consistent h x enough = elim (below_target_or_none n p q) [
-  | inl found ↦ on fuel enough (progress_below_consistent_target m law s good run ok p q consistent h.consistent h.cut found.0 found.2)
-  | inr none ↦
-      let same : (t : ℕ) → p t ≡ q t = λ t. elim (cases_lt t n) [
-        | inl there ↦ let low = none t there in let high = h.above t in omega (arith, low, high)
-        | inr past ↦ sym (h.others t past)
-      ] in
-      ([], subst (λ z. ComesTo m s run z q) (sym (append-nil steps)) (comes_to_same_cut m s run steps p q same x))
-]
+arrives_if_none_is_below : {T : Type 0} (m : Machine T) (s : State T) (run : List Step) (n : ℕ) (steps : List Step) (p q : Cut) → IsTarget m s run n p q
+    → ComesTo m s run steps p → ((t : ℕ) → t < n → q t ≤ p t) → (more : List Step) × ComesTo m s run (steps ++ more) q
+arrives_if_none_is_below m s run n steps p q h x none =
+    ([], subst (λ z. ComesTo m s run z q) (sym (append-nil steps)) (comes_to_same_cut m s run steps p q same x))
   where
-    thread_is_there : (t : ℕ) → p t < q t → t < n
-    thread_is_there t less = elim (cases_lt t n) [
-      | inl there ↦ there
-      | inr past ↦ absurd (let same = h.others t past in omega (arith, same, less))
+    same : (t : ℕ) → p t ≡ q t
+    same t = elim (cases_lt t n) [
+      | inl there ↦ (let low = none t there in let high = h.above t in omega (arith, low, high))
+      | inr past ↦ sym (h.others t past)
     ]
 
-    on : (left : ℕ) → sum_below n q ≤ sum_below n p + left → Progress m s run p q → (more : List Step) × ComesTo m s run (steps ++ more) q
-    on left all next = ?
+thread_below_target_is_there : {T : Type 0} (m : Machine T) (s : State T) (run : List Step) (n : ℕ) (p q : Cut) → IsTarget m s run n p q → (t : ℕ)
+    → p t < q t → t < n
+thread_below_target_is_there m s run n p q h t less = elim (cases_lt t n) [
+  | inl there ↦ there
+  | inr past ↦ absurd (let same = h.others t past in omega (arith, same, less))
+]
+
+comes_by_step_and_rest : {T : Type 0} (m : Machine T) (s : State T) (run : List Step) (q : Cut) (steps : List Step) (e : Step) (more : List Step)
+    → ComesTo m s run ((steps ++ e ∷ []) ++ more) q → ComesTo m s run (steps ++ (e ∷ more)) q
+comes_by_step_and_rest m s run q steps e more x = subst (λ z. ComesTo m s run z q) (append_assoc steps (e ∷ []) more) x
+
+pub run_comes_to_target : {T : Type 0} (m : Machine T) → IsLawful m → (s : State T) → StateInvariant m s → (run : List Step) → IsRun m s run → (n fuel : ℕ)
+    (steps : List Step) (p q : Cut) → IsCut m s run p → Consistent m s run p → IsTarget m s run n p q → ComesTo m s run steps p
+    → sum_below n q ≤ sum_below n p + fuel → (more : List Step) × ComesTo m s run (steps ++ more) q
+run_comes_to_target m law s good run ok n zero steps p q cut consistent h x enough = elim (below_target_or_none n p q) [
+  | inl found ↦ absurd (let more = sum_below_less_if_one_less n found.0 p q found.1 found.2 h.above in omega (arith, more, enough))
+  | inr none ↦ arrives_if_none_is_below m s run n steps p q h x none
+]
+run_comes_to_target m law s good run ok n (suc fuel) steps p q cut consistent h x enough = elim (below_target_or_none n p q) [
+  | inl found ↦
+      let next : Progress m s run p q = progress_below_consistent_target m law s good run ok p q consistent h.consistent h.cut found.0 found.2 in
+      let t = next.thread in
+      let less = next.below in
+      let there = thread_below_target_is_there m s run n p q h t less in
+      let high = h.cut t in
+      let one = step_comes_further m law s good run ok steps p cut consistent x t (omega (arith, less, high), next.consistent) in
+      let target = target_of_further m s run n p q t there less h in
+      let own = own_position_is_further p t in
+      let more = sum_below_less_if_one_less n t p (further p t) there (omega (arith, own)) (further_is_no_less p t) in
+      let rest = run_comes_to_target m law s good run ok n fuel (steps ++ one.0 ∷ []) (further p t) q
+      (λ u. let low = target.above u in let top = h.cut u in omega (arith, low, top)) next.consistent target one.1 (omega (arith, more, enough)) in
+      (one.0 ∷ rest.0, comes_by_step_and_rest m s run q steps one.0 rest.0 rest.1)
+  | inr none ↦ arrives_if_none_is_below m s run n steps p q h x none
+]

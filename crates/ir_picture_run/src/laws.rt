@@ -1,6 +1,6 @@
 //! What holds of the places and rows of the boxes of a run. The functions do nothing: their contracts are the laws.
 
-ghost use Rattle.ir_picture_run.specs.Laws.{BehindIsInCut, BehindIsLeft, LeftIsConsistent, LeftIsCut, RowsDontOverlap};
+ghost use Rattle.ir_picture_run.specs.Laws.{BehindIsInCut, BehindIsLeft, LeftIsConsistent, LeftIsCut, RightIsAnOrder, RowsDontOverlap};
 
 /// A consistent cut that has the step of an event has what the thread of an event that it needs logged before it left what is needed.
 pub fn behind_is_in_cut()
@@ -20,6 +20,11 @@ pub fn left_is_consistent()
 /// For each x there is such a cut.
 pub fn left_is_cut()
     ensures { LeftIsCut }
+{}
+
+/// From left to right is the order of a run with the trace: one run takes the steps at which boxes start and end so.
+pub fn right_is_an_order()
+    ensures { RightIsAnOrder }
 {}
 
 /// Two boxes of a thread that have the same row don't overlap.
