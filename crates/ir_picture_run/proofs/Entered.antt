@@ -1,6 +1,5 @@
 -- What a thread leaves it entered: the event of a step that leaves.
 use Rattle.std.proofs.Common.{◌≡◌, ◌≢◌, ℕ, suc, zero, ◌+◌, ◌<◌, ◌≤◌, ◌⊎◌, inl, inr, length, Bool, true, false, cond, eqb, ne_eqb, List, [], ◌∷◌, Some, None, get_or, refl, sym, ap, ◌∙◌, subst, arith}
-use Rattle.std.specs.List.{slice_get}
 use Rattle.std.proofs.lemmas.Bool.{cases_eq, cases_lt}
 use Rattle.std.proofs.lemmas.Option.{same_Some, none-some, slice_get-get_or}
 use Rattle.ir_runs.specs.Machine.{Act, Silent, Result, Entry, Refusal, Exit, Load, Store, Never, Machine, upd, Object, target, acted, emitted, Label, Quiet, Answer, In, Refused, Out}
@@ -19,7 +18,7 @@ use Rattle.ir_fit.specs.Fit.{FittedTrace, HasRun}
 use Rattle.ir_fit.proofs.CallerLemmas.{guest_start_is_start, entry_step_is_of_event}
 use Rattle.ir_cut.specs.Positions.{EachRun, machine_of, start_of}
 use Rattle.ir_cut.proofs.CallerLemmas.{trail_same_in_runs_of_trace}
-use Rattle.ir_past.specs.Past.{event_at, IsReadAt, IsWriteAt}
+use Rattle.ir_past.specs.Past.{IsReadAt, IsWriteAt}
 use Rattle.ir_past.specs.Returning.{leaves_one}
 use Rattle.ir_past.proofs.CallerLemmas.{Enters, target_object_after_step, IsEntering, act_emitting_entry_is_entering, exiting_thread_is_inside, own_step_not_entering_keeps_object_or_exits, other_step_adds_leaves_one_to_version_and_keeps_inside}
 use Rattle.ir_events.specs.Events.{entry_of}

@@ -13,7 +13,7 @@ use Rattle.ir_picture.specs.declared.placed_box.Point.{Point}
 use Rattle.ir_picture.specs.declared.placed_box.PlacedBox.{PlacedBox}
 use Rattle.ir_holds.specs.declared.span.Span.{Span}
 use Rattle.ir_picture_run.specs.Held.{AreHeld}
-use Rattle.ir_picture_run.specs.Laws.{IsMoment, IsCutAt, LeftIsCut}
+use Rattle.ir_picture_run.specs.Laws.{IsMoment, LeftIsCut}
 use Rattle.ir_picture_run.proofs.Behind.{span_is_at}
 use Rattle.ir_picture_run.proofs.LeftCut.{IsLeftCut}
 use Rattle.ir_picture_run.proofs.Moments.{later_moment_is_right, moments_of_step_are_same, moment_is_within_thread}

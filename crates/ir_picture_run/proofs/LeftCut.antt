@@ -1,5 +1,5 @@
 -- What is left of an x is a consistent cut.
-use Rattle.std.proofs.Common.{◌≡◌, ℕ, suc, ◌+◌, ◌<◌, ◌≤◌, inl, inr, Some, List, length, refl, sym, ap, ◌∙◌, subst, arith}
+use Rattle.std.proofs.Common.{◌≡◌, ℕ, ◌<◌, ◌≤◌, inl, inr, Some, List, length, refl, sym, ap, ◌∙◌, subst, arith}
 use Rattle.std.specs.List.{slice_get}
 use Rattle.std.proofs.lemmas.Bool.{cases_lt}
 use Rattle.std.proofs.lemmas.List.{get_or_past}
@@ -7,11 +7,11 @@ use Rattle.std.proofs.lemmas.Option.{slice_get_within}
 use Rattle.ir_runs.specs.Machine.{Label, Quiet, Answer, In, Refused, Out}
 use Rattle.ir_runs.specs.declared.access.Access.{Access}
 use Rattle.ir_runs.specs.declared.access.Access.TheVariants.{Reading, Writing}
-use Rattle.ir_runs.specs.Run.{Step, count, Emits, IsNeededBy, Cut, IsCut, Consistent}
+use Rattle.ir_runs.specs.Run.{Emits, IsNeededBy, Cut, IsCut, Consistent}
 use Rattle.ir_log.specs.declared.event.Event.TheVariants.{Read, Write}
 use Rattle.ir_trace.specs.Recorded.{Recorded, RecordedThread, recorded_thread}
 use Rattle.ir_trace.specs.Absent.{absent}
-use Rattle.ir_fit.specs.Fit.{FittedTrace, HasRun, IsRunOf}
+use Rattle.ir_fit.specs.Fit.{FittedTrace, HasRun}
 use Rattle.ir_cut.specs.Positions.{EachRun, cut_of, last_of, threads_of, machine_of, start_of}
 use Rattle.ir_events.specs.Events.{entry_of}
 use Rattle.ir_fit_run.specs.Positions.{IsLeaveOf}
@@ -25,9 +25,9 @@ use Rattle.ir_picture.specs.declared.placed_box.Point.{Point}
 use Rattle.ir_picture.specs.declared.placed_box.PlacedBox.{PlacedBox}
 use Rattle.ir_holds.specs.declared.span.Span.{Span}
 use Rattle.ir_picture_run.specs.Held.{AreHeld}
-use Rattle.ir_picture_run.specs.Laws.{IsMoment, IsCutAt, LeftIsConsistent}
+use Rattle.ir_picture_run.specs.Laws.{IsMoment, LeftIsConsistent}
 use Rattle.ir_picture_run.specs.Spans.{IsSpan}
-use Rattle.ir_picture_run.proofs.Behind.{event_below_length_is_inside, entry_step_is_no_later, leave_is_by_end_of_box, needed_event_exists, placed_box_is_at, span_is_at, box_is_of_run}
+use Rattle.ir_picture_run.proofs.Behind.{event_below_length_is_inside, entry_step_is_no_later, leave_is_by_end_of_box, placed_box_is_at, span_is_at, box_is_of_run}
 use Rattle.ir_picture_run.proofs.Entered.{IsEntryFor, entering_step_has_event, leaving_step_has_entry}
 
 -- ---- what needs and what is needed

@@ -10,5 +10,6 @@ mod LeftCut
 mod FirstRight
 mod Walk
 mod Orders
+mod First
 mod HeldOf
 mod Shown

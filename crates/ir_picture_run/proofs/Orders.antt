@@ -1,17 +1,13 @@
 -- Left to right is the order of a run with the trace: a run passes the cuts between what is left of each x and the rest.
-use Rattle.std.proofs.Common.{◌≡◌, ℕ, zero, suc, max, ◌+◌, ◌<◌, ◌≤◌, inl, inr, List, [], ◌∷◌, ◌++◌, Some, length, take, refl, sym, ap, ◌∙◌, subst, arith}
+use Rattle.std.proofs.Common.{◌≡◌, ℕ, zero, suc, max, ◌<◌, ◌≤◌, inl, inr, List, [], ◌∷◌, ◌++◌, Some, length, sym, ap, ◌∙◌, subst, arith}
 use Rattle.std.specs.List.{slice_get}
 use Rattle.std.proofs.Math.Seq.{take-length}
 use Rattle.std.proofs.lemmas.Bool.{cases_lt}
 use Rattle.std.proofs.lemmas.Option.{same_Some, none-some}
-use Rattle.ir_runs.specs.Machine.{Machine}
-use Rattle.ir_runs.specs.Lawful.{IsLawful}
-use Rattle.ir_runs.specs.Run.{State, Step, IsRun, end, trail, count, events, IsDone, IsWhole, Emits, Cut, IsCut, Consistent}
+use Rattle.ir_runs.specs.Run.{Step, trail, count, events, IsDone, Cut, Consistent}
 use Rattle.ir_runs.specs.Verdicts.{sum_below}
 use Rattle.ir_runs.proofs.CallerLemmas.{StateInvariant, state_invariant_at_start, max_of_cuts_is_consistent, same_logs_give_same_trails}
-use Rattle.ir_thread.specs.State as thread
 use Rattle.ir_thread.proofs.CallerLemmas.{thread_machine_is_lawful}
-use Rattle.ir_trace.specs.Recorded.{trace_of}
 use Rattle.ir_fit.specs.Fit.{FittedTrace, HasRun, IsRunOf}
 use Rattle.ir_fit.proofs.CallerLemmas.{guest_start_is_start, get_or_is_item_if_at_index}
 use Rattle.ir_cut.specs.Positions.{last_of, threads_of, machine_of, start_of}
@@ -20,7 +16,7 @@ use Rattle.ir_picture.specs.declared.placed_box.Point.{Point}
 use Rattle.ir_picture.specs.declared.placed_box.PlacedBox.{PlacedBox}
 use Rattle.ir_holds.specs.declared.span.Span.{Span}
 use Rattle.ir_picture_run.specs.Held.{AreHeld}
-use Rattle.ir_picture_run.specs.Laws.{IsStepAt, IsMoment, GoesRight, RightIsAnOrder}
+use Rattle.ir_picture_run.specs.Laws.{IsMoment, GoesRight, RightIsAnOrder}
 use Rattle.ir_picture_run.proofs.FirstRight.{left_cut_exists}
 use Rattle.ir_picture_run.proofs.LeftCut.{IsLeftCut, left_cut_is_consistent, positions_within_last_are_cut, missing_thread_has_no_step}
 use Rattle.ir_picture_run.proofs.Walk.{Passes, step_of_cut_is_before, step_outside_cut_is_behind, longer_run_passes, ComesTo, no_step_comes_to_first_cut, run_passes_own_end, IsTarget, run_comes_to_target}

@@ -25,7 +25,7 @@ choice_keeps_order : (b : Bool) (e : Step) (xs ys : List Step) → length xs ≤
 choice_keeps_order true e xs ys low = let more : suc (length xs) ≤ suc (length ys) = omega arith in more
 choice_keeps_order false e xs ys low = low
 
-number_of_more_is_no_less : (t m n : ℕ) (run : List Step) → m ≤ n → number_of t (take m run) ≤ number_of t (take n run)
+pub number_of_more_is_no_less : (t m n : ℕ) (run : List Step) → m ≤ n → number_of t (take m run) ≤ number_of t (take n run)
 number_of_more_is_no_less t zero n run low = let none : 0 ≤ number_of t (take n run) = omega arith in none
 number_of_more_is_no_less t (suc m) zero run low = absurd (omega (arith, low))
 number_of_more_is_no_less t (suc m) (suc n) [] low = omega arith
@@ -33,7 +33,7 @@ number_of_more_is_no_less t (suc m) (suc n) (e ∷ run) low =
     choice_keeps_order (e.0 == t) e (filter (λ (x : Step). x.0 == t) (take m run)) (filter (λ (x : Step). x.0 == t) (take n run))
     (number_of_more_is_no_less t m n run (omega (arith, low)))
 
-number_of_own_step : (t r n : ℕ) (run : List Step) → slice_get run n ≡ Some (t, r) → number_of t (take (n + 1) run) ≡ number_of t (take n run) + 1
+pub number_of_own_step : (t r n : ℕ) (run : List Step) → slice_get run n ≡ Some (t, r) → number_of t (take (n + 1) run) ≡ number_of t (take n run) + 1
 number_of_own_step t r n run there =
     let d : Step = (t, r) in
     let more = length-filter_more (λ (e : Step). e.0 == t) run n d (slice_get_within run n d there) in
@@ -43,7 +43,7 @@ number_of_own_step t r n run there =
     omega (arith, more, one)
 
 -- a thread takes as many steps
-steps_are_of_thread : {T : Type 0} (m : Machine T) (s : State T) (run : List Step) (t : ℕ) → count m s run t ≡ number_of t run
+pub steps_are_of_thread : {T : Type 0} (m : Machine T) (s : State T) (run : List Step) (t : ℕ) → count m s run t ≡ number_of t run
 steps_are_of_thread m s [] t = refl
 steps_are_of_thread m s (e ∷ run) t = elim (cases_eq e.0 t) [
   | inl same ↦

@@ -1,6 +1,11 @@
 //! What holds of the places and rows of the boxes of a run. The functions do nothing: their contracts are the laws.
 
-ghost use Rattle.ir_picture_run.specs.Laws.{BehindIsInCut, BehindIsLeft, LeftIsConsistent, LeftIsCut, RightIsAnOrder, RowsDontOverlap};
+ghost use Rattle.ir_picture_run.specs.Laws.{BehindComesFirst, BehindIsInCut, BehindIsLeft, LeftIsConsistent, LeftIsCut, RightIsAnOrder, RowsDontOverlap};
+
+/// In each run with the trace what the thread of an event that is needed logged before it left that comes before the event that needs it.
+pub fn behind_comes_first()
+    ensures { BehindComesFirst }
+{}
 
 /// A consistent cut that has the step of an event has what the thread of an event that it needs logged before it left what is needed.
 pub fn behind_is_in_cut()
