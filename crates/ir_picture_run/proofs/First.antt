@@ -1,5 +1,5 @@
 -- What an event needs behind a leave comes before it in each run with the trace.
-use Rattle.std.proofs.Common.{◌≡◌, ℕ, suc, ◌+◌, ◌<◌, ◌≤◌, inl, inr, List, [], ◌∷◌, ◌++◌, Some, length, take, drop, refl, sym, ap, ◌∙◌, subst, arith, length-append, take-append-drop}
+use Rattle.std.proofs.Common.{◌≡◌, ℕ, ◌+◌, inl, inr, List, ◌++◌, length, take, drop, refl, sym, ap, ◌∙◌, subst, arith, length-append, take-append-drop}
 use Rattle.std.specs.List.{slice_get}
 use Rattle.std.proofs.lemmas.Bool.{cases_lt}
 use Rattle.std.proofs.lemmas.Option.{same_Some}
@@ -8,13 +8,12 @@ use Rattle.ir_runs.specs.Run.{State, Step, IsRun, end, trail, count, log, Cut, C
 use Rattle.ir_runs.proofs.CallerLemmas.{state_invariant_at_start, trail_append, log_append, prefix_of_run_is_run, run_with_beginning_logs_is_prefix}
 use Rattle.ir_thread.specs.State.{ThreadState}
 use Rattle.ir_thread.proofs.CallerLemmas.{thread_machine_is_lawful}
-use Rattle.ir_fit.specs.Fit.{FittedTrace, HasRun, IsRunOf}
+use Rattle.ir_fit.specs.Fit.{FittedTrace, HasRun}
 use Rattle.ir_fit.proofs.CallerLemmas.{guest_start_is_start}
 use Rattle.ir_cut.specs.Positions.{machine_of, start_of}
-use Rattle.ir_events.specs.Events.{entry_of}
-use Rattle.ir_picture_run.specs.Laws.{NeedsBehind, IsStepAt, BehindComesFirst}
+use Rattle.ir_picture_run.specs.Laws.{BehindComesFirst}
 use Rattle.ir_picture_run.proofs.InCut.{needed_event_is_left_before}
-use Rattle.ir_picture_run.proofs.Walk.{number_of, number_of_more_is_no_less, number_of_own_step, steps_are_of_thread}
+use Rattle.ir_picture_run.proofs.Walk.{number_of_more_is_no_less, number_of_own_step, steps_are_of_thread}
 
 -- where the threads are after the first n steps of a run is a consistent cut of it
 first_steps_are_consistent : (f : FittedTrace) (h : HasRun f) (n : ℕ)
