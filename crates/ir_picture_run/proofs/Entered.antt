@@ -60,7 +60,7 @@ rest_emits_same : {T : Type 0} (m : Machine T) (s : State T) (e : Step) (run : L
     → Emits m s (e ∷ run) t k b → Emits m (after m s e) run t k b
 rest_emits_same {T} m s e run t k b ne x = (x.0, subst (λ (ks : List (T × Label)). At ks k (x.0, b)) (trail_of_cons_other_thread m s e run t ne) x.1)
 
--- ---- one step
+-- ---- a single step
 
 -- a label that leaves is an exit at the object's version
 record IsExiting (q : Act) (b : Object) (o : ℕ) (a : Access) (v : ℕ) : Type 0 where
@@ -182,7 +182,7 @@ first_step_leaves_if_inside m law s good e run t o a v own x =
       none = λ k less. absurd (omega (arith, less));
     }
 
--- one step of the thread before
+-- with a step of the thread before
 entered_before_own_step : {T : Type 0} (m : Machine T) (s : State T) (e : Step) (run : List Step) (t j o : ℕ) (a : Access) (v : ℕ) → e.0 ≡ t
     → IsEnteredTo m (after m s e) run t j o a v → IsEnteredTo m s (e ∷ run) t (suc j) o a v
 entered_before_own_step m s e run t j o a v own x = record {
@@ -228,7 +228,7 @@ inside_before_own_step m s e run t j o a v own free x = elim (own_step_not_enter
         none-some a (sym (thread_is_outside_after_exit m s e t o a own exit.does) ∙ x.inside)
     between (suc k) high y = x.none k (omega (arith, high)) (rest_emits_earlier m s e run t k (Out o a v) own y)
 
--- one step of another thread before
+-- with a step of another thread before
 entered_before_other_step : {T : Type 0} (m : Machine T) (s : State T) (e : Step) (run : List Step) (t j o : ℕ) (a : Access) (v : ℕ) → t ≢ e.0
     → IsEnteredTo m (after m s e) run t j o a v → IsEnteredTo m s (e ∷ run) t j o a v
 entered_before_other_step m s e run t j o a v other x = record {
@@ -274,7 +274,7 @@ left_object_was_entered m law s good (e ∷ run) ok t j o a v x = elim (cases_eq
 
 -- ---- in the runs of a trace
 
--- a step of one run is one of each
+-- a step of a run with the trace is a step of each
 step_is_of_each_run : (f : FittedTrace) (h : HasRun f) (t k : ℕ) (a : Label) → Emits (machine_of f) (start_of f) h.run t k a
     → EachRun f (λ run. Emits (machine_of f) (start_of f) run t k a)
 step_is_of_each_run f h t k a x run of =

@@ -40,7 +40,7 @@ first_of_same_steps These Those x last at from to h = record {
   ];
 }
 
--- these steps and one more
+-- these steps and another
 abbrev OrStep : (ℕ → ℕ → Type 0) → ℕ → ℕ → ℕ → ℕ → Type 0
 OrStep These step number k z = These k z ⊎ ((k ≡ step) × (z ≡ number))
 
@@ -100,7 +100,7 @@ box_of_number_or_none f boxes spans ends h n = elim (cases_lt n (length boxes)) 
   | inr past ↦ inr past
 ]
 
--- a moment of the first boxes and one more is one of the first, or of that one
+-- a moment of the first n + 1 boxes is of the first n, or of box n
 moment_is_of_first_or_next : (boxes : List PlacedBox) (spans : List Span) (t n k z : ℕ) (b : PlacedBox) (s : Span) → slice_get boxes n ≡ Some b
     → slice_get spans n ≡ Some s → MomentTo boxes spans t (suc n) k z
     → MomentTo boxes spans t n k z ⊎ ((s.thread ≡ t)
@@ -139,7 +139,7 @@ end_of_box boxes spans t n k z b s there goes thread long is =
 one_more_box : (boxes : List PlacedBox) (spans : List Span) (t n k z : ℕ) → MomentTo boxes spans t n k z → MomentTo boxes spans t (suc n) k z
 one_more_box boxes spans t n k z m = (m.0, (let less = m.1 in omega (arith, less)))
 
--- the first moment of thread t that isn't left of x, among those of the first n boxes
+-- among the moments of the first n boxes the first of thread t that isn't left of x
 abbrev FirstTo : FittedTrace → List PlacedBox → List Span → ℕ → ℕ → ℕ → Type 0
 FirstTo f boxes spans t x n = (at : ℕ) × IsFirst (MomentTo boxes spans t n) x (last_of f t) at
 

@@ -32,7 +32,7 @@ use Rattle.ir_picture_run.proofs.Entered.{IsEntryFor, entering_step_has_event, l
 
 -- ---- what needs and what is needed
 
--- a step that needs another one is an entry, and the other a leave
+-- a step that needs another step is an entry, and the other a leave
 pub record AreNeed (emitted needed : Label) : Type 0 where
   pub object : ℕ
   pub access : Access
@@ -81,7 +81,7 @@ needed_label_is_leave (Answer k x) a h = absurd h
 needed_label_is_leave (In p c v l) a h = absurd h
 needed_label_is_leave (Refused p) a h = absurd h
 
--- an event needs the one that entered what it needs left
+-- an event needs the event that entered what has to be left
 event_needs_entry : (r : Recorded) (t i u j o : ℕ) (a : Access) (v l : ℕ) (c : Access) (w n : ℕ) → IsNeededBy (Out o c w) (In o a v l) → IsEntryFor r t i o a v l
     → IsEntryFor r u j o c w n → Needs r t i u j
 event_needs_entry r t i u j o Reading v l Writing w n needs own other = inl (record {

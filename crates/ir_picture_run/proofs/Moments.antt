@@ -36,7 +36,7 @@ use Rattle.ir_picture_run.proofs.InCut.{event_step_emits_its_label}
 
 -- ---- steps
 
--- a step emits one label
+-- a step emits a single label
 label_of_step_is_one : {T : Type 0} (m : Machine T) (s : State T) (run : List Step) (t k : ℕ) (a b : Label) → Emits m s run t k a → Emits m s run t k b → a ≡ b
 label_of_step_is_one {T} m s run t k a b x y =
     let first = (get_or_is_item_if_at_index (trail m s run t) k (x.0, a) x.1).1 (x.0, a) in
@@ -77,7 +77,7 @@ event_step_is_no_leave f h t i j k inside within same (Some (Write o v readers))
     (subst (λ z. Emits (machine_of f) (start_of f) h.run t z (label_of e)) same own) (x.1 h.run h.whole))
 event_step_is_no_leave f h t i j k inside within same (Some (Try o)) x = x
 
--- the last step of an event is one of its thread's steps
+-- the last step of an event is a step of its thread
 last_step_is_within_thread : (f : FittedTrace) → HasRun f → (t i k : ℕ) → IsInside f t i → (e : Option Event) → event_at f.recorded t i ≡ e
     → IsLastStep f t i e (Some k) → k < last_of f t
 last_step_is_within_thread f h t i k inside None is last = absurd last
@@ -123,7 +123,7 @@ box_of_moment f run boxes spans ends h t k x m =
       ends = subst (λ z. IsLastStep f z (last_event m.box.events) (event_at f.recorded z (last_event m.box.events)) (Some m.own.last)) thread go.last;
     }
 
--- moments of which the boxes have one event are of one box
+-- moments whose boxes have the same event have the same box
 same_box_of_event : (f : FittedTrace) → HasRun f → (boxes : List PlacedBox) (spans : List Span) (ends : List Point) → AreHeld f boxes spans ends
     → (t k x j y i : ℕ) (m : IsMoment boxes spans t k x) (n : IsMoment boxes spans t j y) → IsInBox m.box.events t i → IsInBox n.box.events t i
     → (m.box ≡ n.box) × (m.own ≡ n.own)
@@ -198,7 +198,7 @@ length_is_at_most_one (Read o v) = omega arith
 length_is_at_most_one (Write o v readers) = omega arith
 length_is_at_most_one (Try o) = omega arith
 
--- boxes that start at one step are one
+-- boxes that start at the same step are the same
 starts_of_step_are_same : (f : FittedTrace) → HasRun f → (boxes : List PlacedBox) (spans : List Span) (ends : List Point) → AreHeld f boxes spans ends
     → (t k x y : ℕ) (m : IsMoment boxes spans t k x) (n : IsMoment boxes spans t k y) → m.own.first ≡ n.own.first → m.box ≡ n.box
 starts_of_step_are_same f run boxes spans ends h t k x y m n same =
@@ -209,7 +209,7 @@ starts_of_step_are_same f run boxes spans ends h t k x y m n same =
     (same_box_of_event f run boxes spans ends h t k x k y m.box.events.event m n a.has_first
     (subst (IsInBox n.box.events t) (sym one) b.has_first)).0
 
--- no box starts at the step at which one ends
+-- no box starts where another box ends
 end_is_no_start : (f : FittedTrace) → HasRun f → (boxes : List PlacedBox) (spans : List Span) (ends : List Point) → AreHeld f boxes spans ends
     → (t k x y : ℕ) (m : IsMoment boxes spans t k x) (n : IsMoment boxes spans t k y) → m.own.first ≡ n.own.last → n.own.first < n.own.last → ⊥
 end_is_no_start f run boxes spans ends h t k x y m n same long =
@@ -243,7 +243,7 @@ end_is_no_start f run boxes spans ends h t k x y m n same long =
         (event_at f.recorded t (last_event n.box.events)) last.leaves
     by a (Some (Try o)) is last = of_event a (same_Some n.own.last (entry_of f t (last_event n.box.events)) last)
 
--- boxes that end at one step end at one x
+-- boxes that end at the same step end at the same x
 end_is_no_further : (f : FittedTrace) (boxes : List PlacedBox) (spans : List Span) (ends : List Point) → AreHeld f boxes spans ends
     → (t k x y : ℕ) (m : IsMoment boxes spans t k x) (n : IsMoment boxes spans t k y) → k ≡ m.own.last → k ≡ n.own.last → m.own.first < m.own.last
     → m.box.end.x ≤ n.box.end.x
@@ -272,7 +272,7 @@ end_is_no_further f boxes spans ends h t k x y m n at_m at_n long =
       x = marked.x;
     }))
 
--- the moments at one step of a thread have one x
+-- the moments at a step of a thread have the same x
 pub moments_of_step_are_same : (f : FittedTrace) → HasRun f → (boxes : List PlacedBox) (spans : List Span) (ends : List Point) → AreHeld f boxes spans ends
     → (t k x y : ℕ) → IsMoment boxes spans t k x → IsMoment boxes spans t k y → x ≡ y
 moments_of_step_are_same f run boxes spans ends h t k x y m n = elim m.is [
@@ -291,7 +291,7 @@ moments_of_step_are_same f run boxes spans ends h t k x y m n = elim m.is [
   ]
 ]
 
--- a moment is one of its thread's steps
+-- a moment is a step of its thread
 pub moment_is_within_thread : (f : FittedTrace) → HasRun f → (boxes : List PlacedBox) (spans : List Span) (ends : List Point) → AreHeld f boxes spans ends
     → (t k x : ℕ) → IsMoment boxes spans t k x → (t < threads_of f) × (k < last_of f t)
 moment_is_within_thread f run boxes spans ends h t k x m =

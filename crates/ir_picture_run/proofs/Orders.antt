@@ -67,7 +67,7 @@ ComesSo f run boxes spans n = (steps : List Step) × (p : Cut) × ComesRight f r
 good_start : (f : FittedTrace) → StateInvariant (machine_of f) (start_of f)
 good_start f = state_invariant_at_start (machine_of f) (start_of f) (guest_start_is_start f.guest f.recorded.budget f.recorded.profile)
 
--- a run comes from one cut to a later one
+-- a run comes from a cut to a later cut
 later_cut_is_reached : (f : FittedTrace) (h : HasRun f) (steps : List Step) (p q : Cut) → ComesTo (machine_of f) (start_of f) h.run steps p
     → Consistent (machine_of f) (start_of f) h.run p → ((t : ℕ) → p t ≤ last_of f t) → Consistent (machine_of f) (start_of f) h.run q
     → ((t : ℕ) → q t ≤ last_of f t) → ((t : ℕ) → p t ≤ q t)
@@ -83,7 +83,7 @@ later_cut_is_reached f h steps p q x at_p within_p at_q within_q above =
     run_comes_to_target (machine_of f) (thread_machine_is_lawful f.guest.code) (start_of f) (good_start f) h.run h.whole.1.runs n (sum_below n q) steps p q
     (positions_within_last_are_cut f p within_p h.run h.whole) at_p target x (omega arith)
 
--- the later of a cut that was reached and one at n is one at n
+-- the greater positions of a cut that was reached and of a cut at n are a cut at n
 later_cut_is_left_cut : (f : FittedTrace) (run : List Step) (boxes : List PlacedBox) (spans : List Span) (n : ℕ) (steps : List Step) (p c : Cut)
     → ComesRight f run boxes spans n steps p → IsLeftCut f boxes spans n c → IsLeftCut f boxes spans n (λ t. max (p t) (c t))
 later_cut_is_left_cut f run boxes spans n steps p c h left = record {

@@ -1,4 +1,4 @@
--- From one consistent cut of a run to a later one, by steps of another run of the same threads.
+-- From a consistent cut of a run to a later cut, by steps of another run of the same threads.
 use Rattle.std.proofs.Common.{◌≡◌, ◌≢◌, ℕ, zero, suc, ◌+◌, ◌<◌, ◌≤◌, ◌⊎◌, inl, inr, Bool, true, false, cond, eqb, eq-eqb, ne_eqb, ltb, pred, List, [], ◌∷◌, ◌++◌, Some, length, take, get_or, refl, sym, ap, ◌∙◌, subst, arith, append-nil, length-append, length-take}
 use Rattle.std.specs.Prelude.{◌==◌, filter}
 use Rattle.std.specs.List.{slice_get}
@@ -133,7 +133,7 @@ run_passes_own_end m s run steps p cut x = record {
       let within = cut t in omega (arith, all, same, long, short, within);
 }
 
--- ---- one step
+-- ---- a single step
 
 take_with_next : {A : Type 0} (xs : List A) (k : ℕ) (x : A) → At xs k x → take k xs ++ x ∷ [] ≡ take (suc k) xs
 take_with_next [] k x at = absurd at
@@ -151,7 +151,7 @@ own_position_is_further p t = ap (λ (b : Bool). cond b (suc (p t)) (p t)) (eq-e
 other_position_is_same : (p : Cut) (t u : ℕ) → u ≢ t → further p t u ≡ p u
 other_position_is_same p t u ne = ap (λ (b : Bool). cond b (suc (p u)) (p u)) (ne_eqb u t ne)
 
--- the steps of a thread with one that emits what its next step in the run emits
+-- the steps of a thread, with a step that emits what its next step in the run emits
 own_trail_with_step : {T : Type 0} (m : Machine T) (s : State T) (run steps : List Step) (p : Cut) (t r : ℕ) → ComesTo m s run steps p
     → (end m s (part run p)).now t ≡ thread_in (trail m s run t) (p t) ((end m s run).now t)
     → Emits m s run t (p t) (label m (end m s (part run p)) (t, r))
@@ -232,7 +232,7 @@ further_is_no_less p t u = elim (cases_eq u t) [
   | inr ne ↦ let other = other_position_is_same p t u ne in omega (arith, other)
 ]
 
--- one step on the target stays one
+-- a step further the target is still a target
 target_of_further : {T : Type 0} (m : Machine T) (s : State T) (run : List Step) (n : ℕ) (p q : Cut) (t : ℕ) → t < n → p t < q t → IsTarget m s run n p q
     → IsTarget m s run n (further p t) q
 target_of_further m s run n p q t there less h = record {
