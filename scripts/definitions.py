@@ -118,7 +118,8 @@ CLAIMS = [
         "ir_picture/src/run.rt": ["view_run"],
         "ir_picture/src/laws.rt": ["needs_are_left", "runs_have_no_circle"],
         "ir_picture_run/src/run.rt": ["view_fit_run"],
-        "ir_picture_run/src/laws.rt": ["behind_is_in_cut", "behind_is_left", "rows_do_not_overlap"],
+        "ir_picture_run/src/laws.rt": ["behind_comes_first", "behind_is_in_cut", "behind_is_left", "left_is_consistent", "left_is_cut", "right_is_an_order",
+                                       "rows_do_not_overlap"],
         "ir_listing/src/events.rt": ["events_run"],
         "ir_listing/src/code.rt": ["list_report"],
     }, [
@@ -130,8 +131,9 @@ CLAIMS = [
         ("ir_diff", "Common", "`AreCommon`, `IsReady`"),
         ("ir_picture", "Places", "`AreBoxesPlaced`: where boxes stand"),
         ("ir_holds", "Held", "`IsHeld`: where boxes of holds stand"),
+        ("ir_picture_run", "Laws", "`IsMoment`, `GoesRight`: what left to right means"),
         ("ir_events", "Lines", "the lines of events"),
-    ], (3310, 1420)),
+    ], (3310, 1450)),
 ]
 
 CLAIMS_PAGE = PAGES / "claims.md"

@@ -38,7 +38,7 @@ event_below_length_is_inside f h t i l =
     recorded_event_is_inside f h t i (get_or es i (Try 0)) (slice_get-get_or es i (Try 0) l)
 
 -- the steps of events that come first are no later
-entry_step_is_no_later : (f : FittedTrace) → HasRun f → (t i k : ℕ) → IsInside f t i → k ≤ i → entry_of f t k ≤ entry_of f t i
+pub entry_step_is_no_later : (f : FittedTrace) → HasRun f → (t i k : ℕ) → IsInside f t i → k ≤ i → entry_of f t k ≤ entry_of f t i
 entry_step_is_no_later f h t i k inside by = elim (cases_lt k i) [
   | inl less ↦ let up = event_positions_rise f h t inside.thread k i less inside.event in omega (arith, up)
   | inr past ↦ let same : k ≡ i = omega (arith, by, past) in let equal = ap (λ z. entry_of f t z) same in omega (arith, equal)
@@ -52,7 +52,7 @@ leave_is_last_step f t i k l (Some (Read o v)) is h left = left.first k h.leaves
 leave_is_last_step f t i k l (Some (Write o v readers)) is h left = left.first k h.leaves
 leave_is_last_step f t i k l (Some (Try o)) is h left = absurd (subst (λ z. EntryLeaves f t (entry_of f t i + 1) z l) is left.leaves)
 
-last_step_is_past_event : (f : FittedTrace) (t i k : ℕ) (e : Option Event) → IsLastStep f t i e (Some k) → entry_of f t i ≤ k
+pub last_step_is_past_event : (f : FittedTrace) (t i k : ℕ) (e : Option Event) → IsLastStep f t i e (Some k) → entry_of f t i ≤ k
 last_step_is_past_event f t i k None h = absurd h
 last_step_is_past_event f t i k (Some (Answer kind value)) h = let same = same_Some k (entry_of f t i) h in omega (arith, same)
 last_step_is_past_event f t i k (Some (Read o v)) h = let past = leave_is_past_event f t i k h.leaves in omega (arith, past)
@@ -60,7 +60,7 @@ last_step_is_past_event f t i k (Some (Write o v readers)) h = let past = leave_
 last_step_is_past_event f t i k (Some (Try o)) h = let same = same_Some k (entry_of f t i) h in omega (arith, same)
 
 -- what an event of a box entered is left by the box's last step
-leave_is_by_end_of_box : (f : FittedTrace) → HasRun f → (b : EventBox) (s : Span) → IsRunBox f b → IsSpan f b s → (j l : ℕ) → IsInBox b b.thread j
+pub leave_is_by_end_of_box : (f : FittedTrace) → HasRun f → (b : EventBox) (s : Span) → IsRunBox f b → IsSpan f b s → (j l : ℕ) → IsInBox b b.thread j
     → IsLeaveOf f b.thread j l → l ≤ s.last
 leave_is_by_end_of_box f h b s box go j l has left =
     let below = has.below in
@@ -91,12 +91,12 @@ leave_is_by_end_of_box f h b s box go j l has left =
 -- ---- boxes
 
 -- what is needed is an event of the trace
-needed_event_exists : (r : Recorded) (t i u j : ℕ) → Needs r t i u j → j < length (recorded_thread r u).events
+pub needed_event_exists : (r : Recorded) (t i u j : ℕ) → Needs r t i u j → j < length (recorded_thread r u).events
 needed_event_exists r t i u j (inl maker) = slice_get_within (recorded_thread r u).events j (Write maker.object maker.version maker.readers) maker.made
 needed_event_exists r t i u j (inr reader) = slice_get_within (recorded_thread r u).events j (Read reader.object reader.version) reader.read
 
 -- a box whose events are at a place in the list is at that place
-placed_box_is_at : (boxes : List PlacedBox) (n : ℕ) (b : EventBox) → slice_get (events_of_all boxes) n ≡ Some b
+pub placed_box_is_at : (boxes : List PlacedBox) (n : ℕ) (b : EventBox) → slice_get (events_of_all boxes) n ≡ Some b
     → (p : PlacedBox) × (slice_get boxes n ≡ Some p) × (p.events ≡ b)
 placed_box_is_at boxes n b at =
     let nowhere : Point = record { x = 0; u = 0 } in
@@ -111,7 +111,7 @@ placed_box_is_at boxes n b at =
     )
 
 -- the steps of a box are there
-span_is_at : (f : FittedTrace) (boxes : List PlacedBox) (spans : List Span) (ends : List Point) → AreHeld f boxes spans ends → (n : ℕ)
+pub span_is_at : (f : FittedTrace) (boxes : List PlacedBox) (spans : List Span) (ends : List Point) → AreHeld f boxes spans ends → (n : ℕ)
     (b : PlacedBox) → slice_get boxes n ≡ Some b → (s : Span) × (slice_get spans n ≡ Some s) × IsSpan f b.events s
 span_is_at f boxes spans ends h n b at =
     let none : Span = record { thread = 0; first = 0; last = 0 } in
@@ -124,7 +124,7 @@ span_is_at f boxes spans ends h n b at =
     )
 
 -- it is a box of the run
-box_is_of_run : (f : FittedTrace) (boxes : List PlacedBox) (spans : List Span) (ends : List Point) → AreHeld f boxes spans ends → (n : ℕ)
+pub box_is_of_run : (f : FittedTrace) (boxes : List PlacedBox) (spans : List Span) (ends : List Point) → AreHeld f boxes spans ends → (n : ℕ)
     (b : PlacedBox) → slice_get boxes n ≡ Some b → IsRunBox f b.events
 box_is_of_run f boxes spans ends h n b at = h.all.each n b.events
     (slice_get-map (λ (x : PlacedBox). x.events) boxes n ∙ ap (λ (x : Option PlacedBox). option_map (λ (y : PlacedBox). y.events) x) at)

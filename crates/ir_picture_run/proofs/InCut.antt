@@ -2,7 +2,7 @@
 use Rattle.std.proofs.Common.{◌≡◌, ℕ, suc, ◌+◌, ◌<◌, inl, inr, Some, List, length, refl, sym, ◌∙◌, subst, arith}
 use Rattle.std.proofs.lemmas.Option.{same_Some, slice_get_within}
 use Rattle.ir_runs.specs.Machine.{In, Out}
-use Rattle.ir_runs.specs.Run.{Emits}
+use Rattle.ir_runs.specs.Run.{Emits, Cut, Consistent}
 use Rattle.ir_runs.specs.declared.access.Access.TheVariants.{Reading, Writing}
 use Rattle.ir_log.specs.Logging.{label_of}
 use Rattle.ir_log.specs.declared.event.Event.{Event}
@@ -10,7 +10,7 @@ use Rattle.ir_log.specs.declared.event.Event.TheVariants.{Read, Write}
 use Rattle.ir_trace.specs.Recorded.{recorded_thread}
 use Rattle.ir_fit.specs.Fit.{FittedTrace, HasRun}
 use Rattle.ir_fit.proofs.CallerLemmas.{step_at_event_position_emits_event}
-use Rattle.ir_cut.specs.Positions.{cut_of, machine_of, start_of, IsConsistentCut}
+use Rattle.ir_cut.specs.Positions.{cut_of, machine_of, start_of}
 use Rattle.ir_past.specs.Past.{event_at}
 use Rattle.ir_picture.specs.Needs.{Needs}
 use Rattle.ir_events.specs.Events.{entry_of}
@@ -19,7 +19,7 @@ use Rattle.ir_fit_run.proofs.CallerLemmas.{slice_get_is_get_or_below_length, rec
 use Rattle.ir_picture_run.specs.Laws.{BehindIsInCut}
 
 -- the step of an event emits what is logged as it
-event_step_emits_its_label : (f : FittedTrace) (h : HasRun f) (t i : ℕ) (e : Event) → event_at f.recorded t i ≡ Some e
+pub event_step_emits_its_label : (f : FittedTrace) (h : HasRun f) (t i : ℕ) (e : Event) → event_at f.recorded t i ≡ Some e
     → Emits (machine_of f) (start_of f) h.run t (entry_of f t i) (label_of e)
 event_step_emits_its_label f h t i e there =
     let es : List Event = (recorded_thread f.recorded t).events in
@@ -39,23 +39,24 @@ leave_of_read_emits_out : (f : FittedTrace) (h : HasRun f) (u j k o v : ℕ) →
 leave_of_read_emits_out f h u j k o v there left =
     (subst (λ z. EntryLeaves f u (entry_of f u j + 1) z k) there left.leaves).1 h.run h.whole
 
-needed_event_is_left_before : (f : FittedTrace) → HasRun f → (t i u j k : ℕ) → Needs f.recorded t i u j → IsLeaveOf f u j k → (cut : List ℕ) → IsConsistentCut f cut
-    → entry_of f t i < cut_of cut t → k < cut_of cut u
-needed_event_is_left_before f h t i u j k (inl maker) left cut consistent inside = elim maker.entry [
-  | inl read ↦ (consistent h.run h.whole).1 t (entry_of f t i) u k (In maker.object Reading (suc maker.version) 0) (Out maker.object Writing maker.version)
+-- what an event needs is left in each consistent cut of a run that has the event
+pub needed_event_is_left_before : (f : FittedTrace) (h : HasRun f) (t i u j k : ℕ) → Needs f.recorded t i u j → IsLeaveOf f u j k → (c : Cut)
+    → Consistent (machine_of f) (start_of f) h.run c → entry_of f t i < c t → k < c u
+needed_event_is_left_before f h t i u j k (inl maker) left c consistent inside = elim maker.entry [
+  | inl read ↦ consistent t (entry_of f t i) u k (In maker.object Reading (suc maker.version) 0) (Out maker.object Writing maker.version)
       (event_step_emits_its_label f h t i (Read maker.object (suc maker.version)) read)
       (leave_of_write_emits_out f h u j k maker.object maker.version maker.readers maker.made left) (refl, refl) inside
-  | inr write ↦ (consistent h.run h.whole).1 t (entry_of f t i) u k (In maker.object Writing (suc maker.version) write.0) (Out maker.object Writing maker.version)
+  | inr write ↦ consistent t (entry_of f t i) u k (In maker.object Writing (suc maker.version) write.0) (Out maker.object Writing maker.version)
       (event_step_emits_its_label f h t i (Write maker.object (suc maker.version) write.0) write.1)
       (leave_of_write_emits_out f h u j k maker.object maker.version maker.readers maker.made left) (refl, refl) inside
 ]
-needed_event_is_left_before f h t i u j k (inr reader) left cut consistent inside =
-    (consistent h.run h.whole).1 t (entry_of f t i) u k (In reader.object Writing reader.version reader.readers) (Out reader.object Reading reader.version)
+needed_event_is_left_before f h t i u j k (inr reader) left c consistent inside =
+    consistent t (entry_of f t i) u k (In reader.object Writing reader.version reader.readers) (Out reader.object Reading reader.version)
     (event_step_emits_its_label f h t i (Write reader.object reader.version reader.readers) reader.write)
     (leave_of_read_emits_out f h u j k reader.object reader.version reader.read left) (refl, refl) inside
 
 pub behind_is_in_cut_with_event : BehindIsInCut
 behind_is_in_cut_with_event f h t i u k behind cut consistent inside =
-    let left = needed_event_is_left_before f h t i u behind.needs.needed behind.leave behind.needs.needs behind.needs.left cut consistent inside in
+    let left = needed_event_is_left_before f h t i u behind.needs.needed behind.leave behind.needs.needs behind.needs.left (cut_of cut) (consistent h.run h.whole).1 inside in
     let before = behind.before in
     omega (arith, before, left)

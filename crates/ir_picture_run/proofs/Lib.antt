@@ -4,5 +4,12 @@ mod Lasts
 mod Going
 mod Behind
 mod InCut
+mod Entered
+mod Moments
+mod LeftCut
+mod FirstRight
+mod Walk
+mod Orders
+mod First
 mod HeldOf
 mod Shown

@@ -66,7 +66,7 @@ abbrev pub BehindIsLeft : Type 0
 BehindIsLeft = (f : FittedTrace) → HasRun f → (boxes : List PlacedBox) (spans : List Span) (ends : List Point) → AreHeld f boxes spans ends
     → (t i u k x z : ℕ) → NeedsBehind f t i u k → StartsAt boxes u k z → StartsAt boxes t i x → z < x
 
--- the law: what is left of an x is a consistent cut, so that in each run with the trace nothing right of it comes before what is left of it has to
+-- the law: what is left of an x is a consistent cut
 abbrev pub LeftIsConsistent : Type 0
 LeftIsConsistent = (f : FittedTrace) → HasRun f → (boxes : List PlacedBox) (spans : List Span) (ends : List Point) → AreHeld f boxes spans ends
     → (x : ℕ) (cut : List ℕ) → IsCutAt f boxes spans x cut → IsConsistentCut f cut
@@ -81,7 +81,7 @@ abbrev pub GoesRight : List PlacedBox → List Span → List Step → Type 0
 GoesRight boxes spans run = (t k x u j y m n : ℕ) → IsMoment boxes spans t k x → IsMoment boxes spans u j y → x < y → IsStepAt run m t k → IsStepAt run n u j
     → m < n
 
--- the law: left to right is the order of a run with the trace
+-- the law: left to right is the order of some run with the trace
 abbrev pub RightIsAnOrder : Type 0
 RightIsAnOrder = (f : FittedTrace) → HasRun f → (boxes : List PlacedBox) (spans : List Span) (ends : List Point) → AreHeld f boxes spans ends
     → (run : List Step) × IsRunOf f.guest f.recorded run × GoesRight boxes spans run
