@@ -680,7 +680,7 @@ NO_UNTIL = (
     ("lost.img x.trc --until '!budget'", 2, "no budget ends a run"),
     ("lost.img x.trc --until stale", 2, "`ir hunt` looks for it"),
     ("lost.img x.trc --until '!!stale' --until fault", 2, "`ir hunt` looks for it"),
-    ("lost.img x.trc --until 'end 0 15'", 2, "is no condition: there are end, code, word, out, fault, bad, budget and stale"),
+    ("lost.img x.trc --until 'end 0 15'", 2, "is no condition: there are end, code, word, out, fault and bad, and hang by itself"),
     ("lost.img x.trc --until 'fault | '", 2, "is no condition"),
     ("lost.img x.trc --until 'fault | stale'", 2, "is no condition"),
     ("lost.img x.trc --until hang --until fault", 2, "'hang' stands alone"),

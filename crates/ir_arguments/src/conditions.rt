@@ -31,10 +31,16 @@ pub fn stale_by(
     Ok(Ok(asked))
 }
 
-// That a text is no condition.
-fn no_condition(alloc: Global, text: &str) -> Result<String, AllocError> {
+// The conditions of a run, as they begin.
+const OF_A_RUN: &str = "end, code, word, out, fault, bad, budget and stale";
+
+// Those of an outcome.
+const OF_AN_OUTCOME: &str = "end, code, word, out, fault and bad, and hang by itself";
+
+// That a text is no condition, and which there are.
+fn no_condition(alloc: Global, text: &str, kinds: &str) -> Result<String, AllocError> {
     format!(in alloc;
-        "--{UNTIL}: '{text}' is no condition: there are end, code, word, out, fault, bad, budget and stale, `!` before one and ` | ` between two"
+        "--{UNTIL}: '{text}' is no condition: there are {kinds}, `!` before one and ` | ` between two"
     )
 }
 
@@ -49,7 +55,7 @@ pub fn conditions_of(
             continue;
         }
         if condition_of(alloc, text.as_bytes())?.is_none() {
-            return Ok(Err(no_condition(alloc, text)?));
+            return Ok(Err(no_condition(alloc, text, OF_A_RUN)?));
         }
         conditions.push(String::from_str(alloc, text)?)?;
     }
@@ -90,7 +96,7 @@ fn no_outcome(alloc: Global, text: &str) -> Result<Option<String>, AllocError> {
         )?));
     }
     let Some(condition) = condition_of(alloc, text.as_bytes())? else {
-        return Ok(Some(no_condition(alloc, text)?));
+        return Ok(Some(no_condition(alloc, text, OF_AN_OUTCOME)?));
     };
     if asks_for_budget(&condition) {
         return Ok(Some(format!(in alloc;
