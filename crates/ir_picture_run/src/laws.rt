@@ -27,7 +27,7 @@ pub fn left_is_cut()
     ensures { LeftIsCut }
 {}
 
-/// From left to right is the order of a run with the trace: one run takes the steps at which boxes start and end so.
+/// Left to right is the order of some run with the trace: that run takes the steps at which boxes start and end so.
 pub fn right_is_an_order()
     ensures { RightIsAnOrder }
 {}
