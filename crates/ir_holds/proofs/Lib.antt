@@ -5,3 +5,5 @@ mod Tops
 mod Noted
 mod Needs
 mod Checked
+mod Depths
+mod Settled

@@ -1,0 +1,18 @@
+use Rattle.std.proofs.Common.{◌≡◌, ◌∙◌, ◌+◌, max, ap, subst}
+use Rattle.ir_picture.specs.Places.{IsLeastAbove}
+use Rattle.ir_picture.specs.declared.placed_box.Point.{Point}
+use Rattle.ir_holds.specs.Held.{IsLeastFrom, MarkedBefore, ComesFrom}
+use Rattle.ir_holds.proofs.checking.spot_of.Goals as goal
+
+pub returns : goal.returns
+returns c = λ boxes spans holds.
+    let s = c.args.span.now in
+    record {
+      free = c.past-free.result;
+      of_marks = c.past-free.ensures.least boxes spans holds;
+      start_x = ap (λ (p : Point). p.x) c.later.ensures;
+      came = c.come-came.ensures boxes spans holds;
+      start_u = ap (λ (p : Point). p.u) c.later.ensures;
+      end_x = ?;
+      end_u = ?;
+    }
