@@ -6,12 +6,12 @@ use Rattle.ir_mach.specs.Core.{memory_start, memory_size}
 use Rattle.ir_debug.proofs.CallerLemmas.{filter_keeps_property_of_all, filter_is_not_longer}
 use Rattle.ir_gdb.specs.declared.point.Breakpoint.{Breakpoint}
 use Rattle.ir_gdb.specs.declared.point.Watched.{Watched}
-use Rattle.ir_gdb.specs.Stub.{Stub, IsStub, IsWatched, most_points, most_watched}
+use Rattle.ir_gdb.specs.Stub.{Stub, IsStub, IsWatched, most_stub_points, most_watched}
 use Rattle.ir_gdb.specs.Setting.{can_watch, is_same_break, is_same_watch, breaks_without, watches_without}
 
 -- ---- a point more
 
-pub stub_with_break_is_stub_if_points_have_room : (s : Stub) (b : Breakpoint) → IsStub s → length s.breaks + length s.watches < most_points
+pub stub_with_break_is_stub_if_points_have_room : (s : Stub) (b : Breakpoint) → IsStub s → length s.breaks + length s.watches < most_stub_points
     → IsStub (record s { breaks = s.breaks ++ b ∷ [] })
 stub_with_break_is_stub_if_points_have_room s b is room = record {
   general = is.general;
@@ -39,7 +39,7 @@ watched_if_can_watch w can =
       high = leb-true (w.address + w.size) (memory_start + memory_size) each.3;
     }
 
-pub stub_with_watch_is_stub_if_room_and_can_watch : (s : Stub) (w : Watched) → IsStub s → can_watch w ≡ true → length s.breaks + length s.watches < most_points
+pub stub_with_watch_is_stub_if_room_and_can_watch : (s : Stub) (w : Watched) → IsStub s → can_watch w ≡ true → length s.breaks + length s.watches < most_stub_points
     → IsStub (record s { watches = s.watches ++ w ∷ [] })
 stub_with_watch_is_stub_if_room_and_can_watch s w is can room = record {
   general = is.general;

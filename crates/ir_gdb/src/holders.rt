@@ -2,7 +2,7 @@
 
 ghost use Rattle.std.specs.Prelude.{◌≡◌};
 ghost use Rattle.ir_gdb.specs.Setting.{is_same_break, is_same_watch, has_break, has_watch, breaks_without, watches_without};
-ghost use Rattle.ir_gdb.specs.Stub.{most_points};
+ghost use Rattle.ir_gdb.specs.Stub.{most_stub_points};
 
 use crate::point::{Breakpoint, Watched};
 use std::alloc::{AllocError, Global};
@@ -55,13 +55,13 @@ impl Model for Breaks {
     ghost use Rattle.std.specs.Prelude.{◌≤◌, List};
     ghost use Rattle.std.specs.Vec.{vec_capacity};
     ghost use Rattle.ir_gdb.specs.declared.point.Breakpoint.{Breakpoint};
-    ghost use Rattle.ir_gdb.specs.Stub.{most_points};
+    ghost use Rattle.ir_gdb.specs.Stub.{most_stub_points};
 
     ghost Value = { List Breakpoint };
 
     ghost view = { λ p. p.each.items };
 
-    ghost invariant = { λ p. most_points ≤ vec_capacity p.each };
+    ghost invariant = { λ p. most_stub_points ≤ vec_capacity p.each };
 }
 
 impl Breaks {
@@ -87,7 +87,7 @@ impl Breaks {
 
     /// Sets one more, for which there is room. Takes no memory.
     pub fn set(&mut self, point: Breakpoint)
-        requires { length self.old < most_points }
+        requires { length self.old < most_stub_points }
         ensures { self.new ≡ self.old ++ point ∷ [] }
     {
         self.each.push_reserved(point);
@@ -111,13 +111,13 @@ impl Model for Watches {
     ghost use Rattle.std.specs.Prelude.{◌≤◌, List};
     ghost use Rattle.std.specs.Vec.{vec_capacity};
     ghost use Rattle.ir_gdb.specs.declared.point.Watched.{Watched};
-    ghost use Rattle.ir_gdb.specs.Stub.{most_points};
+    ghost use Rattle.ir_gdb.specs.Stub.{most_stub_points};
 
     ghost Value = { List Watched };
 
     ghost view = { λ p. p.each.items };
 
-    ghost invariant = { λ p. most_points ≤ vec_capacity p.each };
+    ghost invariant = { λ p. most_stub_points ≤ vec_capacity p.each };
 }
 
 impl Watches {
@@ -143,7 +143,7 @@ impl Watches {
 
     /// Sets one more, for which there is room. Takes no memory.
     pub fn set(&mut self, point: Watched)
-        requires { length self.old < most_points }
+        requires { length self.old < most_stub_points }
         ensures { self.new ≡ self.old ++ point ∷ [] }
     {
         self.each.push_reserved(point);
