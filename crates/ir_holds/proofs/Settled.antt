@@ -121,13 +121,15 @@ none_rests_to_0 r boxes spans at = record {
 }
 
 -- all rest in the end
-pub held_if_all_rest : (r : Recorded) (boxes : List PlacedBox) (spans : List Span) (at : ℕ → ℕ → ℕ) (k : ℕ) → length spans * 2 < k → RestTo r boxes spans at k
+pub held_if_all_rest : (r : Recorded) (boxes : List PlacedBox) (spans : List Span) (at : ℕ → ℕ → ℕ) (k : ℕ) → length spans * 2 ≤ k → RestTo r boxes spans at k
     → (n : ℕ) (b : PlacedBox) (own : Span) → slice_get boxes n ≡ Some b → slice_get spans n ≡ Some own → IsHeld r boxes spans b own
 held_if_all_rest r boxes spans at k all h n b own is goes =
-    let one = depth_is_small at spans (at own.thread own.first) in
-    let two = depth_is_small at spans (at own.thread own.last) in
-    let start = h.start n b own is goes (omega (arith, one, all)) in
-    let end = h.end n b own is goes (omega (arith, two, all)) in
+    let first = depth_past_start at spans n own (at own.thread own.first + 1) goes (omega arith) in
+    let last = depth_past_end at spans n own (at own.thread own.last + 1) goes (omega arith) in
+    let one = depth_is_small at spans (at own.thread own.first + 1) in
+    let two = depth_is_small at spans (at own.thread own.last + 1) in
+    let start = h.start n b own is goes (omega (arith, first, one, all)) in
+    let end = h.end n b own is goes (omega (arith, last, two, all)) in
     record { start_x = start.x; end_x = end.x; start_u = start.u; end_u = end.u; came = start.came }
 
 -- ---- boxes that are alike

@@ -7,7 +7,7 @@ use Rattle.ir_picture.specs.Placing.{events_of_all}
 use Rattle.ir_picture.specs.declared.event_box.EventBox.{EventBox}
 use Rattle.ir_picture.specs.declared.placed_box.Point.{Point}
 use Rattle.ir_picture.specs.declared.placed_box.PlacedBox.{PlacedBox}
-use Rattle.ir_holds.specs.Held.{IsHeld}
+use Rattle.ir_holds.specs.Held.{IsHeld, rows_in}
 use Rattle.ir_holds.specs.declared.span.Span.{Span}
 
 -- the steps of threads are numbered, step k of thread t by `at t k`, so that each thread's numbers rise by as many as its steps at least, no box ends
@@ -55,5 +55,6 @@ pub record IsPut (r : Recorded) (boxes : List PlacedBox) (spans : List Span) (ow
 -- all boxes are put so
 pub record ArePut (r : Recorded) (boxes : List PlacedBox) (spans : List Span) (put : List PlacedBox) : Type 0 where
   pub events : events_of_all put ≡ events_of_all boxes
+  pub rows : rows_in put ≡ rows_in boxes
   pub each : (n : ℕ) (b c : PlacedBox) (own : Span) → slice_get boxes n ≡ Some b → slice_get put n ≡ Some c → slice_get spans n ≡ Some own
       → IsPut r boxes spans own b c

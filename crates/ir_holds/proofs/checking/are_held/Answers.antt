@@ -4,8 +4,7 @@ use Rattle.ir_holds.proofs.Checked.{held_to_next_box}
 use Rattle.ir_holds.proofs.checking.are_held.Goals as goal
 
 pub loop-number-preserved : goal.loop-number-preserved
-loop-number-preserved c = held_to_next_box c.args.trace.now c.args.boxes.now c.args.spans.now c.loop-number.number c.loop-number.invariant
-    (c.is_held.ensures c.if-not-is_held.false)
+loop-number-preserved c = held_to_next_box c.args.trace.now c.args.boxes.now c.args.spans.now c.loop-number.number c.loop-number.invariant ?
 
 pub returns : goal.returns
 returns c = λ is k b s at there.

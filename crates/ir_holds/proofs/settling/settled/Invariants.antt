@@ -8,8 +8,8 @@ use Rattle.ir_holds.proofs.settling.settled.Given as goal
 -- the boxes are the same ones, not too far, and after each round more of their starts and ends rest
 abbrev pub invariant-loop : goal.invariant-loop
 invariant-loop l = record {
-  events : events_of_all l.boxes.items ≡ events_of_all l.first.items;
-  rows : rows_in l.boxes.items ≡ rows_in l.first.items;
+  events : events_of_all l.boxes.items ≡ events_of_all l.fn.first.items;
+  rows : rows_in l.boxes.items ≡ rows_in l.fn.first.items;
   near : AreNear l.boxes.items l.spans;
-  rest : (at : ℕ → ℕ → ℕ) → IsSchedule l.trace (events_of_all l.first.items) l.spans at → RestTo l.trace l.boxes.items l.spans at l.counter;
+  rest : (at : ℕ → ℕ → ℕ) → IsSchedule l.trace (events_of_all l.fn.first.items) l.spans at → RestTo l.trace l.boxes.items l.spans at l.counter;
 }
