@@ -1,8 +1,8 @@
 -- A box that starts and ends as near as it can is where it has to be.
-use Rattle.std.proofs.Common.{◌≡◌, ℕ, zero, suc, ◌+◌, ◌-◌, ◌<◌, inl, inr, Some, List, [], ◌∷◌, take, drop, refl, sym, ap, ◌∙◌, subst, arith}
+use Rattle.std.proofs.Common.{◌≡◌, ℕ, zero, suc, ◌+◌, ◌-◌, ◌^◌, ◌<◌, ◌≤◌, inl, inr, Some, List, [], ◌∷◌, length, take, drop, refl, sym, ap, ◌∙◌, subst, arith}
 use Rattle.std.specs.List.{slice_get}
 use Rattle.std.proofs.lemmas.Bool.{cases_lt}
-use Rattle.std.proofs.lemmas.Option.{none-some, same_Some}
+use Rattle.std.proofs.lemmas.Option.{none-some, same_Some, slice_get_within, slice_get-get_or}
 use Rattle.ir_log.specs.declared.event.Event.{Event}
 use Rattle.ir_log.specs.declared.event.Event.TheVariants.{Answer, Read, Write, Try}
 use Rattle.ir_trace.specs.Recorded.{Recorded, recorded_thread}
@@ -16,7 +16,11 @@ use Rattle.ir_picture.specs.declared.placed_box.Point.{Point}
 use Rattle.ir_picture.specs.declared.placed_box.PlacedBox.{PlacedBox}
 use Rattle.ir_holds.specs.Held.{IsLeastFrom, MarkedBefore, ComesFrom, IsHeld}
 use Rattle.ir_holds.specs.Needing.{NeedsLike, OneNeedsLike, EndsWith, IsAfterThese}
+use Rattle.ir_holds.specs.Stops.{HoldsMarks}
 use Rattle.ir_holds.specs.Checks.{IsSpot}
+use Rattle.ir_holds.proofs.Defaults.{no_span}
+use Rattle.ir_holds.proofs.Noted.{noted_boxes_are_near}
+use Rattle.ir_holds.specs.declared.marks.Marks.{Marks}
 use Rattle.ir_holds.specs.declared.span.Span.{Span}
 use Rattle.ir_holds.specs.declared.spot.Spot.{Spot}
 
@@ -155,6 +159,22 @@ ends_with_are_ends_needed r boxes number b z w =
 
 -- ---- a box
 
+pub length_is_small : (e : Event) → length_of e ≤ 1
+length_is_small (Answer kind value) = omega arith
+length_is_small (Read o v) = omega arith
+length_is_small (Write o v l) = omega arith
+length_is_small (Try o) = omega arith
+
+-- what is needed isn't too far
+pub needed_is_near : (r : Recorded) (boxes : List PlacedBox) (spans : List Span) (m : Marks) (These : Event → Type 0) (p : Point) → length spans ≡ length boxes
+    → HoldsMarks boxes spans m → IsAfterThese r boxes These p → p.x ≤ 2 ^ 54
+needed_is_near r boxes spans m These p size holds after = after.x.least (2 ^ 54) (omega arith) (λ z w.
+    let within = slice_get_within boxes w.at w.box w.there in
+    let goes = slice_get-get_or spans w.at no_span (omega (arith, size, within)) in
+    let x = (noted_boxes_are_near boxes spans m w.at w.box _ holds w.there goes).1.x in
+    let ends = w.ends in
+    omega (arith, x, ends))
+
 pub held_if_at_spot : (r : Recorded) (boxes : List PlacedBox) (spans : List Span) (b : PlacedBox) (own : Span) (needed : Point) (e : Event) (s : Spot)
     → event_at r b.events.thread b.events.event ≡ Some e → IsAfterThese r boxes (OneNeedsLike (events_in r b.events)) needed
     → IsSpot boxes spans own needed (length_of e) s → b.start ≡ s.start → b.end ≡ s.end → b.came ≡ s.came → IsHeld r boxes spans b own
@@ -206,6 +226,9 @@ held_if_at_spot r boxes spans b own needed e s first after spot at to by =
           (subst (IsLeastFrom s.start.u (ComesFrom boxes spans own.thread own.last)) (sym to_u) spot.end_u);
       came = subst (IsLeastFrom (own.first + 1) (ComesFrom boxes spans own.thread own.first)) (sym by) came;
     }
+
+pub same_box : (a b : PlacedBox) → a.events ≡ b.events → a.start ≡ b.start → a.end ≡ b.end → a.came ≡ b.came → a.row ≡ b.row → a ≡ b
+same_box a b events start end came row = λ i. record { events = events i; start = start i; end = end i; came = came i; row = row i }
 
 -- so far as boxes are looked at
 pub held_to_next_box : (r : Recorded) (boxes : List PlacedBox) (spans : List Span) (n : ℕ)

@@ -7,3 +7,4 @@ mod Needs
 mod Checked
 mod Depths
 mod Settled
+mod Paced

@@ -261,7 +261,7 @@ top_right_is_small stops m t k top noted short h =
 -- the starts and ends of near boxes are
 pub near_boxes_have_near_stops : (boxes : List PlacedBox) (spans : List Span) (stops : List Stop) → AreStops boxes spans stops → AreNear boxes spans → EachIsNear stops
 near_boxes_have_near_stops boxes spans stops are near k s at =
-    let has = (k, slice_get_within stops k s at, get_or_from_slice_get stops k s s at) in
+    let has : Contains stops s = (k, slice_get_within stops k s at, get_or_from_slice_get stops k s s at) in
     let mark = are.each s has in
     elim mark.is [
       | inl start ↦

@@ -5,7 +5,6 @@ use Rattle.std.proofs.lemmas.Bool.{cases_lt}
 use Rattle.std.proofs.lemmas.Option.{same_Some, slice_get_within, slice_get-get_or}
 use Rattle.ir_lemmas.proofs.CallerLemmas.{length_of_map}
 use Rattle.ir_log.specs.declared.event.Event.{Event}
-use Rattle.ir_log.specs.declared.event.Event.TheVariants.{Answer, Read, Write, Try}
 use Rattle.ir_trace.specs.Recorded.{Recorded, recorded_thread}
 use Rattle.ir_past.specs.Past.{event_at}
 use Rattle.ir_picture.specs.Boxes.{IsBox}
@@ -17,8 +16,9 @@ use Rattle.ir_picture.specs.declared.placed_box.Point.{Point}
 use Rattle.ir_picture.specs.declared.placed_box.PlacedBox.{PlacedBox}
 use Rattle.ir_picture.proofs.CallerLemmas.{slice_get_of_map, slice_get_of_map_inverse, least_above_of_equal_sets}
 use Rattle.ir_holds.specs.Held.{IsLeastFrom, IsMark, MarkedBefore, ComesFrom, HasToBeLeft, ComesTo, IsHeld}
-use Rattle.ir_holds.specs.Schedules.{IsSchedule, IsNear, AreNear, IsPut, ArePut}
+use Rattle.ir_holds.specs.Schedules.{IsPacing, IsNear, AreNear, IsPut, ArePut}
 use Rattle.ir_holds.proofs.Defaults.{no_event, no_span}
+use Rattle.ir_holds.proofs.Checked.{length_is_small}
 use Rattle.ir_holds.proofs.Depths.{depth_of, depth_rises, depth_is_small, depth_past_start, depth_past_end}
 use Rattle.ir_holds.specs.declared.span.Span.{Span}
 
@@ -151,7 +151,7 @@ alike_back boxes other spans at k h = record {
 
 -- a step of a thread before step i has fewer before it
 fewer_before_start : (r : Recorded) (events : List EventBox) (spans : List Span) (at : ℕ → ℕ → ℕ) (n : ℕ) (own : Span) (t j i k : ℕ)
-    → IsSchedule r events spans at → slice_get spans n ≡ Some own → own.thread ≡ t → j ≡ own.first → j < i → depth_of at spans (at t i) ≤ k
+    → IsPacing r events spans at → slice_get spans n ≡ Some own → own.thread ≡ t → j ≡ own.first → j < i → depth_of at spans (at t i) ≤ k
     → depth_of at spans (at own.thread own.first) < k
 fewer_before_start r events spans at n own t j i k s goes thread is less low =
     let up = s.rises t j i (omega (arith, less)) in
@@ -160,7 +160,7 @@ fewer_before_start r events spans at n own t j i k s goes thread is less low =
     omega (arith, deep, low)
 
 fewer_before_end : (r : Recorded) (events : List EventBox) (spans : List Span) (at : ℕ → ℕ → ℕ) (n : ℕ) (own : Span) (t j i k : ℕ)
-    → IsSchedule r events spans at → slice_get spans n ≡ Some own → own.thread ≡ t → j ≡ own.last → j < i → depth_of at spans (at t i) ≤ k
+    → IsPacing r events spans at → slice_get spans n ≡ Some own → own.thread ≡ t → j ≡ own.last → j < i → depth_of at spans (at t i) ≤ k
     → depth_of at spans (at own.thread own.last) < k
 fewer_before_end r events spans at n own t j i k s goes thread is less low =
     let up = s.rises t j i (omega (arith, less)) in
@@ -169,7 +169,7 @@ fewer_before_end r events spans at n own t j i k s goes thread is less low =
     omega (arith, deep, low)
 
 mark_is_alike : (r : Recorded) (events : List EventBox) (boxes other : List PlacedBox) (spans : List Span) (at : ℕ → ℕ → ℕ) (k : ℕ)
-    → AreAlike boxes other spans at k → IsSchedule r events spans at → (t j i : ℕ) (p : Point) → j < i → depth_of at spans (at t i) ≤ k
+    → AreAlike boxes other spans at k → IsPacing r events spans at → (t j i : ℕ) (p : Point) → j < i → depth_of at spans (at t i) ≤ k
     → IsMark boxes spans t j p → IsMark other spans t j p
 mark_is_alike r events boxes other spans at k h s t j i p less low m =
     let there = other_box boxes other m.number m.box h.events m.there in
@@ -195,7 +195,7 @@ mark_is_alike r events boxes other spans at k h s t j i p less low m =
     }
 
 marked_alike : (r : Recorded) (events : List EventBox) (boxes other : List PlacedBox) (spans : List Span) (at : ℕ → ℕ → ℕ) (k : ℕ)
-    → AreAlike boxes other spans at k → IsSchedule r events spans at → (t i z : ℕ) → depth_of at spans (at t i) ≤ k → MarkedBefore boxes spans t i z
+    → AreAlike boxes other spans at k → IsPacing r events spans at → (t i z : ℕ) → depth_of at spans (at t i) ≤ k → MarkedBefore boxes spans t i z
     → MarkedBefore other spans t i z
 marked_alike r events boxes other spans at k h s t i z low m = record {
   step = m.step;
@@ -206,7 +206,7 @@ marked_alike r events boxes other spans at k h s t i z low m = record {
 }
 
 comes_alike : (r : Recorded) (events : List EventBox) (boxes other : List PlacedBox) (spans : List Span) (at : ℕ → ℕ → ℕ) (k : ℕ)
-    → AreAlike boxes other spans at k → IsSchedule r events spans at → (t i z : ℕ) → depth_of at spans (at t i) ≤ k → ComesFrom boxes spans t i z
+    → AreAlike boxes other spans at k → IsPacing r events spans at → (t i z : ℕ) → depth_of at spans (at t i) ≤ k → ComesFrom boxes spans t i z
     → ComesFrom other spans t i z
 comes_alike r events boxes other spans at k h s t i z low m = record {
   step = m.step;
@@ -218,13 +218,13 @@ comes_alike r events boxes other spans at k h s t i z low m = record {
 
 -- what a box needs ends before it starts
 needed_before : (r : Recorded) (boxes : List PlacedBox) (spans : List Span) (at : ℕ → ℕ → ℕ) (n m : ℕ) (b a : PlacedBox) (own s : Span)
-    → IsSchedule r (events_of_all boxes) spans at → slice_get boxes n ≡ Some b → slice_get spans n ≡ Some own → slice_get boxes m ≡ Some a
+    → IsPacing r (events_of_all boxes) spans at → slice_get boxes n ≡ Some b → slice_get spans n ≡ Some own → slice_get boxes m ≡ Some a
     → slice_get spans m ≡ Some s → NeedsBox r b.events a.events → at s.thread s.last < at own.thread own.first
 needed_before r boxes spans at n m b a own s order is goes there to needs = order.needs m n a.events b.events s own
     (slice_get_of_map (λ (x : PlacedBox). x.events) boxes m a there) to (slice_get_of_map (λ (x : PlacedBox). x.events) boxes n b is) goes needs
 
 needed_alike : (r : Recorded) (boxes other : List PlacedBox) (spans : List Span) (at : ℕ → ℕ → ℕ) (k : ℕ) → length spans ≡ length boxes
-    → AreAlike boxes other spans at k → IsSchedule r (events_of_all boxes) spans at → (number : Point → ℕ) (n : ℕ) (b c : PlacedBox) (own : Span) (z : ℕ)
+    → AreAlike boxes other spans at k → IsPacing r (events_of_all boxes) spans at → (number : Point → ℕ) (n : ℕ) (b c : PlacedBox) (own : Span) (z : ℕ)
     → slice_get boxes n ≡ Some b → slice_get spans n ≡ Some own → b.events ≡ c.events → depth_of at spans (at own.thread own.first) ≤ k
     → EndsNeeded r boxes number b z → EndsNeeded r other number c z
 needed_alike r boxes other spans at k size h order number n b c own z is goes same low need =
@@ -241,7 +241,7 @@ needed_alike r boxes other spans at k size h order number n b c own z is goes sa
     }
 
 left_alike : (r : Recorded) (boxes other : List PlacedBox) (spans : List Span) (at : ℕ → ℕ → ℕ) (k : ℕ) → length spans ≡ length boxes
-    → AreAlike boxes other spans at k → IsSchedule r (events_of_all boxes) spans at → (n : ℕ) (b c : PlacedBox) (own : Span) (z : ℕ)
+    → AreAlike boxes other spans at k → IsPacing r (events_of_all boxes) spans at → (n : ℕ) (b c : PlacedBox) (own : Span) (z : ℕ)
     → slice_get boxes n ≡ Some b → slice_get spans n ≡ Some own → b.events ≡ c.events → depth_of at spans (at own.thread own.first) ≤ k
     → HasToBeLeft r boxes spans b own z → HasToBeLeft r other spans c own z
 left_alike r boxes other spans at k size h order n b c own z is goes same low (inl mark) =
@@ -250,7 +250,7 @@ left_alike r boxes other spans at k size h order n b c own z is goes same low (i
     inr (needed_alike r boxes other spans at k size h order (λ p. p.x) n b c own z is goes same low need)
 
 comes_to_alike : (r : Recorded) (boxes other : List PlacedBox) (spans : List Span) (at : ℕ → ℕ → ℕ) (k : ℕ) → length spans ≡ length boxes
-    → AreAlike boxes other spans at k → IsSchedule r (events_of_all boxes) spans at → (n : ℕ) (b c : PlacedBox) (own : Span) (z : ℕ)
+    → AreAlike boxes other spans at k → IsPacing r (events_of_all boxes) spans at → (n : ℕ) (b c : PlacedBox) (own : Span) (z : ℕ)
     → slice_get boxes n ≡ Some b → slice_get spans n ≡ Some own → b.events ≡ c.events → depth_of at spans (at own.thread own.first) ≤ k
     → ComesTo r boxes spans b own z → ComesTo r other spans c own z
 comes_to_alike r boxes other spans at k size h order n b c own z is goes same low (inl comes) =
@@ -261,7 +261,7 @@ comes_to_alike r boxes other spans at k size h order n b c own z is goes same lo
 -- ---- boxes that are put once more are not too far
 
 mark_is_low : (r : Recorded) (events : List EventBox) (boxes : List PlacedBox) (spans : List Span) (at : ℕ → ℕ → ℕ) (k : ℕ) → RestTo r boxes spans at k
-    → IsSchedule r events spans at → (t j i : ℕ) (p : Point) → j < i → depth_of at spans (at t i) ≤ k → IsMark boxes spans t j p
+    → IsPacing r events spans at → (t j i : ℕ) (p : Point) → j < i → depth_of at spans (at t i) ≤ k → IsMark boxes spans t j p
     → (p.x ≤ 2 * at t j + 1) × (p.u ≤ at t j + 1)
 mark_is_low r events boxes spans at k h s t j i p less low m = elim m.is [
   | inl start ↦
@@ -284,7 +284,7 @@ mark_is_low r events boxes spans at k h s t j i p less low m = elim m.is [
 
 -- at which a box starts or ends before a step, and what it comes to
 marked_is_low : (r : Recorded) (events : List EventBox) (boxes : List PlacedBox) (spans : List Span) (at : ℕ → ℕ → ℕ) (k : ℕ) → RestTo r boxes spans at k
-    → IsSchedule r events spans at → (t i z : ℕ) → depth_of at spans (at t i) ≤ k → MarkedBefore boxes spans t i z → z < 2 * at t i
+    → IsPacing r events spans at → (t i z : ℕ) → depth_of at spans (at t i) ≤ k → MarkedBefore boxes spans t i z → z < 2 * at t i
 marked_is_low r events boxes spans at k h s t i z low m =
     let x = (mark_is_low r events boxes spans at k h s t m.step i m.place m.before low m.mark).0 in
     let before = m.before in
@@ -293,7 +293,7 @@ marked_is_low r events boxes spans at k h s t i z low m =
     omega (arith, x, before, up, same)
 
 comes_is_low : (r : Recorded) (events : List EventBox) (boxes : List PlacedBox) (spans : List Span) (at : ℕ → ℕ → ℕ) (k : ℕ) → RestTo r boxes spans at k
-    → IsSchedule r events spans at → (t i z : ℕ) → depth_of at spans (at t i) ≤ k → ComesFrom boxes spans t i z → z ≤ at t i + 1
+    → IsPacing r events spans at → (t i z : ℕ) → depth_of at spans (at t i) ≤ k → ComesFrom boxes spans t i z → z ≤ at t i + 1
 comes_is_low r events boxes spans at k h s t i z low m =
     let u = (mark_is_low r events boxes spans at k h s t m.step i m.place m.before low m.mark).1 in
     let before = m.before in
@@ -303,7 +303,7 @@ comes_is_low r events boxes spans at k h s t i z low m =
 
 -- so does what a box needs end
 needed_is_low : (r : Recorded) (boxes : List PlacedBox) (spans : List Span) (at : ℕ → ℕ → ℕ) (k : ℕ) → length spans ≡ length boxes → RestTo r boxes spans at k
-    → IsSchedule r (events_of_all boxes) spans at → (number : Point → ℕ) (n : ℕ) (b : PlacedBox) (own : Span) (z : ℕ) → slice_get boxes n ≡ Some b
+    → IsPacing r (events_of_all boxes) spans at → (number : Point → ℕ) (n : ℕ) (b : PlacedBox) (own : Span) (z : ℕ) → slice_get boxes n ≡ Some b
     → slice_get spans n ≡ Some own → depth_of at spans (at own.thread own.first) ≤ k → EndsNeeded r boxes number b z
     → (p : Point) × (number p ≡ z) × (p.x < 2 * at own.thread own.first) × (p.u ≤ at own.thread own.first)
 needed_is_low r boxes spans at k size h order number n b own z is goes low need =
@@ -316,15 +316,15 @@ needed_is_low r boxes spans at k size h order number n b own z is goes low need 
     (need.box.end, need.ends, omega (arith, before, x), omega (arith, before, u))
 
 -- a step has no greater number than its own
-step_by_number : (r : Recorded) (events : List EventBox) (spans : List Span) (at : ℕ → ℕ → ℕ) → IsSchedule r events spans at → (t k : ℕ) → k ≤ at t k
+step_by_number : (r : Recorded) (events : List EventBox) (spans : List Span) (at : ℕ → ℕ → ℕ) → IsPacing r events spans at → (t k : ℕ) → k ≤ at t k
 step_by_number r events spans at s t k = let up = s.rises t 0 k (omega arith) in omega (arith, up)
 
-first_by_last : (r : Recorded) (events : List EventBox) (spans : List Span) (at : ℕ → ℕ → ℕ) → IsSchedule r events spans at → (n : ℕ) (own : Span)
+first_by_last : (r : Recorded) (events : List EventBox) (spans : List Span) (at : ℕ → ℕ → ℕ) → IsPacing r events spans at → (n : ℕ) (own : Span)
     → slice_get spans n ≡ Some own → at own.thread own.first ≤ at own.thread own.last
 first_by_last r events spans at s n own goes = let up = s.rises own.thread own.first own.last (s.goes n own goes) in omega (arith, up)
 
 right_start_is_low : (r : Recorded) (boxes : List PlacedBox) (spans : List Span) (at : ℕ → ℕ → ℕ) (k : ℕ) → length spans ≡ length boxes → RestTo r boxes spans at k
-    → IsSchedule r (events_of_all boxes) spans at → (n : ℕ) (b q : PlacedBox) (own : Span) → slice_get boxes n ≡ Some b → slice_get spans n ≡ Some own
+    → IsPacing r (events_of_all boxes) spans at → (n : ℕ) (b q : PlacedBox) (own : Span) → slice_get boxes n ≡ Some b → slice_get spans n ≡ Some own
     → depth_of at spans (at own.thread own.first) ≤ k → q.events ≡ b.events → IsHeld r boxes spans q own
     → (q.start.x ≤ 2 * at own.thread own.first) × (q.start.u ≤ at own.thread own.first + 1)
 right_start_is_low r boxes spans at k size h order n b q own is goes low same held = (
@@ -350,14 +350,8 @@ right_start_is_low r boxes spans at k size h order n b q own is goes low same he
   ]),
 )
 
-length_is_small : (e : Event) → length_of e ≤ 1
-length_is_small (Answer kind value) = omega arith
-length_is_small (Read o v) = omega arith
-length_is_small (Write o v l) = omega arith
-length_is_small (Try o) = omega arith
-
 right_end_is_low : (r : Recorded) (events : List EventBox) (boxes : List PlacedBox) (spans : List Span) (at : ℕ → ℕ → ℕ) (k : ℕ) → RestTo r boxes spans at k
-    → IsSchedule r events spans at → (n : ℕ) (q : PlacedBox) (own : Span) (e : Event) → slice_get spans n ≡ Some own
+    → IsPacing r events spans at → (n : ℕ) (q : PlacedBox) (own : Span) (e : Event) → slice_get spans n ≡ Some own
     → event_at r q.events.thread q.events.event ≡ Some e → depth_of at spans (at own.thread own.last) ≤ k → IsHeld r boxes spans q own
     → q.start.x ≤ 2 * at own.thread own.first → q.start.u ≤ at own.thread own.first + 1
     → (q.end.x ≤ 2 * at own.thread own.last + 1) × (q.end.u ≤ at own.thread own.last + 1)
@@ -371,7 +365,7 @@ right_end_is_low r events boxes spans at k h order n q own e goes is low held lo
     )
 
 -- and doesn't end before its last step
-right_end_is_late : (r : Recorded) (events : List EventBox) (boxes : List PlacedBox) (spans : List Span) (at : ℕ → ℕ → ℕ) → IsSchedule r events spans at
+right_end_is_late : (r : Recorded) (events : List EventBox) (boxes : List PlacedBox) (spans : List Span) (at : ℕ → ℕ → ℕ) → IsPacing r events spans at
     → AreNear boxes spans → (n : ℕ) (b q : PlacedBox) (own : Span) → slice_get boxes n ≡ Some b → slice_get spans n ≡ Some own
     → IsHeld r boxes spans q own → own.last ≤ q.end.u
 right_end_is_late r events boxes spans at order near n b q own is goes held =
@@ -416,7 +410,7 @@ right_end_is_own r boxes spans at b q own e is rest held same start =
     (subst (λ (p : Point). IsLeastFrom p.u (ComesFrom boxes spans own.thread own.last) q.end.u) (sym start) held.end_u))
 
 put_boxes_are_alike : (r : Recorded) (boxes other : List PlacedBox) (spans : List Span) (at : ℕ → ℕ → ℕ) (k : ℕ) → AreBoxesOf r boxes
-    → RestTo r boxes spans at k → IsSchedule r (events_of_all boxes) spans at → AreNear boxes spans → ArePut r boxes spans other
+    → RestTo r boxes spans at k → IsPacing r (events_of_all boxes) spans at → AreNear boxes spans → ArePut r boxes spans other
     → AreAlike boxes other spans at k
 put_boxes_are_alike r boxes other spans at k ok h order near put = record {
   events = put.events;
@@ -437,7 +431,7 @@ put_boxes_are_alike r boxes other spans at k ok h order near put = record {
 
 -- the start of a box that is put
 put_start_is_right : (r : Recorded) (boxes : List PlacedBox) (spans : List Span) (at : ℕ → ℕ → ℕ) (k : ℕ) → length spans ≡ length boxes → RestTo r boxes spans at k
-    → IsSchedule r (events_of_all boxes) spans at → (n : ℕ) (b c : PlacedBox) (own : Span) → slice_get boxes n ≡ Some b → slice_get spans n ≡ Some own
+    → IsPacing r (events_of_all boxes) spans at → (n : ℕ) (b c : PlacedBox) (own : Span) → slice_get boxes n ≡ Some b → slice_get spans n ≡ Some own
     → depth_of at spans (at own.thread own.first) ≤ k → (p : IsPut r boxes spans own b c) → c.start ≡ p.right.start
 put_start_is_right r boxes spans at k size h order n b c own is goes low p =
     let lows = right_start_is_low r boxes spans at k size h order n b p.right own is goes low p.same p.held in
@@ -449,7 +443,7 @@ put_start_is_right r boxes spans at k size h order n b c own is goes low p =
     p.start.same (record { x = omega (arith, x, by, top); u = omega (arith, u, by, top); late = omega (arith, late) })
 
 put_start_rests : (r : Recorded) (boxes other : List PlacedBox) (spans : List Span) (at : ℕ → ℕ → ℕ) (k : ℕ) → length spans ≡ length boxes
-    → RestTo r boxes spans at k → IsSchedule r (events_of_all boxes) spans at → AreAlike boxes other spans at k → length spans ≡ length other
+    → RestTo r boxes spans at k → IsPacing r (events_of_all boxes) spans at → AreAlike boxes other spans at k → length spans ≡ length other
     → (n : ℕ) (b c : PlacedBox) (own : Span) → slice_get boxes n ≡ Some b → slice_get other n ≡ Some c → slice_get spans n ≡ Some own
     → depth_of at spans (at own.thread own.first) ≤ k → IsPut r boxes spans own b c → StartRests r other spans at c own
 put_start_rests r boxes other spans at k size h order alike more n b c own is_b is_c goes low p =
@@ -457,7 +451,7 @@ put_start_rests r boxes other spans at k size h order alike more n b c own is_b 
     let same = put_start_is_right r boxes spans at k size h order n b c own is_b goes low p in
     let lows = right_start_is_low r boxes spans at k size h order n b q own is_b goes low p.same p.held in
     let back = alike_back boxes other spans at k alike in
-    let order_back = subst (λ (es : List EventBox). IsSchedule r es spans at) (sym alike.events) order in
+    let order_back = subst (λ (es : List EventBox). IsPacing r es spans at) (sym alike.events) order in
     record {
       x = subst (λ (v : Point). IsLeastAbove 0 (HasToBeLeft r other spans c own) v.x) (sym same)
           (least_above_of_equal_sets 0 (HasToBeLeft r boxes spans q own) (HasToBeLeft r other spans c own) q.start.x
@@ -480,7 +474,7 @@ put_start_rests r boxes other spans at k size h order alike more n b c own is_b 
     }
 
 put_end_rests : (r : Recorded) (boxes other : List PlacedBox) (spans : List Span) (at : ℕ → ℕ → ℕ) (k : ℕ) → AreBoxesOf r boxes → length spans ≡ length boxes
-    → RestTo r boxes spans at k → IsSchedule r (events_of_all boxes) spans at → AreNear boxes spans → AreAlike boxes other spans at k → (n : ℕ)
+    → RestTo r boxes spans at k → IsPacing r (events_of_all boxes) spans at → AreNear boxes spans → AreAlike boxes other spans at k → (n : ℕ)
     (b c : PlacedBox) (own : Span) → slice_get boxes n ≡ Some b → slice_get spans n ≡ Some own → depth_of at spans (at own.thread own.last) ≤ k
     → IsPut r boxes spans own b c → EndRests r other spans at c own
 put_end_rests r boxes other spans at k ok size h order near alike n b c own is_b goes low p =
@@ -524,7 +518,7 @@ same_length boxes other same =
     omega (arith, a, b, c)
 
 pub rest_to_next_round : (r : Recorded) (boxes other : List PlacedBox) (spans : List Span) (at : ℕ → ℕ → ℕ) (k : ℕ) → AreBoxesOf r boxes
-    → length spans ≡ length boxes → IsSchedule r (events_of_all boxes) spans at → AreNear boxes spans → ArePut r boxes spans other
+    → length spans ≡ length boxes → IsPacing r (events_of_all boxes) spans at → AreNear boxes spans → ArePut r boxes spans other
     → RestTo r boxes spans at k → RestTo r other spans at (k + 1)
 rest_to_next_round r boxes other spans at k ok size order near put h =
     let alike = put_boxes_are_alike r boxes other spans at k ok h order near put in

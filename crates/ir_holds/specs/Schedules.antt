@@ -1,7 +1,8 @@
 -- In which order the threads take the steps of boxes.
-use Rattle.std.specs.Prelude.{◌≡◌, ℕ, ◌+◌, ◌-◌, ◌^◌, ◌<◌, ◌≤◌, List, Some}
+use Rattle.std.specs.Prelude.{◌≡◌, ℕ, ◌+◌, ◌-◌, ◌^◌, ◌<◌, ◌≤◌, List, length, Some}
 use Rattle.std.specs.List.{slice_get}
-use Rattle.ir_trace.specs.Recorded.{Recorded}
+use Rattle.ir_runs.specs.Verdicts.{sum_below}
+use Rattle.ir_trace.specs.Recorded.{Recorded, recorded_thread}
 use Rattle.ir_picture.specs.Places.{NeedsBox}
 use Rattle.ir_picture.specs.Placing.{events_of_all}
 use Rattle.ir_picture.specs.declared.event_box.EventBox.{EventBox}
@@ -10,18 +11,33 @@ use Rattle.ir_picture.specs.declared.placed_box.PlacedBox.{PlacedBox}
 use Rattle.ir_holds.specs.Held.{IsHeld, rows_in}
 use Rattle.ir_holds.specs.declared.span.Span.{Span}
 
--- the steps of threads are numbered, step k of thread t by `at t k`, so that each thread's numbers rise by as many as its steps at least, no box ends
--- before it starts, and each box starts after the boxes that it needs end. All boxes end below 2 ^ 53
+-- the steps of threads are numbered, step k of thread t by `at t k`: the steps of a thread have rising numbers, a box doesn't end before it starts, and
+-- its last step is one of its thread's, and each box starts after all ends of boxes that it needs
 pub record IsSchedule (r : Recorded) (events : List EventBox) (spans : List Span) (at : ℕ → ℕ → ℕ) : Type 0 where
+  pub rises : (t j k : ℕ) → j < k → at t j < at t k
+  pub goes : (n : ℕ) (own : Span) → slice_get spans n ≡ Some own → own.first ≤ own.last
+  pub within : (n : ℕ) (own : Span) → slice_get spans n ≡ Some own → own.last < (recorded_thread r own.thread).steps
+  pub needs : (m n : ℕ) (a b : EventBox) (s own : Span) → slice_get events m ≡ Some a → slice_get spans m ≡ Some s → slice_get events n ≡ Some b
+      → slice_get spans n ≡ Some own → NeedsBox r b a → at s.thread s.last < at own.thread own.first
+
+-- there is such an order of the steps
+abbrev pub HasSchedule : Recorded → List EventBox → List Span → Type 0
+HasSchedule r events spans = (at : ℕ → ℕ → ℕ) × IsSchedule r events spans at
+
+-- all threads together took this many steps
+abbrev pub all_steps : Recorded → ℕ
+all_steps r = sum_below (length r.threads) (λ t. (recorded_thread r t).steps)
+
+-- the same order, with numbers that rise by as many as a thread's steps at least, and that are below 2 ^ 53 where boxes end
+pub record IsPacing (r : Recorded) (events : List EventBox) (spans : List Span) (at : ℕ → ℕ → ℕ) : Type 0 where
   pub rises : (t j k : ℕ) → j ≤ k → at t j + (k - j) ≤ at t k
   pub goes : (n : ℕ) (own : Span) → slice_get spans n ≡ Some own → own.first ≤ own.last
   pub needs : (m n : ℕ) (a b : EventBox) (s own : Span) → slice_get events m ≡ Some a → slice_get spans m ≡ Some s → slice_get events n ≡ Some b
       → slice_get spans n ≡ Some own → NeedsBox r b a → at s.thread s.last < at own.thread own.first
   pub low : (n : ℕ) (own : Span) → slice_get spans n ≡ Some own → at own.thread own.last < 2 ^ 53
 
--- there is such an order of the steps
-abbrev pub HasSchedule : Recorded → List EventBox → List Span → Type 0
-HasSchedule r events spans = (at : ℕ → ℕ → ℕ) × IsSchedule r events spans at
+abbrev pub HasPacing : Recorded → List EventBox → List Span → Type 0
+HasPacing r events spans = (at : ℕ → ℕ → ℕ) × IsPacing r events spans at
 
 -- a place that is not too far, and not before step k
 pub record IsNear (k : ℕ) (p : Point) : Type 0 where

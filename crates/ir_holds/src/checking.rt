@@ -1,6 +1,6 @@
 //! Where boxes have to be, by where all are.
 
-ghost use Rattle.std.specs.Prelude.{◌≡◌, ◌^◌, ◌<◌, ◌≤◌, ℕ, List, true, false, length, Some};
+ghost use Rattle.std.specs.Prelude.{◌≡◌, ◌^◌, ◌<◌, ℕ, List, true, length, Some};
 ghost use Rattle.std.specs.List.{slice_get};
 ghost use Rattle.ir_picture.specs.Progress.{AreBoxesOf};
 ghost use Rattle.ir_picture.specs.declared.placed_box.PlacedBox.{PlacedBox};
@@ -59,13 +59,28 @@ pub fn right_box(
     let EventBox { thread, event, .. } = own.events;
     let first = event_of(trace, Place { thread, event });
     let needed = ends.after_needs_of(events_in(trace, &own.events));
-    let Spot { start, end, came } = spot_of(marks, &spans[number], needed, length_of(first));
+    let spot = spot_of(marks, &spans[number], needed, length_of(first));
     PlacedBox {
-        start,
-        end,
-        came,
+        start: spot.start,
+        end: spot.end,
+        came: spot.came,
         ..own
     }
+}
+
+// Whether a box is where it has to be.
+fn is_at(own: &PlacedBox, right: &PlacedBox) -> bool
+    ensures start { result ≡ true → (own.now).start ≡ (right.now).start }
+    ensures end { result ≡ true → (own.now).end ≡ (right.now).end }
+    ensures came { result ≡ true → (own.now).came ≡ (right.now).came }
+{
+    if own.start != right.start {
+        return false;
+    }
+    if own.end != right.end {
+        return false;
+    }
+    own.came == right.came
 }
 
 /// Whether all boxes are where they have to be. Time is linear in the events, and in the boxes times the logarithm of their number.
@@ -83,7 +98,8 @@ pub fn are_held(
     ensures { result ≡ true → (k : ℕ) (b : PlacedBox) (s : Span) → slice_get boxes.now k ≡ Some b → slice_get spans.now k ≡ Some s → IsHeld trace.now boxes.now spans.now b s }
 {
     for number in 0..boxes.len() {
-        if boxes[number] != right_box(trace, boxes, spans, marks, ends, number) {
+        let right = right_box(trace, boxes, spans, marks, ends, number);
+        if !is_at(&boxes[number], &right) {
             return false;
         }
     }

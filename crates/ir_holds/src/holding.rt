@@ -10,7 +10,7 @@ ghost use Rattle.ir_picture.specs.declared.placed_box.Point.{Point};
 ghost use Rattle.ir_picture.specs.declared.placed_box.PlacedBox.{PlacedBox};
 ghost use Rattle.ir_holds.specs.Open.{AreRising};
 ghost use Rattle.ir_holds.specs.Held.{IsHeldEnd, rows_in};
-ghost use Rattle.ir_holds.specs.Schedules.{HasSchedule, IsNear, AreNear};
+ghost use Rattle.ir_holds.specs.Schedules.{HasSchedule, all_steps, IsNear, AreNear};
 ghost use Rattle.ir_holds.specs.Stops.{HoldsMarks, HasMarks};
 ghost use Rattle.ir_holds.specs.Checks.{HoldAll};
 ghost use Rattle.ir_holds.specs.declared.span.Span.{Span};
@@ -143,7 +143,7 @@ pub fn held_boxes(
     requires size { length spans.now ≡ length events.now }
     requires rising { AreRising spans.now }
     requires schedule { HasSchedule trace.now events.now spans.now }
-    requires few { (t : ℕ) → t < length trace.now.threads → (recorded_thread trace.now t).steps < 2 ^ 54 }
+    requires few { all_steps trace.now < 2 ^ 53 }
     ensures { IfOk result (HoldAll trace.now events.now spans.now) }
 {
     let rows = rows_of(alloc, spans)?;

@@ -7,7 +7,7 @@ ghost use Rattle.ir_picture.specs.Progress.{AreBoxesOf};
 ghost use Rattle.ir_picture.specs.declared.placed_box.PlacedBox.{PlacedBox};
 ghost use Rattle.ir_holds.specs.Held.{IsHeld, rows_in};
 ghost use Rattle.ir_holds.specs.Needing.{HoldsEnds};
-ghost use Rattle.ir_holds.specs.Schedules.{HasSchedule, AreNear, IsNearest, ArePut};
+ghost use Rattle.ir_holds.specs.Schedules.{HasPacing, AreNear, IsNearest, ArePut};
 ghost use Rattle.ir_holds.specs.Stops.{HoldsMarks};
 ghost use Rattle.ir_holds.specs.declared.span.Span.{Span};
 
@@ -94,7 +94,7 @@ pub fn settled(
     requires size { length spans.now ≡ length first.items }
     requires boxes { AreBoxesOf trace.now first.items }
     requires near { AreNear first.items spans.now }
-    requires schedule { HasSchedule trace.now (events_of_all first.items) spans.now }
+    requires pacing { HasPacing trace.now (events_of_all first.items) spans.now }
     ensures events { IfOk result (λ v. events_of_all v.items ≡ events_of_all first.items) }
     ensures rows { IfOk result (λ v. rows_in v.items ≡ rows_in first.items) }
     ensures near { IfOk result (λ v. AreNear v.items spans.now) }

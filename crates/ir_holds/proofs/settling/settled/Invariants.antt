@@ -1,7 +1,7 @@
 use Rattle.std.specs.Prelude.{◌≡◌, ℕ}
 use Rattle.ir_picture.specs.Placing.{events_of_all}
 use Rattle.ir_holds.specs.Held.{rows_in}
-use Rattle.ir_holds.specs.Schedules.{IsSchedule, AreNear}
+use Rattle.ir_holds.specs.Schedules.{IsPacing, AreNear}
 use Rattle.ir_holds.proofs.Settled.{RestTo}
 use Rattle.ir_holds.proofs.settling.settled.Given as goal
 
@@ -11,5 +11,5 @@ invariant-loop l = record {
   events : events_of_all l.boxes.items ≡ events_of_all l.fn.first.items;
   rows : rows_in l.boxes.items ≡ rows_in l.fn.first.items;
   near : AreNear l.boxes.items l.spans;
-  rest : (at : ℕ → ℕ → ℕ) → IsSchedule l.trace (events_of_all l.fn.first.items) l.spans at → RestTo l.trace l.boxes.items l.spans at l.counter;
+  rest : (at : ℕ → ℕ → ℕ) → IsPacing l.trace (events_of_all l.fn.first.items) l.spans at → RestTo l.trace l.boxes.items l.spans at l.counter;
 }
