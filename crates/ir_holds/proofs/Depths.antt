@@ -14,19 +14,19 @@ abbrev pub depth_of : (ℕ → ℕ → ℕ) → List Span → ℕ → ℕ
 depth_of at [] n = 0
 depth_of at (s ∷ ss) n = one_below (at s.thread s.first) n + (one_below (at s.thread s.last) n + depth_of at ss n)
 
-one_below_is_one : (y n : ℕ) → y < n → one_below y n ≡ 1
+pub one_below_is_one : (y n : ℕ) → y < n → one_below y n ≡ 1
 one_below_is_one y n less = ap (λ (b : Bool). cond b 1 0) (lt-ltb y n less)
 
-one_below_is_zero : (y n : ℕ) → n ≤ y → one_below y n ≡ 0
+pub one_below_is_zero : (y n : ℕ) → n ≤ y → one_below y n ≡ 0
 one_below_is_zero y n low = ap (λ (b : Bool). cond b 1 0) (le-ltb y n low)
 
-one_below_is_small : (y n : ℕ) → one_below y n ≤ 1
+pub one_below_is_small : (y n : ℕ) → one_below y n ≤ 1
 one_below_is_small y n = elim (cases_lt y n) [
   | inl less ↦ let is = one_below_is_one y n less in omega (arith, is)
   | inr past ↦ let is = one_below_is_zero y n past in omega (arith, is)
 ]
 
-one_below_rises : (y n m : ℕ) → n ≤ m → one_below y n ≤ one_below y m
+pub one_below_rises : (y n m : ℕ) → n ≤ m → one_below y n ≤ one_below y m
 one_below_rises y n m low = elim (cases_lt y n) [
   | inl less ↦
       let is = one_below_is_one y n less in let more = one_below_is_one y m (omega (arith, less, low)) in omega (arith, is, more)

@@ -339,15 +339,15 @@ right_start_is_low r boxes spans at k size h order n b q own is goes low same he
   ]),
   held.start_u.least (at own.thread own.first + 1)
       (let by = step_by_number r (events_of_all boxes) spans at order own.thread own.first in omega (arith, by)) (λ z comes. elim comes [
-    | inl from ↦ comes_is_low r (events_of_all boxes) boxes spans at k h order own.thread own.first z low from
-    | inr need ↦
-        let p = needed_is_low r boxes spans at k size h order (λ v. v.u) n b own need.0 is goes low
-        (needed_by_same_events r boxes (λ v. v.u) q b need.0 same need.1) in
-        let ends = p.1 in
-        let u = p.3 in
-        let is_z = need.2 in
-        omega (arith, ends, u, is_z)
-  ]),
+        | inl from ↦ comes_is_low r (events_of_all boxes) boxes spans at k h order own.thread own.first z low from
+        | inr need ↦
+            let p = needed_is_low r boxes spans at k size h order (λ v. v.u) n b own need.0 is goes low
+            (needed_by_same_events r boxes (λ v. v.u) q b need.0 same need.1) in
+            let ends = p.1 in
+            let u = p.3 in
+            let is_z = need.2 in
+            omega (arith, ends, u, is_z)
+      ]),
 )
 
 right_end_is_low : (r : Recorded) (events : List EventBox) (boxes : List PlacedBox) (spans : List Span) (at : ℕ → ℕ → ℕ) (k : ℕ) → RestTo r boxes spans at k
@@ -359,9 +359,9 @@ right_end_is_low r events boxes spans at k h order n q own e goes is low held lo
     let by = first_by_last r events spans at order n own goes in
     let long = length_is_small e in (
       (held.end_x e is).least (2 * at own.thread own.last + 1) (omega (arith, by, long, low_x)) (λ z mark.
-      let less = marked_is_low r events boxes spans at k h order own.thread own.last z low mark in omega (arith, less)),
+          let less = marked_is_low r events boxes spans at k h order own.thread own.last z low mark in omega (arith, less)),
       held.end_u.least (at own.thread own.last + 1) (omega (arith, by, low_u)) (λ z from.
-      comes_is_low r events boxes spans at k h order own.thread own.last z low from),
+          comes_is_low r events boxes spans at k h order own.thread own.last z low from),
     )
 
 -- and doesn't end before its last step

@@ -39,6 +39,10 @@ pub record IsPacing (r : Recorded) (events : List EventBox) (spans : List Span) 
 abbrev pub HasPacing : Recorded → List EventBox → List Span → Type 0
 HasPacing r events spans = (at : ℕ → ℕ → ℕ) × IsPacing r events spans at
 
+-- each box is where it has to be
+abbrev pub EachIsHeld : Recorded → List PlacedBox → List Span → Type 0
+EachIsHeld r boxes spans = (k : ℕ) (b : PlacedBox) (s : Span) → slice_get boxes k ≡ Some b → slice_get spans k ≡ Some s → IsHeld r boxes spans b s
+
 -- a place that is not too far, and not before step k
 pub record IsNear (k : ℕ) (p : Point) : Type 0 where
   pub x : p.x < 2 ^ 54

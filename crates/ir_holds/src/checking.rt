@@ -6,6 +6,7 @@ ghost use Rattle.ir_picture.specs.Progress.{AreBoxesOf};
 ghost use Rattle.ir_picture.specs.declared.placed_box.PlacedBox.{PlacedBox};
 ghost use Rattle.ir_holds.specs.Needing.{HoldsEnds};
 ghost use Rattle.ir_holds.specs.Held.{IsHeld};
+ghost use Rattle.ir_holds.specs.Schedules.{EachIsHeld};
 ghost use Rattle.ir_holds.specs.Stops.{HoldsMarks, HasMarks};
 ghost use Rattle.ir_holds.specs.Checks.{IsSpot};
 ghost use Rattle.ir_holds.specs.declared.span.Span.{Span};
@@ -95,7 +96,7 @@ pub fn are_held(
     requires boxes { AreBoxesOf trace.now boxes.now }
     requires marks { HoldsMarks boxes.now spans.now marks.now }
     requires ends { HoldsEnds trace.now boxes.now ends.now }
-    ensures { result ≡ true → (k : ℕ) (b : PlacedBox) (s : Span) → slice_get boxes.now k ≡ Some b → slice_get spans.now k ≡ Some s → IsHeld trace.now boxes.now spans.now b s }
+    ensures { result ≡ true → EachIsHeld trace.now boxes.now spans.now }
 {
     for number in 0..boxes.len() {
         let right = right_box(trace, boxes, spans, marks, ends, number);

@@ -69,11 +69,7 @@ impl Marks {
     ///
     /// # Errors
     /// Out of memory.
-    pub fn of(
-        alloc: Global,
-        boxes: &[PlacedBox],
-        spans: &[Span],
-    ) -> Result<Marks, AllocError>
+    pub fn of(alloc: Global, boxes: &[PlacedBox], spans: &[Span]) -> Result<Marks, AllocError>
         requires size { length spans.now ≡ length boxes.now }
         requires near { AreNear boxes.now spans.now }
         ensures { IfOk result (HoldsMarks boxes.now spans.now) }

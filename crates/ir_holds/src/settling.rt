@@ -1,15 +1,12 @@
 //! Boxes are put where they have to be, until all are there.
 
-ghost use Rattle.std.specs.Prelude.{◌≡◌, ℕ, length, Some, IfOk, IfSome, IfNone};
-ghost use Rattle.std.specs.List.{slice_get};
+ghost use Rattle.std.specs.Prelude.{◌≡◌, length, IfOk, IfSome, IfNone};
 ghost use Rattle.ir_picture.specs.Placing.{events_of_all};
 ghost use Rattle.ir_picture.specs.Progress.{AreBoxesOf};
-ghost use Rattle.ir_picture.specs.declared.placed_box.PlacedBox.{PlacedBox};
-ghost use Rattle.ir_holds.specs.Held.{IsHeld, rows_in};
+ghost use Rattle.ir_holds.specs.Held.{rows_in};
 ghost use Rattle.ir_holds.specs.Needing.{HoldsEnds};
-ghost use Rattle.ir_holds.specs.Schedules.{HasPacing, AreNear, IsNearest, ArePut};
+ghost use Rattle.ir_holds.specs.Schedules.{EachIsHeld, HasPacing, AreNear, IsNearest, ArePut};
 ghost use Rattle.ir_holds.specs.Stops.{HoldsMarks};
-ghost use Rattle.ir_holds.specs.declared.span.Span.{Span};
 
 use crate::checking::{are_held, right_box};
 use crate::marks::Marks;
@@ -69,7 +66,7 @@ fn put_once(
     requires boxes { AreBoxesOf trace.now boxes.now }
     requires near { AreNear boxes.now spans.now }
     ensures put { IfOk result (λ x. IfSome x (λ v. ArePut trace.now boxes.now spans.now v.items)) }
-    ensures held { IfOk result (λ x. IfNone x ((k : ℕ) (b : PlacedBox) (s : Span) → slice_get boxes.now k ≡ Some b → slice_get spans.now k ≡ Some s → IsHeld trace.now boxes.now spans.now b s)) }
+    ensures held { IfOk result (λ x. IfNone x (EachIsHeld trace.now boxes.now spans.now)) }
 {
     let marks = Marks::of(alloc, boxes, spans)?;
     let ends = ends_of(alloc, trace, boxes)?;
@@ -98,7 +95,7 @@ pub fn settled(
     ensures events { IfOk result (λ v. events_of_all v.items ≡ events_of_all first.items) }
     ensures rows { IfOk result (λ v. rows_in v.items ≡ rows_in first.items) }
     ensures near { IfOk result (λ v. AreNear v.items spans.now) }
-    ensures held { IfOk result (λ v. (k : ℕ) (b : PlacedBox) (s : Span) → slice_get v.items k ≡ Some b → slice_get spans.now k ≡ Some s → IsHeld trace.now v.items spans.now b s) }
+    ensures held { IfOk result (λ v. EachIsHeld trace.now v.items spans.now) }
 {
     let mut boxes = first;
     for _ in 0..spans.len() * 2 {

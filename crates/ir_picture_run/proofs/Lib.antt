@@ -6,3 +6,8 @@ mod Behind
 mod InCut
 mod HeldOf
 mod Shown
+mod Places
+mod Ordered
+mod Squeezed
+mod Scheduled
+mod Few

@@ -10,8 +10,8 @@ use Rattle.ir_holds.proofs.settling.all_put.Given as goal
 abbrev pub invariant-loop-number : goal.invariant-loop-number
 invariant-loop-number l = record {
   size : length l.all.items ≡ l.number;
-  events : events_of_all l.all.items ≡ take l.number (events_of_all l.boxes);
-  rows : rows_in l.all.items ≡ take l.number (rows_in l.boxes);
+  events : events_of_all l.all.items ≡ events_of_all (take l.number l.boxes);
+  rows : rows_in l.all.items ≡ rows_in (take l.number l.boxes);
   each : (n : ℕ) (b c : PlacedBox) (own : Span) → slice_get l.boxes n ≡ Some b → slice_get l.all.items n ≡ Some c → slice_get l.spans n ≡ Some own
       → IsPut l.trace l.boxes l.spans own b c;
 }

@@ -3,7 +3,7 @@ use Rattle.std.specs.Prelude.{IfSome, IfNone}
 use Rattle.ir_picture.specs.Progress.{AreBoxesOf}
 use Rattle.ir_picture.specs.declared.event_box.EventBox.{EventBox}
 use Rattle.ir_picture.specs.declared.placed_box.PlacedBox.{PlacedBox}
-use Rattle.ir_holds.specs.Schedules.{IsPacing, AreNear, ArePut}
+use Rattle.ir_holds.specs.Schedules.{EachIsHeld, IsPacing, AreNear, ArePut}
 use Rattle.ir_holds.proofs.Settled.{none_rests_to_0, rest_to_next_round, put_boxes_are_near, boxes_with_same_events_are_of_trace, boxes_with_same_events_are_as_many, held_if_all_rest}
 use Rattle.ir_holds.proofs.settling.settled.Goals as goal
 
@@ -50,7 +50,8 @@ returns-in-None c = record {
   events = c.loop.invariant.events;
   rows = c.loop.invariant.rows;
   near = c.loop.invariant.near;
-  held = ?;
+  held = subst (λ (bs : List PlacedBox). EachIsHeld c.args.trace.now bs c.args.spans.now) c.deref.ensures.value
+      (subst (λ x. IfNone x (EachIsHeld c.args.trace.now c.deref.result.now c.args.spans.now)) c.in-None.is c.in_ok-put_once.ensures.held);
 }
 
 pub returns : goal.returns
