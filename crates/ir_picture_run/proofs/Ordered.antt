@@ -45,7 +45,7 @@ leave_of_read_emits f h u j k o v there left = (subst (λ z. EntryLeaves f u (en
 
 -- a step emits one label
 emitted_label_is_one : {X : Type 0} (xs : List (X × Label)) (k : ℕ) (x y : X) (a b : Label) → At xs k (x, a) → At xs k (y, b) → a ≡ b
-emitted_label_is_one xs k x y a b one two =
+emitted_label_is_one {X = X} xs k x y a b one two =
     let p = (get_or_is_item_if_at_index xs k (x, a) one).1 (x, a) in
     let q = (get_or_is_item_if_at_index xs k (y, b) two).1 (x, a) in
     ap (λ (z : X × Label). z.1) (sym p ∙ q)
@@ -76,7 +76,7 @@ first_steps_are_consistent f h n =
     let all = ap (λ (z : List Step). count m s z t) whole in
     omega (arith, parts, all)) (λ t. count m s first t) (λ t. refl)).consistent
 
-is_in : Label → Bool
+abbrev is_in : Label → Bool
 is_in (In o a v l) = true
 is_in _ = false
 

@@ -1,5 +1,5 @@
 -- Where the steps of a box of several events count as its first step.
-use Rattle.std.proofs.Common.{◌≡◌, ℕ, suc, ◌+◌, ◌<◌, ◌≤◌, ◌⊎◌, inl, inr, Bool, true, false, cond, eqb, ltb, Some, List, [], ◌∷◌, refl, sym, ap, ◌∙◌, subst, arith, eq-eqb, ne_eqb}
+use Rattle.std.proofs.Common.{◌≡◌, ℕ, zero, suc, ◌+◌, ◌<◌, ◌≤◌, ◌⊎◌, inl, inr, Bool, true, false, cond, eqb, ltb, Some, List, [], ◌∷◌, refl, sym, ap, ◌∙◌, subst, arith, eq-eqb, ne_eqb}
 use Rattle.std.specs.List.{slice_get}
 use Rattle.std.proofs.lemmas.Bool.{cases_eq, cases_lt, lt-ltb, le-ltb}
 use Rattle.std.proofs.lemmas.Option.{none-some, same_Some}
@@ -106,6 +106,6 @@ front_cases (b ∷ events) (s ∷ spans) t k = elim (goes_over_cases b s t k) [
   where
     none_more : (b : EventBox) (s : Span) (events : List EventBox) (spans : List Span) (t k : ℕ) → (GoesOver b s t k → ⊥) → NoneOver events spans t k
         → NoneOver (b ∷ events) (s ∷ spans) t k
-    none_more b s events spans t k no rest zero c z is goes over =
-        no (subst (λ (x : EventBox). GoesOver x s t k) (sym (same_Some b c is)) (subst (λ (x : Span). GoesOver c x t k) (sym (same_Some s z goes)) over))
-    none_more b s events spans t k no rest (suc n) c z is goes over = rest n c z is goes over
+    none_more b s events spans t k never rest zero c z is goes over =
+        never (subst (λ (x : EventBox). GoesOver x s t k) (sym (same_Some b c is)) (subst (λ (x : Span). GoesOver c x t k) (sym (same_Some s z goes)) over))
+    none_more b s events spans t k never rest (suc n) c z is goes over = rest n c z is goes over

@@ -1,13 +1,12 @@
-use Rattle.std.proofs.Common.{◌≡◌, ◌∙◌, ◌<◌, ◌^◌, ℕ, List, Some, sym, ap, subst, arith}
+use Rattle.std.proofs.Common.{◌≡◌, ◌∙◌, ℕ, List, Some, sym, subst, arith}
 use Rattle.std.specs.List.{slice_get}
-use Rattle.ir_picture.specs.Placing.{events_of_all}
 use Rattle.ir_picture.specs.declared.event_box.EventBox.{EventBox}
 use Rattle.ir_picture.specs.declared.placed_box.Point.{Point}
 use Rattle.ir_picture.specs.declared.placed_box.PlacedBox.{PlacedBox}
 use Rattle.ir_picture.proofs.CallerLemmas.{slice_get_of_map}
 use Rattle.ir_holds.specs.Spans.{AreRows}
 use Rattle.ir_holds.specs.Held.{IsHeldEnd}
-use Rattle.ir_holds.specs.Schedules.{EachIsHeld, HasPacing}
+use Rattle.ir_holds.specs.Schedules.{HasPacing}
 use Rattle.ir_holds.proofs.Paced.{paced, schedule_is_paced, each_thread_took_few, box_steps_are_few}
 use Rattle.ir_holds.proofs.holding.held_boxes.Goals as goal
 
