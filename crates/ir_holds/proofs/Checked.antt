@@ -1,8 +1,8 @@
 -- A box that starts and ends as near as it can is where it has to be.
-use Rattle.std.proofs.Common.{◌≡◌, ℕ, zero, suc, ◌+◌, ◌-◌, ◌<◌, inl, inr, Some, List, [], ◌∷◌, take, drop, refl, sym, ap, ◌∙◌, subst, arith}
+use Rattle.std.proofs.Common.{◌≡◌, ℕ, zero, suc, ◌+◌, ◌-◌, ◌^◌, ◌<◌, ◌≤◌, inl, inr, Some, List, [], ◌∷◌, length, take, drop, refl, sym, ap, ◌∙◌, subst, arith}
 use Rattle.std.specs.List.{slice_get}
 use Rattle.std.proofs.lemmas.Bool.{cases_lt}
-use Rattle.std.proofs.lemmas.Option.{none-some, same_Some}
+use Rattle.std.proofs.lemmas.Option.{none-some, same_Some, slice_get_within, slice_get-get_or}
 use Rattle.ir_log.specs.declared.event.Event.{Event}
 use Rattle.ir_log.specs.declared.event.Event.TheVariants.{Answer, Read, Write, Try}
 use Rattle.ir_trace.specs.Recorded.{Recorded, recorded_thread}
@@ -14,10 +14,15 @@ use Rattle.ir_picture.specs.Places.{IsLeastAbove, EndsNeeded, length_of}
 use Rattle.ir_picture.specs.declared.event_box.EventBox.{EventBox}
 use Rattle.ir_picture.specs.declared.placed_box.Point.{Point}
 use Rattle.ir_picture.specs.declared.placed_box.PlacedBox.{PlacedBox}
-use Rattle.ir_holds.specs.Held.{MarkedBefore, IsHeld}
+use Rattle.ir_holds.specs.Held.{IsLeastFrom, MarkedBefore, ComesFrom, IsHeld}
 use Rattle.ir_holds.specs.Needing.{NeedsLike, OneNeedsLike, EndsWith, IsAfterThese}
-use Rattle.ir_holds.specs.Checks.{StartsRight, EndsRight}
+use Rattle.ir_holds.specs.Stops.{HoldsMarks}
+use Rattle.ir_holds.specs.Checks.{IsSpot}
+use Rattle.ir_holds.proofs.Defaults.{no_span}
+use Rattle.ir_holds.proofs.Noted.{noted_boxes_are_near}
+use Rattle.ir_holds.specs.declared.marks.Marks.{Marks}
 use Rattle.ir_holds.specs.declared.span.Span.{Span}
+use Rattle.ir_holds.specs.declared.spot.Spot.{Spot}
 
 -- ---- the events of a box
 
@@ -154,57 +159,76 @@ ends_with_are_ends_needed r boxes number b z w =
 
 -- ---- a box
 
-pub held_if_starts_and_ends_right : (r : Recorded) (boxes : List PlacedBox) (spans : List Span) (b : PlacedBox) (own : Span) (needed : Point) (e : Event)
-    → event_at r b.events.thread b.events.event ≡ Some e → IsAfterThese r boxes (OneNeedsLike (events_in r b.events)) needed
-    → StartsRight boxes spans b own needed → EndsRight boxes spans b own (length_of e) → IsHeld r boxes spans b own
-held_if_starts_and_ends_right r boxes spans b own needed e first after start end = record {
-  start_x = record {
-    start = omega arith;
-    above = λ z c. elim c [
-      | inl mark ↦ let less = start.of_marks.above z mark in let at = start.x in omega (arith, less, at)
-      | inr need ↦
-          let less = after.x.above z (ends_needed_are_ends_with r boxes (λ q. q.x) b z need) in
-          let at = start.x in
-          omega (arith, less, at)
-    ];
-    least = λ w low all.
-        let marks = start.of_marks.least w low (λ z mark. all z (inl mark)) in
-        let needs = after.x.least w low (λ z need. all z (inr (ends_with_are_ends_needed r boxes (λ q. q.x) b z need))) in
-        let at = start.x in
-        omega (arith, marks, needs, at);
-  };
-  end_x = λ d is. subst (λ y. IsLeastAbove (b.start.x + length_of y) (MarkedBefore boxes spans own.thread own.last) b.end.x)
-      (same_Some e d (sym first ∙ is)) end.x;
-  start_u = record {
-    start = let low = start.came.start in let at = start.u in omega (arith, low, at);
-    above = λ z c. elim c [
-      | inl comes ↦ let by = start.came.above z comes in let at = start.u in omega (arith, by, at)
-      | inr need ↦
-          let less = after.u.above need.0 (ends_needed_are_ends_with r boxes (λ q. q.u) b need.0 need.1) in
-          let same = need.2 in
-          let at = start.u in
-          omega (arith, less, same, at)
-    ];
-    least = λ w low all.
-        let comes = start.came.least w low (λ z come. all z (inl come)) in
-        let needs = after.u.least w (omega (arith, low)) (λ z need.
-        let by = all (z + 1) (inr (z, ends_with_are_ends_needed r boxes (λ q. q.u) b z need, refl)) in omega (arith, by)) in
-        let at = start.u in
-        omega (arith, comes, needs, at);
-  };
-  end_u = end.u;
-  came = start.came;
-}
+pub length_is_small : (e : Event) → length_of e ≤ 1
+length_is_small (Answer kind value) = omega arith
+length_is_small (Read o v) = omega arith
+length_is_small (Write o v l) = omega arith
+length_is_small (Try o) = omega arith
 
--- a box of this number, where it is looked at
-pub held_if_box_of_number_is_right : (r : Recorded) (boxes : List PlacedBox) (spans : List Span) (n : ℕ) (own : PlacedBox) (span : Span) (needed : Point) (e : Event)
-    (long : ℕ) → slice_get boxes n ≡ Some own → slice_get spans n ≡ Some span → event_at r own.events.thread own.events.event ≡ Some e → long ≡ length_of e
-    → IsAfterThese r boxes (OneNeedsLike (events_in r own.events)) needed → StartsRight boxes spans own span needed → EndsRight boxes spans own span long
-    → (b : PlacedBox) (s : Span) → slice_get boxes n ≡ Some b → slice_get spans n ≡ Some s → IsHeld r boxes spans b s
-held_if_box_of_number_is_right r boxes spans n own span needed e long at there first same after start end b s at_b there_s =
-    subst (λ (x : PlacedBox). IsHeld r boxes spans x s) (same_Some own b (sym at ∙ at_b))
-    (subst (λ (x : Span). IsHeld r boxes spans own x) (same_Some span s (sym there ∙ there_s))
-    (held_if_starts_and_ends_right r boxes spans own span needed e first after start (subst (EndsRight boxes spans own span) same end)))
+-- what is needed isn't too far
+pub needed_is_near : (r : Recorded) (boxes : List PlacedBox) (spans : List Span) (m : Marks) (These : Event → Type 0) (p : Point) → length spans ≡ length boxes
+    → HoldsMarks boxes spans m → IsAfterThese r boxes These p → p.x ≤ 2 ^ 54
+needed_is_near r boxes spans m These p size holds after = after.x.least (2 ^ 54) (omega arith) (λ z w.
+    let within = slice_get_within boxes w.at w.box w.there in
+    let goes = slice_get-get_or spans w.at no_span (omega (arith, size, within)) in
+    let x = (noted_boxes_are_near boxes spans m w.at w.box _ holds w.there goes).1.x in
+    let ends = w.ends in
+    omega (arith, x, ends))
+
+pub held_if_at_spot : (r : Recorded) (boxes : List PlacedBox) (spans : List Span) (b : PlacedBox) (own : Span) (needed : Point) (e : Event) (s : Spot)
+    → event_at r b.events.thread b.events.event ≡ Some e → IsAfterThese r boxes (OneNeedsLike (events_in r b.events)) needed
+    → IsSpot boxes spans own needed (length_of e) s → b.start ≡ s.start → b.end ≡ s.end → b.came ≡ s.came → IsHeld r boxes spans b own
+held_if_at_spot r boxes spans b own needed e s first after spot at to by =
+    let at_x : b.start.x ≡ s.start.x = ap (λ (p : Point). p.x) at in
+    let at_u : b.start.u ≡ s.start.u = ap (λ (p : Point). p.u) at in
+    let to_x : b.end.x ≡ s.end.x = ap (λ (p : Point). p.x) to in
+    let to_u : b.end.u ≡ s.end.u = ap (λ (p : Point). p.u) to in
+    let is_x = spot.start_x in
+    let is_u = spot.start_u in
+    let needs_x = after.x in
+    let needs_u = after.u in
+    let came = spot.came in
+    record {
+      start_x = record {
+        start = omega arith;
+        above = λ z c. elim c [
+          | inl mark ↦ let less = spot.of_marks.above z mark in omega (arith, less, is_x, at_x)
+          | inr need ↦
+              let less = needs_x.above z (ends_needed_are_ends_with r boxes (λ q. q.x) b z need) in
+              omega (arith, less, is_x, at_x)
+        ];
+        least = λ w low all.
+            let marks = spot.of_marks.least w low (λ z mark. all z (inl mark)) in
+            let needs = needs_x.least w low (λ z need. all z (inr (ends_with_are_ends_needed r boxes (λ q. q.x) b z need))) in
+            omega (arith, marks, needs, is_x, at_x);
+      };
+      end_x = λ d is.
+          let long : length_of e ≡ length_of d = ap length_of (same_Some e d (sym first ∙ is)) in
+          let from : s.start.x + length_of e ≡ b.start.x + length_of d = omega (arith, at_x, long) in
+          subst (λ y. IsLeastAbove y (MarkedBefore boxes spans own.thread own.last) b.end.x) from
+          (subst (IsLeastAbove (s.start.x + length_of e) (MarkedBefore boxes spans own.thread own.last)) (sym to_x) spot.end_x);
+      start_u = record {
+        start = let low = came.start in omega (arith, low, is_u, at_u);
+        above = λ z c. elim c [
+          | inl comes ↦ let up = came.above z comes in omega (arith, up, is_u, at_u)
+          | inr need ↦
+              let less = needs_u.above need.0 (ends_needed_are_ends_with r boxes (λ q. q.u) b need.0 need.1) in
+              let same = need.2 in
+              omega (arith, less, same, is_u, at_u)
+        ];
+        least = λ w low all.
+            let comes = came.least w low (λ z come. all z (inl come)) in
+            let needs = needs_u.least w (omega (arith, low)) (λ z need.
+            let up = all (z + 1) (inr (z, ends_with_are_ends_needed r boxes (λ q. q.u) b z need, refl)) in omega (arith, up)) in
+            omega (arith, comes, needs, is_u, at_u);
+      };
+      end_u = subst (λ y. IsLeastFrom y (ComesFrom boxes spans own.thread own.last) b.end.u) (sym at_u)
+          (subst (IsLeastFrom s.start.u (ComesFrom boxes spans own.thread own.last)) (sym to_u) spot.end_u);
+      came = subst (IsLeastFrom (own.first + 1) (ComesFrom boxes spans own.thread own.first)) (sym by) came;
+    }
+
+pub same_box : (a b : PlacedBox) → a.events ≡ b.events → a.start ≡ b.start → a.end ≡ b.end → a.came ≡ b.came → a.row ≡ b.row → a ≡ b
+same_box a b events start end came row = λ i. record { events = events i; start = start i; end = end i; came = came i; row = row i }
 
 -- so far as boxes are looked at
 pub held_to_next_box : (r : Recorded) (boxes : List PlacedBox) (spans : List Span) (n : ℕ)

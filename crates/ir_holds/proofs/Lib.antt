@@ -5,3 +5,6 @@ mod Tops
 mod Noted
 mod Needs
 mod Checked
+mod Depths
+mod Settled
+mod Paced

@@ -12,6 +12,7 @@ use Rattle.ir_picture.specs.declared.placed_box.Point.{Point}
 use Rattle.ir_picture.specs.declared.placed_box.PlacedBox.{PlacedBox}
 use Rattle.ir_holds.specs.Held.{IsLeastFrom, IsMark, MarkedBefore, ComesFrom}
 use Rattle.ir_holds.specs.Heights.{IsBefore}
+use Rattle.ir_holds.specs.Schedules.{AreNear}
 use Rattle.ir_holds.specs.Stops.{AreStops, IsStopNear, number_in, right_height, late_height, AreNoted, HoldsMarks, HasMarks}
 use Rattle.ir_holds.specs.declared.span.Span.{Span}
 use Rattle.ir_holds.specs.declared.heights.Height.{Height}
@@ -239,6 +240,53 @@ top_late_is_small stops m t k top noted short h =
       | inr early ↦ omega (arith, early, up, u)
     ]) in
     omega (arith, most)
+
+-- and the greatest right height
+pub top_right_is_small : (stops : List Stop) (m : Marks) (t k top : ℕ) → AreNoted stops m → k < 2 ^ 54 → IsLeastFrom 0 (IsBefore m.right.each.items (number_in t k)) top
+    → top - number_in t 0 ≤ 2 ^ 54
+top_right_is_small stops m t k top noted short h =
+    let most = h.least (number_in t (2 ^ 54)) (omega arith) (λ z before.
+    let from = stop_of_noted right_height stops m.right.each.items noted.rights before.height before.there in
+    let near = noted.near from.0 from.1 in
+    let x = near.x in
+    let at = ap (λ (q : Height). q.at) from.2 in
+    let up = ap (λ (q : Height). q.top) from.2 ∙ before.top in
+    let less : number_in from.0.thread from.0.step < number_in t k = subst (λ z. z < number_in t k) (sym at) before.before in
+    elim (thread_of_number t from.0.thread from.0.step k near.step short less) [
+      | inl here ↦ let same = ap (λ q. q * 2 ^ 54) here.0 in omega (arith, same, up, x)
+      | inr early ↦ omega (arith, early, up, x)
+    ]) in
+    omega (arith, most)
+
+-- the starts and ends of near boxes are
+pub near_boxes_have_near_stops : (boxes : List PlacedBox) (spans : List Span) (stops : List Stop) → AreStops boxes spans stops → AreNear boxes spans → EachIsNear stops
+near_boxes_have_near_stops boxes spans stops are near k s at =
+    let has : Contains stops s = (k, slice_get_within stops k s at, get_or_from_slice_get stops k s s at) in
+    let mark = are.each s has in
+    elim mark.is [
+      | inl start ↦
+          let h = near.start mark.number mark.box mark.own mark.there mark.goes in
+          let first = near.first mark.number mark.own mark.goes in
+          let place = start.1 in
+          let px = ap (λ (p : Point). p.x) place in
+          let pu = ap (λ (p : Point). p.u) place in
+          let is = start.0 in
+          let x = h.x in
+          let u = h.u in
+          let late = h.late in
+          record { x = omega (arith, px, x); u = omega (arith, pu, u); step = omega (arith, is, first); late = omega (arith, is, pu, late) }
+      | inr end ↦
+          let h = near.end mark.number mark.box mark.own mark.there mark.goes in
+          let last = near.last mark.number mark.own mark.goes in
+          let place = end.1 in
+          let px = ap (λ (p : Point). p.x) place in
+          let pu = ap (λ (p : Point). p.u) place in
+          let is = end.0 in
+          let x = h.x in
+          let u = h.u in
+          let late = h.late in
+          record { x = omega (arith, px, x); u = omega (arith, pu, u); step = omega (arith, is, last); late = omega (arith, is, pu, late) }
+    ]
 
 -- the boxes whose starts and ends are noted are not too far, and neither are their steps
 pub noted_boxes_are_near : (boxes : List PlacedBox) (spans : List Span) (m : Marks) (n : ℕ) (b : PlacedBox) (s : Span) → HoldsMarks boxes spans m

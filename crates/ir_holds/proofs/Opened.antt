@@ -1,48 +1,12 @@
 -- Which boxes are over the next one.
-use Rattle.std.proofs.Common.{◌≡◌, ℕ, ◌+◌, ◌-◌, ◌<◌, ◌≤◌, inl, inr, Some, List, [], ◌∷◌, ◌++◌, length, sym, ap, ◌∙◌, subst, arith}
+use Rattle.std.proofs.Common.{◌≡◌, ℕ, ◌+◌, ◌<◌, ◌≤◌, inl, inr, Some, List, [], ◌∷◌, ◌++◌, length, sym, ap, ◌∙◌, subst, arith}
 use Rattle.std.specs.List.{slice_get, Contains}
 use Rattle.std.proofs.lemmas.Bool.{cases_lt}
 use Rattle.std.proofs.lemmas.Option.{same_Some, slice_get_within, slice_get-get_or, get_or_from_slice_get}
 use Rattle.std.proofs.lemmas.List.Elements.{Contains-push, Contains-push_cases, Contains-append_left}
 use Rattle.ir_holds.specs.Spans.{IsOver, IsTaken}
-use Rattle.ir_holds.specs.Open.{ComesLater, AreRising, IsLate, AreOfFirst, HasAllOver, KeepsLate}
+use Rattle.ir_holds.specs.Open.{AreRising, IsLate, AreOfFirst, HasAllOver, KeepsLate}
 use Rattle.ir_holds.specs.declared.span.Span.{Span}
-
--- ---- boxes that rise
-
--- the first n do
-abbrev pub AreRisingTo : List Span → ℕ → Type 0
-AreRisingTo spans n = (k m : ℕ) (a b : Span) → m < n → k < m → slice_get spans k ≡ Some a → slice_get spans m ≡ Some b → ComesLater a b
-
-comes_later_than_earlier : (a b c : Span) → ComesLater a b → ComesLater b c → ComesLater a c
-comes_later_than_earlier a b c one two = record {
-  thread = (let x = one.thread in let y = two.thread in omega (arith, x, y));
-  first = λ same.
-      let x = one.thread in
-      let y = two.thread in
-      let p = one.first (omega (arith, x, y, same)) in
-      let q = two.first (omega (arith, x, y, same)) in
-      omega (arith, p, q);
-}
-
-pub rising_to_next_box : (spans : List Span) (n : ℕ) (x y : Span) → 1 ≤ n → slice_get spans (n - 1) ≡ Some x → slice_get spans n ≡ Some y → ComesLater x y
-    → AreRisingTo spans n → AreRisingTo spans (n + 1)
-rising_to_next_box spans n x y some at there later h = λ k m a b below less get_a get_b. elim (cases_lt m n) [
-  | inl before ↦ h k m a b before less get_a get_b
-  | inr past ↦
-      let here : m ≡ n = omega (arith, below, past) in
-      let is_b : y ≡ b = same_Some y b (sym there ∙ ap (slice_get spans) (sym here) ∙ get_b) in
-      subst (λ (z : Span). ComesLater a z) is_b (elim (cases_lt k (n - 1)) [
-        | inl early ↦ comes_later_than_earlier a x y (h k (n - 1) a x (omega (arith, some)) early get_a at) later
-        | inr late ↦
-            let last : k ≡ n - 1 = omega (arith, less, here, late) in
-            let is_a : x ≡ a = same_Some x a (sym at ∙ ap (slice_get spans) (sym last) ∙ get_a) in
-            subst (λ (z : Span). ComesLater z y) is_a later
-      ])
-]
-
-pub rising_of_all_boxes : (spans : List Span) (n : ℕ) → length spans ≤ n → AreRisingTo spans n → AreRising spans
-rising_of_all_boxes spans n all h = λ k m a b less get_a get_b. h k m a b (let within = slice_get_within spans m b get_b in omega (arith, within, all)) less get_a get_b
 
 -- ---- boxes that haven't ended
 

@@ -4,4 +4,5 @@ pub mod Open
 pub mod Heights
 pub mod Stops
 pub mod Needing
+pub mod Schedules
 pub mod Checks

@@ -1,34 +1,32 @@
-//! The places of boxes: they are proposed, and each is looked at.
+//! The places of boxes: they are proposed, each is looked at, and all are put right.
 
-ghost use Rattle.std.specs.Prelude.{◌≡◌, ◌+◌, ◌^◌, ◌<◌, ℕ, List, true, Some, length, IfOk, IfSome};
+ghost use Rattle.std.specs.Prelude.{◌≡◌, ◌^◌, ◌<◌, ℕ, List, Some, length, IfOk};
 ghost use Rattle.std.specs.List.{slice_get};
 ghost use Rattle.ir_trace.specs.Recorded.{recorded_thread};
 ghost use Rattle.ir_picture.specs.Boxes.{IsBox};
 ghost use Rattle.ir_picture.specs.Placing.{events_of_all};
-ghost use Rattle.ir_picture.specs.Progress.{AreBoxesOf};
 ghost use Rattle.ir_picture.specs.declared.event_box.EventBox.{EventBox};
 ghost use Rattle.ir_picture.specs.declared.placed_box.Point.{Point};
 ghost use Rattle.ir_picture.specs.declared.placed_box.PlacedBox.{PlacedBox};
-ghost use Rattle.ir_holds.specs.Spans.{AreRows};
-ghost use Rattle.ir_holds.specs.Held.{IsHeldEnd, AreHeldAt, rows_in};
+ghost use Rattle.ir_holds.specs.Open.{AreRising};
+ghost use Rattle.ir_holds.specs.Held.{IsHeldEnd, rows_in};
+ghost use Rattle.ir_holds.specs.Schedules.{HasSchedule, all_steps, IsNear, AreNear};
 ghost use Rattle.ir_holds.specs.Stops.{HoldsMarks, HasMarks};
 ghost use Rattle.ir_holds.specs.Checks.{HoldAll};
 ghost use Rattle.ir_holds.specs.declared.span.Span.{Span};
 
-use crate::checking::are_held;
 use crate::held::HeldBoxes;
-use crate::levels::{are_rising, rows_of};
-use crate::marks::{FAR, Marks};
-use crate::needing::ends_of;
-use crate::proposing::{Spot, proposed};
+use crate::levels::rows_of;
+use crate::marks::Marks;
+use crate::nearing::nearest;
+use crate::proposing::proposed;
+use crate::settling::settled;
 use crate::span::Span;
+use crate::spot::{NOWHERE, Spot};
 use ir_past::thread_count;
 use ir_picture::{EventBox, PlacedBox, Point};
 use ir_trace::Trace;
 use std::alloc::{AllocError, Global};
-
-// Where a box is for which no place was proposed.
-const NOWHERE: Point = Point { x: 0, u: 0 };
 
 // How many steps a thread took.
 fn steps_of(trace: &Trace, thread: u8) -> u64
@@ -38,39 +36,27 @@ fn steps_of(trace: &Trace, thread: u8) -> u64
     trace.threads()[thread as usize].steps()
 }
 
-// Whether no thread took too many steps.
-fn are_steps_few(trace: &Trace) -> bool
-    ensures { result ≡ true → (t : ℕ) → t < length trace.now.threads → (recorded_thread trace.now t).steps < 2 ^ 54 }
-{
-    for thread in 0..thread_count(trace) {
-        if steps_of(trace, thread) >= FAR {
-            return false;
-        }
-    }
-    true
-}
-
-// A box with its row, where a place was proposed for it.
-fn box_at(events: EventBox, row: usize, spot: Option<&Spot>) -> PlacedBox
+// A box with its row, where a place was proposed for it, unless that is too far.
+fn box_at(events: EventBox, row: usize, spot: Spot, span: &Span) -> PlacedBox
     ensures events { result.events ≡ events }
     ensures row { result.row ≡ row }
+    ensures start { (span.now).first < 2 ^ 54 → IsNear (span.now).first result.start }
+    ensures end { (span.now).last < 2 ^ 54 → IsNear (span.now).last result.end }
 {
-    let row = row as u64;
-    match spot {
-        None => PlacedBox {
-            events,
-            start: NOWHERE,
-            end: NOWHERE,
-            came: 0,
-            row,
-        },
-        Some(spot) => PlacedBox {
-            events,
-            start: spot.start,
-            end: spot.end,
-            came: spot.came,
-            row,
-        },
+    PlacedBox {
+        events,
+        start: nearest(spot.start, span.first),
+        end: nearest(spot.end, span.last),
+        came: spot.came,
+        row: row as u64,
+    }
+}
+
+// The place that was proposed for the box of a number.
+fn spot_at(spots: &[Spot], number: usize) -> Spot {
+    match spots.get(number) {
+        Some(spot) => *spot,
+        None => NOWHERE,
     }
 }
 
@@ -78,16 +64,21 @@ fn box_at(events: EventBox, row: usize, spot: Option<&Spot>) -> PlacedBox
 fn boxes_at(
     alloc: Global,
     events: &[EventBox],
+    spans: &[Span],
     rows: &[usize],
     spots: &[Spot],
 ) -> Result<Vec<PlacedBox>, AllocError>
-    requires { length rows.now ≡ length events.now }
+    requires size { length spans.now ≡ length events.now }
+    requires rows { length rows.now ≡ length events.now }
+    requires steps { (n : ℕ) (own : Span) → slice_get spans.now n ≡ Some own → (own.first < 2 ^ 54) × (own.last < 2 ^ 54) }
     ensures events { IfOk result (λ v. events_of_all v.items ≡ events.now) }
     ensures rows { IfOk result (λ v. rows_in v.items ≡ rows.now) }
+    ensures near { IfOk result (λ v. AreNear v.items spans.now) }
 {
     let mut boxes = Vec::with_capacity(alloc, events.len())?;
     for number in 0..events.len() {
-        boxes.push(box_at(events[number], rows[number], spots.get(number)))?;
+        let spot = spot_at(spots, number);
+        boxes.push(box_at(events[number], rows[number], spot, &spans[number]))?;
     }
     Ok(boxes)
 }
@@ -120,51 +111,25 @@ fn thread_ends(alloc: Global, trace: &Trace, marks: &Marks) -> Result<Vec<Point>
     Ok(ends)
 }
 
-// Where the threads of boxes end, if each box is where it has to be.
-fn ends_if_held(
+// Where the threads of boxes end.
+fn ends_at(
     alloc: Global,
     trace: &Trace,
     boxes: &[PlacedBox],
     spans: &[Span],
-) -> Result<Option<Vec<Point>>, AllocError>
-    requires boxes { AreBoxesOf trace.now boxes.now }
+) -> Result<Vec<Point>, AllocError>
     requires size { length spans.now ≡ length boxes.now }
-    ensures { IfOk result (λ x. IfSome x (λ ends. AreHeldAt trace.now boxes.now spans.now ends.items)) }
+    requires near { AreNear boxes.now spans.now }
+    requires few { (t : ℕ) → t < length trace.now.threads → (recorded_thread trace.now t).steps < 2 ^ 54 }
+    ensures threads { IfOk result (λ v. length v.items ≡ length trace.now.threads) }
+    ensures each { IfOk result (λ v. (t : ℕ) (p : Point) → slice_get v.items t ≡ Some p → IsHeldEnd trace.now boxes.now spans.now t p) }
 {
-    if !are_steps_few(trace) {
-        return Ok(None);
-    }
-    let Some(marks) = Marks::of(alloc, boxes, spans)? else {
-        return Ok(None);
-    };
-    let needs = ends_of(alloc, trace, boxes)?;
-    if !are_held(trace, boxes, spans, &marks, &needs) {
-        return Ok(None);
-    }
-    let ends = thread_ends(alloc, trace, &marks)?;
-    Ok(Some(ends))
+    let marks = Marks::of(alloc, boxes, spans)?;
+    thread_ends(alloc, trace, &marks)
 }
 
-// Boxes and where their threads end, if each is where it has to be.
-fn judged(
-    alloc: Global,
-    trace: &Trace,
-    boxes: Vec<PlacedBox>,
-    spans: &[Span],
-) -> Result<Option<HeldBoxes>, AllocError>
-    requires boxes { AreBoxesOf trace.now boxes.items }
-    requires size { length spans.now ≡ length boxes.items }
-    ensures same { IfOk result (λ x. IfSome x (λ h. h.boxes.items ≡ boxes.items)) }
-    ensures held { IfOk result (λ x. IfSome x (λ h. AreHeldAt trace.now h.boxes.items spans.now h.ends.items)) }
-{
-    match ends_if_held(alloc, trace, &boxes, spans)? {
-        None => Ok(None),
-        Some(ends) => Ok(Some(HeldBoxes { boxes, ends })),
-    }
-}
-
-/// Boxes of a trace, which go so, with their places and rows, and where their threads end. None, if no places were found: what is proposed may be
-/// wrong, and then it isn't given. Time is linear in the events and the boxes, times the threads, times the logarithm of the boxes.
+/// Boxes of a trace, which go so, with their places and rows, and where their threads end. Time is linear in the events and the boxes, times the
+/// threads, times the logarithm of the boxes; should places be proposed that are wrong, for each time that the boxes are put right once more.
 ///
 /// # Errors
 /// Out of memory.
@@ -173,16 +138,18 @@ pub fn held_boxes(
     trace: &Trace,
     events: &[EventBox],
     spans: &[Span],
-) -> Result<Option<HeldBoxes>, AllocError>
+) -> Result<HeldBoxes, AllocError>
     requires boxes { (k : ℕ) (b : EventBox) → slice_get events.now k ≡ Some b → IsBox trace.now b }
     requires size { length spans.now ≡ length events.now }
-    ensures { IfOk result (λ x. IfSome x (HoldAll trace.now events.now spans.now)) }
+    requires rising { AreRising spans.now }
+    requires schedule { HasSchedule trace.now events.now spans.now }
+    requires few { all_steps trace.now < 2 ^ 53 }
+    ensures { IfOk result (HoldAll trace.now events.now spans.now) }
 {
-    if !are_rising(spans) {
-        return Ok(None);
-    }
     let rows = rows_of(alloc, spans)?;
     let spots = proposed(alloc, trace, events, spans)?;
-    let boxes = boxes_at(alloc, events, &rows, &spots)?;
-    judged(alloc, trace, boxes, spans)
+    let first = boxes_at(alloc, events, spans, &rows, &spots)?;
+    let boxes = settled(alloc, trace, first, spans)?;
+    let ends = ends_at(alloc, trace, &boxes, spans)?;
+    Ok(HeldBoxes { boxes, ends })
 }

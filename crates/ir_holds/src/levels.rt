@@ -3,30 +3,11 @@
 ghost use Rattle.std.specs.Prelude.{◌≡◌, ◌<◌, ◌≤◌, ◌↔◌, ℕ, Some, IfOk, IsTrue, true, false, length};
 ghost use Rattle.std.specs.List.{slice_get, Contains};
 ghost use Rattle.ir_holds.specs.Spans.{IsOver, IsTaken, IsFreeRow, AreRows};
-ghost use Rattle.ir_holds.specs.Open.{ComesLater, AreRising, IsLate, AreOfFirst, HasAllOver, KeepsLate};
+ghost use Rattle.ir_holds.specs.Open.{AreRising, IsLate, AreOfFirst, HasAllOver, KeepsLate};
 ghost use Rattle.ir_holds.specs.declared.span.Span.{Span};
 
 use crate::span::Span;
 use std::alloc::{AllocError, Global};
-
-// Whether a box comes by thread and step, and another one not before it.
-fn comes_later(one: &Span, other: &Span) -> bool
-    ensures { IsTrue result ↔ ComesLater one.now other.now }
-{
-    one.thread < other.thread || one.thread == other.thread && one.first <= other.first
-}
-
-/// Whether boxes come by rising thread and step. Time is linear in the boxes.
-pub fn are_rising(spans: &[Span]) -> bool
-    ensures { result ≡ true → AreRising spans.now }
-{
-    for number in 1..spans.len() {
-        if !comes_later(&spans[number - 1], &spans[number]) {
-            return false;
-        }
-    }
-    true
-}
 
 // Whether a box of a number hasn't ended where another of its thread begins.
 fn is_late(spans: &[Span], number: usize, other: &Span) -> bool

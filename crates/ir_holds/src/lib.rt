@@ -9,9 +9,12 @@ mod known;
 mod levels;
 mod marks;
 mod moments;
+mod nearing;
 mod needing;
 mod proposing;
+mod settling;
 mod span;
+mod spot;
 mod stops;
 
 pub use held::HeldBoxes;

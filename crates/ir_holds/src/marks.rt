@@ -1,10 +1,11 @@
 //! Where threads are at the starts and ends of boxes before their steps.
 
-ghost use Rattle.std.specs.Prelude.{◌≡◌, ◌^◌, ◌+◌, ◌<◌, ◌≤◌, ℕ, List, true, map, length, Some, IfOk, IfSome};
-ghost use Rattle.std.specs.List.{slice_get, Contains};
+ghost use Rattle.std.specs.Prelude.{◌≡◌, ◌^◌, ◌+◌, ◌<◌, ◌≤◌, ℕ, List, map, max, length, Some, IfOk};
+ghost use Rattle.std.specs.List.{slice_get};
 ghost use Rattle.ir_picture.specs.Places.{IsLeastAbove};
 ghost use Rattle.ir_picture.specs.declared.placed_box.PlacedBox.{PlacedBox};
 ghost use Rattle.ir_holds.specs.Held.{IsLeastFrom, MarkedBefore, ComesFrom};
+ghost use Rattle.ir_holds.specs.Schedules.{AreNear};
 ghost use Rattle.ir_holds.specs.Stops.{IsStopNear, HoldsMarks, HasMarks, number_in, right_height, late_height};
 ghost use Rattle.ir_holds.specs.declared.span.Span.{Span};
 ghost use Rattle.ir_holds.specs.declared.stops.Stop.{Stop};
@@ -31,26 +32,6 @@ fn number_in(thread: u8, number: u64) -> u64
     ensures { result ≡ number_in thread number }
 {
     thread as u64 * FAR + number
-}
-
-// Whether a start or an end isn't too far, and not before its step.
-fn is_near(stop: Stop) -> bool
-    ensures { result ≡ true → IsStopNear stop }
-{
-    let Stop { step, place, .. } = stop;
-    place.x < FAR && place.u < FAR && step < FAR && step <= place.u
-}
-
-// Whether all are so.
-fn are_near(stops: &[Stop]) -> bool
-    ensures { result ≡ true → (k : ℕ) (s : Stop) → slice_get stops.now k ≡ Some s → IsStopNear s }
-{
-    for stop in stops {
-        if !is_near(*stop) {
-            return false;
-        }
-    }
-    true
 }
 
 // The first x right of each start and end.
@@ -84,26 +65,19 @@ fn lates_of(alloc: Global, stops: &[Stop]) -> Result<Vec<Height>, AllocError>
 }
 
 impl Marks {
-    /// The starts and ends of boxes that go so. None, if a place or a step is too far, or a box starts or ends by `u` before its step. Time is linear
-    /// in the boxes, times the logarithm of their number.
+    /// The starts and ends of boxes that go so. Time is linear in the boxes, times the logarithm of their number.
     ///
     /// # Errors
     /// Out of memory.
-    pub fn of(
-        alloc: Global,
-        boxes: &[PlacedBox],
-        spans: &[Span],
-    ) -> Result<Option<Marks>, AllocError>
-        requires { length spans.now ≡ length boxes.now }
-        ensures { IfOk result (λ x. IfSome x (HoldsMarks boxes.now spans.now)) }
+    pub fn of(alloc: Global, boxes: &[PlacedBox], spans: &[Span]) -> Result<Marks, AllocError>
+        requires size { length spans.now ≡ length boxes.now }
+        requires near { AreNear boxes.now spans.now }
+        ensures { IfOk result (HoldsMarks boxes.now spans.now) }
     {
         let stops = stops_of(alloc, boxes, spans)?;
-        if !are_near(&stops) {
-            return Ok(None);
-        }
         let right = Heights::of(alloc, rights_of(alloc, &stops)?)?;
         let late = Heights::of(alloc, lates_of(alloc, &stops)?)?;
-        Ok(Some(Marks { right, late }))
+        Ok(Marks { right, late })
     }
 
     /// The least x from `from` on that is right of all at which boxes of a thread start or end before this step. Time is the logarithm of their
@@ -111,7 +85,8 @@ impl Marks {
     pub fn past(&self, thread: u8, step: u64, from: u64) -> u64
         requires marks { HasMarks self.now }
         requires step { step < 2 ^ 54 }
-        ensures { (boxes : List PlacedBox) (spans : List Span) → HoldsMarks boxes spans self.now → IsLeastAbove from (MarkedBefore boxes spans thread step) result }
+        ensures least { (boxes : List PlacedBox) (spans : List Span) → HoldsMarks boxes spans self.now → IsLeastAbove from (MarkedBefore boxes spans thread step) result }
+        ensures near { result ≤ max (2 ^ 54) from }
     {
         let top = self.right.before(number_in(thread, step));
         top.saturating_sub(number_in(thread, 0)).max(from)

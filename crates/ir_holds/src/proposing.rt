@@ -3,27 +3,11 @@
 use crate::known::Known;
 use crate::moments::{Moment, moments_of};
 use crate::span::Span;
+use crate::spot::{NOWHERE, Spot};
 use ir_log::Event;
 use ir_picture::{EventBox, Point, later, length_of};
 use ir_trace::Trace;
 use std::alloc::{AllocError, Global};
-
-/// Where a box may be.
-#[derive(Clone, Copy, Debug, PartialEq, Eq)]
-pub struct Spot {
-    /// Where it starts.
-    pub start: Point,
-    /// Where it ends.
-    pub end: Point,
-    /// Where it would start, by `u`, if it needed no other thread.
-    pub came: u64,
-}
-
-const NOWHERE: Spot = Spot {
-    start: Point { x: 0, u: 0 },
-    end: Point { x: 0, u: 0 },
-    came: 0,
-};
 
 // How far a thread has come.
 #[derive(Clone, Copy, Debug, PartialEq, Eq)]
@@ -229,8 +213,8 @@ impl Proposing {
     }
 }
 
-/// Places for boxes of a trace, which go so. Nothing is said of them: whoever takes them looks at each. Time is linear in the events, times the
-/// threads, times the logarithm of the boxes.
+/// Places for boxes of a trace, which go so. Nothing is said of them: whoever takes them looks at each, and puts those right that are wrong. Time is
+/// linear in the events, times the threads, times the logarithm of the boxes.
 ///
 /// # Errors
 /// Out of memory.

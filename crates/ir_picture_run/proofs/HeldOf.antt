@@ -1,7 +1,7 @@
 -- Boxes of a run with their places.
-use Rattle.std.proofs.Common.{◌≡◌, Option, Some, None, Result, Ok, Err, List, length, sym, ap, ◌∙◌, subst}
+use Rattle.std.proofs.Common.{◌≡◌, Some, Result, Ok, Err, List, length, sym, ap, ◌∙◌, subst}
 use Rattle.std.specs.List.{slice_get}
-use Rattle.std.specs.Prelude.{IfSome, IfOk}
+use Rattle.std.specs.Prelude.{IfOk}
 use Rattle.ir_trace.specs.Recorded.{Recorded}
 use Rattle.ir_fit.specs.Fit.{FittedTrace}
 use Rattle.ir_fit_run.specs.Paired.{ArePaired}
@@ -33,11 +33,9 @@ held_boxes_are_of_run f events spans h are go hold = (
   },
 )
 
-pub held_boxes_are_of_run_if_some : (f : FittedTrace) (r : Recorded) (events : List EventBox) (spans : List Span) (x : Option HeldBoxes) → r ≡ f.recorded
-    → AreRunBoxes f events → ArePaired (IsSpan f) events spans → IfSome x (HoldAll r events spans)
-    → IfSome x (λ (h : HeldBoxes). HaveHeld f h.boxes.items h.ends.items)
-held_boxes_are_of_run_if_some f r events spans None same are go hold = hold
-held_boxes_are_of_run_if_some f r events spans (Some h) same are go hold =
+pub held_boxes_are_of_run_of_trace : (f : FittedTrace) (r : Recorded) (events : List EventBox) (spans : List Span) (h : HeldBoxes) → r ≡ f.recorded
+    → AreRunBoxes f events → ArePaired (IsSpan f) events spans → HoldAll r events spans h → HaveHeld f h.boxes.items h.ends.items
+held_boxes_are_of_run_of_trace f r events spans h same are go hold =
     held_boxes_are_of_run f events spans h are go (subst (λ (q : Recorded). HoldAll q events spans h) same hold)
 
 pub if_ok_of_weaker : {T E : Type 0} (P Q : T → Type 0) (r : Result T E) → ((x : T) → P x → Q x) → IfOk r P → IfOk r Q

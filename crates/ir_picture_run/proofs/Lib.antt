@@ -13,3 +13,8 @@ mod Orders
 mod First
 mod HeldOf
 mod Shown
+mod Places
+mod Ordered
+mod Squeezed
+mod Scheduled
+mod Few

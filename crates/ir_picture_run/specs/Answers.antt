@@ -1,5 +1,5 @@
 -- What `ir view` writes where it is asked with an image.
-use Rattle.std.specs.Prelude.{◌≡◌, ◌⊎◌, ⊤, ℕ, ◌<◌, ◌≤◌, List, [], ◌∷◌, ◌++◌, length, Option, false}
+use Rattle.std.specs.Prelude.{◌≡◌, ◌⊎◌, ℕ, ◌<◌, ◌≤◌, List, [], ◌∷◌, ◌++◌, length, Option, false}
 use Rattle.std.specs.Io.KnownBytes.{Appends}
 use Rattle.ir_fit.specs.Fit.{FittedTrace}
 use Rattle.ir_files.specs.Writers.{Writer}
@@ -23,9 +23,9 @@ use Rattle.ir_picture.specs.declared.asked.Asked.{Asked}
 use Rattle.ir_picture.specs.declared.picture.Picture.{Picture}
 use Rattle.ir_picture.specs.declared.placed_box.PlacedBox.{PlacedBox}
 use Rattle.ir_picture.specs.declared.view_err.Absent.{Absent}
+use Rattle.ir_picture.specs.declared.view_err.ViewErr.{ViewErr}
+use Rattle.ir_picture.specs.declared.view_err.ViewErr.TheVariants as fault
 use Rattle.ir_holds.specs.declared.span.Span.{Span}
-use Rattle.ir_picture_run.specs.declared.run_view_err.RunViewErr.{RunViewErr}
-use Rattle.ir_picture_run.specs.declared.run_view_err.RunViewErr.TheVariants as fault
 use Rattle.ir_picture_run.specs.Held.{AreHeld}
 use Rattle.ir_picture_run.specs.Steps.{AreDrawn}
 use Rattle.ir_picture_run.specs.Resting.{resting_writes, stale_of_rests}
@@ -86,10 +86,9 @@ pub record IsPictureOfFit (asked : Asked) (image trace : List ℕ) (answered : E
 abbrev pub IsRunViewAnswer : Asked → List ℕ → List ℕ → ExitStatus → List ℕ → Type 0
 IsRunViewAnswer asked image trace answered text = IsPictureOfFit asked image trace answered text ⊎ IsUnfitRefusal image trace answered text
 
--- why there is no answer about a run. That places are always found isn't said here
-abbrev pub IsRunViewUnsaid : Asked → FittedTrace → RunViewErr → Type 0
+-- why there is no answer about a run
+abbrev pub IsRunViewUnsaid : Asked → FittedTrace → ViewErr → Type 0
 IsRunViewUnsaid asked f (fault.Absent what) = IsAbsent asked.around f.recorded what
-IsRunViewUnsaid asked f fault.Unplaced = ⊤
 IsRunViewUnsaid asked f (fault.Unwritten e) = e ≡ NoMem
 
 -- a part is asked for around an event that the run doesn't have, and nothing was written
@@ -100,15 +99,7 @@ pub record IsAroundNoEvent (asked : Asked) (image trace : List ℕ) (what : Abse
   pub none : Appends w.before w.after []
   pub works : w.failed ≡ false
 
--- no places were found for the boxes of a run, and nothing was written
-pub record IsUnplaced (image trace : List ℕ) (w : Writer) : Type 0 where
-  pub fitted : FittedTrace
-  pub fits : IsFit image trace fitted
-  pub none : Appends w.before w.after []
-  pub works : w.failed ≡ false
-
 -- why there is no answer about bytes, and what that leaves
-abbrev pub IsRunViewUnanswered : Asked → List ℕ → List ℕ → RunViewErr → Writer → Type 0
+abbrev pub IsRunViewUnanswered : Asked → List ℕ → List ℕ → ViewErr → Writer → Type 0
 IsRunViewUnanswered asked image trace (fault.Absent what) w = IsAroundNoEvent asked image trace what w
-IsRunViewUnanswered asked image trace fault.Unplaced w = IsUnplaced image trace w
 IsRunViewUnanswered asked image trace (fault.Unwritten e) w = NotAnswered (IsRunViewAnswer asked image trace) e w

@@ -6,5 +6,4 @@ pub mod Held
 pub mod Laws
 pub mod Resting
 pub mod Numbers
-pub mod Faults
 pub mod Answers

@@ -13,7 +13,6 @@ mod resting;
 mod rows;
 mod run;
 mod run_picture;
-mod run_view_err;
 mod spans;
 mod view;
 
@@ -24,5 +23,4 @@ pub use laws::{behind_is_in_cut, behind_is_left, rows_do_not_overlap};
 pub use resting::Resting;
 pub use run::view_fit_run;
 pub use run_picture::RunPicture;
-pub use run_view_err::RunViewErr;
 pub use spans::spans_of;

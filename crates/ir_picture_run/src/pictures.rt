@@ -1,6 +1,6 @@
 //! The picture of a run.
 
-ghost use Rattle.std.specs.Prelude.{IfOk, IfErr, IfSome, OnOk};
+ghost use Rattle.std.specs.Prelude.{IfOk, IfErr, OnOk};
 ghost use Rattle.ir_past.specs.Answers.{AreCoherent};
 ghost use Rattle.ir_fit_run.specs.Paired.{ArePaired};
 ghost use Rattle.ir_picture.specs.Progress.{IsOf};
@@ -13,26 +13,27 @@ ghost use Rattle.ir_picture_run.specs.Held.{HaveHeld};
 use crate::folding::run_boxes_of;
 use crate::keeping::{resting_writes, writes_of};
 use crate::run_picture::RunPicture;
-use crate::run_view_err::RunViewErr;
 use crate::spans::spans_of;
 use ir_fit::Fitted;
 use ir_holds::{HeldBoxes, Span, held_boxes};
 use ir_past::stale_writes;
-use ir_picture::{Around, Asked, EventBox, Picture, is_there, shown_boxes};
+use ir_picture::{Around, Asked, EventBox, Picture, ViewErr, is_there, shown_boxes};
 use ir_rests::rests;
 use std::alloc::{AllocError, Global};
 
-// Boxes of a run that go so with their places and rows, if places were found.
+// Boxes of a run that go so with their places and rows.
 fn held_in(
     alloc: Global,
     fitted: &Fitted,
     events: &[EventBox],
     spans: &[Span],
-) -> Result<Option<HeldBoxes>, AllocError>
+) -> Result<HeldBoxes, AllocError>
     requires events { AreRunBoxes fitted.now events.now }
     requires go { ArePaired (IsSpan fitted.now) events.now spans.now }
-    ensures { IfOk result (λ x. IfSome x (λ h. HaveHeld fitted.now h.boxes.items h.ends.items)) }
+    ensures { IfOk result (λ h. HaveHeld fitted.now h.boxes.items h.ends.items) }
 {
+    fitted.known();
+    fitted.image().form();
     held_boxes(alloc, fitted.trace(), events, spans)
 }
 
@@ -48,9 +49,9 @@ fn run_spans_of(
     spans_of(alloc, fitted, events)
 }
 
-// The boxes of a run with their places and rows, if places were found.
-fn held_of(alloc: Global, fitted: &Fitted) -> Result<Option<HeldBoxes>, AllocError>
-    ensures { IfOk result (λ x. IfSome x (λ h. HaveHeld fitted.now h.boxes.items h.ends.items)) }
+// The boxes of a run with their places and rows.
+fn held_of(alloc: Global, fitted: &Fitted) -> Result<HeldBoxes, AllocError>
+    ensures { IfOk result (λ h. HaveHeld fitted.now h.boxes.items h.ends.items) }
 {
     let events = run_boxes_of(alloc, fitted)?;
     let spans = run_spans_of(alloc, fitted, &events)?;
@@ -88,12 +89,8 @@ fn picture_of_held(
 /// The picture of a run, or of the part that is asked for.
 ///
 /// # Errors
-/// The run has no such event that the part could be around, no places were found for its boxes, or out of memory.
-pub fn run_picture_of(
-    alloc: Global,
-    fitted: &Fitted,
-    asked: &Asked,
-) -> Result<RunPicture, RunViewErr>
+/// The run has no such event that the part could be around, or out of memory.
+pub fn run_picture_of(alloc: Global, fitted: &Fitted, asked: &Asked) -> Result<RunPicture, ViewErr>
     ensures drawn { IfOk result (λ x. IsRunPicture fitted.now (asked.now).around x.picture x.kept.items) }
     ensures of_trace { IfOk result (λ x. IsOf fitted.now.recorded x.picture) }
     ensures there { OnOk result (IsThere fitted.now.recorded (asked.now).around) }
@@ -101,8 +98,6 @@ pub fn run_picture_of(
 {
     fitted.known();
     is_there(fitted.trace(), &asked.around)?;
-    match held_of(alloc, fitted)? {
-        Some(held) => Ok(picture_of_held(alloc, fitted, &asked.around, held)?),
-        None => Err(RunViewErr::Unplaced),
-    }
+    let held = held_of(alloc, fitted)?;
+    Ok(picture_of_held(alloc, fitted, &asked.around, held)?)
 }

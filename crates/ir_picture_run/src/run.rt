@@ -6,23 +6,22 @@ ghost use Rattle.ir_files.specs.declared.exit_status.ExitStatus.TheVariants as s
 ghost use Rattle.ir_past.specs.Answers.{AreCoherent, Answered, NotAnswered};
 ghost use Rattle.ir_fit_run.specs.Opened.{IsFit};
 ghost use Rattle.ir_picture.specs.Progress.{IsOf};
+ghost use Rattle.ir_picture.specs.Answers.{view_status, view_fault_words};
 ghost use Rattle.ir_picture.specs.declared.asked.Form.TheVariants as form;
-ghost use Rattle.ir_picture_run.specs.Faults.{run_view_status, run_view_fault_words};
-ghost use Rattle.ir_picture_run.specs.declared.run_view_err.RunViewErr.{RunViewErr};
+ghost use Rattle.ir_picture.specs.declared.view_err.ViewErr.{ViewErr};
 ghost use Rattle.ir_picture_run.specs.Answers.{IsFormOfRun, IsRunViewAnswer, IsRunViewUnanswered};
 
 use crate::data::write_data;
 use crate::drawing::all_drawn;
 use crate::pictures::run_picture_of;
 use crate::run_picture::RunPicture;
-use crate::run_view_err::RunViewErr;
 use crate::view::View;
 use ir_files::{ExitStatus, tell};
 use ir_fit::Fitted;
 use ir_fit_run::{Opened, open_fit, refuse};
 use ir_past::{PastErr, put_answer};
 use ir_picture::{
-    Around, Asked, Form, MOST_BOXES, data_frame, many_answer, page_frame, write_chrome,
+    Around, Asked, Form, MOST_BOXES, ViewErr, data_frame, many_answer, page_frame, write_chrome,
 };
 use ir_stream::Sink;
 use std::alloc::{AllocError, Global};
@@ -111,7 +110,7 @@ fn show_run<O: Sink>(
     fitted: &Fitted,
     asked: &Asked,
     out: &mut O,
-) -> Result<ExitStatus, RunViewErr>
+) -> Result<ExitStatus, ViewErr>
     requires { O.broken out.old ≡ false }
     ensures ok { IfOk result (λ s. (i t : List ℕ) → IsFit i t fitted.now → Answered (IsRunViewAnswer asked.now i t) s (writer_of (O.written out.old) (O.written out.new) (O.broken out.new))) }
     ensures fails { IfErr result (λ e. (i t : List ℕ) → IsFit i t fitted.now → IsRunViewUnanswered asked.now i t e (writer_of (O.written out.old) (O.written out.new) (O.broken out.new))) }
@@ -128,7 +127,7 @@ fn show<O: Sink>(
     trace: &[u8],
     asked: &Asked,
     out: &mut O,
-) -> Result<ExitStatus, RunViewErr>
+) -> Result<ExitStatus, ViewErr>
     requires { O.broken out.old ≡ false }
     ensures ok { IfOk result (λ s. Answered (IsRunViewAnswer asked.now image.now trace.now) s (writer_of (O.written out.old) (O.written out.new) (O.broken out.new))) }
     ensures fails { IfErr result (λ e. IsRunViewUnanswered asked.now image.now trace.now e (writer_of (O.written out.old) (O.written out.new) (O.broken out.new))) }
@@ -143,8 +142,8 @@ fn show<O: Sink>(
 /// run, and its stale writes are those that rest on what was read. The exit status is `Done` if it was written, `Refused` if the bytes are
 /// no image or no trace, and `NotFit` if no run of the guest has the trace or a page would have too many boxes; then the line or the lines
 /// that say so were written. It is `BadArguments` if the trace doesn't have the event that a part is asked for around; nothing was written
-/// then. It is `Failed` if no places were found for the boxes, with nothing written, or memory ran out or the writer failed, with a prefix written at
-/// most. In all these cases the fault is reported in one line. Nothing is written before all is judged.
+/// then. It is `Failed` if memory ran out or the writer failed, with a prefix written at most. In both cases the fault is reported in one line.
+/// Nothing is written before all is judged.
 pub fn view_fit_run<O: Sink, E: Sink>(
     alloc: Global,
     image: &[u8],
@@ -159,10 +158,10 @@ pub fn view_fit_run<O: Sink, E: Sink>(
     ensures done { result ≢ status.Failed → result ≢ status.BadArguments
         → Answered (IsRunViewAnswer asked.now image.now trace.now) result (writer_of (O.written out.old) (O.written out.new) (O.broken out.new)) × (faults.new ≡ faults.old) }
     // Else why there is none, what that leaves, and that it is reported.
-    ensures failed { (result ≡ status.Failed) ⊎ (result ≡ status.BadArguments) → (e : RunViewErr)
-        × (result ≡ run_view_status e)
+    ensures failed { (result ≡ status.Failed) ⊎ (result ≡ status.BadArguments) → (e : ViewErr)
+        × (result ≡ view_status e)
         × IsRunViewUnanswered asked.now image.now trace.now e (writer_of (O.written out.old) (O.written out.new) (O.broken out.new))
-        × Reports (writer_of (E.written faults.old) (E.written faults.new) (E.broken faults.new)) (fault_text (run_view_fault_words e)) }
+        × Reports (writer_of (E.written faults.old) (E.written faults.new) (E.broken faults.new)) (fault_text (view_fault_words e)) }
 {
     match show(alloc, image, trace, asked, out) {
         Ok(answered) => answered,

@@ -4,7 +4,7 @@ use Rattle.ir_files.proofs.CallerLemmas.{if_err_holds_if_holds_of_handed_on_erro
 use Rattle.ir_past.proofs.CallerLemmas.{not_answered_if_stopped}
 use Rattle.ir_fit_run.specs.Opened.{IsFitOpened, unfit_status, unfit_text}
 use Rattle.ir_fit_run.specs.declared.opened.Opened.TheVariants.{Refused}
-use Rattle.ir_picture_run.specs.declared.run_view_err.RunViewErr.TheVariants.{Unwritten}
+use Rattle.ir_picture.specs.declared.view_err.ViewErr.TheVariants.{Unwritten}
 use Rattle.ir_picture_run.specs.Answers.{IsRunViewAnswer}
 use Rattle.ir_picture_run.proofs.run.show.Goals as goal
 

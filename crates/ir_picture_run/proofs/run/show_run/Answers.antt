@@ -1,7 +1,7 @@
 use Rattle.std.proofs.lemmas.Result.{err_from_is_err_and}
 use Rattle.ir_files.proofs.CallerLemmas.{if_err_holds_if_holds_of_handed_on_error}
 use Rattle.ir_fit_run.proofs.CallerLemmas.{run_trace_is_coherent}
-use Rattle.ir_picture_run.specs.declared.run_view_err.RunViewErr.TheVariants.{Unwritten}
+use Rattle.ir_picture.specs.declared.view_err.ViewErr.TheVariants.{Unwritten}
 use Rattle.ir_picture.proofs.CallerLemmas.{answered_of_implied_kind, not_answered_of_implied_kind}
 use Rattle.ir_picture_run.specs.Answers.{IsFormOfRun, IsRunViewAnswer}
 use Rattle.ir_picture_run.proofs.Shown.{run_answer_is_view_answer, picture_form_is_run_answer}

@@ -1,9 +1,9 @@
-use Rattle.std.proofs.Common.{◌∙◌, List, map, ap, subst}
+use Rattle.std.proofs.Common.{◌∙◌, List, map, sym, ap, subst}
 use Rattle.std.specs.List.Sorted.{IsPermutation}
 use Rattle.ir_holds.specs.Stops.{right_height, late_height}
 use Rattle.ir_holds.specs.declared.heights.Height.{Height}
 use Rattle.ir_holds.specs.declared.stops.Stop.{Stop}
-use Rattle.ir_holds.proofs.Noted.{EachIsNear, near_if_each_is_near}
+use Rattle.ir_holds.proofs.Noted.{EachIsNear, near_if_each_is_near, near_boxes_have_near_stops}
 use Rattle.ir_holds.proofs.marks.Marks.of.Goals as goal
 
 pub returns : goal.returns
@@ -15,10 +15,18 @@ returns c =
       stops = stops;
       are = c.in_ok-stops.ensures;
       noted = record {
-        near = near_if_each_is_near stops (subst EachIsNear c.deref.ensures.value (c.are_near.ensures c.if-not-are_near.false));
+        near = near_if_each_is_near stops (near_boxes_have_near_stops c.args.boxes.now c.args.spans.now stops c.in_ok-stops.ensures c.requires.near);
         right = c.in_ok-right.ensures.are;
-        rights = subst (λ (xs : List Height). IsPermutation xs right) (c.in_ok-rights_of.ensures ∙ ap (map right_height) c.deref-2.ensures.value) c.in_ok-right.ensures.same;
+        rights = subst (λ (xs : List Height). IsPermutation xs right) (c.in_ok-rights_of.ensures ∙ ap (map right_height) c.deref.ensures.value) c.in_ok-right.ensures.same;
         late = c.in_ok-late.ensures.are;
-        lates = subst (λ (xs : List Height). IsPermutation xs late) (c.in_ok-lates_of.ensures ∙ ap (map late_height) c.deref-3.ensures.value) c.in_ok-late.ensures.same;
+        lates = subst (λ (xs : List Height). IsPermutation xs late) (c.in_ok-lates_of.ensures ∙ ap (map late_height) c.deref-2.ensures.value) c.in_ok-late.ensures.same;
       };
     }
+
+pub rights_of-requires : goal.rights_of-requires
+rights_of-requires c = subst EachIsNear (sym c.deref.ensures.value)
+    (near_boxes_have_near_stops c.args.boxes.now c.args.spans.now c.in_ok-stops.stops.items c.in_ok-stops.ensures c.requires.near)
+
+pub lates_of-requires : goal.lates_of-requires
+lates_of-requires c = subst EachIsNear (sym c.deref-2.ensures.value)
+    (near_boxes_have_near_stops c.args.boxes.now c.args.spans.now c.in_ok-stops.stops.items c.in_ok-stops.ensures c.requires.near)
