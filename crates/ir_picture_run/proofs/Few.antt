@@ -1,9 +1,8 @@
 -- The threads of a run take few steps.
-use Rattle.std.proofs.Common.{◌≡◌, ℕ, zero, suc, ◌+◌, ◌*◌, ◌^◌, ◌<◌, ◌≤◌, inl, inr, Option, Some, None, length, arith}
-use Rattle.std.proofs.lemmas.Bool.{cases_lt}
+use Rattle.std.proofs.Common.{ℕ, zero, suc, ◌+◌, ◌*◌, ◌^◌, ◌<◌, ◌≤◌, Option, Some, None, length, arith}
 use Rattle.ir_image.specs.Bounds.{IsGuest}
 use Rattle.ir_image.proofs.CallerLemmas.{guest_threads_at_most_limit, guest_objects_at_most_limit}
-use Rattle.ir_runs.specs.Run.{State, count, end}
+use Rattle.ir_runs.specs.Run.{end}
 use Rattle.ir_runs.specs.Verdicts.{sum_below}
 use Rattle.ir_thread.specs.State as thread
 use Rattle.ir_thread.specs.declared.end.End.{End}

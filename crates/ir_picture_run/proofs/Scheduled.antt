@@ -2,7 +2,7 @@
 -- first, since these events see nothing new.
 use Rattle.std.proofs.Common.{◌≡◌, ℕ, zero, suc, ◌+◌, ◌-◌, ◌*◌, ◌^◌, ◌<◌, ◌≤◌, inl, inr, Option, Some, None, List, length, get_or, refl, sym, ap, ◌∙◌, subst, arith}
 use Rattle.std.specs.List.{slice_get}
-use Rattle.std.proofs.lemmas.Bool.{cases_eq, cases_lt}
+use Rattle.std.proofs.lemmas.Bool.{cases_lt}
 use Rattle.std.proofs.lemmas.Option.{same_Some, slice_get-get_or, slice_get_within}
 use Rattle.ir_runs.specs.Run.{Step}
 use Rattle.ir_log.specs.declared.event.Event.{Event}
@@ -11,13 +11,12 @@ use Rattle.ir_trace.specs.Recorded.{recorded_thread}
 use Rattle.ir_coherence.proofs.CallerLemmas.{recorded_thread_at_number_is_recorded}
 use Rattle.ir_fit.specs.Fit.{FittedTrace, HasRun}
 use Rattle.ir_fit.specs.Within.{IsFitted}
-use Rattle.ir_fit.proofs.CallerLemmas.{event_positions_rise, event_position_below_steps, event_positions_are_as_many_as_events}
+use Rattle.ir_fit.proofs.CallerLemmas.{event_positions_rise, event_position_below_steps}
 use Rattle.ir_past.specs.Past.{event_at}
-use Rattle.ir_events.specs.Events.{entries_of, entry_of}
+use Rattle.ir_events.specs.Events.{entry_of}
 use Rattle.ir_fit_run.specs.Positions.{IsInside, IsLeaveOf, EntryLeaves}
 use Rattle.ir_fit_run.specs.Paired.{ArePaired}
 use Rattle.ir_fit_run.proofs.CallerLemmas.{recorded_event_is_inside, leave_is_past_event, leave_is_within_thread, entering_event_has_leave}
-use Rattle.ir_coherence.specs.Before.{IsBefore}
 use Rattle.ir_picture.specs.Needs.{Needs}
 use Rattle.ir_picture.specs.Boxes.{IsInBox}
 use Rattle.ir_picture.specs.Places.{NeedsBox}
@@ -28,9 +27,9 @@ use Rattle.ir_holds.specs.declared.span.Span.{Span}
 use Rattle.ir_picture_run.specs.Steps.{IsLastStep}
 use Rattle.ir_picture_run.specs.Spans.{last_event, IsSpan}
 use Rattle.ir_picture_run.specs.Brief.{IsBrief, IsRunBox, AreRunBoxes}
-use Rattle.ir_picture_run.proofs.Places.{place_in, place_rises, place_keeps_order}
+use Rattle.ir_picture_run.proofs.Places.{place_in, place_keeps_order}
 use Rattle.ir_picture_run.proofs.Ordered.{needed_is_left_before}
-use Rattle.ir_picture_run.proofs.Squeezed.{GoesOver, BoxOver, NoneOver, front_of, front_cases}
+use Rattle.ir_picture_run.proofs.Squeezed.{GoesOver, BoxOver, front_of, front_cases}
 
 -- ---- steps of events
 

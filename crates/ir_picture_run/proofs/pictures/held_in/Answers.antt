@@ -1,7 +1,6 @@
 use Rattle.std.proofs.Common.{◌<◌, ◌^◌, sym, subst}
 use Rattle.ir_image.specs.Bounds.{IsGuest}
-use Rattle.ir_image.specs.Guest.{Guest}
-use Rattle.ir_trace.specs.Recorded.{Recorded, recorded_thread}
+use Rattle.ir_trace.specs.Recorded.{Recorded}
 use Rattle.ir_picture.specs.Boxes.{IsBox}
 use Rattle.ir_holds.specs.Schedules.{HasSchedule, all_steps}
 use Rattle.ir_holds.specs.Checks.{HoldAll}
