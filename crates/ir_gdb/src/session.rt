@@ -55,10 +55,10 @@ fn serve<H: Hands, R: Source, W: Sink>(
     requires reads { R.broken reader.old ≡ false }
     requires writes { W.broken writer.old ≡ false }
     ensures ended { IfServed result (ReadsUpTo most_input (R.left reader.old) (R.left reader.new)
-        (Serves debugger.desk result (W.written writer.old) (W.written writer.new))) }
+        (ServesItems debugger.desk result (W.written writer.old) (W.written writer.new))) }
     ensures works { IfServed result ((R.broken reader.new ≡ false) × (W.broken writer.new ≡ false)) }
     ensures known { IfServed result (IfSome (R.left reader.old)
-        (Serves debugger.desk result (W.written writer.old) (W.written writer.new))) }
+        (ServesItems debugger.desk result (W.written writer.old) (W.written writer.new))) }
     ensures opened { IfRefused result ⊥ }
     ensures no_memory { result ≡ Err SessionErr.NoMem → (reader.new ≡ reader.old) × (writer.new ≡ writer.old) }
     ensures read { result ≡ Err SessionErr.Read → (R.broken reader.new ≡ true) × (W.broken writer.new ≡ false)
@@ -113,12 +113,12 @@ pub fn connect<H: Hands, R: Source, W: Sink, E: Sink>(
     // After a failed read, the answers to all that was read, none of which ends the connection.
     ensures read { result ≡ Err SessionErr.Read → (R.broken reader.new ≡ true) × (W.broken writer.new ≡ false)
         × ReadsUpTo most_input (R.left reader.old) (R.left reader.new)
-        (AnsweredWhole image.now trace.now (W.written writer.old) (W.written writer.new)) }
+        (RepliedWhole image.now trace.now (W.written writer.old) (W.written writer.new)) }
     // After a failed write, the answers to all but the last item, and a prefix of that one's: a reply is written before a byte after its
     // packet is read.
     ensures write { result ≡ Err SessionErr.Write → (R.broken reader.new ≡ false) × (W.broken writer.new ≡ true)
         × ReadsUpTo most_input (R.left reader.old) (R.left reader.new)
-        (AnsweredInPart image.now trace.now (W.written writer.old) (W.written writer.new)) }
+        (RepliedInPart image.now trace.now (W.written writer.old) (W.written writer.new)) }
 {
     let Ok(opened) = open(hands, image, trace) else {
         return Err(SessionErr::NoMem);
