@@ -71,7 +71,7 @@ pub fn break_reason(breaks: &[Breakpoint], number: usize) -> Reason
     }
 }
 
-/// Where a search upwards stops: a watch before the step that changes its word.
+/// Where a search upwards stops: a watch before the step that changes its word, or puts it.
 pub fn stop_above(watches: &[Watched], breaks: &[Breakpoint], hit: Hit) -> Stopped
     ensures { result ≡ stop_above watches.now breaks.now hit }
 {

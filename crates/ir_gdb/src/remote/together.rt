@@ -24,7 +24,7 @@ impl Remote {
         self.debugger.fitted().image().entries().len() as u32
     }
 
-    // Where each thread stops that continues alone in a direction. Watches count for one thread.
+    // Where each thread stops that continues alone in a direction. Watches of private memory count for one thread.
     pub fn stops<H: Hands>(
         &mut self,
         hands: &H,
