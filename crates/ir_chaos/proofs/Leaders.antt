@@ -3,23 +3,23 @@ use Rattle.std.proofs.Common.{◌≡◌, ◌<◌, ◌≤◌, ℕ, zero, suc, ◌
 use Rattle.std.specs.List.{Contains}
 use Rattle.std.proofs.lemmas.Bool.{lt-ltb, le-ltb}
 use Rattle.std.proofs.lemmas.List.{get_or_default}
-use Rattle.ir_chaos.specs.Ranking.{priority, highest}
+use Rattle.ir_chaos.specs.Ranking.{priority, highest_rank}
 
 -- the higher of two threads
 abbrev pub higher : List ℕ → ℕ → ℕ → ℕ
 higher ps t u = if nat_lt (priority ps t) (priority ps u) then u else t
 
 highest_of_drop_step : (ps us : List ℕ) (i best : ℕ) → i < length us
-    → highest ps (drop i us) best ≡ highest ps (drop (suc i) us) (higher ps best (get_or us i 0))
+    → highest_rank ps (drop i us) best ≡ highest_rank ps (drop (suc i) us) (higher ps best (get_or us i 0))
 highest_of_drop_step ps [] i best l = absurd (omega arith)
 highest_of_drop_step ps (u ∷ us) zero best l = refl
 highest_of_drop_step ps (u ∷ us) (suc i) best l = highest_of_drop_step ps us i best (omega (arith, l))
 
 -- one thread more is looked at
 pub highest_of_rest_is_unchanged_after_next_thread : (ps us : List ℕ) (i best next : ℕ) → i < length us → next ≡ higher ps best (get_or us i 0)
-    → highest ps (drop (i + 1) us) next ≡ highest ps (drop i us) best
-highest_of_rest_is_unchanged_after_next_thread ps us i best next l e = ap (highest ps (drop (i + 1) us)) e
-    ∙ ap (λ n. highest ps (drop n us) (higher ps best (get_or us i 0))) (let e : i + 1 ≡ suc i = omega arith in e)
+    → highest_rank ps (drop (i + 1) us) next ≡ highest_rank ps (drop i us) best
+highest_of_rest_is_unchanged_after_next_thread ps us i best next l e = ap (highest_rank ps (drop (i + 1) us)) e
+    ∙ ap (λ n. highest_rank ps (drop n us) (higher ps best (get_or us i 0))) (let e : i + 1 ≡ suc i = omega arith in e)
     ∙ sym (highest_of_drop_step ps us i best l)
 
 -- it is higher

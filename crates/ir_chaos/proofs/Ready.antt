@@ -14,7 +14,7 @@ use Rattle.ir_thread.specs.State.{thread_machine}
 use Rattle.ir_thread.specs.State as thread
 use Rattle.ir_thread.specs.declared.profile.Profile.{Profile}
 use Rattle.ir_chaos.specs.Moments.{Moment, Ran, RanToEnd, IsAtRest, AllRest, OthersRest, IsStartOfGuest}
-use Rattle.ir_chaos.specs.Schedules.{AreReady, Leads}
+use Rattle.ir_chaos.specs.Schedules.{AreReady, ChoosesSteps}
 use Rattle.ir_chaos.specs.declared.chooser.Chooser.{Chooser}
 
 -- each that is ready is a thread that has a step
@@ -104,7 +104,7 @@ done_if_no_guest_thread_steps guest budget profile run ok none t =
     ]
 
 led_run_is_run : {T : Type 0} (tries : Bool) (m : Machine T) (n : ℕ) (s : State T) (c : Chooser) (run : List Step) (d : Chooser)
-    → Leads tries m n s c run d → IsRun m s run
+    → ChoosesSteps tries m n s c run d → IsRun m s run
 led_run_is_run tries m n s c [] d h = tt
 led_run_is_run tries m n s c (e ∷ run) d h = (h.1.1, led_run_is_run tries m n (after m s e) h.0 run d h.2)
 

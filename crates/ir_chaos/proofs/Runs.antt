@@ -5,7 +5,7 @@ use Rattle.std.proofs.lemmas.List.{map-append, length-map}
 use Rattle.ir_flat.specs.Alone.{WentAlone}
 use Rattle.ir_flat.specs.Flat.{Flat, IsFlat, tables, machine, thread_of}
 use Rattle.ir_record.specs.Progress.{all_left}
-use Rattle.ir_record.specs.Worlds.{answers_at, Answered, answers_in, NoneFailed}
+use Rattle.ir_record.specs.Worlds.{answers_at, AnsweredCall, answers_in, NoneFailed}
 use Rattle.ir_record.specs.Recording.{order_of_turns}
 use Rattle.ir_record.specs.declared.turns.Turns.{Turns}
 use Rattle.ir_runs.proofs.CallerLemmas.{end_append, log_append, upd_at_other_place}
@@ -21,15 +21,15 @@ use Rattle.ir_thread.specs.declared.ask.Ask.{Ask}
 use Rattle.ir_thread.specs.declared.ask.Ask.TheVariants as asks
 use Rattle.ir_record.proofs.CallerLemmas.{hold_few_objects_if_flat, all_left_falls_after_step, all_left_falls_after_steps_of_thread}
 use Rattle.ir_chaos.specs.Moments.{Moment, moment_of, IsReady, Moved, Gained, Took, Ran, IsAtRest, OthersRest, TookSome, IsNoTry, IsNoCall}
-use Rattle.ir_chaos.specs.Schedules.{is_rest, rests, IsChosen, Leads, threads_of}
+use Rattle.ir_chaos.specs.Schedules.{is_rest, rests, IsChosen, ChoosesSteps, chosen_threads}
 use Rattle.ir_chaos.specs.declared.chooser.Chooser.{Chooser}
 use Rattle.ir_chaos.specs.declared.runner.Runner.{Runner}
 
 -- ---- one after the other
 
 leads_by_append_of_runs : {T : Type 0} (tries : Bool) (m : Machine T) (n : ℕ) (s : State T) (c d e : Chooser) (run more : List Step)
-    → Leads tries m n s c run d → Leads tries m n (end m s run) d more e → Leads tries m n s c (run ++ more) e
-leads_by_append_of_runs tries m n s c d e [] more h k = subst (λ z. Leads tries m n s z more e) h k
+    → ChoosesSteps tries m n s c run d → ChoosesSteps tries m n (end m s run) d more e → ChoosesSteps tries m n s c (run ++ more) e
+leads_by_append_of_runs tries m n s c d e [] more h k = subst (λ z. ChoosesSteps tries m n s z more e) h k
 leads_by_append_of_runs tries m n s c d e (x ∷ run) more h k = (h.0, h.1, leads_by_append_of_runs tries m n (after m s x) h.0 d e run more h.2 k)
 
 answers_in_logged_is_append : (k : Label) (ys : List Label) → answers_in (logged k ys) ≡ answers_in (logged k []) ++ answers_in ys
@@ -75,8 +75,8 @@ gained_by_append_of_runs run more a b c p q =
       code = q.code ∙ p.code;
       threads = q.threads ∙ p.threads;
       objects = q.objects ∙ p.objects;
-      order = q.order ∙ ap (λ z. z ++ threads_of more) p.order
-          ∙ append_assoc (order_of_turns a.turns) (threads_of run) (threads_of more)
+      order = q.order ∙ ap (λ z. z ++ chosen_threads more) p.order
+          ∙ append_assoc (order_of_turns a.turns) (chosen_threads run) (chosen_threads more)
           ∙ ap (λ z. order_of_turns a.turns ++ z) (sym (map-append (λ (e : Step). e.0) run more));
       answers = λ t l. q.answers t (omega (arith, l, p.threads))
           ∙ ap (λ z. z ++ answers_in (log (machine b.flat) (tables b.flat) more t)) (p.answers t l)
@@ -92,12 +92,12 @@ ran_reflexive tries a c = record { run = []; leads = refl; gained = gained_by_no
 
 -- what leads on from where a run leads
 leads_on_first_machine_if_leads_after_gained_run : (tries : Bool) (a b : Moment) (c d : Chooser) (run more : List Step) → Gained run a b
-    → Leads tries (machine b.flat) (length b.flat.threads) (tables b.flat) c more d
-    → Leads tries (machine a.flat) (length a.flat.threads) (end (machine a.flat) (tables a.flat) run) c more d
+    → ChoosesSteps tries (machine b.flat) (length b.flat.threads) (tables b.flat) c more d
+    → ChoosesSteps tries (machine a.flat) (length a.flat.threads) (end (machine a.flat) (tables a.flat) run) c more d
 leads_on_first_machine_if_leads_after_gained_run tries a b c d run more g h =
-    subst (λ s. Leads tries (machine a.flat) (length a.flat.threads) s c more d) g.ends
-    (subst (λ k. Leads tries (thread_machine k) (length a.flat.threads) (tables b.flat) c more d) g.code
-    (subst (λ n. Leads tries (machine b.flat) n (tables b.flat) c more d) g.threads h))
+    subst (λ s. ChoosesSteps tries (machine a.flat) (length a.flat.threads) s c more d) g.ends
+    (subst (λ k. ChoosesSteps tries (thread_machine k) (length a.flat.threads) (tables b.flat) c more d) g.code
+    (subst (λ n. ChoosesSteps tries (machine b.flat) n (tables b.flat) c more d) g.threads h))
 
 pub ran_transitive : (tries : Bool) (a b e : Moment) (c d x : Chooser) → Ran tries a c b d → Ran tries b d e x → Ran tries a c e x
 ran_transitive tries a b e c d x p q = record {
@@ -151,7 +151,7 @@ no_answer_unless_call (asks.End e) r b h = refl
 no_answer_unless_call asks.Done r b h = refl
 
 -- thread t of the guest took a step, and its world answered it if it was a call of the environment
-pub record Acted {W : Type 0} (answers : W → List Answered) (broken : W → Bool) (t : ℕ) (old new : Runner W) : Type 0 where
+pub record Acted {W : Type 0} (answers : W → List AnsweredCall) (broken : W → Bool) (t : ℕ) (old new : Runner W) : Type 0 where
   pub result : ℕ
   pub moved : Moved t result old.flat new.flat
   pub turns : new.turns ≡ old.turns
@@ -161,7 +161,7 @@ pub record Acted {W : Type 0} (answers : W → List Answered) (broken : W → Bo
   pub ready : IsReady broken new
 
 -- no world is asked
-pub acted_if_ask_is_no_call : {W : Type 0} (answers : W → List Answered) (broken : W → Bool) (t r : ℕ) (q : Ask) (old new : Runner W)
+pub acted_if_ask_is_no_call : {W : Type 0} (answers : W → List AnsweredCall) (broken : W → Bool) (t r : ℕ) (q : Ask) (old new : Runner W)
     → IsReady broken old → Moved t r old.flat new.flat → q ≡ ask_of old.flat.code (thread_of old.flat t) → IsNoCall q
     → new.turns ≡ old.turns → new.worlds ≡ old.worlds → Acted answers broken t old new
 acted_if_ask_is_no_call answers broken t r q old new ready s is quiet turns same = record {
@@ -185,7 +185,7 @@ label_of_call_step_is_answer f t r kind is =
     ap (λ (z : Ask). emitted (act_of (shared_ask z) r) ((tables f).objects (target (act_of (shared_ask z) r)))) (sym is)
 
 -- its world answers
-pub acted_by_answered_call : {W : Type 0} (answers : W → List Answered) (broken : W → Bool) (t r : ℕ) (kind : EnvKind) (old new : Runner W)
+pub acted_by_answered_call : {W : Type 0} (answers : W → List AnsweredCall) (broken : W → Bool) (t r : ℕ) (kind : EnvKind) (old new : Runner W)
     → IsReady broken old → t < length old.flat.threads → Moved t r old.flat new.flat
     → asks.Env kind ≡ ask_of old.flat.code (thread_of old.flat t) → new.turns ≡ old.turns
     → map answers new.worlds.items ≡ set (map answers old.worlds.items) t (answers_at (map answers old.worlds.items) t ++ (kind, r) ∷ [])
@@ -205,7 +205,7 @@ acted_by_answered_call answers broken t r kind old new ready l s is turns gained
 }
 
 -- it is noted
-pub took_if_acted_and_noted : {W : Type 0} (answers : W → List Answered) (broken : W → Bool) (t : ℕ) (old new : Runner W) (turns : List Turns)
+pub took_if_acted_and_noted : {W : Type 0} (answers : W → List AnsweredCall) (broken : W → Bool) (t : ℕ) (old new : Runner W) (turns : List Turns)
     → Acted answers broken t old new → order_of_turns turns ≡ order_of_turns new.turns.items ++ replicate 1 t
     → Took t (moment_of answers old) (record (moment_of answers new) { turns = turns })
 took_if_acted_and_noted answers broken t old new turns a order = record {
@@ -254,7 +254,7 @@ lower_threads_rest_after_step tries m s t r lower u l = ap (λ x. is_rest tries 
 
 leads_by_private_steps : {T : Type 0} (tries : Bool) (m : Machine T) (n t k : ℕ) (s : State T) (c : Chooser) → t < n → IsRun m s (replicate k (t, 0))
     → ((j : ℕ) → j < k → m.ask ((end m s (replicate j (t, 0))).now t) ≡ Private) → ((u : ℕ) → u < t → rests tries m s u ≡ true)
-    → Leads tries m n s c (replicate k (t, 0)) c
+    → ChoosesSteps tries m n s c (replicate k (t, 0)) c
 leads_by_private_steps tries m n t zero s c l ok each lower = refl
 leads_by_private_steps tries m n t (suc k) s c l ok each lower =
     let private : asked m s t ≡ Private = each 0 (omega arith) in (
@@ -264,7 +264,7 @@ leads_by_private_steps tries m n t (suc k) s c l ok each lower =
           (lower_threads_rest_after_step tries m s t 0 lower),
     )
 
-threads_of_repeated_steps : (k t : ℕ) → threads_of (replicate k (t, 0)) ≡ replicate k t
+threads_of_repeated_steps : (k t : ℕ) → chosen_threads (replicate k (t, 0)) ≡ replicate k t
 threads_of_repeated_steps zero t = refl
 threads_of_repeated_steps (suc k) t = ap (λ z. t ∷ z) (threads_of_repeated_steps k t)
 

@@ -43,7 +43,7 @@ abbrev pub chooser_of : Way → ℕ → ℕ → List ℕ → Chooser
 chooser_of by seed threads choices = chooser_by (way_of by seed) seed threads choices
 
 -- it can choose of the threads of a guest that has `threads` threads
-abbrev pub Serves : ℕ → Chooser → Type 0
-Serves threads (Rounds last) = ⊤
-Serves threads (Walk g) = ⊤
-Serves threads (Highest p) = (length p.priorities ≡ threads) × (length p.taken ≡ threads)
+abbrev pub CanChoose : ℕ → Chooser → Type 0
+CanChoose threads (Rounds last) = ⊤
+CanChoose threads (Walk g) = ⊤
+CanChoose threads (Highest p) = (length p.priorities ≡ threads) × (length p.taken ≡ threads)

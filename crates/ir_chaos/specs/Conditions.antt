@@ -48,7 +48,7 @@ abbrev pub as_condition : declared.Condition → Condition
 as_condition c = record { alternatives = map as_literal c.alternatives.items }
 
 -- what a run came to
-pub record Outcome : Type 0 where
+pub record EndState : Type 0 where
   -- how each thread ended, if it has
   pub ends : List (Option end.End)
   -- what each thread printed
@@ -57,8 +57,8 @@ pub record Outcome : Type 0 where
   pub words : List (List ℕ)
 
 -- what threads and objects came to
-abbrev pub outcome_of : Flat → Outcome
-outcome_of f = record {
+abbrev pub end_state : Flat → EndState
+end_state f = record {
   ends = map (λ x. x.ended) f.threads;
   outputs = map (λ x. x.output) f.threads;
   words =
@@ -101,7 +101,7 @@ occurs_in text (x ∷ bytes) = starts_with eqb (x ∷ bytes) text || occurs_in t
 
 -- whether a fact is so of what a run came to; nothing is so of a thread, an object or a word that there isn't but that a word is 0, and that an
 -- empty text was printed
-abbrev pub is_so : Fact → Outcome → Bool
+abbrev pub is_so : Fact → EndState → Bool
 is_so (End thread number) o = ends_by number (slice_index_or o.ends thread None)
 is_so (Code thread code) o = exits_with code (slice_index_or o.ends thread None)
 is_so (Word object index value) o = slice_index_or (slice_index_or o.words object []) index 0 == value
@@ -111,11 +111,11 @@ is_so Bad o = some_is is_bad o.ends
 is_so Budget o = some_is is_spent o.ends
 
 -- whether the literal holds of it: the fact is so, or with `!` it isn't
-abbrev pub holds : Literal → Outcome → Bool
+abbrev pub holds : Literal → EndState → Bool
 holds l o = if l.is_denied then not (is_so l.fact o) else is_so l.fact o
 
 -- whether the condition holds of it: some literal does
-abbrev pub fulfils : Condition → Outcome → Bool
+abbrev pub fulfils : Condition → EndState → Bool
 fulfils c o = list_any (λ l. holds l o) c.alternatives
 
 -- whether the guest has the thread, the object and the word that the fact is about

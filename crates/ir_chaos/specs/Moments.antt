@@ -3,14 +3,14 @@ use Rattle.std.specs.Prelude.{◌≡◌, ◌≢◌, ◌<◌, ◌≤◌, ◌+◌,
 use Rattle.ir_flat.specs.Flat.{Flat, tables, machine, start_flat}
 use Rattle.ir_image.specs.Guest.{Guest}
 use Rattle.ir_record.specs.Progress.{all_left}
-use Rattle.ir_record.specs.Worlds.{answers_at, Answered, answers_in, NoneFailed, IsFirstFailed}
+use Rattle.ir_record.specs.Worlds.{answers_at, AnsweredCall, answers_in, NoneFailed, IsFirstFailed}
 use Rattle.ir_record.specs.Recording.{order_of_turns}
 use Rattle.ir_record.specs.declared.turns.Turns.{Turns}
 use Rattle.ir_runs.specs.Run.{Step, Can, after, end, log, EntersIfFree}
 use Rattle.ir_thread.specs.declared.ask.Ask as ask
 use Rattle.ir_thread.specs.declared.ask.Ask.TheVariants as asks
 use Rattle.ir_thread.specs.declared.profile.Profile.{Profile}
-use Rattle.ir_chaos.specs.Schedules.{IsSchedule, Leads, rests, threads_of}
+use Rattle.ir_chaos.specs.Schedules.{IsSchedule, ChoosesSteps, rests, chosen_threads}
 use Rattle.ir_chaos.specs.declared.chooser.Chooser.{Chooser}
 use Rattle.ir_chaos.specs.declared.runner.Runner.{Runner}
 use Rattle.ir_chaos.specs.declared.stop.Stop.{Stop}
@@ -20,10 +20,10 @@ use Rattle.ir_chaos.specs.declared.stop.Stop.TheVariants.{World, TooLong}
 pub record Moment : Type 0 where
   pub flat : Flat
   pub turns : List Turns
-  pub answers : List (List Answered)
+  pub answers : List (List AnsweredCall)
 
 -- the same of what runs it
-abbrev pub moment_of : {W : Type 0} → (W → List Answered) → Runner W → Moment
+abbrev pub moment_of : {W : Type 0} → (W → List AnsweredCall) → Runner W → Moment
 moment_of answers r = record { flat = r.flat; turns = r.turns.items; answers = map answers r.worlds.items }
 
 -- what is asked is no try
@@ -51,7 +51,7 @@ pub record Gained (run : List Step) (a b : Moment) : Type 0 where
   pub code : b.flat.code ≡ a.flat.code
   pub threads : length b.flat.threads ≡ length a.flat.threads
   pub objects : length b.flat.objects ≡ length a.flat.objects
-  pub order : order_of_turns b.turns ≡ order_of_turns a.turns ++ threads_of run
+  pub order : order_of_turns b.turns ≡ order_of_turns a.turns ++ chosen_threads run
   pub answers : (t : ℕ) → t < length a.flat.threads
       → answers_at b.answers t ≡ answers_at a.answers t ++ answers_in (log (machine a.flat) (tables a.flat) run t)
 
@@ -65,7 +65,7 @@ pub record Took (t : ℕ) (a b : Moment) : Type 0 where
 -- b is a after a run by the chooser c, which is d then
 pub record Ran (tries : Bool) (a : Moment) (c : Chooser) (b : Moment) (d : Chooser) : Type 0 where
   pub run : List Step
-  pub leads : Leads tries (machine a.flat) (length a.flat.threads) (tables a.flat) c run d
+  pub leads : ChoosesSteps tries (machine a.flat) (length a.flat.threads) (tables a.flat) c run d
   pub gained : Gained run a b
 
 -- b is a after the complete run by the chooser

@@ -28,13 +28,13 @@ abbrev pub priority : List ℕ → ℕ → ℕ
 priority priorities t = slice_index_or priorities t 0
 
 -- of t and these threads the first that no other exceeds
-abbrev pub highest : List ℕ → List ℕ → ℕ → ℕ
-highest priorities [] t = t
-highest priorities (u ∷ us) t = highest priorities us (if nat_lt (priority priorities t) (priority priorities u) then u else t)
+abbrev pub highest_rank : List ℕ → List ℕ → ℕ → ℕ
+highest_rank priorities [] t = t
+highest_rank priorities (u ∷ us) t = highest_rank priorities us (if nat_lt (priority priorities t) (priority priorities u) then u else t)
 
 -- who goes of those that have a step
 abbrev pub leader : List ℕ → List ℕ → ℕ
-leader priorities ready = highest priorities ready (slice_index_or ready 0 0)
+leader priorities ready = highest_rank priorities ready (slice_index_or ready 0 0)
 
 -- the priorities of threads before any falls are above all that have fallen
 abbrev pub first_priority : ℕ

@@ -39,20 +39,20 @@ pub record IsChosen {T : Type 0} (tries : Bool) (m : Machine T) (n : ℕ) (s : S
   pub choice : (t, d) ≡ chosen c ready
 
 -- the next step, of one of the n threads: a thread under way continues, the lowest first; if all rest, the chosen one goes
-abbrev pub IsNext : {T : Type 0} → Bool → Machine T → ℕ → State T → Chooser → Step → Chooser → Type 0
-IsNext tries m n s c e d = (e.0 < n) × Can m s e × EntersIfFree m s e × ((IsUnderWay tries m s e.0 × (d ≡ c)) ⊎ IsChosen tries m n s c e.0 d)
+abbrev pub IsNextChosen : {T : Type 0} → Bool → Machine T → ℕ → State T → Chooser → Step → Chooser → Type 0
+IsNextChosen tries m n s c e d = (e.0 < n) × Can m s e × EntersIfFree m s e × ((IsUnderWay tries m s e.0 × (d ≡ c)) ⊎ IsChosen tries m n s c e.0 d)
 
 -- the steps of a run by the chooser, which is d after them
-abbrev pub Leads : {T : Type 0} → Bool → Machine T → ℕ → State T → Chooser → List Step → Chooser → Type 0
-Leads tries m n s c [] d = d ≡ c
-Leads tries m n s c (e ∷ run) d = (b : Chooser) × IsNext tries m n s c e b × Leads tries m n (after m s e) b run d
+abbrev pub ChoosesSteps : {T : Type 0} → Bool → Machine T → ℕ → State T → Chooser → List Step → Chooser → Type 0
+ChoosesSteps tries m n s c [] d = d ≡ c
+ChoosesSteps tries m n s c (e ∷ run) d = (b : Chooser) × IsNextChosen tries m n s c e b × ChoosesSteps tries m n (after m s e) b run d
 
 -- the complete run by the chooser
 pub record IsSchedule {T : Type 0} (tries : Bool) (m : Machine T) (n : ℕ) (s : State T) (c : Chooser) (run : List Step) : Type 0 where
   pub last : Chooser
-  pub leads : Leads tries m n s c run last
+  pub leads : ChoosesSteps tries m n s c run last
   pub done : IsDone m (end m s run)
 
 -- whose steps these are
-abbrev pub threads_of : List Step → List ℕ
-threads_of run = map (λ e. e.0) run
+abbrev pub chosen_threads : List Step → List ℕ
+chosen_threads run = map (λ e. e.0) run

@@ -1,6 +1,6 @@
 //! What chooses the thread that continues.
 
-ghost use Rattle.ir_chaos.specs.Choices.{chosen, chosen_in_rounds, chosen_at_random, Serves, before_rounds, chooser_of};
+ghost use Rattle.ir_chaos.specs.Choices.{chosen, chosen_in_rounds, chosen_at_random, CanChoose, before_rounds, chooser_of};
 ghost use Rattle.std.specs.Prelude.{◌≡◌, ◌<◌, ◌≤◌, length, All, IfOk, OnOk};
 ghost use Rattle.std.specs.List.{Contains};
 
@@ -67,7 +67,7 @@ impl Chooser {
     ) -> Result<Chooser, AllocError>
         requires { length choices.now < 256 }
         ensures value { IfOk result (λ c. c ≡ chooser_of way seed threads choices.now) }
-        ensures serves { IfOk result (λ c. Serves threads c) }
+        ensures serves { IfOk result (λ c. CanChoose threads c) }
     {
         let mut random = generator_of(seed);
         match way.of_seed(seed) {
@@ -86,10 +86,10 @@ impl Chooser {
     pub fn choose(&mut self, threads: usize, ready: &[u8]) -> u8
         requires some { 0 < length ready.now }
         requires few { length ready.now < 256 }
-        requires serves { Serves threads self.old }
+        requires serves { CanChoose threads self.old }
         requires within { All (λ t. t < threads) ready.now }
         ensures value { (result, self.new) ≡ chosen self.old ready.now }
-        ensures serves { Serves threads self.new }
+        ensures serves { CanChoose threads self.new }
         ensures member { Contains ready.now result }
     {
         match self {

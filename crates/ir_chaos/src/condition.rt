@@ -1,6 +1,6 @@
 //! What a hunt looks for in what a run came to.
 
-ghost use Rattle.ir_chaos.specs.Conditions.{as_condition, as_fact, as_literal, fulfils, holds, is_about, is_about_each, is_so, outcome_of};
+ghost use Rattle.ir_chaos.specs.Conditions.{as_condition, as_fact, as_literal, fulfils, holds, is_about, is_about_each, is_so, end_state};
 ghost use Rattle.std.specs.Prelude.{◌≡◌};
 ghost use Rattle.std.specs.List.{list_all, list_any};
 
@@ -49,7 +49,7 @@ pub struct Condition<'a> {
 impl Fact<'_> {
     // Whether it is so of what these threads and objects came to.
     fn is_so(&self, flat: &Flat<'_>) -> bool
-        ensures { result ≡ is_so (as_fact self.now) (outcome_of flat.now) }
+        ensures { result ≡ is_so (as_fact self.now) (end_state flat.now) }
     {
         match *self {
             Fact::End(thread, number) => ends_by(end_at(flat, thread), number),
@@ -82,7 +82,7 @@ impl Fact<'_> {
 impl Literal<'_> {
     // Whether it holds of what these threads and objects came to.
     fn holds(&self, flat: &Flat<'_>) -> bool
-        ensures { result ≡ holds (as_literal self.now) (outcome_of flat.now) }
+        ensures { result ≡ holds (as_literal self.now) (end_state flat.now) }
     {
         self.fact.is_so(flat) != self.is_denied
     }
@@ -90,7 +90,7 @@ impl Literal<'_> {
 
 // Whether some literal holds of what these threads and objects came to.
 fn some_holds(literals: &[Literal<'_>], flat: &Flat<'_>) -> bool
-    ensures { result ≡ list_any (λ l. holds (as_literal l) (outcome_of flat.now)) literals.now }
+    ensures { result ≡ list_any (λ l. holds (as_literal l) (end_state flat.now)) literals.now }
 {
     literals.iter().any(|literal| literal.holds(flat))
 }
@@ -105,7 +105,7 @@ fn each_is_about(literals: &[Literal<'_>], image: &Image) -> bool
 impl Condition<'_> {
     /// Whether one of its literals holds of what these threads and objects came to.
     pub fn holds(&self, flat: &Flat<'_>) -> bool
-        ensures { result ≡ fulfils (as_condition self.now) (outcome_of flat.now) }
+        ensures { result ≡ fulfils (as_condition self.now) (end_state flat.now) }
     {
         some_holds(self.alternatives.as_slice(), flat)
     }

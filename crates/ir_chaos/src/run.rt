@@ -2,7 +2,7 @@
 
 ghost use Rattle.std.specs.Prelude.{◌≡◌, ◌≢◌, ◌<◌, ◌≤◌, ℕ, Bool, length, OnOk, IfErr, IfOk};
 ghost use Rattle.arrayvec.specs.ArrayVec.{array_vec_len};
-ghost use Rattle.ir_chaos.specs.Choices.{Serves};
+ghost use Rattle.ir_chaos.specs.Choices.{CanChoose};
 ghost use Rattle.ir_chaos.specs.Moments.{moment_of, Ran, RanToEnd, Took, TookSome, IsAtRest, AllRest, OthersRest, IsStartOfGuest, IsReady, Tells};
 ghost use Rattle.ir_chaos.specs.Schedules.{is_rest, AreReady, IsChosen};
 ghost use Rattle.ir_chaos.specs.declared.chooser.Chooser.{Chooser};
@@ -158,7 +158,7 @@ impl<W: World> Runner<'_, W> {
     pub fn run(&mut self, tries: bool, chooser: &mut Chooser) -> Result<Choices, Stop>
         requires start { IsStartOfGuest self.old.flat }
         requires ready { IsReady W.broken self.old }
-        requires serves { Serves (length self.old.flat.threads) chooser.old }
+        requires serves { CanChoose (length self.old.flat.threads) chooser.old }
         ensures ran { OnOk result (RanToEnd tries (moment_of W.answers self.old) chooser.old (moment_of W.answers self.new)) }
         ensures ready { OnOk result (IsReady W.broken self.new) }
         ensures kept { AreSameWorlds W.origin self.old.worlds.items self.new.worlds.items }

@@ -17,7 +17,7 @@ use Rattle.ir_trace.specs.Absent.{absent}
 use Rattle.ir_trace.proofs.CallerLemmas.{recorded_threads_at_most_limit}
 use Rattle.ir_runs.specs.Verdicts.{reads}
 use Rattle.ir_runs.specs.Coherent.{IsCoherent}
-use Rattle.ir_coherence.specs.Counting.{MayStand, writes, reads_in, writes_in, reads_of, writes_of, cause_by, CountsMore, CountsAll, HasRoom, FirstCause, NoCause}
+use Rattle.ir_coherence.specs.Counting.{MayStand, writes_among, reads_in, writes_in, reads_of, writes_of, cause_by, CountsMore, CountsAll, HasRoom, FirstCause, NoCause}
 use Rattle.ir_runs.specs.Run.{At}
 use Rattle.ir_coherence.specs.Breaking.{HasCause, IsFirstBreak}
 use Rattle.ir_coherence.specs.Before.{IsBefore}
@@ -70,7 +70,7 @@ counts_have_room_for_thread r fits i c l first = record {
   writes = λ o v. omega (
     arith,
     first.writes o v,
-    sum_below_at_most_count_times_most_events i (λ u. writes o v ((trace_of r).logs u))
+    sum_below_at_most_count_times_most_events i (λ u. writes_among o v ((trace_of r).logs u))
         (λ u less. omega (arith, writes_at_most_length o v ((trace_of r).logs u), of_thread u (omega arith))),
     (recorded_thread_at_number_is_recorded r fits i l).few_events,
     recorded_threads_at_most_limit r fits,
@@ -85,7 +85,7 @@ pub counts_first_threads_step : (r : Recorded) (i : ℕ) (a b : EntryCounts) →
 counts_first_threads_step r i a b first more = record {
   objects = more.objects ∙ first.objects;
   reads = λ o v. omega (arith, more.reads o v, first.reads o v, sum_below_of_successor i (λ u. reads o v ((trace_of r).logs u)));
-  writes = λ o v. omega (arith, more.writes o v, first.writes o v, sum_below_of_successor i (λ u. writes o v ((trace_of r).logs u)));
+  writes = λ o v. omega (arith, more.writes o v, first.writes o v, sum_below_of_successor i (λ u. writes_among o v ((trace_of r).logs u)));
 }
 
 at_of_mapped_label : (es : List Event) (i : ℕ) (e : Event) → slice_get es i ≡ Some e → At (map label_of es) i (label_of e)

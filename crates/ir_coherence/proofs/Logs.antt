@@ -7,15 +7,15 @@ use Rattle.ir_runs.specs.declared.access.Access.TheVariants.{Reading, Writing}
 use Rattle.ir_log.specs.Logging.{label_of}
 use Rattle.ir_log.specs.declared.event.Event.{Event}
 use Rattle.ir_runs.specs.Verdicts.{reads_one, reads, sum_below}
-use Rattle.ir_coherence.specs.Counting.{writes_one, writes, CountsMore, HasRoom}
+use Rattle.ir_coherence.specs.Counting.{writes_one, writes_among, CountsMore, HasRoom}
 use Rattle.ir_coherence.specs.declared.entry_counts.EntryCounts.{EntryCounts}
 
 reads_of_append : (o v : ℕ) (xs ys : List Label) → reads o v (xs ++ ys) ≡ reads o v xs + reads o v ys
 reads_of_append o v [] ys = let e : reads o v ys ≡ 0 + reads o v ys = omega arith in e
 reads_of_append o v (x ∷ xs) ys = omega (arith, reads_of_append o v xs ys)
 
-writes_of_append : (o v : ℕ) (xs ys : List Label) → writes o v (xs ++ ys) ≡ writes o v xs + writes o v ys
-writes_of_append o v [] ys = let e : writes o v ys ≡ 0 + writes o v ys = omega arith in e
+writes_of_append : (o v : ℕ) (xs ys : List Label) → writes_among o v (xs ++ ys) ≡ writes_among o v xs + writes_among o v ys
+writes_of_append o v [] ys = let e : writes_among o v ys ≡ 0 + writes_among o v ys = omega arith in e
 writes_of_append o v (x ∷ xs) ys = omega (arith, writes_of_append o v xs ys)
 
 nested_condition_at_most_one : (b d : Bool) → ◌≤◌ (cond b (cond d 1 0) 0) 1
@@ -43,7 +43,7 @@ pub reads_at_most_length : (o v : ℕ) (ks : List Label) → reads o v ks ≤ le
 reads_at_most_length o v [] = omega arith
 reads_at_most_length o v (k ∷ ks) = omega (arith, reads_one_at_most_one o v k, reads_at_most_length o v ks)
 
-pub writes_at_most_length : (o v : ℕ) (ks : List Label) → writes o v ks ≤ length ks
+pub writes_at_most_length : (o v : ℕ) (ks : List Label) → writes_among o v ks ≤ length ks
 writes_at_most_length o v [] = omega arith
 writes_at_most_length o v (k ∷ ks) = omega (arith, writes_one_at_most_one o v k, writes_at_most_length o v ks)
 

@@ -4,7 +4,7 @@ use Rattle.std.specs.Prelude.{slice_get}
 use Rattle.std.specs.Option.{option_map_or}
 use Rattle.std.proofs.lemmas.Bool.{cases_eq}
 use Rattle.std.proofs.lemmas.Option.{same_Some}
-use Rattle.ir_coherence.specs.Counting.{count, OneMore}
+use Rattle.ir_coherence.specs.Counting.{count_at, OneMore}
 use Rattle.ir_coherence.specs.declared.version_counts.VersionCounts.{VersionCounts}
 use Rattle.ir_coherence.specs.declared.entry_counts.ObjectCounts.{ObjectCounts}
 
@@ -69,35 +69,35 @@ sum_with_zeros k = omega arith
 
 pub reads_after_read_counted : (xs : List ObjectCounts) (i w : ℕ) (x : ObjectCounts) (new : VersionCounts) → i < length xs → get_or xs i x ≡ x
     → OneMore x.reads new w
-    → (o v : ℕ) → value_at_place (λ z. count z.reads v) (slice_set xs i record { reads = new; writes = x.writes }) o ≡ value_at_place (λ z. count z.reads v) xs o +
+    → (o v : ℕ) → value_at_place (λ z. count_at z.reads v) (slice_set xs i record { reads = new; writes = x.writes }) o ≡ value_at_place (λ z. count_at z.reads v) xs o +
     (cond (eqb i o) (cond (eqb w v) 1 0) 0 + 0)
 reads_after_read_counted xs i w x new l e more o v = omega (
   arith,
-  value_at_place_after_increase (λ z. count z.reads v) xs i o x record { reads = new; writes = x.writes }
+  value_at_place_after_increase (λ z. count_at z.reads v) xs i o x record { reads = new; writes = x.writes }
       (cond (eqb w v) 1 0) l e (more v),
 )
 
 pub writes_are_unchanged_by_counted_read : (xs : List ObjectCounts) (i : ℕ) (x : ObjectCounts) (new : VersionCounts) → i < length xs → get_or xs i x ≡ x
-    → (o v : ℕ) → value_at_place (λ z. count z.writes v) (slice_set xs i record { reads = new; writes = x.writes }) o ≡ value_at_place (λ z. count z.writes v) xs o
+    → (o v : ℕ) → value_at_place (λ z. count_at z.writes v) (slice_set xs i record { reads = new; writes = x.writes }) o ≡ value_at_place (λ z. count_at z.writes v) xs o
     + (0 + 0)
-writes_are_unchanged_by_counted_read xs i x new l e o v = value_at_place_after_equal_set (λ z. count z.writes v) xs i o x record { reads = new; writes = x.writes } l e refl ∙ sum_with_zeros
-    (value_at_place (λ z. count z.writes v) xs o)
+writes_are_unchanged_by_counted_read xs i x new l e o v = value_at_place_after_equal_set (λ z. count_at z.writes v) xs i o x record { reads = new; writes = x.writes } l e refl ∙ sum_with_zeros
+    (value_at_place (λ z. count_at z.writes v) xs o)
 
 pub writes_after_write_counted : (xs : List ObjectCounts) (i w : ℕ) (x : ObjectCounts) (new : VersionCounts) → i < length xs → get_or xs i x ≡ x
     → OneMore x.writes new w
-    → (o v : ℕ) → value_at_place (λ z. count z.writes v) (slice_set xs i record { reads = x.reads; writes = new }) o ≡ value_at_place (λ z. count z.writes v) xs o +
+    → (o v : ℕ) → value_at_place (λ z. count_at z.writes v) (slice_set xs i record { reads = x.reads; writes = new }) o ≡ value_at_place (λ z. count_at z.writes v) xs o +
     (cond (eqb i o) (cond (eqb w v) 1 0) 0 + 0)
 writes_after_write_counted xs i w x new l e more o v = omega (
   arith,
-  value_at_place_after_increase (λ z. count z.writes v) xs i o x record { reads = x.reads; writes = new }
+  value_at_place_after_increase (λ z. count_at z.writes v) xs i o x record { reads = x.reads; writes = new }
       (cond (eqb w v) 1 0) l e (more v),
 )
 
 pub reads_are_unchanged_by_counted_write : (xs : List ObjectCounts) (i : ℕ) (x : ObjectCounts) (new : VersionCounts) → i < length xs → get_or xs i x ≡ x
-    → (o v : ℕ) → value_at_place (λ z. count z.reads v) (slice_set xs i record { reads = x.reads; writes = new }) o ≡ value_at_place (λ z. count z.reads v) xs o +
+    → (o v : ℕ) → value_at_place (λ z. count_at z.reads v) (slice_set xs i record { reads = x.reads; writes = new }) o ≡ value_at_place (λ z. count_at z.reads v) xs o +
     (0 + 0)
-reads_are_unchanged_by_counted_write xs i x new l e o v = value_at_place_after_equal_set (λ z. count z.reads v) xs i o x record { reads = x.reads; writes = new } l e refl ∙ sum_with_zeros
-    (value_at_place (λ z. count z.reads v) xs o)
+reads_are_unchanged_by_counted_write xs i x new l e o v = value_at_place_after_equal_set (λ z. count_at z.reads v) xs i o x record { reads = x.reads; writes = new } l e refl ∙ sum_with_zeros
+    (value_at_place (λ z. count_at z.reads v) xs o)
 
 -- what is counted of an object may grow as all counts may
 pub value_of_element_has_room : {X : Type 0} (f : X → ℕ) (xs : List X) (i : ℕ) (x : X) (n : ℕ) → i < length xs → get_or xs i x ≡ x → value_at_place f xs i + 1 < n

@@ -30,9 +30,9 @@ writes_one o v (Refused p) = 0
 writes_one o v (Out p a w) = 0
 
 -- how many of these are write entries of object o at version v
-abbrev pub writes : ℕ → ℕ → List Label → ℕ
-writes o v [] = 0
-writes o v (k ∷ ks) = writes_one o v k + writes o v ks
+abbrev pub writes_among : ℕ → ℕ → List Label → ℕ
+writes_among o v [] = 0
+writes_among o v (k ∷ ks) = writes_one o v k + writes_among o v ks
 
 -- how many read entries of object o at version v are in the logs of the n threads
 abbrev pub reads_in : ℕ → Trace → ℕ → ℕ → ℕ
@@ -40,7 +40,7 @@ reads_in n tr o v = sum_below n (λ u. reads o v (tr.logs u))
 
 -- how many write entries
 abbrev pub writes_in : ℕ → Trace → ℕ → ℕ → ℕ
-writes_in n tr o v = sum_below n (λ u. writes o v (tr.logs u))
+writes_in n tr o v = sum_below n (λ u. writes_among o v (tr.logs u))
 
 -- version v of object o is not the first, and the version before has no write entry
 abbrev pub nobody_made : (ℕ → ℕ → ℕ) → ℕ → ℕ → Bool
@@ -74,8 +74,8 @@ pub record IsFrom (xs : List ℕ) (k n : ℕ) : Type 0 where
   pub each : (i : ℕ) → n ≤ i → i < length xs → k ≤ slice_index xs i
 
 -- what a table of one object counts at version v
-abbrev pub count : VersionCounts → ℕ → ℕ
-count c v = if nat_lt v (vec_len c.near) then slice_index c.near.items v else occurrences v c.far.versions.items
+abbrev pub count_at : VersionCounts → ℕ → ℕ
+count_at c v = if nat_lt v (vec_len c.near) then slice_index c.near.items v else occurrences v c.far.versions.items
 
 -- the table can be asked
 abbrev pub IsSettled : VersionCounts → Type 0
@@ -83,19 +83,19 @@ IsSettled c = IsNonDecreasing c.far.versions.items
 
 -- nothing is counted
 abbrev pub IsEmpty : VersionCounts → Type 0
-IsEmpty c = (v : ℕ) → count c v ≡ 0
+IsEmpty c = (v : ℕ) → count_at c v ≡ 0
 
 -- one more is counted at version v, and as many as before at the others
 abbrev pub OneMore : VersionCounts → VersionCounts → ℕ → Type 0
-OneMore old new v = (w : ℕ) → count new w ≡ count old w + cond (eqb v w) 1 0
+OneMore old new v = (w : ℕ) → count_at new w ≡ count_at old w + cond (eqb v w) 1 0
 
 -- what the tables of all objects count of read entries of object o at version v
 abbrev pub reads_of : EntryCounts → ℕ → ℕ → ℕ
-reads_of c o v = option_map_or (λ (x : ObjectCounts). count x.reads v) (slice_get c.objects.items o) 0
+reads_of c o v = option_map_or (λ (x : ObjectCounts). count_at x.reads v) (slice_get c.objects.items o) 0
 
 -- and of write entries
 abbrev pub writes_of : EntryCounts → ℕ → ℕ → ℕ
-writes_of c o v = option_map_or (λ (x : ObjectCounts). count x.writes v) (slice_get c.objects.items o) 0
+writes_of c o v = option_map_or (λ (x : ObjectCounts). count_at x.writes v) (slice_get c.objects.items o) 0
 
 -- the tables of all objects can be asked
 abbrev pub AreSettled : EntryCounts → Type 0
@@ -117,7 +117,7 @@ pub record CountsNone (n : ℕ) (c : EntryCounts) : Type 0 where
 pub record CountsMore (old new : EntryCounts) (ks : List Label) : Type 0 where
   pub objects : vec_len new.objects ≡ vec_len old.objects
   pub reads : (o v : ℕ) → reads_of new o v ≡ reads_of old o v + reads o v ks
-  pub writes : (o v : ℕ) → writes_of new o v ≡ writes_of old o v + writes o v ks
+  pub writes : (o v : ℕ) → writes_of new o v ≡ writes_of old o v + writes_among o v ks
 
 -- each count may grow by `more`
 pub record HasRoom (c : EntryCounts) (more : ℕ) : Type 0 where

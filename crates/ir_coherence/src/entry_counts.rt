@@ -2,7 +2,7 @@
 
 ghost use Rattle.std.specs.Prelude.{◌≡◌, ℕ, [], ◌∷◌, length, vec_len, OnOk, IfOk};
 ghost use Rattle.ir_log.specs.Logging.{label_of};
-ghost use Rattle.ir_coherence.specs.Counting.{MayStand, count, reads_of, writes_of, CountsNone, CountsMore, HasRoom, IsSettled, AreSettled, SameCounts, nobody_made, cause_by};
+ghost use Rattle.ir_coherence.specs.Counting.{MayStand, count_at, reads_of, writes_of, CountsNone, CountsMore, HasRoom, IsSettled, AreSettled, SameCounts, nobody_made, cause_by};
 
 use crate::cause::Cause;
 use crate::version_counts::VersionCounts;
@@ -21,8 +21,8 @@ impl ObjectCounts {
     fn settle(&mut self) -> Result<(), AllocError>
         ensures reads { OnOk result (IsSettled self.new.reads) }
         ensures writes { OnOk result (IsSettled self.new.writes) }
-        ensures same_reads { OnOk result ((v : ℕ) → count self.new.reads v ≡ count self.old.reads v) }
-        ensures same_writes { OnOk result ((v : ℕ) → count self.new.writes v ≡ count self.old.writes v) }
+        ensures same_reads { OnOk result ((v : ℕ) → count_at self.new.reads v ≡ count_at self.old.reads v) }
+        ensures same_writes { OnOk result ((v : ℕ) → count_at self.new.writes v ≡ count_at self.old.writes v) }
     {
         self.reads.settle()?;
         self.writes.settle()

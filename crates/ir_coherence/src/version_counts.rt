@@ -1,7 +1,7 @@
 //! How many entries there are at each version of an object.
 
 ghost use Rattle.std.specs.Prelude.{◌≡◌, ◌+◌, ◌-◌, ◌<◌, ◌^◌, ℕ, OnOk, IfOk};
-ghost use Rattle.ir_coherence.specs.Counting.{count, IsEmpty, IsSettled, OneMore};
+ghost use Rattle.ir_coherence.specs.Counting.{count_at, IsEmpty, IsSettled, OneMore};
 
 use crate::far_versions::FarVersions;
 use std::alloc::{AllocError, Global};
@@ -30,7 +30,7 @@ impl VersionCounts {
     /// # Errors
     /// Out of memory.
     pub fn add(&mut self, version: u32) -> Result<(), AllocError>
-        requires { count self.old version + 1 < 2 ^ 32 }
+        requires { count_at self.old version + 1 < 2 ^ 32 }
         ensures { OnOk result (OneMore self.old self.new version) }
     {
         match self.near.get_mut(version as usize) {
@@ -46,7 +46,7 @@ impl VersionCounts {
     /// Out of memory.
     pub fn settle(&mut self) -> Result<(), AllocError>
         ensures settled { OnOk result (IsSettled self.new) }
-        ensures same { OnOk result ((v : ℕ) → count self.new v ≡ count self.old v) }
+        ensures same { OnOk result ((v : ℕ) → count_at self.new v ≡ count_at self.old v) }
     {
         self.far.sort()
     }
@@ -55,7 +55,7 @@ impl VersionCounts {
     #[inline(always)]
     pub fn get(&self, version: u32) -> usize
         requires { IsSettled self.now }
-        ensures { result ≡ count self.now version }
+        ensures { result ≡ count_at self.now version }
     {
         match self.near.get(version as usize) {
             Some(count) => *count as usize,
@@ -68,8 +68,8 @@ impl VersionCounts {
     pub fn both(&self, version: u32) -> (usize, usize)
         requires settled { IsSettled self.now }
         requires later { 0 < version }
-        ensures before { result.0 ≡ count self.now (version - 1) }
-        ensures here { result.1 ≡ count self.now version }
+        ensures before { result.0 ≡ count_at self.now (version - 1) }
+        ensures here { result.1 ≡ count_at self.now version }
     {
         if version as usize <= self.near.len() {
             (self.get(version - 1), self.get(version))

@@ -18,7 +18,7 @@ use Rattle.ir_command.specs.declared.refusal.Refusal.{Refusal}
 use Rattle.ir_command.specs.declared.refusal.Refusal.TheVariants.{NoSuchThread}
 use Rattle.ir_debug.specs.declared.answer.Answer.{Answer}
 use Rattle.ir_debug.specs.declared.answer.Answer.TheVariants as answer
-use Rattle.ir_debug.specs.Machine.{Desk, moved_to, spoken, if_some, thread_named, refusal_of, is_at_hand, shown, Answers, AnswersBy, current}
+use Rattle.ir_debug.specs.Machine.{Desk, moved_to, spoken, if_some, thread_named, refusal_of, is_at_hand, show_text, AnswersCommand, AnswersBy, current}
 use Rattle.ir_command.specs.declared.command.Point.{Point}
 use Rattle.ir_text.specs.Texts.{number_line, next_text, core_text, bytes_from, memory_text, output_text, object_text, log_text}
 use Rattle.ir_debug.specs.Debugging.{Debugging, IsThere, answer_text, with_point, without_point, IsLast, IsText, IsDesk, logged_so_far}
@@ -68,8 +68,8 @@ show_at_hand_unless_next (Log t) other = refl
 show_at_hand_unless_next (Next t) other = absurd (other t refl)
 
 -- what is shown doesn't depend on the last answer
-shown_after_spoken_is_unchanged : (steps : List run.Step) (d : Desk) (s : Show) → shown steps (spoken d) s ≡ shown steps d s
-unfolding shown
+shown_after_spoken_is_unchanged : (steps : List run.Step) (d : Desk) (s : Show) → show_text steps (spoken d) s ≡ show_text steps d s
+unfolding show_text
 shown_after_spoken_is_unchanged steps d (Registers t) = refl
 shown_after_spoken_is_unchanged steps d (Memory t address size) = refl
 shown_after_spoken_is_unchanged steps d (show.Object o) = refl
@@ -78,19 +78,19 @@ shown_after_spoken_is_unchanged steps d (Log t) = refl
 shown_after_spoken_is_unchanged steps d (Next t) = refl
 
 pub show_answers_command : (d next : Desk) (s : Show) → next ≡ spoken d → AnswersInEachRun d (command.Show s) (answer.Shown s) next
-show_answers_command d next s is run whole = inl (ap (λ z. shown run z s) is ∙ shown_after_spoken_is_unchanged run d s, is)
+show_answers_command d next s is run whole = inl (ap (λ z. show_text run z s) is ∙ shown_after_spoken_is_unchanged run d s, is)
 
 -- the line of the thread at hand is that of the thread of each run
 pub next_line_of_standing_is_shown_in_each_run : (d : Desk) (s : Standing) (t : ℕ) (x : thread.ThreadState) (line : List ℕ) → StandsAt d.fitted (cut_of d.at) s
     → x ≡ slice_index_or s.threads t idle → line ≡ next_text d.fitted.guest.code x
-    → EachRun d.fitted (λ run. line ≡ shown run d (Next t))
-unfolding shown
+    → EachRun d.fitted (λ run. line ≡ show_text run d (Next t))
+unfolding show_text
 next_line_of_standing_is_shown_in_each_run d s t x line there is text run whole =
     text ∙ ap (λ z. next_text d.fitted.guest.code z) (is ∙ (there.at.each run whole).threads t)
 
 pub next_line_of_debugger_is_shown_in_each_run : (d : Desk) (e : Debugging) (threads : List thread.ThreadState) (code : List ℕ) (t : ℕ) (x : thread.ThreadState) (line : List ℕ)
     → e.desk ≡ spoken d → IsThere e → threads ≡ e.state.threads → code ≡ e.desk.fitted.guest.code → t < threads_of d.fitted
-    → x ≡ slice_index_or threads t x → line ≡ next_text code x → EachRun d.fitted (λ run. line ≡ shown run d (Next t))
+    → x ≡ slice_index_or threads t x → line ≡ next_text code x → EachRun d.fitted (λ run. line ≡ show_text run d (Next t))
 next_line_of_debugger_is_shown_in_each_run d e threads code t x line is there all same l read text =
     let stands : StandsAt d.fitted (cut_of d.at) e.state = subst (λ (z : Desk). StandsAt z.fitted (cut_of z.at) e.state) is there in
     let count = stands.at.threads in
@@ -111,14 +111,14 @@ unfolding refusal_of
 refusal_after_spoken_is_unchanged d next c is = ap (λ z. refusal_of z c) is
 
 pub refused_command_answers_refusal : (d next : Desk) (c : Command) (r : Refusal) (a : Answer) → refusal_of d c ≡ Some r → next ≡ spoken d
-    → a ≡ answer.Refused r → EachRun d.fitted (λ run. Answers run d c (answer_text run next a) next)
-unfolding Answers
+    → a ≡ answer.Refused r → EachRun d.fitted (λ run. AnswersCommand run d c (answer_text run next a) next)
+unfolding AnswersCommand
 refused_command_answers_refusal d next c r a why is says run whole =
     subst (λ o. AnswersBy o run d c (answer_text run next a) next) (sym why) (ap (λ z. answer_text run next z) says, is)
 
 pub permitted_command_is_answered_by_text_of_its_answer : (d next : Desk) (c asked : Command) (a : Answer) → c ≡ asked → refusal_of d c ≡ None → AnswersInEachRun d asked a next
-    → EachRun d.fitted (λ run. Answers run d c (answer_text run next a) next)
-unfolding Answers
+    → EachRun d.fitted (λ run. AnswersCommand run d c (answer_text run next a) next)
+unfolding AnswersCommand
 permitted_command_is_answered_by_text_of_its_answer d next c asked a same none so run whole =
     subst (λ o. AnswersBy o run d c (answer_text run next a) next) (sym none)
     (subst (λ z. AnswersBy None run d z (answer_text run next a) next) (sym same) (so run whole))
@@ -148,7 +148,7 @@ object_in_hand_is_run_object : (d : Debugging) (run : List Step) → IsAt d.desk
 object_in_hand_is_run_object d run at o = at.objects o
 
 pub shown_here_is_shown_in_run : ShowsHere
-unfolding shown
+unfolding show_text
 shown_here_is_shown_in_run d (show.Registers t) there below run is =
     ap (λ (s : thread.ThreadState). core_text s.core) (thread_in_hand_is_run_thread d run (there.at.each run is) t)
 shown_here_is_shown_in_run d (show.Memory t address size) there below run is =

@@ -16,7 +16,7 @@ use Rattle.ir_command.specs.declared.command.Show.TheVariants.{Registers, Memory
 use Rattle.ir_debug.specs.declared.answer.Answer.{Answer}
 use Rattle.ir_text.specs.Texts.{core_text, bytes_from, memory_text, output_text, object_text, log_text, next_text}
 use Rattle.ir_debug.specs.Debugging.{Debugging, IsThere, text_by}
-use Rattle.ir_debug.specs.Machine.{thread_named, shown}
+use Rattle.ir_debug.specs.Machine.{thread_named, show_text}
 use Rattle.ir_text.specs.Held.{held_by}
 
 -- a thread in hand
@@ -52,4 +52,4 @@ text_here d answer = text_by (shown_here d) d.desk answer
 -- at the cut a show has the text that the small machine gives, whichever run it holds
 abbrev pub ShowsHere : Type 0
 ShowsHere = (d : Debugging) (show : Show) → IsThere d → ((t : ℕ) → thread_named (command.Show show) ≡ Some t → t < threads_of d.desk.fitted)
-    → EachRun d.desk.fitted (λ run. shown_here d show ≡ shown run d.desk show)
+    → EachRun d.desk.fitted (λ run. shown_here d show ≡ show_text run d.desk show)

@@ -15,7 +15,7 @@ use Rattle.ir_debug.specs.declared.answer.Answer.{Answer}
 use Rattle.ir_debug.specs.declared.answer.Answer.TheVariants.{Moved, Continued, Position, Shown, Next, Set, Cleared, Kept, Dropped, KeptCuts, Refused, Bye}
 use Rattle.ir_text.specs.Texts.{refusal_text, number_line, positions_text, hit_text, stop_text}
 use Rattle.ir_debug.specs.Machine as desk
-use Rattle.ir_debug.specs.Machine.{Desk, most_kept, refusal_of, is_at_hand, shown, kept_line, RepliesBy, StopsAt, spoken, stopped_text, thread_named}
+use Rattle.ir_debug.specs.Machine.{Desk, most_kept, refusal_of, is_at_hand, show_text, kept_line, RepliesBy, StopsAt, spoken, stopped_text, thread_named}
 use Rattle.ir_command.specs.Commands.{most_small}
 use Rattle.ir_hits.specs.Hits.{Numbered}
 use Rattle.ir_command.specs.declared.command.Direction.TheVariants.{Forwards, Backwards}
@@ -77,7 +77,7 @@ text_by text d Bye = codes "bye\n"
 
 -- the same, with what is shown of a run
 abbrev pub answer_text : List Step → Desk → Answer → List ℕ
-answer_text run d answer = text_by (shown run d) d answer
+answer_text run d answer = text_by (show_text run d) d answer
 
 -- what an answer that the debugger gave last speaks of is there
 abbrev pub IsLast : Debugging → Answer → Type 0

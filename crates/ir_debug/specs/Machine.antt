@@ -195,15 +195,15 @@ abbrev pub current : List runs.Step → Desk → ℕ → ThreadState
 current run d t = thread_at d.fitted run t (cut_of d.at t)
 
 -- the answer to a show that isn't refused
-unfoldable pub shown : List runs.Step → Desk → Show → List ℕ
-shown run d (Registers t) = core_text (current run d t).core
-shown run d (Memory t address size) = memory_text address (bytes_from d.fitted.guest.code (current run d t).core.memory size address)
-shown run d (Object o) = object_text (threads_of d.fitted) (object_words d.fitted.guest)
+unfoldable pub show_text : List runs.Step → Desk → Show → List ℕ
+show_text run d (Registers t) = core_text (current run d t).core
+show_text run d (Memory t address size) = memory_text address (bytes_from d.fitted.guest.code (current run d t).core.memory size address)
+show_text run d (Object o) = object_text (threads_of d.fitted) (object_words d.fitted.guest)
     (runs.object_at (machine_of d.fitted) (start_of d.fitted) run (cut_of d.at) o)
-shown run d (Output t) = output_text (current run d t).output
-shown run d (Log t) = log_text (runs.events (take (cut_of d.at t) (runs.trail (machine_of d.fitted) (start_of d.fitted) run t)))
+show_text run d (Output t) = output_text (current run d t).output
+show_text run d (Log t) = log_text (runs.events (take (cut_of d.at t) (runs.trail (machine_of d.fitted) (start_of d.fitted) run t)))
     (length (runs.log (machine_of d.fitted) (start_of d.fitted) run t))
-shown run d (Next t) = next_text d.fitted.guest.code (current run d t)
+show_text run d (Next t) = next_text d.fitted.guest.code (current run d t)
 
 -- where the thread that a move names has stopped
 abbrev pub stopped_text : FittedTrace → Option ℕ → List ℕ → List ℕ
@@ -217,33 +217,33 @@ kept_line k = decimal k.number ++ codes " " ++ positions_text k.cut ++ codes "\n
 -- ---- answers
 
 -- this is answered, and the machine is then so
-abbrev pub Gives : List ℕ → Desk → List ℕ → Desk → Type 0
-Gives answer after text next = (text ≡ answer) × (next ≡ after)
+abbrev pub AnswersWith : List ℕ → Desk → List ℕ → Desk → Type 0
+AnswersWith answer after text next = (text ≡ answer) × (next ≡ after)
 
 -- a command that isn't refused is answered so
 abbrev pub CarriesOut : List runs.Step → Desk → Command → List ℕ → Desk → Type 0
 CarriesOut run d (command.Move move) text next = (to : List ℕ) × Leads run d.fitted d.at move to
-    × Gives (positions_text to ++ stopped_text d.fitted (thread_named (command.Move move)) to ++ codes "\n") (moved_to d to) text next
+    × AnswersWith (positions_text to ++ stopped_text d.fitted (thread_named (command.Move move)) to ++ codes "\n") (moved_to d to) text next
 CarriesOut run d (command.Continue t direction) text next = (to : List ℕ) × (hit : Option Hit) × Continues run d t direction hit to
-    × Gives (positions_text to ++ hit_text hit ++ stop_text (last_of d.fitted t) (cut_of to t) ++ codes "\n") (moved_to d to) text next
-CarriesOut run d (command.Set point) text next = Gives (number_line (codes "point ") (d.last_point + 1))
+    × AnswersWith (positions_text to ++ hit_text hit ++ stop_text (last_of d.fitted t) (cut_of to t) ++ codes "\n") (moved_to d to) text next
+CarriesOut run d (command.Set point) text next = AnswersWith (number_line (codes "point ") (d.last_point + 1))
     (record (spoken d) { points = d.points ++ record { number = d.last_point + 1; point = point } ∷ []; last_point = d.last_point + 1 }) text next
-CarriesOut run d (command.Clear n) text next = Gives (number_line (codes "cleared ") n)
+CarriesOut run d (command.Clear n) text next = AnswersWith (number_line (codes "cleared ") n)
     (record (spoken d) { points = filter (λ p. not (p.number == n)) d.points }) text next
-CarriesOut run d command.Position text next = Gives (positions_text d.at ++ codes "\n") (spoken d) text next
-CarriesOut run d (command.Show show) text next = Gives (shown run d show) (spoken d) text next
-CarriesOut run d (command.Keeping Keep) text next = Gives (number_line (codes "kept ") (d.last_kept + 1))
+CarriesOut run d command.Position text next = AnswersWith (positions_text d.at ++ codes "\n") (spoken d) text next
+CarriesOut run d (command.Show show) text next = AnswersWith (show_text run d show) (spoken d) text next
+CarriesOut run d (command.Keeping Keep) text next = AnswersWith (number_line (codes "kept ") (d.last_kept + 1))
     (record (spoken d) { kept = d.kept ++ record { number = d.last_kept + 1; cut = d.at } ∷ []; last_kept = d.last_kept + 1 }) text next
 CarriesOut run d (command.Keeping (Load n)) text next = (to : List ℕ) × (kept_cut d.kept n ≡ Some to)
-    × Gives (positions_text to ++ codes "\n") (moved_to d to) text next
-CarriesOut run d (command.Keeping (Drop n)) text next = Gives (number_line (codes "dropped ") n)
+    × AnswersWith (positions_text to ++ codes "\n") (moved_to d to) text next
+CarriesOut run d (command.Keeping (Drop n)) text next = AnswersWith (number_line (codes "dropped ") n)
     (record (spoken d) { kept = filter (λ k. not (k.number == n)) d.kept }) text next
-CarriesOut run d (command.Keeping AllKept) text next = Gives (flat_map kept_line d.kept) (spoken d) text next
-CarriesOut run d command.Quit text next = Gives (codes "bye\n") (spoken d) text next
+CarriesOut run d (command.Keeping AllKept) text next = AnswersWith (flat_map kept_line d.kept) (spoken d) text next
+CarriesOut run d command.Quit text next = AnswersWith (codes "bye\n") (spoken d) text next
 
 -- a refusal, after which the machine is where it was
 abbrev pub Refuses : Refusal → Desk → List ℕ → Desk → Type 0
-Refuses r d text next = Gives (refusal_text r) (spoken d) text next
+Refuses r d text next = AnswersWith (refusal_text r) (spoken d) text next
 
 -- the answer by whether the command is refused; where memory runs out, if it may
 abbrev pub AnswersBy : Option Refusal → List runs.Step → Desk → Command → List ℕ → Desk → Type 0
@@ -251,13 +251,13 @@ AnswersBy (Some r) run d c text next = Refuses r d text next
 AnswersBy None run d c text next = CarriesOut run d c text next ⊎ ((may_lack d c ≡ true) × Refuses NoMemory d text next)
 
 -- the machine may answer a command so, and is then the next
-unfoldable pub Answers : List runs.Step → Desk → Command → List ℕ → Desk → Type 0
-Answers run d c text next = AnswersBy (refusal_of d c) run d c text next
+unfoldable pub AnswersCommand : List runs.Step → Desk → Command → List ℕ → Desk → Type 0
+AnswersCommand run d c text next = AnswersBy (refusal_of d c) run d c text next
 
 -- the answer by what a line asks; one without words has none
 abbrev pub RepliesBy : Result (Option Command) Refusal → List runs.Step → Desk → List ℕ → Desk → Type 0
-RepliesBy (Ok (Some c)) run d text next = Answers run d c text next
-RepliesBy (Ok None) run d text next = Gives [] d text next
+RepliesBy (Ok (Some c)) run d text next = AnswersCommand run d c text next
+RepliesBy (Ok None) run d text next = AnswersWith [] d text next
 RepliesBy (Err r) run d text next = Refuses r d text next
 
 -- the machine may answer a line so, whichever run has the trace

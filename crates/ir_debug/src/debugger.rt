@@ -73,7 +73,7 @@ impl Debugger {
     ghost use Rattle.ir_command.specs.declared.command.Command.TheVariants as command;
     ghost use Rattle.ir_command.specs.declared.command.Show.TheVariants as show;
     ghost use Rattle.ir_debug.specs.declared.answer.Answer.TheVariants as answer;
-    ghost use Rattle.ir_debug.specs.Machine.{desk_of, spoken, refusal_of, shown, Answers, AnswersBy};
+    ghost use Rattle.ir_debug.specs.Machine.{desk_of, spoken, refusal_of, show_text, AnswersCommand, AnswersBy};
     ghost use Rattle.ir_debug.specs.Debugging.{IsDesk, IsLast, IsThere, answer_text, with_point, without_point};
 
     /// A debugger with all threads at 0.
@@ -220,7 +220,7 @@ impl Debugger {
     fn show_next<H: Hands>(&mut self, hands: &H, thread: u32) -> Result<Vec<u8>, AllocError>
         requires { thread < threads_of self.old.desk.fitted }
         ensures desk { self.new.desk ≡ spoken self.old.desk }
-        ensures line { IfOk result (λ line. EachRun self.old.desk.fitted (λ run. line.items ≡ shown run self.old.desk (show.Next thread))) }
+        ensures line { IfOk result (λ line. EachRun self.old.desk.fitted (λ run. line.items ≡ show_text run self.old.desk (show.Next thread))) }
     {
         self.bring_here(hands)?;
         let code = self.timeline.fitted().image().code();
@@ -263,7 +263,7 @@ impl Debugger {
     /// A refusal leaves all positions, points and kept cuts as they were.
     pub fn command<H: Hands>(&mut self, hands: &H, command: &Command) -> Answer
         ensures fitted { self.new.desk.fitted ≡ self.old.desk.fitted }
-        ensures answers { EachRun self.old.desk.fitted (λ run. Answers run self.old.desk command.now (answer_text run self.new.desk result) self.new.desk) }
+        ensures answers { EachRun self.old.desk.fitted (λ run. AnswersCommand run self.old.desk command.now (answer_text run self.new.desk result) self.new.desk) }
         ensures last { IsLast self.new result }
     {
         if let Some(refusal) = self.refusal_of(command) {

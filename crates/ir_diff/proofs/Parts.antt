@@ -9,7 +9,7 @@ use Rattle.ir_log.specs.declared.event.Event.TheVariants as variant
 use Rattle.ir_trace.specs.Recorded.{Recorded, recorded_thread}
 use Rattle.ir_past.specs.Past.{event_at}
 use Rattle.ir_past.proofs.CallerLemmas.{event_is_of_existing_thread}
-use Rattle.ir_diff.specs.Common.{part, HasMaker, IsMade, CanFollow, IsPart, AreCommon}
+use Rattle.ir_diff.specs.Common.{part_of_thread, HasMaker, IsMade, CanJoin, IsPart, AreCommon}
 use Rattle.ir_diff.specs.Progress.{counts_of, IsBuilt, left_over}
 
 -- ---- what follows goes on to follow
@@ -24,7 +24,7 @@ is_made_in_larger_part a f c above (variant.Read object version) h = has_maker_i
 is_made_in_larger_part a f c above (variant.Write object version readers) h = has_maker_in_larger_part a f c above object version h
 is_made_in_larger_part a f c above (variant.Try object) h = tt
 
-can_follow_in_larger_part_if_own_count_equal : (a b : Recorded) (f c : ℕ → ℕ) (t : ℕ) → ((u : ℕ) → f u ≤ c u) → f t ≡ c t → CanFollow a b f t → CanFollow a b c t
+can_follow_in_larger_part_if_own_count_equal : (a b : Recorded) (f c : ℕ → ℕ) (t : ℕ) → ((u : ℕ) → f u ≤ c u) → f t ≡ c t → CanJoin a b f t → CanJoin a b c t
 can_follow_in_larger_part_if_own_count_equal a b f c t above same h = record {
   event = h.event;
   first = subst (λ n. event_at a t n ≡ Some h.event) same h.first;
@@ -37,19 +37,19 @@ cond_one_or_zero_is_at_most_one true = omega arith
 cond_one_or_zero_is_at_most_one false = omega arith
 
 -- where no thread can follow, no part is greater
-part_is_greatest_if_none_follow : (a b : Recorded) (c : ℕ → ℕ) → ((t : ℕ) → CanFollow a b c t → ⊥) → (longer : List ℕ) → IsPart a b longer
-    → (t : ℕ) → part longer t ≤ c t
+part_is_greatest_if_none_follow : (a b : Recorded) (c : ℕ → ℕ) → ((t : ℕ) → CanJoin a b c t → ⊥) → (longer : List ℕ) → IsPart a b longer
+    → (t : ℕ) → part_of_thread longer t ≤ c t
 part_is_greatest_if_none_follow a b c rests [] is t = omega arith
 part_is_greatest_if_none_follow a b c rests (u ∷ us) is t =
     let below = part_is_greatest_if_none_follow a b c rests us is.0 in
     let here = below t in
     elim (cases_eq u t) [
-      | inl same ↦ elim (cases_lt (part us t) (c t)) [
+      | inl same ↦ elim (cases_lt (part_of_thread us t) (c t)) [
         | inl less ↦ let one = cond_one_or_zero_is_at_most_one (eqb u t) in omega (arith, less, one)
         | inr past ↦
-            let all : part us t ≡ c t = omega (arith, here, past) in
-            let own : part us u ≡ c u = subst (λ w. part us w ≡ c w) (sym same) all in
-            absurd (rests u (can_follow_in_larger_part_if_own_count_equal a b (part us) c u below own is.1))
+            let all : part_of_thread us t ≡ c t = omega (arith, here, past) in
+            let own : part_of_thread us u ≡ c u = subst (λ w. part_of_thread us w ≡ c w) (sym same) all in
+            absurd (rests u (can_follow_in_larger_part_if_own_count_equal a b (part_of_thread us) c u below own is.1))
       ]
       | inr ne ↦ let none = ap {B = ℕ} (λ (x : Bool). cond x 1 0) (ne_eqb u t ne) in omega (arith, here, none)
     ]
@@ -75,13 +75,13 @@ counts_after_thread_followed_are_one_more_for_it c t u f within same = elim (cas
 ]
 
 -- a thread followed
-pub built_after_thread_followed : (a b : Recorded) (c new : List ℕ) (t : ℕ) → IsBuilt a b c → t < length c → CanFollow a b (counts_of c) t
+pub built_after_thread_followed : (a b : Recorded) (c new : List ℕ) (t : ℕ) → IsBuilt a b c → t < length c → CanJoin a b (counts_of c) t
     → new ≡ set c t (counts_of c t + 1) → IsBuilt a b new
 built_after_thread_followed a b c new t h within can is = subst (IsBuilt a b) (sym is) (record {
   size = length-set c t (counts_of c t + 1) ∙ h.size;
   order = t ∷ h.order;
-  built = (h.built, can_follow_in_larger_part_if_own_count_equal a b (counts_of c) (part h.order) t (λ u. let e = h.counts u in omega (arith, e)) (h.counts t) can);
-  counts = λ u. counts_after_thread_followed_are_one_more_for_it c t u (part h.order) within h.counts;
+  built = (h.built, can_follow_in_larger_part_if_own_count_equal a b (counts_of c) (part_of_thread h.order) t (λ u. let e = h.counts u in omega (arith, e)) (h.counts t) can);
+  counts = λ u. counts_after_thread_followed_are_one_more_for_it c t u (part_of_thread h.order) within h.counts;
 })
 
 -- fewer events are left then
@@ -108,10 +108,10 @@ pub record IsPassed (a b : Recorded) (old now : List ℕ) (n : ℕ) (moved : Boo
   pub built : IsBuilt a b now
   pub above : left_over a now ≤ left_over a old
   pub less : moved ≡ true → left_over a now < left_over a old
-  pub rests : moved ≡ false → (t : ℕ) → t < n → CanFollow a b (counts_of now) t → ⊥
+  pub rests : moved ≡ false → (t : ℕ) → t < n → CanJoin a b (counts_of now) t → ⊥
 
 pub passed_after_thread_followed : (a b : Recorded) (old now new : List ℕ) (n : ℕ) (moved : Bool) → IsPassed a b old now n moved → n < length now
-    → CanFollow a b (counts_of now) n → new ≡ set now n (counts_of now n + 1) → IsPassed a b old new (n + 1) true
+    → CanJoin a b (counts_of now) n → new ≡ set now n (counts_of now n + 1) → IsPassed a b old new (n + 1) true
 passed_after_thread_followed a b old now new n moved h within can is = record {
   built = built_after_thread_followed a b now new n h.built within can is;
   above = omega (arith, fewer, up);
@@ -126,27 +126,27 @@ passed_after_thread_followed a b old now new n moved h within can is = record {
     fewer = events_left_fall_after_following a now new n within h.built.size (slice_get_within (recorded_thread a n).events (counts_of now n) can.event can.first) is
 
 pub passed_after_thread_stayed : (a b : Recorded) (old now : List ℕ) (n : ℕ) (moved : Bool) → IsPassed a b old now n moved
-    → (CanFollow a b (counts_of now) n → ⊥) → IsPassed a b old now (n + 1) moved
+    → (CanJoin a b (counts_of now) n → ⊥) → IsPassed a b old now (n + 1) moved
 passed_after_thread_stayed a b old now n moved h cannot = record {
   built = h.built;
   above = h.above;
   less = h.less;
   rests = λ e t l. elim (cases_eq t n) [
-    | inl here ↦ subst (λ w. CanFollow a b (counts_of now) w → ⊥) (sym here) cannot
+    | inl here ↦ subst (λ w. CanJoin a b (counts_of now) w → ⊥) (sym here) cannot
     | inr ne ↦ h.rests e t (omega (arith, l, ne))
   ];
 }
 
 -- a thread that isn't there can't follow
 pub no_thread_follows_after_still_pass : (a b : Recorded) (old now : List ℕ) (n : ℕ) (moved : Bool) → IsPassed a b old now n moved → length now ≤ n
-    → moved ≡ false → (t : ℕ) → CanFollow a b (counts_of now) t → ⊥
+    → moved ≡ false → (t : ℕ) → CanJoin a b (counts_of now) t → ⊥
 no_thread_follows_after_still_pass a b old now n moved h all none t can =
     let there = event_is_of_existing_thread a t (counts_of now t) can.event can.first in
     let size = h.built.size in
     h.rests none t (omega (arith, there, all, size)) can
 
 -- where none can follow, this is the greatest
-pub counts_are_common_if_none_can_follow : (a b : Recorded) (c : List ℕ) → IsBuilt a b c → ((t : ℕ) → CanFollow a b (counts_of c) t → ⊥) → AreCommon a b c
+pub counts_are_common_if_none_can_follow : (a b : Recorded) (c : List ℕ) → IsBuilt a b c → ((t : ℕ) → CanJoin a b (counts_of c) t → ⊥) → AreCommon a b c
 counts_are_common_if_none_can_follow a b c h rests = record {
   size = h.size;
   order = h.order;

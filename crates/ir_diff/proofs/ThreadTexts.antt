@@ -18,7 +18,7 @@ use Rattle.ir_past.specs.declared.place.Place.{Place}
 use Rattle.ir_past.specs.declared.makers.Makers.{Makers}
 use Rattle.ir_past.proofs.CallerLemmas.{label_of_event_is_at_its_place, entered_version_was_made}
 use Rattle.ir_diff.specs.Progress.{counts_of, AreMakersOf}
-use Rattle.ir_diff.specs.Lines.{common_line, budget_line, IsMakerOf, IsThreadText}
+use Rattle.ir_diff.specs.Lines.{common_line, budget_line, NamesMaker, IsThreadText}
 use Rattle.ir_diff.proofs.Told.{no_write_if_none_noted}
 
 -- what is noted made the version that an entry finds
@@ -37,15 +37,15 @@ if_ok_weaker (Err e) P Q more p = tt
 -- what made the version that a read entry found
 pub by_text_says_maker_of_read_entry : (r : Recorded) (e : Event) (o v : ℕ) (made : Option Place) (text : List ℕ) → e ≡ variant.Read o v
     → ((t i l : ℕ) (a : Access) → At ((trace_of r).logs t) i (In o a v l) → IsMadeBy r o v made)
-    → text ≡ codes " by " ++ maker_text made → (t i : ℕ) → event_at r t i ≡ Some e → IsMakerOf r e text
-by_text_says_maker_of_read_entry r e o v made text is by said t i = subst (λ (x : Event). event_at r t i ≡ Some x → IsMakerOf r x text) (sym is)
+    → text ≡ codes " by " ++ maker_text made → (t i : ℕ) → event_at r t i ≡ Some e → NamesMaker r e text
+by_text_says_maker_of_read_entry r e o v made text is by said t i = subst (λ (x : Event). event_at r t i ≡ Some x → NamesMaker r x text) (sym is)
     (λ there. (made, by t i 0 Reading (label_of_event_is_at_its_place (recorded_thread r t).events i (variant.Read o v) there), said))
 
 -- what made the version that a write entry found
 pub by_text_says_maker_of_write_entry : (r : Recorded) (e : Event) (o v l : ℕ) (made : Option Place) (text : List ℕ) → e ≡ variant.Write o v l
     → ((t i k : ℕ) (a : Access) → At ((trace_of r).logs t) i (In o a v k) → IsMadeBy r o v made)
-    → text ≡ codes " by " ++ maker_text made → (t i : ℕ) → event_at r t i ≡ Some e → IsMakerOf r e text
-by_text_says_maker_of_write_entry r e o v l made text is by said t i = subst (λ (x : Event). event_at r t i ≡ Some x → IsMakerOf r x text) (sym is)
+    → text ≡ codes " by " ++ maker_text made → (t i : ℕ) → event_at r t i ≡ Some e → NamesMaker r e text
+by_text_says_maker_of_write_entry r e o v l made text is by said t i = subst (λ (x : Event). event_at r t i ≡ Some x → NamesMaker r x text) (sym is)
     (λ there. (made, by t i l Writing (label_of_event_is_at_its_place (recorded_thread r t).events i (variant.Write o v l) there), said))
 
 -- the texts of the first n threads were put after the first lines

@@ -12,9 +12,9 @@ pub record Tells (flag : Bool) (P : Type 0) : Type 0 where
   pub clear : flag ≡ false → P → ⊥
 
 -- how many of these are thread t: so many of its first events are in the part that they put together
-abbrev pub part : List ℕ → ℕ → ℕ
-part [] t = 0
-part (u ∷ us) t = cond (eqb u t) 1 0 + part us t
+abbrev pub part_of_thread : List ℕ → ℕ → ℕ
+part_of_thread [] t = 0
+part_of_thread (u ∷ us) t = cond (eqb u t) 1 0 + part_of_thread us t
 
 -- version v of object o is the first, or its maker is among the first c u events of its thread u
 abbrev pub HasMaker : Recorded → (ℕ → ℕ) → ℕ → ℕ → Type 0
@@ -29,7 +29,7 @@ IsMade a c (Write object version readers) = HasMaker a c object version
 IsMade a c (Try object) = ⊤
 
 -- the event of thread t after its first c t is the same in both traces, and what it enters was made by an event of the part
-pub record CanFollow (a b : Recorded) (c : ℕ → ℕ) (t : ℕ) : Type 0 where
+pub record CanJoin (a b : Recorded) (c : ℕ → ℕ) (t : ℕ) : Type 0 where
   pub event : Event
   pub first : event_at a t (c t) ≡ Some event
   pub second : event_at b t (c t) ≡ Some event
@@ -38,15 +38,15 @@ pub record CanFollow (a b : Recorded) (c : ℕ → ℕ) (t : ℕ) : Type 0 where
 -- these threads, the last one first, put a common part together, each by its next event
 abbrev pub IsPart : Recorded → Recorded → List ℕ → Type 0
 IsPart a b [] = ⊤
-IsPart a b (t ∷ ts) = IsPart a b ts × CanFollow a b (part ts) t
+IsPart a b (t ∷ ts) = IsPart a b ts × CanJoin a b (part_of_thread ts) t
 
 -- how many first events of each thread are in the greatest common part
 pub record AreCommon (a b : Recorded) (c : List ℕ) : Type 0 where
   pub size : length c ≡ length a.threads
   pub order : List ℕ
   pub built : IsPart a b order
-  pub counts : (t : ℕ) → slice_index_or c t 0 ≡ part order t
-  pub greatest : (longer : List ℕ) → IsPart a b longer → (t : ℕ) → part longer t ≤ slice_index_or c t 0
+  pub counts : (t : ℕ) → slice_index_or c t 0 ≡ part_of_thread order t
+  pub greatest : (longer : List ℕ) → IsPart a b longer → (t : ℕ) → part_of_thread longer t ≤ slice_index_or c t 0
 
 -- what made version v of object o is in the part, if another thread than t made it
 abbrev pub HasOthersMaker : Recorded → (ℕ → ℕ) → ℕ → ℕ → ℕ → Type 0

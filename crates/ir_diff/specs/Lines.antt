@@ -44,11 +44,11 @@ abbrev pub differs_line : ℕ → ℕ → List ℕ → List ℕ
 differs_line t n ready = codes "thread " ++ (decimal t ++ (codes " differs event " ++ (decimal n ++ (ready ++ 10 ∷ []))))
 
 -- what made the version that an event enters, if it is an entry
-abbrev pub IsMakerOf : Recorded → Event → List ℕ → Type 0
-IsMakerOf r (Answer kind value) text = text ≡ []
-IsMakerOf r (Read object version) text = (made : Option Place) × IsMadeBy r object version made × (text ≡ codes " by " ++ maker_text made)
-IsMakerOf r (Write object version readers) text = (made : Option Place) × IsMadeBy r object version made × (text ≡ codes " by " ++ maker_text made)
-IsMakerOf r (Try object) text = text ≡ []
+abbrev pub NamesMaker : Recorded → Event → List ℕ → Type 0
+NamesMaker r (Answer kind value) text = text ≡ []
+NamesMaker r (Read object version) text = (made : Option Place) × IsMadeBy r object version made × (text ≡ codes " by " ++ maker_text made)
+NamesMaker r (Write object version readers) text = (made : Option Place) × IsMadeBy r object version made × (text ≡ codes " by " ++ maker_text made)
+NamesMaker r (Try object) text = text ≡ []
 
 -- the end of a thread
 abbrev pub end_text : RecordedThread → List ℕ
@@ -56,7 +56,7 @@ end_text t = codes "end " ++ (decimal (end_number t.end) ++ (codes " code " ++ (
 
 -- what trace r has of thread t from event n on: that event, or the thread's end
 abbrev pub IsNext : Recorded → ℕ → Option Event → List ℕ → Type 0
-IsNext r t (Some e) text = (by : List ℕ) × IsMakerOf r e by × (text ≡ event_text (label_of e) ++ by)
+IsNext r t (Some e) text = (by : List ℕ) × NamesMaker r e by × (text ≡ event_text (label_of e) ++ by)
 IsNext r t None text = text ≡ end_text (recorded_thread r t)
 
 -- the line of what a trace has there, by the number of the trace

@@ -6,7 +6,7 @@ use Rattle.ir_trace.specs.Recorded.{Recorded, recorded_thread}
 use Rattle.ir_past.specs.Answers.{AreCoherent}
 use Rattle.ir_past.specs.Progress.{Makes}
 use Rattle.ir_past.specs.declared.makers.Makers.{Makers}
-use Rattle.ir_diff.specs.Common.{part, IsPart}
+use Rattle.ir_diff.specs.Common.{part_of_thread, IsPart}
 
 -- how many first events of each thread, by a list of these numbers
 abbrev pub counts_of : List ℕ → ℕ → ℕ
@@ -22,7 +22,7 @@ pub record IsBuilt (a b : Recorded) (c : List ℕ) : Type 0 where
   pub size : length c ≡ length a.threads
   pub order : List ℕ
   pub built : IsPart a b order
-  pub counts : (t : ℕ) → counts_of c t ≡ part order t
+  pub counts : (t : ℕ) → counts_of c t ≡ part_of_thread order t
 
 -- how many events of all threads are left
 abbrev pub left_over : Recorded → List ℕ → ℕ

@@ -4,7 +4,7 @@ ghost use Rattle.std.specs.Prelude.{◌≡◌, ◌<◌, ℕ, length, IfOk, true,
 ghost use Rattle.ir_thread.specs.State.{most_events};
 ghost use Rattle.ir_trace.specs.Recorded.{Recorded};
 ghost use Rattle.ir_past.specs.Answers.{AreCoherent};
-ghost use Rattle.ir_diff.specs.Common.{Tells, HasMaker, IsMade, CanFollow, AreCommon};
+ghost use Rattle.ir_diff.specs.Common.{Tells, HasMaker, IsMade, CanJoin, AreCommon};
 ghost use Rattle.ir_diff.specs.Progress.{counts_of, AreMakersOf, IsBuilt, left_over};
 
 use crate::counted::{is_counted, next_event};
@@ -48,7 +48,7 @@ fn can_follow(a: &Trace, b: &Trace, makers: &Makers, part: &[u32], thread: usize
     requires second { thread < length b.now.threads }
     requires size { thread < length part.now }
     requires makers { AreMakersOf a.now makers.now }
-    ensures tells { Tells result (CanFollow a.now b.now (counts_of part.now) thread) }
+    ensures tells { Tells result (CanJoin a.now b.now (counts_of part.now) thread) }
     ensures few { result ≡ true → counts_of part.now thread < most_events }
 {
     let Some(event) = next_event(a, part, thread) else {
@@ -67,7 +67,7 @@ fn pass(a: &Trace, b: &Trace, makers: &Makers, part: &mut [u32]) -> bool
     requires built { IsBuilt a.now b.now part.old }
     ensures built { IsBuilt a.now b.now part.new }
     ensures less { result ≡ true → left_over a.now part.new < left_over a.now part.old }
-    ensures rests { result ≡ false → (t : ℕ) → CanFollow a.now b.now (counts_of part.new) t → ⊥ }
+    ensures rests { result ≡ false → (t : ℕ) → CanJoin a.now b.now (counts_of part.new) t → ⊥ }
 {
     let mut moved = false;
     for thread in 0..part.len() {

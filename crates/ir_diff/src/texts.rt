@@ -10,7 +10,7 @@ ghost use Rattle.ir_past.specs.Past.{event_at, IsMadeBy};
 ghost use Rattle.ir_past.specs.Naming.{maker_text};
 ghost use Rattle.ir_diff.specs.Common.{Tells, AreCommon};
 ghost use Rattle.ir_diff.specs.Progress.{counts_of, AreMakersOf};
-ghost use Rattle.ir_diff.specs.Lines.{IsMakerOf, IsNext, next_line, IsSame, IsParting, IsThreadText, IsDiff};
+ghost use Rattle.ir_diff.specs.Lines.{NamesMaker, IsNext, next_line, IsSame, IsParting, IsThreadText, IsDiff};
 
 use crate::counted::next_event;
 use crate::lines::{budget_line, common_line, differs_line, end_text, same_line};
@@ -52,7 +52,7 @@ fn by_maker(alloc: Global, made: &Option<Place>) -> Result<String, AllocError>
 // What made the version that an event of a trace enters; nothing of an event that is no entry.
 fn maker_of(alloc: Global, side: Side<'_>, event: Event) -> Result<String, AllocError>
     requires { AreMakersOf side.trace.now side.makers.now }
-    ensures { IfOk result (λ s. (t i : ℕ) → event_at side.entry.trace.now t i ≡ Some event → IsMakerOf side.entry.trace.now event (string_bytes s)) }
+    ensures { IfOk result (λ s. (t i : ℕ) → event_at side.entry.trace.now t i ≡ Some event → NamesMaker side.entry.trace.now event (string_bytes s)) }
 {
     match event {
         Event::Answer(..) => Ok(String::new(alloc)),

@@ -15,7 +15,7 @@ use Rattle.ir_explore.specs.Following.{BothWays, IsOpen}
 use Rattle.ir_explore.specs.Levels.{AreAsked, Covered}
 use Rattle.ir_explore.specs.Meaning.{Means, Steps}
 use Rattle.ir_explore.specs.Origins.{Goes, BeginsAt, first_origin, AreReached, LeadsBy}
-use Rattle.ir_explore.specs.Ways.{Leads, HasMarked}
+use Rattle.ir_explore.specs.Ways.{LeadsOver, HasMarked}
 use Rattle.ir_explore.proofs.Reached.{index_of_element_is_below_length}
 use Rattle.ir_explore.proofs.Gone.{element_below_length_exists}
 
@@ -125,7 +125,7 @@ module _ {T : Type 0} (m : Machine T) (answers : Answers T) (Alike : State T →
       → HasMarked noted threads marks v → HasWay m state_of (Steps m state_of noted size) v
   marked_way marks all done v (less, ts, w, path, is) = (map (λ e. e.0) ts, w, by ts v (omega (arith, less, all)) path, done w is)
     where
-      by : (ts : List (ℕ × Bool)) (v : ℕ) → v < size → Leads noted threads (length marks) v ts w → Path (Steps m state_of noted size) v (map (λ e. e.0) ts) w
+      by : (ts : List (ℕ × Bool)) (v : ℕ) → v < size → LeadsOver noted threads (length marks) v ts w → Path (Steps m state_of noted size) v (map (λ e. e.0) ts) w
       by [] v l path = path
       by ((t, refused) ∷ ts) v l (x, few, to, within, path) =
           let next : x < size = omega (arith, within, all) in
@@ -139,7 +139,7 @@ module _ {T : Type 0} (m : Machine T) (answers : Answers T) (Alike : State T →
       let p = by ts v l path in (omega (arith, l, all), p.0, w, p.1, marked w p.2 done)
     where
       by : (ts : List ℕ) (v : ℕ) → v < size → Path (Steps m state_of noted size) v ts w
-          → (us : List (ℕ × Bool)) × Leads noted threads (length marks) v us w × (w < size)
+          → (us : List (ℕ × Bool)) × LeadsOver noted threads (length marks) v us w × (w < size)
       by [] v l path = ([], path, subst (λ z. z < size) path l)
       by (t ∷ ts) v l (r, x, (to, here, next, can), path) = elim (cases_lt t threads) [
         | inl few ↦

@@ -2,7 +2,7 @@
 
 ghost use Rattle.std.specs.Prelude.{◌≡◌, ◌↔◌, ℕ, ◌<◌, true, false, Some, length};
 ghost use Rattle.ir_explore.specs.Following.{IsOpen, StaysOpen};
-ghost use Rattle.ir_explore.specs.Ways.{shut, IsBefore, IsMarkedBack, HasMarked};
+ghost use Rattle.ir_explore.specs.Ways.{shut, LeadsToMarked, IsMarkedBack, HasMarked};
 
 use crate::successors::Successors;
 
@@ -25,8 +25,8 @@ fn leads<S: Successors>(
 
 // Whether some of these threads leads by some way from a node to a marked one.
 fn is_before<S: Successors>(graph: &S, threads: usize, marks: &[bool], node: usize) -> bool
-    ensures found { result ≡ true → IsBefore (S.noted graph.now) threads marks.now node }
-    ensures none { result ≡ false → IsBefore (S.noted graph.now) threads marks.now node → ⊥ }
+    ensures found { result ≡ true → LeadsToMarked (S.noted graph.now) threads marks.now node }
+    ensures none { result ≡ false → LeadsToMarked (S.noted graph.now) threads marks.now node → ⊥ }
 {
     for thread in 0..threads {
         if leads(graph, thread, false, marks, node) || leads(graph, thread, true, marks, node) {

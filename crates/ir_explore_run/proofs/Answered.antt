@@ -3,7 +3,7 @@ use Rattle.std.proofs.Common.{ℕ, ◌<◌, true, List, [], ◌∷◌, length, r
 use Rattle.std.proofs.lemmas.List.FromFn.{get_or-map-range_with_len}
 use Rattle.ir_runs.specs.Machine.{Label, Quiet, Answer, In, Refused, Out}
 use Rattle.ir_record.specs.Worlds.{answers_in}
-use Rattle.ir_sources.specs.Sources.{Source, source, given, Gave, IsAnswered, origin_of, seed_of}
+use Rattle.ir_sources.specs.Sources.{Source, source, given, Gave, IsAnsweredFrom, origin_of, seed_of}
 use Rattle.ir_states.specs.Sources.{Gives}
 use Rattle.ir_store.specs.Table.{no_source}
 use Rattle.ir_graph.specs.Setup.{Setup, first_source}
@@ -21,7 +21,7 @@ source_gave_answers_of_log s (Out o a v ∷ log) all = source_gave_answers_of_lo
 
 -- so does the thread's world in a recording, where calls for the time are counted
 pub log_is_answered_by_world : (setup : Setup) (t : ℕ) (log : List Label) → t < length setup.guest.entries → Gives given (first_source setup t) log
-    → IsAnswered (origin_of true setup.random setup.input t) (answers_in log)
+    → IsAnsweredFrom (origin_of true setup.random setup.input t) (answers_in log)
 log_is_answered_by_world setup t log less gives =
     source_gave_answers_of_log (source (seed_of setup.random t) setup.input) log
     (subst (λ z. Gives given z log)

@@ -11,13 +11,13 @@ use Rattle.ir_explore.proofs.CallerLemmas.{index_of_element_is_below_length}
 use Rattle.ir_flat.proofs.CallerLemmas.{length_of_start_threads, length_of_start_cells}
 use Rattle.ir_flat.specs.Flat.{Flat, IsFlat, idle, thread_of, cell_of, tables}
 use Rattle.ir_store.specs.Nodes.{SourcedFlat}
-use Rattle.ir_graph.specs.Outcomes.{outcome_of}
+use Rattle.ir_graph.specs.Outcomes.{run_outcome}
 use Rattle.ir_graph.specs.Reached.{IsReached}
 use Rattle.ir_graph.specs.Setup.{Setup}
 use Rattle.ir_image.specs.Guest.{Guest, most_object_words, object_count}
 use Rattle.ir_object.specs.Cell.{Cell}
 use Rattle.ir_object.specs.Empty.{empty}
-use Rattle.ir_outcomes.specs.Explored.{IsAt, AreExplored, AreAll}
+use Rattle.ir_outcomes.specs.Explored.{ShowsState, AreExplored, AreAll}
 use Rattle.ir_outcomes.specs.Shown.{switches_by}
 use Rattle.ir_outcomes.specs.declared.shown.Shown.{Shown}
 use Rattle.ir_thread.specs.State.{most_budget}
@@ -45,7 +45,7 @@ object_words_are_first_of_their_elements n (c ∷ cells) all = λ i.
 -- what threads and objects came to is their outcome as conditions see it
 pub outcome_equals_seen_outcome : (guest : Guest) (f : Flat) → length f.threads ≡ length guest.entries → length f.objects ≡ object_count guest
     → ((o : ℕ) → o < length f.objects → length (cell_of f o).words ≡ most_object_words)
-    → conditions.outcome_of f ≡ seen_outcome guest (outcome_of (tables f))
+    → conditions.end_state f ≡ seen_outcome guest (run_outcome (tables f))
 outcome_equals_seen_outcome guest f threads objects words = λ i. record {
   ends = (map_is_first_of_function_at_each_index (λ x. x.ended) f.threads idle ∙ ap (λ n. first_of n (λ t. (thread_of f t).ended)) threads) i;
   outputs = (map_is_first_of_function_at_each_index (λ x. x.output) f.threads idle ∙ ap (λ n. first_of n (λ t. (thread_of f t).output)) threads) i;
@@ -58,7 +58,7 @@ outcomes_decide guest c f threads objects words = ap (fulfils c) (outcome_equals
 
 -- whether a state's outcome fulfils each condition
 pub reached_state_fulfils_conditions_as_its_outcome_does : (setup : Setup) (cs : List Condition) (s : SourcedFlat) → IsReached setup s → IsFlat s.flat
-    → list_all (λ c. fulfils c (conditions.outcome_of s.flat)) cs ≡ fulfils_each setup.guest cs (outcome_of (tables s.flat))
+    → list_all (λ c. fulfils c (conditions.end_state s.flat)) cs ≡ fulfils_each setup.guest cs (run_outcome (tables s.flat))
 reached_state_fulfils_conditions_as_its_outcome_does setup cs s reached flat =
     ap (λ z. list_all (λ c. fulfils c z) cs)
     (outcome_equals_seen_outcome setup.guest s.flat
@@ -67,15 +67,15 @@ reached_state_fulfils_conditions_as_its_outcome_does setup cs s reached flat =
 
 -- the same of conditions as the code has them
 pub reached_state_fulfils_declared_conditions_as_outcome_does : (setup : Setup) (cs : List declared.Condition) (s : SourcedFlat) → IsReached setup s → IsFlat s.flat
-    → list_all (λ c. fulfils (as_condition c) (conditions.outcome_of s.flat)) cs ≡ fulfils_each setup.guest (map as_condition cs) (outcome_of (tables s.flat))
-reached_state_fulfils_declared_conditions_as_outcome_does setup cs s reached flat = sym (list_all-map (λ x. fulfils x (conditions.outcome_of s.flat)) as_condition cs)
+    → list_all (λ c. fulfils (as_condition c) (conditions.end_state s.flat)) cs ≡ fulfils_each setup.guest (map as_condition cs) (run_outcome (tables s.flat))
+reached_state_fulfils_declared_conditions_as_outcome_does setup cs s reached flat = sym (list_all-map (λ x. fulfils x (conditions.end_state s.flat)) as_condition cs)
     ∙ reached_state_fulfils_conditions_as_its_outcome_does setup (map as_condition cs) s reached flat
 
 -- ---- what the list says of runs
 
 -- none that is listed fulfils them
 pub none_before_step_for_unfulfilling_outcome : (guest : Guest) (cs : List Condition) (flats : List SourcedFlat) (outcomes : List Shown) (n : ℕ) (x : Shown) (f : SourcedFlat)
-    → NoneBefore guest cs flats outcomes n → IsAt flats outcomes n x f → fulfils_each guest cs (outcome_of (tables f.flat)) ≡ false
+    → NoneBefore guest cs flats outcomes n → ShowsState flats outcomes n x f → fulfils_each guest cs (run_outcome (tables f.flat)) ≡ false
     → NoneBefore guest cs flats outcomes (suc n)
 none_before_step_for_unfulfilling_outcome guest cs flats outcomes n x f before at not i y g less there = elim (cases_lt i n) [
   | inl l ↦ before i y g l there
@@ -83,7 +83,7 @@ none_before_step_for_unfulfilling_outcome guest cs flats outcomes n x f before a
       let place : i ≡ n = omega (arith, less, m) in
       let one : y ≡ x = same (sym there.0 ∙ ap (slice_get outcomes) place ∙ at.0) in
       let state : g ≡ f = same (sym there.1 ∙ ap (λ z. slice_get flats z.node) one ∙ at.1) in
-      ap (λ (z : SourcedFlat). fulfils_each guest cs (outcome_of (tables z.flat))) state ∙ not
+      ap (λ (z : SourcedFlat). fulfils_each guest cs (run_outcome (tables z.flat))) state ∙ not
 ]
   where
     same : {A : Type 0} {x y : A} → Some x ≡ Some y → x ≡ y

@@ -7,13 +7,13 @@ use Rattle.ir_lemmas.proofs.CallerLemmas.{same_head, same_tail}
 use Rattle.ir_chaos.specs.Conditions.{Condition}
 use Rattle.ir_flat.proofs.CallerLemmas.{guest_start_is_idle}
 use Rattle.ir_flat.specs.Flat.{start_flat, tables}
-use Rattle.ir_graph.specs.Outcomes.{outcome_of}
+use Rattle.ir_graph.specs.Outcomes.{run_outcome}
 use Rattle.ir_graph.specs.Setup.{Setup}
 use Rattle.ir_image.specs.Guest.{Guest, guest_at}
 use Rattle.ir_order.proofs.CallerLemmas.{complete_runs_have_steps, recordings_by_list_are_of_the_run}
 use Rattle.ir_order.specs.Spelling.{SpellsTurns}
 use Rattle.ir_outcomes.specs.Again.{TakesEach}
-use Rattle.ir_outcomes.specs.Explored.{IsAt, AreExplored}
+use Rattle.ir_outcomes.specs.Explored.{ShowsState, AreExplored}
 use Rattle.ir_outcomes.specs.Shown.{IsShown}
 use Rattle.ir_outcomes.specs.declared.shown.Shown.{Shown}
 use Rattle.ir_record.specs.Recording.{turns_of_items}
@@ -29,7 +29,7 @@ use Rattle.ir_thread.specs.State as thread
 use Rattle.ir_trace.specs.Recorded.{Recorded}
 use Rattle.ir_explore_run.specs.Conditions.{fulfils_each, NoneBefore}
 use Rattle.ir_explore_run.specs.Plan.{ExplorePlan, setup_of}
-use Rattle.ir_explore_run.specs.Until.{recording, IsHit, IsHitText, IsFinding}
+use Rattle.ir_explore_run.specs.Until.{recording, IsHit, IsHitText, IsOutcomeFinding}
 use Rattle.ir_explore_run.proofs.Answered.{log_is_answered_by_world}
 use Rattle.ir_explore_run.proofs.Fulfilled.{never_within_level_of_outcome_if_none_before_it}
 
@@ -58,8 +58,8 @@ shown_order_is_not_empty setup s level turns some shown none =
 
 -- the run by the order of an outcome that fulfils each condition
 abbrev pub is_hit_if_shown_outcome_is_first_to_fulfil : (guest : Guest) (plan : ExplorePlan) (cs : List Condition) (flats : List SourcedFlat) (outcomes : List Shown) (levels place : ℕ)
-    (x : Shown) (s : SourcedFlat) (list : List ℕ) → AreExplored (setup_of guest plan) flats levels outcomes → IsAt flats outcomes place x s
-    → NoneBefore guest cs flats outcomes place → fulfils_each guest cs (outcome_of (tables s.flat)) ≡ true
+    (x : Shown) (s : SourcedFlat) (list : List ℕ) → AreExplored (setup_of guest plan) flats levels outcomes → ShowsState flats outcomes place x s
+    → NoneBefore guest cs flats outcomes place → fulfils_each guest cs (run_outcome (tables s.flat)) ≡ true
     → SpellsTurns list (turns_of_items x.turns.items) → IsHit guest plan cs x.level list
 is_hit_if_shown_outcome_is_first_to_fulfil guest plan cs flats outcomes levels place x s list e at none does spells =
     let setup = setup_of guest plan in
@@ -87,7 +87,7 @@ is_hit_if_shown_outcome_is_first_to_fulfil guest plan cs flats outcomes levels p
 -- a recording by the list is of the run that was found
 pub recording_of_hit_is_finding : (image : List ℕ) (plan : ExplorePlan) (cs : List Condition) (list text : List ℕ) (trace : Recorded) (outputs : List (List ℕ)) (guest : Guest)
     → guest_at image ≡ Ok guest → IsHitText guest plan cs list text → IsRecordedOf image (recording plan (Some list)) trace outputs
-    → IsFinding image plan cs list text trace outputs
+    → IsOutcomeFinding image plan cs list text trace outputs
 recording_of_hit_is_finding image plan cs list text trace outputs guest is found r = record {
   guest = guest;
   is = is;

@@ -7,7 +7,7 @@ use Rattle.std.proofs.lemmas.Option.{same_Some, slice_get-get_or}
 use Rattle.ir_explore.specs.Following.{Stay}
 use Rattle.ir_explore.proofs.CallerLemmas.{slice_get_after_push_cases, index_of_element_is_below_length}
 use Rattle.ir_store.specs.Nodes.{SourcedFlat}
-use Rattle.ir_outcomes.specs.Explored.{IsAt}
+use Rattle.ir_outcomes.specs.Explored.{ShowsState}
 use Rattle.ir_outcomes.specs.declared.shown.Shown.{Shown}
 use Rattle.ir_explore_run.specs.Texts.{Objects, IsOutcomeText, AreTexts}
 
@@ -23,7 +23,7 @@ texts_of_no_outcome_are_empty o flats outcomes = record { texts = []; count = re
 
 -- those of one more
 pub texts_step_with_text_of_next_outcome : (o : Objects) (flats : List SourcedFlat) (outcomes : List Shown) (many : ℕ) (text own : List ℕ) (x : Shown) (f : SourcedFlat)
-    → AreTexts o flats outcomes many text → IsAt flats outcomes many x f → IsOutcomeText o f.flat (suc many) x own
+    → AreTexts o flats outcomes many text → ShowsState flats outcomes many x f → IsOutcomeText o f.flat (suc many) x own
     → AreTexts o flats outcomes (many + 1) (text ++ own)
 texts_step_with_text_of_next_outcome o flats outcomes many text own x f t at is = record {
   texts = t.texts ++ own ∷ [];

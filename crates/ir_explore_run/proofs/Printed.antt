@@ -19,13 +19,13 @@ use Rattle.ir_outcomes.specs.declared.exploring.Exploring.{Exploring}
 use Rattle.ir_outcomes.proofs.CallerLemmas.{are_explored_before_first_level}
 use Rattle.ir_explore_run.specs.Faults.{StopsPrinting}
 use Rattle.ir_explore_run.specs.Printed.{HasPrinted}
-use Rattle.ir_explore_run.specs.Texts.{Objects, objects_of, AreTexts, IsPart, AreKnown, known_of, IsEnding, IsAnswerAbout}
+use Rattle.ir_explore_run.specs.Texts.{Objects, objects_of, AreTexts, TellsPart, AreKnown, known_of, IsEnding, IsAnswerAbout}
 use Rattle.ir_explore_run.specs.declared.fault.ExploreFault.TheVariants.{NoMem, Write}
 use Rattle.ir_explore_run.specs.Plan.{ExplorePlan, setup_of}
 use Rattle.ir_explore_run.proofs.Joined.{texts_of_no_outcome_are_empty, texts_kept_among_more_outcomes}
 
 -- before the first outcome nothing is printed
-pub empty_text_is_part : (setup : Setup) → IsPart setup []
+pub empty_text_is_part : (setup : Setup) → TellsPart setup []
 empty_text_is_part setup = record {
   flats = [];
   outcomes = [];
@@ -37,7 +37,7 @@ empty_text_is_part setup = record {
 -- the lines of the outcomes that a search has found
 pub printed_outcomes_are_part : (setup : Setup) (o : Objects) (e : Exploring) (text : List ℕ) → o ≡ objects_of setup.guest
     → AreExplored setup e.states.graph.flats.items e.list.levels e.list.outcomes.items
-    → HasPrinted o e (length e.list.outcomes.items) text → IsPart setup text
+    → HasPrinted o e (length e.list.outcomes.items) text → TellsPart setup text
 printed_outcomes_are_part setup o e text same explored printed = record {
   flats = e.states.graph.flats.items;
   outcomes = e.list.outcomes.items;

@@ -9,7 +9,7 @@ use Rattle.std.proofs.lemmas.Option.{get_or_from_slice_get}
 use Rattle.ir_flat.specs.Flat.{start_flat, tables, thread_of, idle}
 use Rattle.ir_flat.proofs.CallerLemmas.{length_of_start_threads, guest_start_is_idle}
 use Rattle.ir_graph.specs.Setup.{Setup, first_source, IsCountedOf}
-use Rattle.ir_graph.specs.Outcomes.{Outcome}
+use Rattle.ir_graph.specs.Outcomes.{RunOutcome}
 use Rattle.ir_image.specs.Guest.{Guest, guest_at}
 use Rattle.ir_log.specs.Logging.{label_of}
 use Rattle.ir_log.specs.declared.event.Event.{Event}
@@ -19,7 +19,7 @@ use Rattle.ir_outcomes.specs.Explored.{IsOutcomeOf}
 use Rattle.ir_outcomes.specs.Shown.{outcome_by}
 use Rattle.ir_record.specs.Recording.{IsRecordingOf, AreAnswers}
 use Rattle.ir_record.specs.Recordings.{IsRecordingOfSome}
-use Rattle.ir_record.specs.Worlds.{Answered, answers_in}
+use Rattle.ir_record.specs.Worlds.{AnsweredCall, answers_in}
 use Rattle.ir_record_run.specs.Plan.{Plan}
 use Rattle.ir_record_run.specs.Recording.{unasked, IsRecordedBy, IsRecordedOf}
 use Rattle.ir_runs.specs.Bounds.{IsIdle}
@@ -27,7 +27,7 @@ use Rattle.ir_runs.specs.Machine.{Machine, Label, Quiet, Answer, In, Refused, Ou
 use Rattle.ir_runs.specs.Run.{State, Step, IsRun, IsWhole, after, end, trail, events, log}
 use Rattle.ir_runs.specs.declared.env_kind.EnvKind.TheVariants.{Clock, Random, Input}
 use Rattle.ir_runs.proofs.CallerLemmas.{step_below_idle_keeps_idle, thread_after_step_of_other, trail_of_cons_other_thread}
-use Rattle.ir_sources.specs.Sources.{Source, source, given, Gave, untimed, from_sources, IsAnswered, origin_of, seed_of}
+use Rattle.ir_sources.specs.Sources.{Source, source, given, Gave, untimed, from_sources, IsAnsweredFrom, origin_of, seed_of}
 use Rattle.ir_states.specs.Sources.{Gives}
 use Rattle.ir_store.specs.Table.{no_source}
 use Rattle.ir_thread.specs.State.{ThreadState, thread_machine}
@@ -78,12 +78,12 @@ answers_from_sources_are_all true es h = refl
 answers_from_sources_are_all false es h = untimed_answers_are_all es h
 
 -- the answers that were kept of a thread are those in its log
-kept_answers_are_in_log : (guest : Guest) (budget : ℕ) (profile : Profile) (run : List Step) (answers : List (List Answered)) (t : ℕ) → t < length guest.entries
+kept_answers_are_in_log : (guest : Guest) (budget : ℕ) (profile : Profile) (run : List Step) (answers : List (List AnsweredCall)) (t : ℕ) → t < length guest.entries
     → AreAnswers guest budget profile run (unasked guest) answers
     → get_or answers t [] ≡ answers_in (log (thread_machine guest.code) (tables (start_flat guest budget profile)) run t)
 kept_answers_are_in_log guest budget profile run answers t l h =
     get_or_from_slice_get answers t _ [] (h.each t l)
-    ∙ ap (λ (z : List Answered). z ++ answers_in (log (thread_machine guest.code) (tables (start_flat guest budget profile)) run t))
+    ∙ ap (λ (z : List AnsweredCall). z ++ answers_in (log (thread_machine guest.code) (tables (start_flat guest budget profile)) run t))
     (get_or-replicate (length guest.entries) t [] [] l)
 
 first_source_is_source : (setup : Setup) (t : ℕ) → t < length setup.guest.entries → first_source setup t ≡ source (seed_of setup.random t) setup.input
@@ -103,9 +103,9 @@ thread_of_missing_number_is_idle guest budget profile t l = get_or_past (start_f
 
 -- ---- a run that was recorded counts
 
-module _ (setup : Setup) (budget : ℕ) (counted : Bool) (run : List Step) (trace : Recorded) (outputs : List (List ℕ)) (answers : List (List Answered))
+module _ (setup : Setup) (budget : ℕ) (counted : Bool) (run : List Step) (trace : Recorded) (outputs : List (List ℕ)) (answers : List (List AnsweredCall))
     (r : IsRecordingOf setup.guest budget setup.profile run (unasked setup.guest) trace outputs answers)
-    (answered : (t : ℕ) → t < length setup.guest.entries → IsAnswered (origin_of counted setup.random setup.input t) (get_or answers t []))
+    (answered : (t : ℕ) → t < length setup.guest.entries → IsAnsweredFrom (origin_of counted setup.random setup.input t) (get_or answers t []))
     (uncut : AreUncut (length setup.guest.entries) trace) where
   abbrev n : ℕ
   n = length setup.guest.entries
@@ -177,7 +177,7 @@ module _ (setup : Setup) (budget : ℕ) (counted : Bool) (run : List Step) (trac
 
 -- what was recorded, by a list or by threads, is of some run
 recording_is_of_some_run : (order : Option (List ℕ)) (guest : Guest) (budget : ℕ) (profile : Profile) (trace : Recorded) (outputs : List (List ℕ))
-    (answers : List (List Answered)) → IsRecordedBy order guest budget profile trace outputs answers
+    (answers : List (List AnsweredCall)) → IsRecordedBy order guest budget profile trace outputs answers
     → IsRecordingOfSome guest budget profile (unasked guest) trace outputs answers
 recording_is_of_some_run (Some list) guest budget profile trace outputs answers r = (r.2.0, r.2.2)
 recording_is_of_some_run None guest budget profile trace outputs answers r = r
@@ -188,7 +188,7 @@ recorded_setup image plan trace outputs r = record { guest = r.guest; profile = 
 
 recorded_setup_has_outcome : (image : List ℕ) (plan : Plan) (trace : Recorded) (outputs : List (List ℕ)) (r : IsRecordedOf image plan trace outputs)
     → AreUntimed (length r.guest.entries) trace → AreUncut (length r.guest.entries) trace
-    → (x : Outcome) × IsOfOutcome (recorded_setup image plan trace outputs r) plan.budget trace outputs x
+    → (x : RunOutcome) × IsOfOutcome (recorded_setup image plan trace outputs r) plan.budget trace outputs x
     × IsOutcomeOf (recorded_setup image plan trace outputs r) x
 recorded_setup_has_outcome image plan trace outputs r no_clock uncut =
     let some : IsRecordingOfSome r.guest plan.budget plan.profile (unasked r.guest) trace outputs r.answers =
@@ -214,7 +214,7 @@ same_setup setup image plan trace outputs h =
 pub recordings_have_outcomes : RecordingsHaveOutcomes
 recordings_have_outcomes setup image plan trace outputs (h, no_clock) =
     let e = same_setup setup image plan trace outputs h in
-    subst (λ z. (x : Outcome) × IsOfOutcome z plan.budget trace outputs x × IsOutcomeOf z x) e
+    subst (λ z. (x : RunOutcome) × IsOfOutcome z plan.budget trace outputs x × IsOutcomeOf z x) e
     (recorded_setup_has_outcome image plan trace outputs h.recorded
     (subst (λ (z : Setup). AreUntimed (length z.guest.entries) trace) (sym e) no_clock)
     (subst (λ (z : Setup). AreUncut (length z.guest.entries) trace) (sym e) h.uncut))

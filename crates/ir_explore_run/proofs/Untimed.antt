@@ -19,7 +19,7 @@ use Rattle.ir_runs.proofs.CallerLemmas.{upd_at_own_place, thread_after_step_of_o
 use Rattle.ir_seen.specs.Seen.{IsLive, IsSpoilt}
 use Rattle.ir_seen.proofs.CallerLemmas.{thread_is_live_or_next_step_spoils_it, start_state_is_unspoilt}
 use Rattle.ir_sources.specs.Sources.{Source, given, Gave, untimed, from_sources}
-use Rattle.ir_states.specs.Counting.{IsAnswered, Counts}
+use Rattle.ir_states.specs.Counting.{IsAnswered, RunCounts}
 use Rattle.ir_states.specs.Sources.{sourced, by_source, plain, left_of, answer_of}
 use Rattle.ir_states.specs.Views.{beside, IsLiveRun, IsUnspoilt}
 use Rattle.ir_states.proofs.CallerLemmas.{plain_end, sourced_counts, run_is_live_if_its_end_is_unspoilt, state_stays_unspoilt_after_live_run}
@@ -169,7 +169,7 @@ module _ (code : List ℕ) where
   -- a run that counts, by the count at its first call for the time
   record TimedPrefix (s : State (ThreadState × Source)) : Type 0 where
     steps : List Step
-    counts : Counts full (by_source m given) s steps
+    counts : RunCounts full (by_source m given) s steps
     live : IsLiveRun m (IsLive code) (plain s) steps
     thread : ℕ
     has : HasTime (log m (plain s) steps thread)

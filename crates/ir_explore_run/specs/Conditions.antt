@@ -5,10 +5,10 @@ use Rattle.ir_chaos.specs.Conditions as conditions
 use Rattle.ir_chaos.specs.Conditions.{Condition, fulfils}
 use Rattle.ir_flat.specs.Flat.{Flat, cell_of, tables}
 use Rattle.ir_store.specs.Nodes.{SourcedFlat}
-use Rattle.ir_graph.specs.Outcomes.{Outcome, outcome_of}
+use Rattle.ir_graph.specs.Outcomes.{RunOutcome, run_outcome}
 use Rattle.ir_image.specs.Guest.{Guest, most_object_words, object_count}
 use Rattle.ir_graph.specs.Setup.{Setup, IsCountedOf}
-use Rattle.ir_outcomes.specs.Explored.{IsOutcomeOf, IsAt}
+use Rattle.ir_outcomes.specs.Explored.{IsOutcomeOf, ShowsState}
 use Rattle.ir_outcomes.specs.Shown.{outcome_by, switches_by}
 use Rattle.ir_outcomes.specs.declared.shown.Shown.{Shown}
 use Rattle.ir_runs.specs.Run.{Step}
@@ -19,7 +19,7 @@ first_of zero f = []
 first_of (suc n) f = f 0 ∷ first_of n (λ k. f (suc k))
 
 -- an outcome of the guest as conditions see it: of its threads and objects alone
-abbrev pub seen_outcome : Guest → Outcome → conditions.Outcome
+abbrev pub seen_outcome : Guest → RunOutcome → conditions.EndState
 seen_outcome guest x = record {
   ends = first_of (length guest.entries) x.ends;
   outputs = first_of (length guest.entries) x.outputs;
@@ -27,12 +27,12 @@ seen_outcome guest x = record {
 }
 
 -- whether an outcome of the guest fulfils each condition
-abbrev pub fulfils_each : Guest → List Condition → Outcome → Bool
+abbrev pub fulfils_each : Guest → List Condition → RunOutcome → Bool
 fulfils_each guest conditions x = list_all (λ c. fulfils c (seen_outcome guest x)) conditions
 
 -- no complete run of the guest comes to an outcome that does, whatever its budget; runs in which a budget is spent or a log is full aside
 abbrev pub NeverFulfils : Setup → List Condition → Type 0
-NeverFulfils setup conditions = (x : Outcome) → IsOutcomeOf setup x → fulfils_each setup.guest conditions x ≡ false
+NeverFulfils setup conditions = (x : RunOutcome) → IsOutcomeOf setup x → fulfils_each setup.guest conditions x ≡ false
 
 -- no such run of fewer switches than so many does
 abbrev pub NeverWithin : Setup → List Condition → ℕ → Type 0
@@ -41,13 +41,13 @@ NeverWithin setup conditions most = (budget : ℕ) (steps : List Step) → IsCou
 
 -- none of the first n that are listed does
 abbrev pub NoneBefore : Guest → List Condition → List SourcedFlat → List Shown → ℕ → Type 0
-NoneBefore guest conditions flats outcomes n = (i : ℕ) (x : Shown) (s : SourcedFlat) → i < n → IsAt flats outcomes i x s
-    → fulfils_each guest conditions (outcome_of (tables s.flat)) ≡ false
+NoneBefore guest conditions flats outcomes n = (i : ℕ) (x : Shown) (s : SourcedFlat) → i < n → ShowsState flats outcomes i x s
+    → fulfils_each guest conditions (run_outcome (tables s.flat)) ≡ false
 
 -- this one that is listed does
 abbrev pub IsFulfilled : Guest → List Condition → List SourcedFlat → List Shown → ℕ → Type 0
-IsFulfilled guest conditions flats outcomes i = (x : Shown) × (s : SourcedFlat) × IsAt flats outcomes i x s
-    × (fulfils_each guest conditions (outcome_of (tables s.flat)) ≡ true)
+IsFulfilled guest conditions flats outcomes i = (x : Shown) × (s : SourcedFlat) × ShowsState flats outcomes i x s
+    × (fulfils_each guest conditions (run_outcome (tables s.flat)) ≡ true)
 
 -- the first that does, if any of the listed does
 abbrev pub IsFirst : Guest → List Condition → List SourcedFlat → List Shown → Option ℕ → Type 0
@@ -58,4 +58,4 @@ IsFirst guest conditions flats outcomes (Some i) = NoneBefore guest conditions f
 abbrev pub OutcomesDecide : Type 0
 OutcomesDecide = (guest : Guest) (c : Condition) (f : Flat) → length f.threads ≡ length guest.entries → length f.objects ≡ object_count guest
     → ((o : ℕ) → o < length f.objects → length (cell_of f o).words ≡ most_object_words)
-    → fulfils c (conditions.outcome_of f) ≡ fulfils c (seen_outcome guest (outcome_of (tables f)))
+    → fulfils c (conditions.end_state f) ≡ fulfils c (seen_outcome guest (run_outcome (tables f)))

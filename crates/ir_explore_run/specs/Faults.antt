@@ -27,25 +27,25 @@ image_fault image.Entry = Image image.Entry
 image_fault image.Trailing = Image image.Trailing
 
 -- the exit status of a fault
-abbrev pub fault_status : ExploreFault → ExitStatus
-fault_status (Image e) = status.Refused
-fault_status TooLarge = status.Refused
-fault_status NoMem = status.Failed
-fault_status Write = status.Failed
+abbrev pub explore_fault_status : ExploreFault → ExitStatus
+explore_fault_status (Image e) = status.Refused
+explore_fault_status TooLarge = status.Refused
+explore_fault_status NoMem = status.Failed
+explore_fault_status Write = status.Failed
 
 -- a fault in words
-abbrev pub fault_words : ExploreFault → List ℕ
-fault_words (Image e) = image_words e
-fault_words TooLarge = record_run.fault_words record_run_fault.TooLarge
-fault_words NoMem = codes "memory ran out"
-fault_words Write = codes "standard output can't be written"
+abbrev pub explore_fault_words : ExploreFault → List ℕ
+explore_fault_words (Image e) = image_words e
+explore_fault_words TooLarge = record_run.record_fault_words record_run_fault.TooLarge
+explore_fault_words NoMem = codes "memory ran out"
+explore_fault_words Write = codes "standard output can't be written"
 
 -- these bytes encode the guest, which the profile allows
 abbrev pub IsExplorable : List ℕ → Profile → Guest → Type 0
 IsExplorable bytes profile guest = (guest_at bytes ≡ Ok guest) × IsAllowed profile guest
 
 -- the answer about the guest that these bytes encode was written whole
-pub record Answers (bytes : List ℕ) (plan : ExplorePlan) (answered : ExitStatus) (w : Writer) : Type 0 where
+pub record TellsSearch (bytes : List ℕ) (plan : ExplorePlan) (answered : ExitStatus) (w : Writer) : Type 0 where
   pub guest : Guest
   pub is : IsExplorable bytes plan.profile guest
   pub text : List ℕ
@@ -66,8 +66,8 @@ HasNoGuest Write bytes plan w = ⊥
 
 -- Why there is no answer, or not all of it. The image is refused for its first fault, or its guest is too large: then nothing is written. Or memory
 -- ran out, before anything was written or while outcomes were printed; or the writer failed.
-abbrev pub HasNone : ExploreFault → List ℕ → ExplorePlan → Writer → Type 0
-HasNone (Image e) bytes plan w = HasNoGuest (Image e) bytes plan w
-HasNone TooLarge bytes plan w = HasNoGuest TooLarge bytes plan w
-HasNone NoMem bytes plan w = Took w [] ⊎ ((guest : Guest) × IsExplorable bytes plan.profile guest × StopsPrinting NoMem guest plan w)
-HasNone Write bytes plan w = (guest : Guest) × IsExplorable bytes plan.profile guest × StopsPrinting Write guest plan w
+abbrev pub ToldNothing : ExploreFault → List ℕ → ExplorePlan → Writer → Type 0
+ToldNothing (Image e) bytes plan w = HasNoGuest (Image e) bytes plan w
+ToldNothing TooLarge bytes plan w = HasNoGuest TooLarge bytes plan w
+ToldNothing NoMem bytes plan w = Took w [] ⊎ ((guest : Guest) × IsExplorable bytes plan.profile guest × StopsPrinting NoMem guest plan w)
+ToldNothing Write bytes plan w = (guest : Guest) × IsExplorable bytes plan.profile guest × StopsPrinting Write guest plan w

@@ -16,8 +16,8 @@ outcome_line number switches list =
     codes "outcome " ++ (decimal number ++ (codes " switches " ++ (decimal switches ++ (codes " order " ++ (list ++ 10 ∷ [])))))
 
 -- the line of a thread: how it ended, and how many bytes it printed
-abbrev pub thread_line : ℕ → ℕ → ℕ → ℕ → List ℕ
-thread_line thread end code printed =
+abbrev pub outcome_thread_line : ℕ → ℕ → ℕ → ℕ → List ℕ
+outcome_thread_line thread end code printed =
     codes "thread " ++ (decimal thread ++ (codes " end " ++ (decimal end ++ (codes " code " ++ (decimal code
     ++ (codes " out " ++ (decimal printed ++ 10 ∷ [])))))))
 
@@ -31,34 +31,34 @@ byte_lines bytes zero = []
 byte_lines bytes (suc n) = byte_lines bytes n ++ byte_line bytes n
 
 -- the number of an end and its code, zeros where there is none
-abbrev pub number_of : Option End → ℕ
-number_of None = 0
-number_of (Some e) = end_number e
+abbrev pub end_pair : Option End → ℕ
+end_pair None = 0
+end_pair (Some e) = end_number e
 
 abbrev pub code_of : Option End → ℕ
 code_of None = 0
 code_of (Some e) = end_code e
 
 -- the lines of a thread
-abbrev pub thread_text : ℕ → ThreadState → List ℕ
-thread_text t s = thread_line t (number_of s.ended) (code_of s.ended) (length s.output)
+abbrev pub outcome_thread_text : ℕ → ThreadState → List ℕ
+outcome_thread_text t s = outcome_thread_line t (end_pair s.ended) (code_of s.ended) (length s.output)
     ++ byte_lines s.output (lines_for 32 (length s.output))
 
 -- words, each after a blank
-abbrev pub words_text : List ℕ → List ℕ
-words_text words = flat_map (λ w. codes " " ++ hex_word w) words
+abbrev pub spaced_words : List ℕ → List ℕ
+spaced_words words = flat_map (λ w. codes " " ++ hex_word w) words
 
 -- the line of an object
-abbrev pub object_line : ℕ → List ℕ → List ℕ
-object_line object words = codes "object " ++ (decimal object ++ (codes " words" ++ (words_text words ++ 10 ∷ [])))
+abbrev pub outcome_object_line : ℕ → List ℕ → List ℕ
+outcome_object_line object words = codes "object " ++ (decimal object ++ (codes " words" ++ (spaced_words words ++ 10 ∷ [])))
 
 -- why a search stopped, in words
-abbrev pub why_text : Stop → List ℕ
-why_text stop.Nodes = codes "states"
-why_text (stop.Private t) = codes "private " ++ decimal t
-why_text (stop.Log t) = codes "log " ++ decimal t
-why_text (stop.World t) = codes "world " ++ decimal t
-why_text stop.Memory = codes "memory"
+abbrev pub stop_words : Stop → List ℕ
+stop_words stop.Nodes = codes "states"
+stop_words (stop.Private t) = codes "private " ++ decimal t
+stop_words (stop.Log t) = codes "log " ++ decimal t
+stop_words (stop.World t) = codes "world " ++ decimal t
+stop_words stop.Memory = codes "memory"
 
 -- up to how many switches the outcomes are complete, if so many levels are gone over
 abbrev pub covered_text : ℕ → List ℕ
@@ -77,7 +77,7 @@ counts_text outcomes states = codes "outcomes " ++ (decimal outcomes ++ (codes "
 abbrev pub ended_text : Ended → ℕ → List ℕ
 ended_text Finished levels = codes "finished"
 ended_text Covered levels = codes "covered " ++ covered_text levels
-ended_text (Stopped why) levels = codes "stopped " ++ (why_text why ++ (codes " covered " ++ covered_text levels))
+ended_text (Stopped why) levels = codes "stopped " ++ (stop_words why ++ (codes " covered " ++ covered_text levels))
 
 -- how many states have no way to an end, where that is known
 abbrev pub hangs_text : Ended → ℕ → List ℕ
@@ -91,9 +91,9 @@ clock_text true = codes " clock counted"
 clock_text false = []
 
 -- the last line
-abbrev pub last_line : List ℕ → List ℕ → List ℕ → List ℕ → List ℕ
-last_line ended counts hangs clock = ended ++ (codes " " ++ (counts ++ (hangs ++ (clock ++ 10 ∷ []))))
+abbrev pub search_line : List ℕ → List ℕ → List ℕ → List ℕ → List ℕ
+search_line ended counts hangs clock = ended ++ (codes " " ++ (counts ++ (hangs ++ (clock ++ 10 ∷ []))))
 
 -- the line of the outcome that is recorded, by its number, with the list that spells its order
-abbrev pub found_line : ℕ → ℕ → List ℕ → List ℕ
-found_line number switches list = codes "found " ++ outcome_line number switches list
+abbrev pub outcome_found_line : ℕ → ℕ → List ℕ → List ℕ
+outcome_found_line number switches list = codes "found " ++ outcome_line number switches list

@@ -3,7 +3,7 @@ use Rattle.std.specs.Prelude.{ℕ, List}
 use Rattle.ir_files.specs.Writers.{Writer, Took, Failed}
 use Rattle.ir_graph.specs.Setup.{Setup}
 use Rattle.ir_outcomes.specs.declared.exploring.Exploring.{Exploring}
-use Rattle.ir_explore_run.specs.Texts.{Objects, AreTexts, IsPart}
+use Rattle.ir_explore_run.specs.Texts.{Objects, AreTexts, TellsPart}
 use Rattle.ir_explore_run.specs.declared.fault.ExploreFault.{ExploreFault}
 use Rattle.ir_explore_run.specs.declared.fault.ExploreFault.TheVariants.{Image, TooLarge, NoMem, Write}
 
@@ -15,5 +15,5 @@ HasPrinted o e many text = AreTexts o e.states.graph.flats.items e.list.outcomes
 abbrev pub EndsEarly : ExploreFault → Setup → Writer → Type 0
 EndsEarly (Image e) setup w = ⊥
 EndsEarly TooLarge setup w = ⊥
-EndsEarly NoMem setup w = (text : List ℕ) × IsPart setup text × Took w text
-EndsEarly Write setup w = (text : List ℕ) × IsPart setup text × Failed w text
+EndsEarly NoMem setup w = (text : List ℕ) × TellsPart setup text × Took w text
+EndsEarly Write setup w = (text : List ℕ) × TellsPart setup text × Failed w text

@@ -4,7 +4,7 @@ use Rattle.std.specs.List.{AllByRecursion}
 use Rattle.ir_chaos.specs.Conditions.{Condition}
 use Rattle.ir_explore.specs.declared.search.Ended.TheVariants.{Finished}
 use Rattle.ir_graph.specs.Hangs.{IsHangOf}
-use Rattle.ir_graph.specs.Outcomes.{Outcome}
+use Rattle.ir_graph.specs.Outcomes.{RunOutcome}
 use Rattle.ir_graph.specs.Setup.{Setup, IsCountedOf}
 use Rattle.ir_graph.specs.Times.{HasTimedRun}
 use Rattle.ir_image.specs.Guest.{Guest, guest_at}
@@ -55,20 +55,20 @@ abbrev pub IsRecordingOfSetup : Setup → List ℕ → Plan → Recorded → Lis
 IsRecordingOfSetup setup image plan trace outputs = IsUncutRecording setup image plan trace outputs × AreUntimed (length setup.guest.entries) trace
 
 -- they are of a complete run of the guest with the outcome x
-abbrev pub IsOfOutcome : Setup → ℕ → Recorded → List (List ℕ) → Outcome → Type 0
+abbrev pub IsOfOutcome : Setup → ℕ → Recorded → List (List ℕ) → RunOutcome → Type 0
 IsOfOutcome setup budget trace outputs x = (run : List Step) × IsOfRun setup.guest budget setup.profile run trace outputs × (outcome_by setup budget run ≡ x)
 
 -- what is recorded so is of a run with an outcome of the guest
 abbrev pub RecordingsHaveOutcomes : Type 0
 RecordingsHaveOutcomes = (setup : Setup) (image : List ℕ) (plan : Plan) (trace : Recorded) (outputs : List (List ℕ))
     → IsRecordingOfSetup setup image plan trace outputs
-    → (x : Outcome) × IsOfOutcome setup plan.budget trace outputs x × IsOutcomeOf setup x
+    → (x : RunOutcome) × IsOfOutcome setup plan.budget trace outputs x × IsOutcomeOf setup x
 
 -- once a search is finished, what is recorded so is of a run with one of the outcomes that it lists
 abbrev pub RecordingsAreListed : Type 0
 RecordingsAreListed = (guest : Guest) (explored : ExplorePlan) (k : Known) (image : List ℕ) (plan : Plan) (trace : Recorded) (outputs : List (List ℕ))
     → AreKnown guest explored k → k.ended ≡ Finished → IsRecordingOfSetup (setup_of guest explored) image plan trace outputs
-    → (x : Outcome) × IsOfOutcome (setup_of guest explored) plan.budget trace outputs x × IsIn k.flats k.outcomes x
+    → (x : RunOutcome) × IsOfOutcome (setup_of guest explored) plan.budget trace outputs x × IsIn k.flats k.outcomes x
 
 -- where no run of the guest that counts answers a call for the time, no recording does
 abbrev pub RecordingsAreUntimed : Type 0
@@ -79,13 +79,13 @@ RecordingsAreUntimed = (setup : Setup) (image : List ℕ) (plan : Plan) (trace :
 abbrev pub UntimedRecordingsAreListed : Type 0
 UntimedRecordingsAreListed = (guest : Guest) (explored : ExplorePlan) (k : Known) (image : List ℕ) (plan : Plan) (trace : Recorded) (outputs : List (List ℕ))
     → AreKnown guest explored k → k.ended ≡ Finished → k.timed ≡ false → IsUncutRecording (setup_of guest explored) image plan trace outputs
-    → (x : Outcome) × IsOfOutcome (setup_of guest explored) plan.budget trace outputs x × IsIn k.flats k.outcomes x
+    → (x : RunOutcome) × IsOfOutcome (setup_of guest explored) plan.budget trace outputs x × IsIn k.flats k.outcomes x
 
 -- where no outcome of the guest fulfils the conditions, none that is recorded so does
 abbrev pub RecordingsNeverFulfil : Type 0
 RecordingsNeverFulfil = (setup : Setup) (conditions : List Condition) (image : List ℕ) (plan : Plan) (trace : Recorded) (outputs : List (List ℕ))
     → NeverFulfils setup conditions → IsRecordingOfSetup setup image plan trace outputs
-    → (x : Outcome) × IsOfOutcome setup plan.budget trace outputs x × (fulfils_each setup.guest conditions x ≡ false)
+    → (x : RunOutcome) × IsOfOutcome setup plan.budget trace outputs x × (fulfils_each setup.guest conditions x ≡ false)
 
 -- a run that hangs is never continued to a complete one that counts, whatever its budget
 abbrev pub HangsNeverComplete : Type 0

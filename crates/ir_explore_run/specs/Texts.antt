@@ -19,7 +19,7 @@ use Rattle.ir_image.specs.Guest.{Guest, object_count, object_words}
 use Rattle.ir_object.specs.Cell.{Cell}
 use Rattle.ir_object.specs.Empty.{empty}
 use Rattle.ir_order.specs.Spelling.{IsListOf}
-use Rattle.ir_outcomes.specs.Explored.{IsAt, AreExplored, AreAll, AreHangs}
+use Rattle.ir_outcomes.specs.Explored.{ShowsState, AreExplored, AreAll, AreHangs}
 use Rattle.ir_outcomes.specs.declared.explored.Explored.{Explored}
 use Rattle.ir_outcomes.specs.declared.shown.Shown.{Shown}
 use Rattle.ir_record.specs.Recording.{turns_of_items}
@@ -27,23 +27,23 @@ use Rattle.ir_thread.specs.State.{ThreadState}
 use Rattle.ir_store.specs.Nodes.{SourcedFlat}
 use Rattle.ir_explore_run.specs.declared.started.Started.{Started}
 use Rattle.ir_explore_run.specs.Plan.{ExplorePlan, setup_of}
-use Rattle.ir_explore_run.specs.Lines.{outcome_line, thread_text, object_line, hang_line, ended_text, counts_text, hangs_text, clock_text, last_line}
+use Rattle.ir_explore_run.specs.Lines.{outcome_line, outcome_thread_text, outcome_object_line, hang_line, ended_text, counts_text, hangs_text, clock_text, search_line}
 
 -- the lines of the first n threads
-abbrev pub threads_text : List ThreadState → ℕ → List ℕ
-threads_text threads zero = []
-threads_text threads (suc n) = threads_text threads n ++ thread_text n (slice_index_or threads n idle)
+abbrev pub outcome_threads_text : List ThreadState → ℕ → List ℕ
+outcome_threads_text threads zero = []
+outcome_threads_text threads (suc n) = outcome_threads_text threads n ++ outcome_thread_text n (slice_index_or threads n idle)
 
 -- the line of an object whose words aren't its first ones
-abbrev pub object_text : ℕ → List ℕ → List ℕ → List ℕ
-object_text o first words = if pointwise nat_eq words first then [] else object_line o words
+abbrev pub outcome_object_text : ℕ → List ℕ → List ℕ → List ℕ
+outcome_object_text o first words = if pointwise nat_eq words first then [] else outcome_object_line o words
 
 -- the same of the first n objects, of so many words each
 abbrev pub objects_text : ℕ → List Cell → List Cell → ℕ → List ℕ
 objects_text words first now zero = []
 objects_text words first now (suc n) =
     objects_text words first now n
-    ++ object_text n (take words (slice_index_or first n empty).words) (take words (slice_index_or now n empty).words)
+    ++ outcome_object_text n (take words (slice_index_or first n empty).words) (take words (slice_index_or now n empty).words)
 
 -- the objects of a guest at first, and how many words each has
 pub record Objects : Type 0 where
@@ -60,18 +60,18 @@ objects_in s = record { words = s.words; first = s.first.now }
 -- the lines of an outcome, by its number
 abbrev pub IsOutcomeText : Objects → Flat → ℕ → Shown → List ℕ → Type 0
 IsOutcomeText o f number x text = (list : List ℕ) × IsListOf list (turns_of_items x.turns.items)
-    × (text ≡ outcome_line number x.level list ++ (threads_text f.threads (length f.threads) ++ objects_text o.words o.first f.objects (length f.objects)))
+    × (text ≡ outcome_line number x.level list ++ (outcome_threads_text f.threads (length f.threads) ++ objects_text o.words o.first f.objects (length f.objects)))
 
 -- the lines of all outcomes
 pub record AreTexts (o : Objects) (flats : List SourcedFlat) (outcomes : List Shown) (many : ℕ) (text : List ℕ) : Type 0 where
   pub texts : List (List ℕ)
   pub count : length texts ≡ many
-  pub each : (i : ℕ) (x : Shown) (s : SourcedFlat) (own : List ℕ) → IsAt flats outcomes i x s → slice_get texts i ≡ Some own
+  pub each : (i : ℕ) (x : Shown) (s : SourcedFlat) (own : List ℕ) → ShowsState flats outcomes i x s → slice_get texts i ≡ Some own
       → IsOutcomeText o s.flat (suc i) x own
   pub joined : text ≡ flat_map (λ own. own) texts
 
 -- the outcomes of a guest that were found so far are printed
-pub record IsPart (setup : Setup) (text : List ℕ) : Type 0 where
+pub record TellsPart (setup : Setup) (text : List ℕ) : Type 0 where
   pub flats : List SourcedFlat
   pub outcomes : List Shown
   -- those of runs with fewer switches are all among them
@@ -80,11 +80,11 @@ pub record IsPart (setup : Setup) (text : List ℕ) : Type 0 where
   pub texts : AreTexts (objects_of setup.guest) flats outcomes (length outcomes) text
 
 -- the exit status of a search that ended so, and knows so many states that can't be brought to an end
-abbrev pub status_of : Ended → ℕ → ExitStatus
-status_of Finished zero = status.Done
-status_of Finished (suc hangs) = status.Hangs
-status_of Covered hangs = status.Done
-status_of (Stopped why) hangs = status.GaveUp
+abbrev pub search_status : Ended → ℕ → ExitStatus
+search_status Finished zero = status.Done
+search_status Finished (suc hangs) = status.Hangs
+search_status Covered hangs = status.Done
+search_status (Stopped why) hangs = status.GaveUp
 
 -- the line of a hang, if one is known
 abbrev pub IsHangText : Option Shown → List ℕ → Type 0
@@ -94,11 +94,11 @@ IsHangText (Some x) text = (list : List ℕ) × IsListOf list (turns_of_items x.
 -- the last line: how the search ended, how many outcomes, states and hangs there are, and whether some call for the time was answered
 abbrev pub end_line : Ended → ℕ → ℕ → ℕ → ℕ → Bool → List ℕ
 end_line ended levels outcomes states hangs timed =
-    last_line (ended_text ended levels) (counts_text outcomes states) (hangs_text ended hangs) (clock_text timed)
+    search_line (ended_text ended levels) (counts_text outcomes states) (hangs_text ended hangs) (clock_text timed)
 
 -- why there is nothing to print of a search: it didn't begin
-abbrev pub IsReason : Guest → ExplorePlan → Stop → Type 0
-IsReason guest plan why = (why ≡ Memory) ⊎ IsStop (setup_of guest plan) plan.bounds.private why
+abbrev pub IsStopReason : Guest → ExplorePlan → Stop → Type 0
+IsStopReason guest plan why = (why ≡ Memory) ⊎ IsStop (setup_of guest plan) plan.bounds.private why
 
 -- what was found out about a guest
 pub record Known : Type 0 where
@@ -151,7 +151,7 @@ pub record IsEnding (k : Known) (answered : ExitStatus) (text : List ℕ) : Type
   pub hang_lines : List ℕ
   pub hang_text : IsHangText k.hang hang_lines
   pub whole : text ≡ hang_lines ++ end_line k.ended k.levels (length k.outcomes) (length k.flats) k.hangs k.timed
-  pub status : answered ≡ status_of k.ended k.hangs
+  pub status : answered ≡ search_status k.ended k.hangs
 
 -- it is printed: the outcomes of the guest, a hang if one is known, and how the search for them ended
 pub record IsKnownText (guest : Guest) (k : Known) (answered : ExitStatus) (text : List ℕ) : Type 0 where
@@ -162,16 +162,16 @@ pub record IsKnownText (guest : Guest) (k : Known) (answered : ExitStatus) (text
   pub whole : text ≡ lines ++ last_lines
 
 -- what is known of the outcomes of the guest is printed
-abbrev pub IsFound : Guest → ExplorePlan → ExitStatus → List ℕ → Type 0
-IsFound guest plan answered text = (k : Known) × AreKnown guest plan k × IsKnownText guest k answered text
+abbrev pub TellsKnown : Guest → ExplorePlan → ExitStatus → List ℕ → Type 0
+TellsKnown guest plan answered text = (k : Known) × AreKnown guest plan k × IsKnownText guest k answered text
 
 -- no outcome is printed, and why
 pub record IsStopped (guest : Guest) (plan : ExplorePlan) (answered : ExitStatus) (text : List ℕ) : Type 0 where
   pub why : Stop
-  pub reason : IsReason guest plan why
+  pub reason : IsStopReason guest plan why
   pub whole : text ≡ end_line (Stopped why) 0 0 0 0 false
   pub status : answered ≡ status.GaveUp
 
 -- the answer about a guest
 abbrev pub IsAnswerAbout : Guest → ExplorePlan → ExitStatus → List ℕ → Type 0
-IsAnswerAbout guest plan answered text = IsFound guest plan answered text ⊎ IsStopped guest plan answered text
+IsAnswerAbout guest plan answered text = TellsKnown guest plan answered text ⊎ IsStopped guest plan answered text

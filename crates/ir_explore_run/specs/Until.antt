@@ -8,13 +8,13 @@ use Rattle.ir_files.specs.Writers.{Writer, Failed}
 use Rattle.ir_files.specs.declared.exit_status.ExitStatus.{ExitStatus}
 use Rattle.ir_files.specs.declared.exit_status.ExitStatus.TheVariants.{NotSo, GaveUp}
 use Rattle.ir_flat.specs.Flat.{tables}
-use Rattle.ir_graph.specs.Outcomes.{outcome_of}
+use Rattle.ir_graph.specs.Outcomes.{run_outcome}
 use Rattle.ir_graph.specs.Reached.{AllReached}
 use Rattle.ir_graph.specs.Setup.{IsCountedOf}
 use Rattle.ir_image.specs.Guest.{Guest, guest_at}
 use Rattle.ir_order.specs.Recording.{IsPlannedInTurns, IsOfRun}
 use Rattle.ir_order.specs.Spelling.{IsListOf}
-use Rattle.ir_outcomes.specs.Explored.{IsAt, AreExplored}
+use Rattle.ir_outcomes.specs.Explored.{ShowsState, AreExplored}
 use Rattle.ir_outcomes.specs.Shown.{outcome_by, switches_by}
 use Rattle.ir_outcomes.specs.declared.shown.Shown.{Shown}
 use Rattle.ir_record.specs.Recording.{turns_of_items}
@@ -27,7 +27,7 @@ use Rattle.ir_thread.specs.State.{IsAllowed, most_budget}
 use Rattle.ir_trace.specs.Recorded.{Recorded}
 use Rattle.ir_explore_run.specs.Conditions.{fulfils_each, NeverFulfils, NeverWithin, NoneBefore, IsFirst}
 use Rattle.ir_explore_run.specs.Faults.{HasNoGuest}
-use Rattle.ir_explore_run.specs.Lines.{found_line}
+use Rattle.ir_explore_run.specs.Lines.{outcome_found_line}
 use Rattle.ir_explore_run.specs.Texts.{Known, AreKnown, IsKnownText, objects_of, AreTexts, IsStopped}
 use Rattle.ir_explore_run.specs.declared.fault.ExploreFault.{ExploreFault}
 use Rattle.ir_explore_run.specs.declared.fault.ExploreFault.TheVariants.{Image, TooLarge, NoMem, Write}
@@ -58,15 +58,15 @@ pub record IsHitText (guest : Guest) (plan : ExplorePlan) (conditions : List Con
   pub place : ℕ
   pub shown : Shown
   pub state : SourcedFlat
-  pub at : IsAt known.flats known.outcomes place shown state
+  pub at : ShowsState known.flats known.outcomes place shown state
   pub listed : IsListOf list (turns_of_items shown.turns.items)
   pub first : NoneBefore guest conditions known.flats known.outcomes place
-  pub fulfils : fulfils_each guest conditions (outcome_of (tables state.flat)) ≡ true
+  pub fulfils : fulfils_each guest conditions (run_outcome (tables state.flat)) ≡ true
   pub hit : IsHit guest plan conditions shown.level list
-  pub same : outcome_by (setup_of guest plan) most_budget hit.run ≡ outcome_of (tables state.flat)
+  pub same : outcome_by (setup_of guest plan) most_budget hit.run ≡ run_outcome (tables state.flat)
   pub lines : List ℕ
   pub texts : AreTexts (objects_of guest) known.flats known.outcomes (suc place) lines
-  pub whole : text ≡ lines ++ found_line (suc place) shown.level list
+  pub whole : text ≡ lines ++ outcome_found_line (suc place) shown.level list
 
 -- What was looked for: the first outcome that fulfils each condition, among those that are known; and if there is none, the guest was explored as
 -- the plan says.
@@ -116,7 +116,7 @@ pub record IsUntil (image : List ℕ) (plan : ExplorePlan) (conditions : List Co
   pub says : IsUntilText guest plan conditions found text
 
 -- what was found is recorded: the trace of its run, and what its threads printed
-pub record IsFinding (image : List ℕ) (plan : ExplorePlan) (conditions : List Condition) (list text : List ℕ) (trace : Recorded) (outputs : List (List ℕ)) : Type 0 where
+pub record IsOutcomeFinding (image : List ℕ) (plan : ExplorePlan) (conditions : List Condition) (list text : List ℕ) (trace : Recorded) (outputs : List (List ℕ)) : Type 0 where
   pub guest : Guest
   pub is : guest_at image ≡ Ok guest
   pub found : IsHitText guest plan conditions list text

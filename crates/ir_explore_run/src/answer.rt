@@ -8,7 +8,7 @@ ghost use Rattle.ir_image.specs.Guest.{Guest};
 ghost use Rattle.ir_outcomes.specs.Explored.{AreExplored};
 ghost use Rattle.ir_thread.specs.State.{IsAllowed};
 ghost use Rattle.ir_explore_run.specs.Conditions.{NoneBefore, IsFulfilled};
-ghost use Rattle.ir_explore_run.specs.Texts.{IsReason, IsStopped, AreKnown, IsEnding, IsKnownText, known_of, status_of};
+ghost use Rattle.ir_explore_run.specs.Texts.{IsStopReason, IsStopped, AreKnown, IsEnding, IsKnownText, known_of, search_status};
 ghost use Rattle.ir_explore_run.specs.Until.{IsHitText, vain_status_of};
 ghost use Rattle.ir_explore_run.specs.Plan.{ExplorePlan, setup_of};
 
@@ -26,7 +26,7 @@ use std::alloc::{AllocError, Global};
 
 // The exit status of a search that ended so, and knows so many states that can't be brought to an end.
 fn status_of(ended: Ended, hangs: usize) -> ExitStatus
-    ensures { result ≡ status_of ended hangs }
+    ensures { result ≡ search_status ended hangs }
 {
     match ended {
         Ended::Finished if hangs > 0 => ExitStatus::Hangs,
@@ -96,7 +96,7 @@ pub fn known_text(
 
 /// The line of a search that stopped before it began, and the exit status.
 pub fn stopped_text(alloc: Global, why: Stop) -> Result<(Vec<u8>, ExitStatus), AllocError>
-    ensures { IfOk result (λ answer. (guest : Guest) (plan : ExplorePlan) → IsReason guest plan why → IsStopped guest plan answer.1 answer.0.items) }
+    ensures { IfOk result (λ answer. (guest : Guest) (plan : ExplorePlan) → IsStopReason guest plan why → IsStopped guest plan answer.1 answer.0.items) }
 {
     let ending = Ending {
         ended: Ended::Stopped(why),

@@ -3,7 +3,7 @@
 ghost use Rattle.std.specs.Prelude.{◌≡◌, ◌<◌, ◌*◌, ◌++◌, length, take, drop, OnOk};
 ghost use Rattle.ir_text.specs.Texts.{hex_word};
 ghost use Rattle.ir_text.specs.Parts.{lines_for};
-ghost use Rattle.ir_explore_run.specs.Lines.{byte_line, byte_lines, words_text};
+ghost use Rattle.ir_explore_run.specs.Lines.{byte_line, byte_lines, spaced_words};
 
 use std::alloc::{AllocError, Global};
 
@@ -51,7 +51,7 @@ pub fn put_bytes(alloc: Global, text: &mut Vec<u8>, bytes: &[u8]) -> Result<(), 
 
 /// Puts words, each after a blank.
 pub fn put_words(text: &mut Vec<u8>, words: &[u32]) -> Result<(), AllocError>
-    ensures { OnOk result (text.new.items ≡ text.old.items ++ words_text words.now) }
+    ensures { OnOk result (text.new.items ≡ text.old.items ++ spaced_words words.now) }
 {
     for word in words {
         let mut digits = [0; 8];

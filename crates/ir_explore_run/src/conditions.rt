@@ -2,7 +2,7 @@
 
 ghost use Rattle.std.specs.Prelude.{◌≡◌, ℕ, ◌<◌, Some, None, length, map, slice_get, IfOk};
 ghost use Rattle.std.specs.List.{list_all};
-ghost use Rattle.ir_chaos.specs.Conditions.{as_condition, fulfils, outcome_of};
+ghost use Rattle.ir_chaos.specs.Conditions.{as_condition, fulfils, end_state};
 ghost use Rattle.ir_graph.specs.Reached.{AllReached};
 ghost use Rattle.ir_graph.specs.Setup.{Setup};
 ghost use Rattle.ir_outcomes.specs.declared.shown.Shown.{Shown};
@@ -22,7 +22,7 @@ pub fn outcomes_decide()
 
 // Whether what these threads and objects came to fulfils each condition.
 fn fulfils(flat: &Flat<'_>, conditions: &[Condition<'_>]) -> bool
-    ensures { result ≡ list_all (λ c. fulfils (as_condition c) (outcome_of flat.now)) conditions.now }
+    ensures { result ≡ list_all (λ c. fulfils (as_condition c) (end_state flat.now)) conditions.now }
 {
     conditions.iter().all(|condition| condition.holds(flat))
 }

@@ -1,7 +1,7 @@
 //! Why nothing was printed of a guest.
 
 ghost use Rattle.std.specs.Prelude.{◌≡◌};
-ghost use Rattle.ir_explore_run.specs.Faults.{image_fault, fault_status, fault_words};
+ghost use Rattle.ir_explore_run.specs.Faults.{image_fault, explore_fault_status, explore_fault_words};
 ghost use Rattle.ir_explore_run.specs.declared.fault.ExploreFault.TheVariants.{NoMem, Write};
 
 use ir_files::ExitStatus;
@@ -36,7 +36,7 @@ impl ExploreFault {
 
     /// The exit status.
     pub fn status(&self) -> ExitStatus
-        ensures { result ≡ fault_status self.now }
+        ensures { result ≡ explore_fault_status self.now }
     {
         match self {
             ExploreFault::Image(_) | ExploreFault::TooLarge => ExitStatus::Refused,
@@ -46,7 +46,7 @@ impl ExploreFault {
 
     /// The fault in words.
     pub fn words(&self) -> &'static str
-        ensures { result.now ≡ fault_words self.now }
+        ensures { result.now ≡ explore_fault_words self.now }
     {
         match self {
             ExploreFault::Image(why) => RecordFault::of_image(why).words(),

@@ -2,7 +2,7 @@
 
 ghost use Rattle.std.specs.Prelude.{IfOk, IfErr};
 ghost use Rattle.ir_thread.specs.State.{IsAllowed};
-ghost use Rattle.ir_explore_run.specs.Texts.{IsReason, AreKnown, known_of};
+ghost use Rattle.ir_explore_run.specs.Texts.{IsStopReason, AreKnown, known_of};
 
 use crate::plan::ExplorePlan;
 use ir_explore::{Observer, Stop};
@@ -22,7 +22,7 @@ pub fn known<'a, W: Observer>(
 ) -> Result<Explored<'a>, Stop>
     requires { IsAllowed plan.now.profile image.now }
     ensures known { IfOk result (λ e. AreKnown image.now plan.now (known_of e)) }
-    ensures refused { IfErr result (λ why. IsReason image.now plan.now why) }
+    ensures refused { IfErr result (λ why. IsStopReason image.now plan.now why) }
 {
     let setup = plan.setup(image);
     let explored = explore(alloc, &setup, plan.bounds, plan.switches, observer)?;

@@ -2,7 +2,7 @@
 
 ghost use Rattle.std.specs.Prelude.{◌≡◌, ◌++◌, IfOk, OnOk};
 ghost use Rattle.std.specs.String.{string_bytes};
-ghost use Rattle.ir_explore_run.specs.Lines.{outcome_line, thread_line, thread_text, object_line, number_of, code_of, why_text, covered_text, hang_line, found_line, counts_text, ended_text, hangs_text, clock_text, last_line};
+ghost use Rattle.ir_explore_run.specs.Lines.{outcome_line, outcome_thread_line, outcome_thread_text, outcome_object_line, end_pair, code_of, stop_words, covered_text, hang_line, outcome_found_line, counts_text, ended_text, hangs_text, clock_text, search_line};
 
 use crate::bytes::{put_bytes, put_words};
 use ir_explore::{Ended, Stop};
@@ -28,7 +28,7 @@ pub fn found_line(
     switches: usize,
     list: &str,
 ) -> Result<String, AllocError>
-    ensures { IfOk result (λ s. string_bytes s ≡ found_line number switches list.now) }
+    ensures { IfOk result (λ s. string_bytes s ≡ outcome_found_line number switches list.now) }
 {
     format!(in alloc; "found outcome {number} switches {switches} order {list}\n")
 }
@@ -41,14 +41,14 @@ fn thread_line(
     code: u32,
     printed: usize,
 ) -> Result<String, AllocError>
-    ensures { IfOk result (λ s. string_bytes s ≡ thread_line thread end code printed) }
+    ensures { IfOk result (λ s. string_bytes s ≡ outcome_thread_line thread end code printed) }
 {
     format!(in alloc; "thread {thread} end {end} code {code} out {printed}\n")
 }
 
 // The number of an end, 0 where there is none.
 fn number_of(ended: Option<End>) -> u8
-    ensures { result ≡ number_of ended }
+    ensures { result ≡ end_pair ended }
 {
     match ended {
         None => 0,
@@ -73,7 +73,7 @@ pub fn put_thread(
     number: usize,
     thread: &Thread,
 ) -> Result<(), AllocError>
-    ensures { OnOk result (text.new.items ≡ text.old.items ++ thread_text number thread.now) }
+    ensures { OnOk result (text.new.items ≡ text.old.items ++ outcome_thread_text number thread.now) }
 {
     let ended = thread.ended();
     let printed = thread.output();
@@ -95,7 +95,7 @@ pub fn put_object(
     number: usize,
     words: &[u32],
 ) -> Result<(), AllocError>
-    ensures { OnOk result (text.new.items ≡ text.old.items ++ object_line number words.now) }
+    ensures { OnOk result (text.new.items ≡ text.old.items ++ outcome_object_line number words.now) }
 {
     text.extend_from_slice(format!(in alloc; "object {number} words")?.as_bytes())?;
     put_words(text, words)?;
@@ -105,7 +105,7 @@ pub fn put_object(
 
 // Why a search stopped, in words.
 fn why_text(alloc: Global, stop: Stop) -> Result<String, AllocError>
-    ensures { IfOk result (λ s. string_bytes s ≡ why_text stop) }
+    ensures { IfOk result (λ s. string_bytes s ≡ stop_words stop) }
 {
     match stop {
         Stop::Nodes => String::from_str(alloc, "states"),
@@ -181,7 +181,7 @@ pub fn last_line(
     hangs: &str,
     clock: &str,
 ) -> Result<String, AllocError>
-    ensures { IfOk result (λ s. string_bytes s ≡ last_line ended.now counts.now hangs.now clock.now) }
+    ensures { IfOk result (λ s. string_bytes s ≡ search_line ended.now counts.now hangs.now clock.now) }
 {
     format!(in alloc; "{ended} {counts}{hangs}{clock}\n")
 }

@@ -3,7 +3,7 @@
 ghost use Rattle.std.specs.Prelude.{◌≡◌, ◌++◌, length, OnOk, IfOk};
 ghost use Rattle.std.specs.List.{slice_index_or};
 ghost use Rattle.ir_object.specs.Empty.{empty};
-ghost use Rattle.ir_explore_run.specs.Texts.{threads_text, object_text, objects_text, objects_in, IsOutcomeText};
+ghost use Rattle.ir_explore_run.specs.Texts.{outcome_threads_text, outcome_object_text, objects_text, objects_in, IsOutcomeText};
 
 use crate::lines::{outcome_line, put_object, put_thread};
 use crate::started::Started;
@@ -16,7 +16,7 @@ use std::alloc::{AllocError, Global};
 
 // Puts the lines of the threads.
 fn put_threads(alloc: Global, text: &mut Vec<u8>, threads: &[Thread]) -> Result<(), AllocError>
-    ensures { OnOk result (text.new.items ≡ text.old.items ++ threads_text threads.now (length threads.now)) }
+    ensures { OnOk result (text.new.items ≡ text.old.items ++ outcome_threads_text threads.now (length threads.now)) }
 {
     for t in 0..threads.len() {
         put_thread(alloc, text, t, &threads[t])?;
@@ -32,7 +32,7 @@ fn put_changed(
     first: &[u32],
     words: &[u32],
 ) -> Result<(), AllocError>
-    ensures { OnOk result (text.new.items ≡ text.old.items ++ object_text number first.now words.now) }
+    ensures { OnOk result (text.new.items ≡ text.old.items ++ outcome_object_text number first.now words.now) }
 {
     if words == first {
         return Ok(());

@@ -5,8 +5,8 @@ ghost use Rattle.std.specs.Io.KnownBytes.{Appends};
 ghost use Rattle.ir_files.specs.Writers.{writer_of, Reports, fault_text};
 ghost use Rattle.ir_thread.specs.State.{IsAllowed};
 ghost use Rattle.ir_image.specs.Guest.{Guest};
-ghost use Rattle.ir_explore_run.specs.Faults.{Answers, HasNone, StopsPrinting, fault_status, fault_words};
-ghost use Rattle.ir_explore_run.specs.Texts.{IsAnswerAbout, IsEnding, IsReason, IsStopped, known_of};
+ghost use Rattle.ir_explore_run.specs.Faults.{TellsSearch, ToldNothing, StopsPrinting, explore_fault_status, explore_fault_words};
+ghost use Rattle.ir_explore_run.specs.Texts.{IsAnswerAbout, IsEnding, IsStopReason, IsStopped, known_of};
 ghost use Rattle.ir_explore_run.specs.declared.fault.ExploreFault.TheVariants.{NoMem, Write};
 ghost use Rattle.ir_files.specs.declared.exit_status.ExitStatus.{ExitStatus};
 ghost use Rattle.ir_stream.specs.Answers.{AppendsPrefix};
@@ -29,8 +29,8 @@ use std::alloc::Global;
 // Prints that a search didn't begin, and why.
 fn show_stop<O: Sink>(alloc: Global, why: Stop, out: &mut O) -> Result<ExitStatus, ExploreFault>
     requires { O.broken out.old ≡ false }
-    ensures ok { IfOk result (λ answered. (guest : Guest) (plan : ExplorePlan) → IsReason guest plan why → (text : List ℕ) × IsStopped guest plan answered text × Appends (O.written out.old) (O.written out.new) text) }
-    ensures fails { IfErr result (λ e. (guest : Guest) (plan : ExplorePlan) → IsReason guest plan why → StopsPrinting e guest plan (writer_of (O.written out.old) (O.written out.new) (O.broken out.new))) }
+    ensures ok { IfOk result (λ answered. (guest : Guest) (plan : ExplorePlan) → IsStopReason guest plan why → (text : List ℕ) × IsStopped guest plan answered text × Appends (O.written out.old) (O.written out.new) text) }
+    ensures fails { IfErr result (λ e. (guest : Guest) (plan : ExplorePlan) → IsStopReason guest plan why → StopsPrinting e guest plan (writer_of (O.written out.old) (O.written out.new) (O.broken out.new))) }
 {
     let (text, answered) = stopped_text(alloc, why)?;
     write_all(out, text.as_slice())?;
@@ -90,8 +90,8 @@ fn show_image<W: Observer, O: Sink>(
     out: &mut O,
 ) -> Result<ExitStatus, ExploreFault>
     requires { O.broken out.old ≡ false }
-    ensures ok { IfOk result (λ answered. Answers bytes.now plan.now answered (writer_of (O.written out.old) (O.written out.new) (O.broken out.new))) }
-    ensures fails { IfErr result (λ e. HasNone e bytes.now plan.now (writer_of (O.written out.old) (O.written out.new) (O.broken out.new))) }
+    ensures ok { IfOk result (λ answered. TellsSearch bytes.now plan.now answered (writer_of (O.written out.old) (O.written out.new) (O.broken out.new))) }
+    ensures fails { IfErr result (λ e. ToldNothing e bytes.now plan.now (writer_of (O.written out.old) (O.written out.new) (O.broken out.new))) }
 {
     let image = match read_image(alloc, bytes) {
         Ok(image) => image,
@@ -117,9 +117,9 @@ pub fn explore_run<W: Observer, O: Sink, E: Sink>(
 ) -> ExitStatus
     requires writes { O.broken out.old ≡ false }
     requires reports { E.broken faults.old ≡ false }
-    ensures done { (Answers bytes.now plan.now result (writer_of (O.written out.old) (O.written out.new) (O.broken out.new)) × (faults.new ≡ faults.old))
-        ⊎ ((e : ExploreFault) × (result ≡ fault_status e) × HasNone e bytes.now plan.now (writer_of (O.written out.old) (O.written out.new) (O.broken out.new))
-        × Reports (writer_of (E.written faults.old) (E.written faults.new) (E.broken faults.new)) (fault_text (fault_words e))) }
+    ensures done { (TellsSearch bytes.now plan.now result (writer_of (O.written out.old) (O.written out.new) (O.broken out.new)) × (faults.new ≡ faults.old))
+        ⊎ ((e : ExploreFault) × (result ≡ explore_fault_status e) × ToldNothing e bytes.now plan.now (writer_of (O.written out.old) (O.written out.new) (O.broken out.new))
+        × Reports (writer_of (E.written faults.old) (E.written faults.new) (E.broken faults.new)) (fault_text (explore_fault_words e))) }
 {
     match show_image(alloc, bytes, plan, observer, out) {
         Ok(answered) => answered,

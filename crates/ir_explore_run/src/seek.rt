@@ -5,7 +5,7 @@ ghost use Rattle.ir_chaos.specs.Conditions.{as_condition};
 ghost use Rattle.ir_explore.specs.declared.search.Ended.TheVariants.{Covered};
 ghost use Rattle.ir_thread.specs.State.{IsAllowed};
 ghost use Rattle.ir_explore_run.specs.Conditions.{IsFirst};
-ghost use Rattle.ir_explore_run.specs.Texts.{IsReason, AreKnown, known_of};
+ghost use Rattle.ir_explore_run.specs.Texts.{IsStopReason, AreKnown, known_of};
 ghost use Rattle.ir_explore_run.specs.Until.{IsSought};
 
 use crate::conditions::first_fulfilling;
@@ -38,7 +38,7 @@ fn search<'a, W: Observer>(
     requires { IsAllowed plan.now.explore.profile image.now }
     ensures known { IfOk result (λ s. AreKnown image.now (record plan.now.explore { switches = switches }) (known_of s.explored)) }
     ensures first { IfOk result (λ s. IsFirst image.now (map as_condition plan.now.conditions.now) s.explored.states.graph.flats.items s.explored.outcomes.items s.first) }
-    ensures refused { IfErr result (λ why. IsReason image.now plan.now.explore why) }
+    ensures refused { IfErr result (λ why. IsStopReason image.now plan.now.explore why) }
 {
     let explore = plan.explore.within(switches);
     let explored = known(alloc, image, &explore, plan.observer)?;
@@ -80,7 +80,7 @@ pub fn seek<'a, W: Observer>(
 ) -> Result<Sought<'a>, Stop>
     requires { IsAllowed plan.now.explore.profile image.now }
     ensures sought { IfOk result (λ s. IsSought image.now plan.now.explore (map as_condition plan.now.conditions.now) (known_of s.explored) s.first) }
-    ensures refused { IfErr result (λ why. IsReason image.now plan.now.explore why) }
+    ensures refused { IfErr result (λ why. IsStopReason image.now plan.now.explore why) }
 {
     let most = plan.explore.most();
     let mut switches = FIRST.min(most);

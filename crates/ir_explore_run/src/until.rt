@@ -6,15 +6,15 @@ ghost use Rattle.ir_chaos.specs.Conditions.{as_condition};
 ghost use Rattle.ir_files.specs.Outputs.{output_writer_of, TookEach};
 ghost use Rattle.ir_files.specs.Writers.{Writer, Took, writer_of, Reports, fault_text};
 ghost use Rattle.ir_record_run.specs.Faults as recorded;
-ghost use Rattle.ir_record_run.specs.Faults.{Refuses, Stops, IsReported, unwritten_of};
-ghost use Rattle.ir_record_run.specs.Recording.{lines_of};
+ghost use Rattle.ir_record_run.specs.Faults.{RefusesRecord, StopsRecord, IsReported, unwritten_of};
+ghost use Rattle.ir_record_run.specs.Recording.{recording_lines};
 ghost use Rattle.ir_record_run.specs.declared.record_fault.RecordFault.{RecordFault};
 ghost use Rattle.ir_image.specs.Guest.{guest_at};
 ghost use Rattle.ir_thread.specs.State.{IsAllowed};
 ghost use Rattle.ir_trace.specs.Encoding.{encoding};
-ghost use Rattle.ir_explore_run.specs.Faults.{HasNoGuest, fault_status, fault_words};
+ghost use Rattle.ir_explore_run.specs.Faults.{HasNoGuest, explore_fault_status, explore_fault_words};
 ghost use Rattle.ir_explore_run.specs.Texts.{known_of};
-ghost use Rattle.ir_explore_run.specs.Until.{recording, found_bytes, IsSought, IsUntilText, IsUntil, IsFinding, HasNoAnswer};
+ghost use Rattle.ir_explore_run.specs.Until.{recording, found_bytes, IsSought, IsUntilText, IsUntil, IsOutcomeFinding, HasNoAnswer};
 ghost use Rattle.ir_explore_run.specs.declared.fault.ExploreFault.{ExploreFault};
 ghost use Rattle.ir_explore_run.specs.Plan.{ExplorePlan};
 
@@ -47,7 +47,7 @@ fn recording<'a>(plan: &ExplorePlan<'a>, list: Option<&'a str>) -> RecordPlan<'a
 
 // Why a guest isn't explored, by why it isn't recorded.
 fn refusal_of(why: RecordFault) -> ExploreFault
-    ensures { (image : List ℕ) (plan : ExplorePlan) (w : Writer) → Refuses why image (recording plan None) → Took w [] → HasNoGuest result image plan w }
+    ensures { (image : List ℕ) (plan : ExplorePlan) (w : Writer) → RefusesRecord why image (recording plan None) → Took w [] → HasNoGuest result image plan w }
 {
     match why {
         RecordFault::Image(why) => ExploreFault::Image(why),
@@ -178,24 +178,24 @@ where
     requires reports { E.broken faults.old ≡ false }
     // The outcomes up to the first that fulfils each condition were written, and of the run that is told of that one its trace, what its threads
     // printed, and their lines. No fault is reported.
-    ensures found { IfOk result (λ recorded. (text list : List ℕ) × (printed : List (List ℕ)) × IsFinding plan.now.image.now plan.now.explore (map as_condition plan.now.conditions.now) list text recorded printed
+    ensures found { IfOk result (λ recorded. (text list : List ℕ) × (printed : List (List ℕ)) × IsOutcomeFinding plan.now.image.now plan.now.explore (map as_condition plan.now.conditions.now) list text recorded printed
         × Appends (W.written files.old.trace) (W.written files.new.trace) (encoding recorded)
         × TookEach (output_writer_of (P.taken files.old.outputs) (P.taken files.new.outputs) (P.broken files.new.outputs)) printed
-        × Appends (O.written out.old) (O.written out.new) (text ++ lines_of recorded)) }
+        × Appends (O.written out.old) (O.written out.new) (text ++ recording_lines recorded)) }
     ensures whole { OnOk result (W.whole files.new.trace ≡ true) }
     ensures quiet { OnOk result (faults.new ≡ faults.old) }
     // Else there is none, which is written and nothing else; or nothing is, or that failed; or what was found is told, and its recording stopped.
     ensures stopped { IfErr result (λ status. ((files.new.trace ≡ files.old.trace) × (files.new.outputs ≡ files.old.outputs) × (faults.new ≡ faults.old)
         × ((text : List ℕ) × IsUntil plan.now.image.now plan.now.explore (map as_condition plan.now.conditions.now) (Err status) text × Appends (O.written out.old) (O.written out.new) text))
-        ⊎ (((e : ExploreFault) × (status ≡ fault_status e) × (files.new.trace ≡ files.old.trace) × (files.new.outputs ≡ files.old.outputs)
+        ⊎ (((e : ExploreFault) × (status ≡ explore_fault_status e) × (files.new.trace ≡ files.old.trace) × (files.new.outputs ≡ files.old.outputs)
         × HasNoAnswer e plan.now.image.now plan.now.explore (map as_condition plan.now.conditions.now) (writer_of (O.written out.old) (O.written out.new) (O.broken out.new))
-        × Reports (writer_of (E.written faults.old) (E.written faults.new) (E.broken faults.new)) (fault_text (fault_words e)))
+        × Reports (writer_of (E.written faults.old) (E.written faults.new) (E.broken faults.new)) (fault_text (explore_fault_words e)))
         ⊎ ((e : RecordFault) × (status ≡ recorded.fault_status e) × (text list : List ℕ) × (said : O)
         × IsUntil plan.now.image.now plan.now.explore (map as_condition plan.now.conditions.now) (Ok list) text
         × Appends (O.written out.old) (O.written said) text
         × IsReported e plan.now.image.now (recording plan.now.explore (Some list)) (unwritten_of (W.called files.new.trace) (W.cause files.new.trace)) (unwritten_of (P.called files.new.outputs) (P.cause files.new.outputs))
         (writer_of (E.written faults.old) (E.written faults.new) (E.broken faults.new))
-        × Stops e plan.now.image.now (recording plan.now.explore (Some list))
+        × StopsRecord e plan.now.image.now (recording plan.now.explore (Some list))
         (writer_of (W.written files.old.trace) (W.written files.new.trace) (W.broken files.new.trace))
         (output_writer_of (P.taken files.old.outputs) (P.taken files.new.outputs) (P.broken files.new.outputs))
         (writer_of (O.written said) (O.written out.new) (O.broken out.new))

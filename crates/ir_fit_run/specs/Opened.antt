@@ -44,24 +44,24 @@ pub record IsFit (image trace : List ℕ) (f : FittedTrace) : Type 0 where
   pub run : HasRun f
 
 -- why they don't fit
-abbrev pub IsRefusedFor : List ℕ → List ℕ → Refusal → Type 0
-IsRefusedFor image trace (refusal.NoImage fault) = IsNoImage image fault
-IsRefusedFor image trace (refusal.NoTrace fault) = IsNoTrace image trace fault
-IsRefusedFor image trace (refusal.NoRun verdict) = IsNoRun image trace verdict
+abbrev pub IsUnfitFor : List ℕ → List ℕ → Refusal → Type 0
+IsUnfitFor image trace (refusal.NoImage fault) = IsNoImage image fault
+IsUnfitFor image trace (refusal.NoTrace fault) = IsNoTrace image trace fault
+IsUnfitFor image trace (refusal.NoRun verdict) = IsNoRun image trace verdict
 
 -- what they are
-abbrev pub IsOpened : List ℕ → List ℕ → Opened → Type 0
-IsOpened image trace (opened.Fits f) = IsFit image trace f
-IsOpened image trace (opened.Refused why) = IsRefusedFor image trace why
+abbrev pub IsFitOpened : List ℕ → List ℕ → Opened → Type 0
+IsFitOpened image trace (opened.Fits f) = IsFit image trace f
+IsFitOpened image trace (opened.Refused why) = IsUnfitFor image trace why
 
 -- the text that says why they don't fit
-abbrev pub refusal_text : Refusal → List ℕ
-refusal_text (refusal.NoImage fault) = codes "image refused " ++ decimal fault ++ codes "\n"
-refusal_text (refusal.NoTrace fault) = codes "trace refused " ++ decimal fault ++ codes "\n"
-refusal_text (refusal.NoRun verdict) = verdict_text verdict
+abbrev pub unfit_text : Refusal → List ℕ
+unfit_text (refusal.NoImage fault) = codes "image refused " ++ decimal fault ++ codes "\n"
+unfit_text (refusal.NoTrace fault) = codes "trace refused " ++ decimal fault ++ codes "\n"
+unfit_text (refusal.NoRun verdict) = verdict_text verdict
 
 -- and the exit status
-abbrev pub refusal_status : Refusal → ExitStatus
-refusal_status (refusal.NoImage fault) = status.Refused
-refusal_status (refusal.NoTrace fault) = status.Refused
-refusal_status (refusal.NoRun verdict) = status.NotFit
+abbrev pub unfit_status : Refusal → ExitStatus
+unfit_status (refusal.NoImage fault) = status.Refused
+unfit_status (refusal.NoTrace fault) = status.Refused
+unfit_status (refusal.NoRun verdict) = status.NotFit

@@ -7,7 +7,7 @@ ghost use Rattle.ir_image.specs.Guest.{guest_at};
 ghost use Rattle.ir_trace.specs.Recorded.{recorded_at};
 ghost use Rattle.ir_files.specs.Writers.{writer_of};
 ghost use Rattle.ir_past.specs.Answers.{Stops};
-ghost use Rattle.ir_fit_run.specs.Opened.{IsOpened, refusal_text, refusal_status};
+ghost use Rattle.ir_fit_run.specs.Opened.{IsFitOpened, unfit_text, unfit_status};
 
 use crate::opened::{Opened, Refusal};
 use ir_files::ExitStatus;
@@ -22,7 +22,7 @@ use std::alloc::{AllocError, Global};
 
 // What a guest and a trace are.
 fn open_both(alloc: Global, image: Image, trace: Trace) -> Result<Opened, AllocError>
-    ensures { IfOk result (λ o. (i t : List ℕ) → guest_at i ≡ Ok image → recorded_at t ≡ Ok trace → IsOpened i t o) }
+    ensures { IfOk result (λ o. (i t : List ℕ) → guest_at i ≡ Ok image → recorded_at t ≡ Ok trace → IsFitOpened i t o) }
 {
     match fit(alloc, image, trace, &OpenGate) {
         Ok(fitted) => {
@@ -36,7 +36,7 @@ fn open_both(alloc: Global, image: Image, trace: Trace) -> Result<Opened, AllocE
 
 // What a guest and the bytes of a trace are.
 fn open_with(alloc: Global, image: Image, trace: &[u8]) -> Result<Opened, AllocError>
-    ensures { IfOk result (λ o. (i : List ℕ) → guest_at i ≡ Ok image → IsOpened i trace.now o) }
+    ensures { IfOk result (λ o. (i : List ℕ) → guest_at i ≡ Ok image → IsFitOpened i trace.now o) }
 {
     match read_trace(alloc, trace) {
         Ok(trace) => open_both(alloc, image, trace),
@@ -53,7 +53,7 @@ fn open_with(alloc: Global, image: Image, trace: &[u8]) -> Result<Opened, AllocE
 /// # Errors
 /// Out of memory.
 pub fn open_fit(alloc: Global, image: &[u8], trace: &[u8]) -> Result<Opened, AllocError>
-    ensures { IfOk result (IsOpened image.now trace.now) }
+    ensures { IfOk result (IsFitOpened image.now trace.now) }
 {
     match read_image(alloc, image) {
         Ok(image) => open_with(alloc, image, trace),
@@ -66,7 +66,7 @@ pub fn open_fit(alloc: Global, image: &[u8], trace: &[u8]) -> Result<Opened, All
 
 // Writes the text that says why bytes don't fit.
 fn write_refusal<O: Sink>(why: &Refusal, out: &mut O) -> Result<(), DeviceErr>
-    ensures { WritesText O.written O.broken out.old out.new (refusal_text why.now) result }
+    ensures { WritesText O.written O.broken out.old out.new (unfit_text why.now) result }
 {
     match why {
         Refusal::NoImage(fault) => write_all(
@@ -87,10 +87,10 @@ fn write_refusal<O: Sink>(why: &Refusal, out: &mut O) -> Result<(), DeviceErr>
 /// The writer failed; then a prefix of the text was written.
 pub fn refuse<O: Sink>(why: &Refusal, out: &mut O) -> Result<ExitStatus, PastErr>
     requires { O.broken out.old ≡ false }
-    ensures status { IfOk result (λ status. status ≡ refusal_status why.now) }
-    ensures ok { OnOk result (Appends (O.written out.old) (O.written out.new) (refusal_text why.now)) }
+    ensures status { IfOk result (λ status. status ≡ unfit_status why.now) }
+    ensures ok { OnOk result (Appends (O.written out.old) (O.written out.new) (unfit_text why.now)) }
     ensures works { OnOk result (O.broken out.new ≡ false) }
-    ensures fails { IfErr result (λ e. Stops e (writer_of (O.written out.old) (O.written out.new) (O.broken out.new)) (refusal_text why.now)) }
+    ensures fails { IfErr result (λ e. Stops e (writer_of (O.written out.old) (O.written out.new) (O.broken out.new)) (unfit_text why.now)) }
 {
     write_refusal(why, out)?;
     match why {

@@ -2,7 +2,7 @@
 use Rattle.std.proofs.Common.{◌≡◌, ℕ, zero, suc, List, [], ◌∷◌, Some, refl, inl, inr, ap, ◌∙◌}
 use Rattle.ir_thread.specs.Alone.{AllSuit, after_replies}
 use Rattle.ir_thread.specs.State.{ask_of, shared_ask, reply_of, thread_machine}
-use Rattle.ir_thread.specs.Permitted.{Suits}
+use Rattle.ir_thread.specs.Permitted.{ReplySuits}
 use Rattle.ir_runs.specs.Machine.{act_of}
 use Rattle.ir_thread.specs.State as thread
 use Rattle.ir_thread.specs.declared.ask.Ask.{Ask}
@@ -11,7 +11,7 @@ use Rattle.ir_thread.proofs.CallerLemmas.{lone_run_of_reply_values_is_after_repl
 use Rattle.ir_flat.specs.Splice.{replies_to, AloneIsLone}
 use Rattle.ir_flat.specs.Flat.{MayReply, MayRun, alone_after}
 
-allowed_reply_suits : (code : List ℕ) (q : Ask) (v : ℕ) → MayReply (thread_machine code) (act_of (shared_ask q) v) v → Suits q (reply_of q v)
+allowed_reply_suits : (code : List ℕ) (q : Ask) (v : ℕ) → MayReply (thread_machine code) (act_of (shared_ask q) v) v → ReplySuits q (reply_of q v)
 allowed_reply_suits code Private v may = refl
 allowed_reply_suits code (Env kind) v may = tt
 allowed_reply_suits code (Enter object access) v may = refl

@@ -7,7 +7,7 @@ ghost use Rattle.ir_image.specs.Guest.{most_object_words, object_count};
 ghost use Rattle.ir_object.specs.Standing.{Admitted, CanLeave};
 ghost use Rattle.ir_object.specs.Word.{IsFields, entered, left_by};
 ghost use Rattle.ir_thread.specs.State.{ask_of, after_reply, most_budget, is_result};
-ghost use Rattle.ir_thread.specs.Permitted.{run_of, Permits, Suits};
+ghost use Rattle.ir_thread.specs.Permitted.{run_of, Permits, ReplySuits};
 ghost use Rattle.ir_thread.specs.Private.{NoInstruction, UnmarkedSteps, StopsUnmarked};
 ghost use Rattle.ir_thread.specs.declared.ask.Ask.TheVariants.{Private, Try};
 ghost use Rattle.std.specs.Prelude.{ℕ, ◌≡◌, ◌<◌, ◌≤◌, ◌≢◌, ◌↔◌, true, length, slice_index, slice_set, IsTrue, IfOk};
@@ -124,7 +124,7 @@ impl<'a> Parts<'a> {
     fn take(&mut self, t: usize, asked: Ask, reply: Reply)
         requires thread { t < length self.old.threads }
         requires asked { asked ≡ ask_of self.old.code (thread_of self.old t) }
-        requires suits { Suits asked reply }
+        requires suits { ReplySuits asked reply }
         ensures { self.new ≡ answered self.old t asked reply }
     {
         self.threads[t].take_asked(self.code, asked, reply);

@@ -18,7 +18,7 @@ use Rattle.ir_thread.specs.declared.end.End.TheVariants as end
 use Rattle.ir_seen.specs.Seen.{Same, view}
 use Rattle.ir_freeze.specs.Basis.{Basis, IsBasis}
 use Rattle.ir_freeze.specs.Frozen.{word, held_byte, end_bytes, changes, is_over, fixed_bytes, going_bytes, frozen}
-use Rattle.ir_freeze.specs.Twins.{AreTwins, IsBounded, TellsApart}
+use Rattle.ir_freeze.specs.Twins.{AreTwins, KeepsBounds, TellsApart}
 use Rattle.ir_freeze.proofs.Kept.{kept_registers_fit, kept_registers_count, kept_registers_equal_if_agree, agree_if_kept_registers_equal}
 use Rattle.ir_freeze.proofs.Apart.{append_parts_equal_if_first_lengths_equal, word_bytes_injective, flat_map_word_is_injective_on_equal_lengths, flat_map_word_lengths_equal_if_lengths_equal, held_bytes_injective, changes_injective}
 use Rattle.ir_freeze.proofs.Back.{length_of_end_bytes_is_five, length_of_held_bytes, length_of_fixed_bytes_is_132_plus_held_and_mark}
@@ -117,7 +117,7 @@ record EqualParts (basis : Basis) (x y : ThreadState) (m n : List ℕ) : Type 0 
   held : x.held ≡ y.held
   mark : m ≡ n
 
-parts_equal_if_fixed_bytes_equal : (basis : Basis) (x y : ThreadState) → AreTwins x y → IsBounded x → IsBounded y → (m n : List ℕ) → length m ≡ length n
+parts_equal_if_fixed_bytes_equal : (basis : Basis) (x y : ThreadState) → AreTwins x y → KeepsBounds x → KeepsBounds y → (m n : List ℕ) → length m ≡ length n
     → fixed_bytes basis x m ≡ fixed_bytes basis y n → EqualParts basis x y m n
 parts_equal_if_fixed_bytes_equal basis x y twins bx by m n lm e =
     let kx : List ℕ = kept_registers basis.live x.core in
@@ -149,7 +149,7 @@ parts_equal_if_fixed_bytes_equal basis x y twins bx by m n lm e =
         → length ((a ++ b) ++ c) ≡ length ((d ++ e) ++ f)
     three a b c d e f p q r = two (a ++ b) c (d ++ e) f (two a b d e p q) r
 
-dead_differ_if_going_bytes_equal : (basis : Basis) → IsBasis basis → (x y : ThreadState) → AreTwins x y → IsBounded x → IsBounded y → (m n : List ℕ) → length m ≡ length n → x.ended ≡ y.ended
+dead_differ_if_going_bytes_equal : (basis : Basis) → IsBasis basis → (x y : ThreadState) → AreTwins x y → KeepsBounds x → KeepsBounds y → (m n : List ℕ) → length m ≡ length n → x.ended ≡ y.ended
     → going_bytes basis x m ≡ going_bytes basis y n → DifferInDead basis.code (view x) (view y) × (m ≡ n)
 dead_differ_if_going_bytes_equal basis is x y twins bx by m n lm ends e =
     let cx : List ℕ = changes 0 basis.memory x.core.memory in
@@ -188,7 +188,7 @@ dead_differ_if_going_bytes_equal basis is x y twins bx by m n lm ends e =
       p.mark,
     )
 
-same_looks_if_flagged_bytes_equal : (basis : Basis) → IsBasis basis → (x y : ThreadState) → AreTwins x y → IsBounded x → IsBounded y → (m n : List ℕ) → length m ≡ length n → x.ended ≡ y.ended
+same_looks_if_flagged_bytes_equal : (basis : Basis) → IsBasis basis → (x y : ThreadState) → AreTwins x y → KeepsBounds x → KeepsBounds y → (m n : List ℕ) → length m ≡ length n → x.ended ≡ y.ended
     → (a b : Bool) → is_over x ≡ a → is_over y ≡ b
     → cond a (1 ∷ x.output) (0 ∷ going_bytes basis x m) ≡ cond b (1 ∷ y.output) (0 ∷ going_bytes basis y n)
     → Same basis.code (view x, m) (view y, n)

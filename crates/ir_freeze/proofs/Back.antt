@@ -13,7 +13,7 @@ use Rattle.ir_thread.specs.State.{ThreadState}
 use Rattle.ir_thread.specs.declared.end.End.{End}
 use Rattle.ir_freeze.specs.Basis.{Basis, IsBasis}
 use Rattle.ir_freeze.specs.Frozen.{changes, word, held_byte, end_bytes, is_over, fixed_bytes, going_bytes, frozen}
-use Rattle.ir_freeze.specs.Twins.{IsBounded}
+use Rattle.ir_freeze.specs.Twins.{KeepsBounds}
 use Rattle.ir_freeze.proofs.Apart.{change_is_empty_or_written}
 use Rattle.ir_freeze.proofs.Kept.{kept_registers_count}
 use Rattle.ir_freeze.specs.Thawed.{changed, before_changes, thawed}
@@ -145,7 +145,7 @@ length_of_bytes_before_changes basis s mark =
     length_of_append_with_flag_is_sum_plus_one (end_bytes s.ended) (fixed_bytes basis s mark) (word (length s.output)) s.output
     ∙ (let e = length_of_end_bytes_is_five s.ended in let f = length_of_fixed_bytes_is_132_plus_held_and_mark basis s mark in omega (arith, e, f))
 
-pub thawed_of_frozen_is_thread_unless_over : (basis : Basis) → IsBasis basis → (s : ThreadState) → IsBounded s → (mark : List ℕ) → is_over s ≡ false
+pub thawed_of_frozen_is_thread_unless_over : (basis : Basis) → IsBasis basis → (s : ThreadState) → KeepsBounds s → (mark : List ℕ) → is_over s ≡ false
     → thawed basis.memory (frame_of s) (before_changes s (length mark)) (frozen basis s mark) ≡ s
 thawed_of_frozen_is_thread_unless_over basis is s bounded mark goes =
     let front : List ℕ = end_bytes s.ended ++ 0 ∷ ((fixed_bytes basis s mark ++ word (length s.output)) ++ s.output) in

@@ -18,19 +18,19 @@ pub record AreTwins (x y : ThreadState) : Type 0 where
   pub objects : length x.held ≡ length y.held
 
 -- what each thread keeps
-pub record IsBounded (s : ThreadState) : Type 0 where
+pub record KeepsBounds (s : ThreadState) : Type 0 where
   pub core : IsCore s.core
   pub output : length s.output ≤ most_output
   pub code : MatchOption s.ended ⊤ (λ e. IsWord (end_code e))
 
 -- two moments of a thread, beside marks of one length, have equal bytes exactly where they look the same
 abbrev pub TellsApart : Type 0
-TellsApart = (basis : Basis) → IsBasis basis → (x y : ThreadState) → AreTwins x y → IsBounded x → IsBounded y → (m n : List ℕ) → length m ≡ length n
+TellsApart = (basis : Basis) → IsBasis basis → (x y : ThreadState) → AreTwins x y → KeepsBounds x → KeepsBounds y → (m n : List ℕ) → length m ≡ length n
     → (frozen basis x m ≡ frozen basis y n) ↔ Same basis.code (view x, m) (view y, n)
 
 -- a thread that isn't over comes back from its bytes and its frame as it was
 abbrev pub ComesBack : Type 0
-ComesBack = (basis : Basis) → IsBasis basis → (s : ThreadState) → IsBounded s → (mark : List ℕ) → is_over s ≡ false
+ComesBack = (basis : Basis) → IsBasis basis → (s : ThreadState) → KeepsBounds s → (mark : List ℕ) → is_over s ≡ false
     → thawed basis.memory (frame_of s) (before_changes s (length mark)) (frozen basis s mark) ≡ s
 
 -- a thread comes back from its frame and what is changed in its private memory, whether it is over or not

@@ -13,8 +13,8 @@ use Rattle.ir_packet.specs.Stream.{TooLong}
 use Rattle.ir_packet.specs.declared.reply.Reply.TheVariants as reply
 use Rattle.ir_packet.specs.declared.request.Request.{Request}
 use Rattle.ir_gdb.specs.Stub.{Stub}
-use Rattle.ir_gdb.specs.Replies.{CarriesOut, Lacks, Replies}
-use Rattle.ir_gdb.specs.Connection.{Link, sent, sign, answer_text, Responds, AnswersLine, AnswersBy, AnswersRequest, AnswersPacket, AnswersNew, Sent, SentInPart}
+use Rattle.ir_gdb.specs.Replies.{RepliesIfMemory, Lacks, RepliesTo}
+use Rattle.ir_gdb.specs.Connection.{Link, sent, sign, answer_text, Responds, AnswersLine, RepliesToItem, AnswersRequest, AnswersPacket, AnswersNew, Sent, SentInPart}
 
 pub on_ok_of_implied : {X E : Type 0} (r : Result X E) (P Q : Type 0) → (P → Q) → OnOk r P → OnOk r Q
 on_ok_of_implied (Ok x) P Q go p = go p
@@ -31,21 +31,21 @@ on_err_if_holds (Err e) P p = p
 -- ---- requests
 
 pub replies_if_carried_out : (s : Stub) (asked : Request) (next : Stub) (old new : List ℕ)
-    → ((text : List ℕ) × EachRun s.desk.fitted (λ run. CarriesOut run s asked text next) × (new ≡ old ++ text)) → old ≡ []
-    → Replies s asked new next
+    → ((text : List ℕ) × EachRun s.desk.fitted (λ run. RepliesIfMemory run s asked text next) × (new ≡ old ++ text)) → old ≡ []
+    → RepliesTo s asked new next
 replies_if_carried_out s asked next old new r none =
-    subst (λ (text : List ℕ). Replies s asked text next) (sym (r.2 ∙ ap (λ (xs : List ℕ). xs ++ r.0) none)) (inl r.1)
+    subst (λ (text : List ℕ). RepliesTo s asked text next) (sym (r.2 ∙ ap (λ (xs : List ℕ). xs ++ r.0) none)) (inl r.1)
 
-pub replies_no_memory_if_lacks : (s : Stub) (asked : Request) (next : Stub) → Lacks s asked next → Replies s asked (reply_text reply.NoMemory) next
+pub replies_no_memory_if_lacks : (s : Stub) (asked : Request) (next : Stub) → Lacks s asked next → RepliesTo s asked (reply_text reply.NoMemory) next
 replies_no_memory_if_lacks s asked next lacks = inr (lacks, refl)
 
-request_is_answered_by_reply_packet : (l : Link) (asked : Request) (s : Stub) (payload : List ℕ) (mid next : Link) → Replies l.stub asked payload s
-    → mid ≡ record l { stub = s } → next ≡ sent mid mid.stub (packet_of payload) → AnswersBy l asked (packet_of payload) next
+request_is_answered_by_reply_packet : (l : Link) (asked : Request) (s : Stub) (payload : List ℕ) (mid next : Link) → RepliesTo l.stub asked payload s
+    → mid ≡ record l { stub = s } → next ≡ sent mid mid.stub (packet_of payload) → RepliesToItem l asked (packet_of payload) next
 request_is_answered_by_reply_packet l asked s payload mid next replies is after = (payload, s, replies, refl, after ∙ ap (λ (m : Link). sent m m.stub (packet_of payload)) is)
 
 pub sent_reply_packet : (l : Link) (asked : Request) (s : Stub) (payload : List ℕ) (mid next : Link) (w w' : Option (List ℕ))
-    → Replies l.stub asked payload s → mid ≡ record l { stub = s } → next ≡ sent mid mid.stub (packet_of payload) → Appends w w' (packet_of payload)
-    → Sent (AnswersBy l asked) next w w'
+    → RepliesTo l.stub asked payload s → mid ≡ record l { stub = s } → next ≡ sent mid mid.stub (packet_of payload) → Appends w w' (packet_of payload)
+    → Sent (RepliesToItem l asked) next w w'
 sent_reply_packet l asked s payload mid next w w' replies is after grown = record {
   text = packet_of payload;
   is = request_is_answered_by_reply_packet l asked s payload mid next replies is after;
@@ -53,8 +53,8 @@ sent_reply_packet l asked s payload mid next w w' replies is after grown = recor
 }
 
 pub sent_part_of_reply_packet : (l : Link) (asked : Request) (s : Stub) (payload : List ℕ) (mid next : Link) (w w' : Option (List ℕ))
-    → Replies l.stub asked payload s → mid ≡ record l { stub = s } → next ≡ sent mid mid.stub (packet_of payload) → AppendsPrefix w w' (packet_of payload)
-    → SentInPart (AnswersBy l asked) [] w w'
+    → RepliesTo l.stub asked payload s → mid ≡ record l { stub = s } → next ≡ sent mid mid.stub (packet_of payload) → AppendsPrefix w w' (packet_of payload)
+    → SentInPart (RepliesToItem l asked) [] w w'
 sent_part_of_reply_packet l asked s payload mid next w w' replies is after grown = record {
   text = packet_of payload;
   is = inl (next, request_is_answered_by_reply_packet l asked s payload mid next replies is after);

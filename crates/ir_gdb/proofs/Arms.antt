@@ -18,13 +18,13 @@ use Rattle.ir_packet.specs.declared.request.Request.{Request}
 use Rattle.ir_packet.specs.declared.request.Request.TheVariants as request
 use Rattle.ir_debug.specs.Machine.{quits}
 use Rattle.ir_gdb.proofs.Answering.{sent_answer_to_packet, sent_part_of_answer_to_packet}
-use Rattle.ir_gdb.specs.Connection.{Link, sent, resent, sign, unacknowledged, is_copy, is_packet, before_new_reply, before_reply_by, before_reply, AnswersLine, AnswersBy, AnswersRequest, AnswersPacket, AnswersNew, AnswersItem, AnswersItemBy, ends_request, ends_by, ends, Sent, SentInPart}
+use Rattle.ir_gdb.specs.Connection.{Link, sent, resent, sign, unacknowledged, is_copy, is_packet, before_new_reply, before_reply_by, before_reply, AnswersLine, RepliesToItem, AnswersRequest, AnswersPacket, AnswersNew, AnswersItem, AnswersItemBy, ends_request, request_ends, item_ends, Sent, SentInPart}
 
 -- ---- requests
 
 -- what is written for the request is its reply
 abbrev pub IsReplied : Request → Type 0
-IsReplied asked = (l : Link) (payload text : List ℕ) (next : Link) → AnswersBy l asked text next → AnswersRequest l payload asked text next
+IsReplied asked = (l : Link) (payload text : List ℕ) (next : Link) → RepliesToItem l asked text next → AnswersRequest l payload asked text next
 
 is_replied_unless_kill_console_or_no_acknowledgements : (asked : Request) → (asked ≡ request.Kill → ⊥) → (asked ≡ request.Console → ⊥) → (asked ≡ request.NoAcknowledgements → ⊥) → IsReplied asked
 is_replied_unless_kill_console_or_no_acknowledgements request.Supported kill console quiet = λ l payload text next is. is
@@ -91,28 +91,28 @@ request_ends_no_connection_unless_kill_or_detach request.Malformed kill detach =
 request_ends_no_connection_unless_kill_or_detach request.Unknown kill detach = refl
 
 replied_request_is_answered_by_its_reply : (l : Link) (payload : List ℕ) (asked : Request) (text : List ℕ) → IsReplied asked
-    → ((next : Link) × AnswersBy l asked text next) ⊎ (text ≡ []) → ((next : Link) × AnswersRequest l payload asked text next) ⊎ (text ≡ [])
+    → ((next : Link) × RepliesToItem l asked text next) ⊎ (text ≡ []) → ((next : Link) × AnswersRequest l payload asked text next) ⊎ (text ≡ [])
 replied_request_is_answered_by_its_reply l payload asked text replies (inl (next, is)) = inl (next, replies l payload text next is)
 replied_request_is_answered_by_its_reply l payload asked text replies (inr none) = inr none
 
 module _ (l : Link) (payload : List ℕ) (asked : Request) (next : Link) (w w' : Option (List ℕ)) where
-  reply_sent : IsReplied asked → Sent (AnswersBy l asked) next w w' → Sent (AnswersRequest l payload asked) next w w'
+  reply_sent : IsReplied asked → Sent (RepliesToItem l asked) next w w' → Sent (AnswersRequest l payload asked) next w w'
   reply_sent replies s = record { text = s.text; is = replies l payload s.text next s.is; grown = s.grown }
 
-  reply_part : IsReplied asked → SentInPart (AnswersBy l asked) [] w w' → SentInPart (AnswersRequest l payload asked) [] w w'
+  reply_part : IsReplied asked → SentInPart (RepliesToItem l asked) [] w w' → SentInPart (AnswersRequest l payload asked) [] w w'
   reply_part replies s = record { text = s.text; is = replied_request_is_answered_by_its_reply l payload asked s.text replies s.is; grown = s.grown }
 
   module _ (kill : asked ≡ request.Kill → ⊥) (console : asked ≡ request.Console → ⊥) (quiet : asked ≡ request.NoAcknowledgements → ⊥) where
-    pub replied_sent : Sent (AnswersBy l asked) next w w' → Sent (AnswersRequest l payload asked) next w w'
+    pub replied_sent : Sent (RepliesToItem l asked) next w w' → Sent (AnswersRequest l payload asked) next w w'
     replied_sent = reply_sent (is_replied_unless_kill_console_or_no_acknowledgements asked kill console quiet)
 
-    pub replied_part : SentInPart (AnswersBy l asked) [] w w' → SentInPart (AnswersRequest l payload asked) [] w w'
+    pub replied_part : SentInPart (RepliesToItem l asked) [] w w' → SentInPart (AnswersRequest l payload asked) [] w w'
     replied_part = reply_part (is_replied_unless_kill_console_or_no_acknowledgements asked kill console quiet)
 
-  pub detach_sent : asked ≡ request.Detach → Sent (AnswersBy l asked) next w w' → Sent (AnswersRequest l payload asked) next w w'
+  pub detach_sent : asked ≡ request.Detach → Sent (RepliesToItem l asked) next w w' → Sent (AnswersRequest l payload asked) next w w'
   detach_sent is = reply_sent (subst IsReplied (sym is) (λ l payload text next a. a))
 
-  pub detach_part : asked ≡ request.Detach → SentInPart (AnswersBy l asked) [] w w' → SentInPart (AnswersRequest l payload asked) [] w w'
+  pub detach_part : asked ≡ request.Detach → SentInPart (RepliesToItem l asked) [] w w' → SentInPart (AnswersRequest l payload asked) [] w w'
   detach_part is = reply_part (subst IsReplied (sym is) (λ l payload text next a. a))
 
   pub console_sent : asked ≡ request.Console → Sent (AnswersLine (quits (console_line payload)) l (console_line payload)) next w w'
@@ -189,8 +189,8 @@ module _ (l : Link) (payload : List ℕ) (f : Found) (next : Link) (w : Option (
       (record { text = []; is = (refl, after); grown = Appends-nil w })
 
 pub ok_flow_of_request_is_flow_of_found_packet : {E : Type 0} (r : Result Flow E) (payload : List ℕ) (f : Found) → f ≡ found.Packet
-    → IfOk r (λ x. x ≡ flow_after (ends_request (request_of payload))) → IfOk r (λ x. x ≡ flow_after (ends_by (item_found f payload)))
-ok_flow_of_request_is_flow_of_found_packet r payload f is p = subst (λ (y : Found). IfOk r (λ x. x ≡ flow_after (ends_by (item_found y payload)))) (sym is) p
+    → IfOk r (λ x. x ≡ flow_after (ends_request (request_of payload))) → IfOk r (λ x. x ≡ flow_after (request_ends (item_found f payload)))
+ok_flow_of_request_is_flow_of_found_packet r payload f is p = subst (λ (y : Found). IfOk r (λ x. x ≡ flow_after (request_ends (item_found y payload)))) (sym is) p
 
 pub ok_flow_of_false_is_flow_of_test_if_test_is_false : {E : Type 0} (r : Result Flow E) (b : Bool) → b ≡ false → IfOk r (λ x. x ≡ flow_after false) → IfOk r (λ x. x ≡ flow_after b)
 ok_flow_of_false_is_flow_of_test_if_test_is_false r b is p = subst (λ (c : Bool). IfOk r (λ x. x ≡ flow_after c)) (sym is) p
@@ -217,14 +217,14 @@ module _ (l : Link) (item : Item) where
       → SentInPart (AnswersItem l item) (before_reply l item) w w'
   new_part w w' new s = subst (λ (b : Bool). SentInPart (AnswersItemBy b l item) (before_reply_by b l item) w w') (sym new) s
 
-pub copied_packet_ends_no_connection : (l : Link) (item : Item) → (is_copy l && is_packet item) ≡ true → ends l item ≡ false
+pub copied_packet_ends_no_connection : (l : Link) (item : Item) → (is_copy l && is_packet item) ≡ true → item_ends l item ≡ false
 copied_packet_ends_no_connection l item both = by_copy (is_copy l) both
   where
-    by_copy : (b : Bool) → (b && is_packet item) ≡ true → (not b && ends_by item) ≡ false
+    by_copy : (b : Bool) → (b && is_packet item) ≡ true → (not b && request_ends item) ≡ false
     by_copy true e = refl
     by_copy false e = absurd cc
 
-item_without_packet_ends_nothing : (item : Item) → is_packet item ≡ false → ends_by item ≡ false
+item_without_packet_ends_nothing : (item : Item) → is_packet item ≡ false → request_ends item ≡ false
 item_without_packet_ends_nothing (stream.Packet payload) e = absurd cc
 item_without_packet_ends_nothing stream.BadSum e = refl
 item_without_packet_ends_nothing stream.TooLong e = refl
@@ -232,12 +232,12 @@ item_without_packet_ends_nothing stream.Interrupt e = refl
 item_without_packet_ends_nothing stream.Acknowledged e = refl
 item_without_packet_ends_nothing stream.Refused e = refl
 
-not_copy_and_ends_by_is_ends_by_unless_copied_packet : (b : Bool) (item : Item) → (b && is_packet item) ≡ false → (not b && ends_by item) ≡ ends_by item
+not_copy_and_ends_by_is_ends_by_unless_copied_packet : (b : Bool) (item : Item) → (b && is_packet item) ≡ false → (not b && request_ends item) ≡ request_ends item
 not_copy_and_ends_by_is_ends_by_unless_copied_packet true item new = sym (item_without_packet_ends_nothing item new)
 not_copy_and_ends_by_is_ends_by_unless_copied_packet false item new = refl
 
 pub ok_flow_of_ends_by_is_flow_of_ends_unless_copy : {E : Type 0} (r : Result Flow E) (l : Link) (item : Item) → (is_copy l && is_packet item) ≡ false
-    → IfOk r (λ x. x ≡ flow_after (ends_by item)) → IfOk r (λ x. x ≡ flow_after (ends l item))
+    → IfOk r (λ x. x ≡ flow_after (request_ends item)) → IfOk r (λ x. x ≡ flow_after (item_ends l item))
 ok_flow_of_ends_by_is_flow_of_ends_unless_copy r l item new p = subst (λ (b : Bool). IfOk r (λ x. x ≡ flow_after b)) (sym (not_copy_and_ends_by_is_ends_by_unless_copied_packet (is_copy l) item new)) p
 
 -- ---- packets, whose request is read first

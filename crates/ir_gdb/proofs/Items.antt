@@ -12,7 +12,7 @@ use Rattle.ir_packet.specs.Reading.{kept, items_found, item_found}
 use Rattle.ir_packet.specs.declared.found.Found.{Found}
 use Rattle.ir_packet.specs.declared.found.Found.TheVariants as found
 use Rattle.ir_packet.proofs.CallerLemmas.{ends_ignores_kept, kept_step_ignores_kept, items_from_of_append}
-use Rattle.ir_gdb.specs.Connection.{Link, AnswersItem, Rest, Answers, ends, Wrote, Sent, SentInPart, before_reply, WroteInPart, LeadsTo}
+use Rattle.ir_gdb.specs.Connection.{Link, AnswersItem, Rest, RepliesToItems, item_ends, Wrote, Sent, SentInPart, before_reply, WroteInPart, LeadsTo}
 
 -- ---- the payload of a packet that is found
 
@@ -51,7 +51,7 @@ single_byte_item_is_no_packet b payload false true three e = absurd cc
 single_byte_item_is_no_packet b payload false false true e = absurd cc
 single_byte_item_is_no_packet b payload false false false e = absurd cc
 
-ended_payload_within_limit : (p : Place) (b : ℕ) (payload : List ℕ) → Packet payload ∷ [] ≡ stream.ends p b → length payload ≤ 4096
+ended_payload_within_limit : (p : Place) (b : ℕ) (payload : List ℕ) → Packet payload ∷ [] ≡ stream.ended_items p b → length payload ≤ 4096
 ended_payload_within_limit Between b payload e = absurd (single_byte_item_is_no_packet b payload (b == 3) (b == 43) (b == 45) e)
 ended_payload_within_limit (Inside raw) b payload e = absurd cc
 ended_payload_within_limit (Summing raw) b payload e = absurd cc
@@ -59,7 +59,7 @@ ended_payload_within_limit (Digit raw a) b payload e = packet_payload_within_lim
     (sym (heads_of_equal_lists_are_equal (Packet payload) (packet_item raw a b) [] [] e))
 
 -- a payload that a reader has found is no longer than the most bytes of a packet
-pub found_payload_within_limit : (f : Found) (p : Place) (b : ℕ) (payload : List ℕ) → items_found (Some f) payload ≡ stream.ends p b → f ≡ found.Packet
+pub found_payload_within_limit : (f : Found) (p : Place) (b : ℕ) (payload : List ℕ) → items_found (Some f) payload ≡ stream.ended_items p b → f ≡ found.Packet
     → length payload ≤ 4096
 found_payload_within_limit found.Packet p b payload e is = ended_payload_within_limit p b payload e
 found_payload_within_limit found.BadSum p b payload e is = absurd cc
@@ -70,8 +70,8 @@ found_payload_within_limit found.Refused p b payload e is = absurd cc
 
 -- ---- answers to items, one list after the other
 
-answers_to_no_items : (l : Link) → Answers l [] false [] l
-unfolding Answers
+answers_to_no_items : (l : Link) → RepliesToItems l [] false [] l
+unfolding RepliesToItems
 answers_to_no_items l = (refl, refl, refl)
 
 rest_of_appended_items_if_not_ended : (b : Bool) (more after : Bool → List ℕ → Link → Type 0) (next : Link) (ended : Bool) (text text' : List ℕ) (mid last : Link)
@@ -83,18 +83,18 @@ rest_of_appended_items_if_not_ended true more after next ended text text' mid la
 rest_of_appended_items_if_not_ended false more after next ended text text' mid last go p = go p
 
 -- none of the first ends the connection
-answers_to_appended_items : (l : Link) (xs ys : List Item) (ended : Bool) (text text' : List ℕ) (mid last : Link) → Answers l xs false text mid
-    → Answers mid ys ended text' last → Answers l (xs ++ ys) ended (text ++ text') last
-unfolding Answers
+answers_to_appended_items : (l : Link) (xs ys : List Item) (ended : Bool) (text text' : List ℕ) (mid last : Link) → RepliesToItems l xs false text mid
+    → RepliesToItems mid ys ended text' last → RepliesToItems l (xs ++ ys) ended (text ++ text') last
+unfolding RepliesToItems
 answers_to_appended_items l [] ys ended text text' mid last a b =
-    subst (λ (m : Link). Answers m ys ended (text ++ text') last) a.2
-    (subst (λ (t : List ℕ). Answers mid ys ended (t ++ text') last) (sym a.1) b)
+    subst (λ (m : Link). RepliesToItems m ys ended (text ++ text') last) a.2
+    (subst (λ (t : List ℕ). RepliesToItems mid ys ended (t ++ text') last) (sym a.1) b)
 answers_to_appended_items l (x ∷ xs) ys ended text text' mid last (first, next, rest, answers, more, is) b = (
   first,
   next,
   rest ++ text',
   answers,
-  rest_of_appended_items_if_not_ended (ends l x) (Answers next xs) (Answers next (xs ++ ys)) next ended rest text' mid last
+  rest_of_appended_items_if_not_ended (item_ends l x) (RepliesToItems next xs) (RepliesToItems next (xs ++ ys)) next ended rest text' mid last
       (λ p. answers_to_appended_items next xs ys ended rest text' mid last p b) more,
   ap (λ (t : List ℕ). t ++ text') is ∙ append_assoc first rest text',
 )
@@ -105,28 +105,28 @@ rest_of_other_items_if_ended true more after next text last go p = p
 rest_of_other_items_if_ended false more after next text last go p = go p
 
 -- behind one that ends the connection nothing counts
-answers_ignore_items_past_ending_item : (l : Link) (xs ys : List Item) (text : List ℕ) (last : Link) → Answers l xs true text last → Answers l (xs ++ ys) true text last
-unfolding Answers
+answers_ignore_items_past_ending_item : (l : Link) (xs ys : List Item) (text : List ℕ) (last : Link) → RepliesToItems l xs true text last → RepliesToItems l (xs ++ ys) true text last
+unfolding RepliesToItems
 answers_ignore_items_past_ending_item l [] ys text last a = absurd cc
 answers_ignore_items_past_ending_item l (x ∷ xs) ys text last (first, next, rest, answers, more, is) = (
   first,
   next,
   rest,
   answers,
-  rest_of_other_items_if_ended (ends l x) (Answers next xs) (Answers next (xs ++ ys)) next rest last (λ p. answers_ignore_items_past_ending_item next xs ys rest last p) more,
+  rest_of_other_items_if_ended (item_ends l x) (RepliesToItems next xs) (RepliesToItems next (xs ++ ys)) next rest last (λ p. answers_ignore_items_past_ending_item next xs ys rest last p) more,
   is,
 )
 
-rest_of_single_item : (b : Bool) (next : Link) → Rest b (Answers next []) next b [] next
-unfolding Answers
+rest_of_single_item : (b : Bool) (next : Link) → Rest b (RepliesToItems next []) next b [] next
+unfolding RepliesToItems
 rest_of_single_item true next = (refl, refl, refl)
 rest_of_single_item false next = (refl, refl, refl)
 
-answers_to_single_item : (l : Link) (x : Item) (b : Bool) (text : List ℕ) (next : Link) → ends l x ≡ b → AnswersItem l x text next
-    → Answers l (x ∷ []) b text next
-unfolding Answers
+answers_to_single_item : (l : Link) (x : Item) (b : Bool) (text : List ℕ) (next : Link) → item_ends l x ≡ b → AnswersItem l x text next
+    → RepliesToItems l (x ∷ []) b text next
+unfolding RepliesToItems
 answers_to_single_item l x b text next is a =
-    (text, next, [], a, subst (λ (c : Bool). Rest c (Answers next []) next b [] next) (sym is) (rest_of_single_item b next), sym (append-nil text))
+    (text, next, [], a, subst (λ (c : Bool). Rest c (RepliesToItems next []) next b [] next) (sym is) (rest_of_single_item b next), sym (append-nil text))
 
 -- ---- after each byte
 
@@ -136,7 +136,7 @@ pub record AfterBytes (l0 : Link) (input w0 left written : Option (List ℕ)) (l
   pub count : length bytes ≡ n
   pub parts : Consumes input left bytes
   pub text : List ℕ
-  pub answers : Answers l0 (items bytes) false text l
+  pub answers : RepliesToItems l0 (items bytes) false text l
   pub grown : Appends w0 written text
   pub stands : place ≡ kept (place_after Between bytes)
 
@@ -152,9 +152,9 @@ after_bytes_at_start l input w0 place begins = record {
   stands = begins;
 }
 
-items_from_single_byte_are_ends : (p : Place) (b : ℕ) → items_from p (b ∷ []) ≡ stream.ends p b
+items_from_single_byte_are_ends : (p : Place) (b : ℕ) → items_from p (b ∷ []) ≡ stream.ended_items p b
 unfolding items_from
-items_from_single_byte_are_ends p b = append-nil (stream.ends p b)
+items_from_single_byte_are_ends p b = append-nil (stream.ended_items p b)
 
 place_after_pushed_byte_is_step_of_place : (p : Place) (bytes : List ℕ) (b : ℕ) → place_after p (bytes ++ b ∷ []) ≡ step (place_after p bytes) b
 unfolding place_after
@@ -162,11 +162,11 @@ place_after_pushed_byte_is_step_of_place p [] b = refl
 place_after_pushed_byte_is_step_of_place p (x ∷ bytes) b = place_after_pushed_byte_is_step_of_place (step p x) bytes b
 
 -- what a byte ends is found, whatever of the packet is kept
-items_after_pushed_byte_add_its_ended_items : (bytes : List ℕ) (b : ℕ) (place : Place) (ended : List Item) → place ≡ kept (place_after Between bytes) → ended ≡ stream.ends place b
+items_after_pushed_byte_add_its_ended_items : (bytes : List ℕ) (b : ℕ) (place : Place) (ended : List Item) → place ≡ kept (place_after Between bytes) → ended ≡ stream.ended_items place b
     → items (bytes ++ b ∷ []) ≡ items bytes ++ ended
 items_after_pushed_byte_add_its_ended_items bytes b place ended is finds = items_from_of_append Between bytes (b ∷ [])
     ∙ ap (λ (xs : List Item). items bytes ++ xs) (items_from_single_byte_are_ends (place_after Between bytes) b ∙ sym (ends_ignores_kept (place_after Between bytes) b)
-    ∙ ap (λ (p : Place). stream.ends p b) (sym is) ∙ sym finds)
+    ∙ ap (λ (p : Place). stream.ended_items p b) (sym is) ∙ sym finds)
 
 kept_step_of_kept_place_is_kept_place_after_pushed_byte : (bytes : List ℕ) (b : ℕ) (place next : Place) → place ≡ kept (place_after Between bytes) → next ≡ kept (step place b)
     → next ≡ kept (place_after Between (bytes ++ b ∷ []))
@@ -201,21 +201,21 @@ input_has_property_if_consumed_with_any_rest (Some xs) (Some ys) bytes P took go
 module _ (l0 : Link) (input w0 left left' written : Option (List ℕ)) (l : Link) (place : Place) (n : ℕ)
     (at : AfterBytes l0 input w0 left written l place n) where
   -- a byte that ends nothing
-  pub at_byte : (b : ℕ) (next : Place) (payload : List ℕ) → Consumes left left' (b ∷ []) → items_found None payload ≡ stream.ends place b
+  pub at_byte : (b : ℕ) (next : Place) (payload : List ℕ) → Consumes left left' (b ∷ []) → items_found None payload ≡ stream.ended_items place b
       → next ≡ kept (step place b) → AfterBytes l0 input w0 left' written l next (n + 1)
   at_byte b next payload took finds steps = record {
     bytes = at.bytes ++ b ∷ [];
     count = omega (arith, length-append at.bytes (b ∷ []), at.count);
     parts = Consumes-trans input left left' at.bytes (b ∷ []) at.parts took;
     text = at.text;
-    answers = subst (λ (xs : List Item). Answers l0 xs false at.text l)
+    answers = subst (λ (xs : List Item). RepliesToItems l0 xs false at.text l)
         (sym (items_after_pushed_byte_add_its_ended_items at.bytes b place [] at.stands finds ∙ append-nil (items at.bytes))) at.answers;
     grown = at.grown;
     stands = kept_step_of_kept_place_is_kept_place_after_pushed_byte at.bytes b place next at.stands steps;
   }
 
   module _ (b : ℕ) (f : Found) (payload : List ℕ) (took : Consumes left left' (b ∷ []))
-      (finds : items_found (Some f) payload ≡ stream.ends place b) where
+      (finds : items_found (Some f) payload ≡ stream.ended_items place b) where
     all_items : items (at.bytes ++ b ∷ []) ≡ items at.bytes ++ item_found f payload ∷ []
     all_items = items_after_pushed_byte_add_its_ended_items at.bytes b place (item_found f payload ∷ []) at.stands finds
 
@@ -226,14 +226,14 @@ module _ (l0 : Link) (input w0 left left' written : Option (List ℕ)) (l : Link
     all_count = omega (arith, length-append at.bytes (b ∷ []), at.count)
 
     -- the answers with that to the item which the byte ends
-    all_answers : (next : Link) (written' : Option (List ℕ)) (e : Bool) → ends l (item_found f payload) ≡ e
-        → (s : Sent (AnswersItem l (item_found f payload)) next written written') → Answers l0 (items (at.bytes ++ b ∷ [])) e (at.text ++ s.text) next
-    all_answers next written' e is s = subst (λ (xs : List Item). Answers l0 xs e (at.text ++ s.text) next) (sym all_items)
+    all_answers : (next : Link) (written' : Option (List ℕ)) (e : Bool) → item_ends l (item_found f payload) ≡ e
+        → (s : Sent (AnswersItem l (item_found f payload)) next written written') → RepliesToItems l0 (items (at.bytes ++ b ∷ [])) e (at.text ++ s.text) next
+    all_answers next written' e is s = subst (λ (xs : List Item). RepliesToItems l0 xs e (at.text ++ s.text) next) (sym all_items)
         (answers_to_appended_items l0 (items at.bytes) (item_found f payload ∷ []) e at.text s.text l next at.answers
         (answers_to_single_item l (item_found f payload) e s.text next is s.is))
 
     pub at_item : (next : Link) (written' : Option (List ℕ)) (place' : Place) → place' ≡ kept (step place b)
-        → ends l (item_found f payload) ≡ false → Sent (AnswersItem l (item_found f payload)) next written written'
+        → item_ends l (item_found f payload) ≡ false → Sent (AnswersItem l (item_found f payload)) next written written'
         → AfterBytes l0 input w0 left' written' next place' (n + 1)
     at_item next written' place' steps goes s = record {
       bytes = at.bytes ++ b ∷ [];
@@ -251,7 +251,7 @@ module _ (l0 : Link) (input w0 left left' written : Option (List ℕ)) (l : Link
       within_limit rest = take_of_append_beyond_first_part (at.bytes ++ b ∷ []) rest limit (omega (arith, all_count, below))
 
       -- the item ended the connection
-      quit_leads : (next : Link) (written' : Option (List ℕ)) (rest : List ℕ) → ends l (item_found f payload) ≡ true
+      quit_leads : (next : Link) (written' : Option (List ℕ)) (rest : List ℕ) → item_ends l (item_found f payload) ≡ true
           → Sent (AnswersItem l (item_found f payload)) next written written' → LeadsTo l0 limit (Ok Quit) w0 written' ((at.bytes ++ b ∷ []) ++ rest)
       quit_leads next written' rest quits s = record {
         ended = true;
@@ -259,15 +259,15 @@ module _ (l0 : Link) (input w0 left left' written : Option (List ℕ)) (l : Link
         wrote = record {
           text = at.text ++ s.text;
           last = next;
-          answers = subst (λ (bytes : List ℕ). Answers l0 (items bytes) true (at.text ++ s.text) next) (sym (within_limit rest))
-              (subst (λ (xs : List Item). Answers l0 xs true (at.text ++ s.text) next)
+          answers = subst (λ (bytes : List ℕ). RepliesToItems l0 (items bytes) true (at.text ++ s.text) next) (sym (within_limit rest))
+              (subst (λ (xs : List Item). RepliesToItems l0 xs true (at.text ++ s.text) next)
               (sym (items_from_of_append Between (at.bytes ++ b ∷ []) (take (limit - length (at.bytes ++ b ∷ [])) rest)))
               (answers_ignore_items_past_ending_item l0 (items (at.bytes ++ b ∷ [])) _ (at.text ++ s.text) next (all_answers next written' true quits s)));
           grown = Appends-trans w0 written written' at.text s.text at.grown s.grown;
         };
       }
 
-      pub quit_ended : (next : Link) (written' : Option (List ℕ)) → ends l (item_found f payload) ≡ true
+      pub quit_ended : (next : Link) (written' : Option (List ℕ)) → item_ends l (item_found f payload) ≡ true
           → Sent (AnswersItem l (item_found f payload)) next written written' → ReadsUpTo limit input left' (LeadsTo l0 limit (Ok Quit) w0 written')
       quit_ended next written' quits s = record {
         consumed = at.bytes ++ b ∷ [];
@@ -276,7 +276,7 @@ module _ (l0 : Link) (input w0 left left' written : Option (List ℕ)) (l : Link
         holds = subst (LeadsTo l0 limit (Ok Quit) w0 written') (append-nil (at.bytes ++ b ∷ [])) (quit_leads next written' [] quits s);
       }
 
-      pub quit_known : (next : Link) (written' : Option (List ℕ)) → ends l (item_found f payload) ≡ true
+      pub quit_known : (next : Link) (written' : Option (List ℕ)) → item_ends l (item_found f payload) ≡ true
           → Sent (AnswersItem l (item_found f payload)) next written written' → IfSome input (LeadsTo l0 limit (Ok Quit) w0 written')
       quit_known next written' quits s = input_has_property_if_consumed_with_any_rest input left' (at.bytes ++ b ∷ []) (LeadsTo l0 limit (Ok Quit) w0 written') all_taken
           (λ rest. quit_leads next written' rest quits s)
@@ -319,7 +319,7 @@ module _ (l0 : Link) (input w0 left left' written : Option (List ℕ)) (l : Link
           wrote = record {
             text = at.text;
             last = l;
-            answers = subst (λ (bytes : List ℕ). Answers l0 (items bytes) false at.text l) (sym (take_all limit at.bytes (omega (arith, short)))) at.answers;
+            answers = subst (λ (bytes : List ℕ). RepliesToItems l0 (items bytes) false at.text l) (sym (take_all limit at.bytes (omega (arith, short)))) at.answers;
             grown = at.grown;
           };
         }
@@ -350,7 +350,7 @@ module _ (l0 : Link) (input w0 left written : Option (List ℕ)) (l : Link) (pla
         wrote = record {
           text = at.text;
           last = l;
-          answers = subst (λ (bytes : List ℕ). Answers l0 (items bytes) false at.text l) (sym (take_of_append_is_first_part at.bytes rest limit at.count)) at.answers;
+          answers = subst (λ (bytes : List ℕ). RepliesToItems l0 (items bytes) false at.text l) (sym (take_of_append_is_first_part at.bytes rest limit at.count)) at.answers;
           grown = at.grown;
         };
       }

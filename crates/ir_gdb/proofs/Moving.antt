@@ -13,22 +13,22 @@ use Rattle.ir_packet.specs.declared.reply.Reason.TheVariants as reason
 use Rattle.ir_packet.specs.declared.request.Motion.{Motion}
 use Rattle.ir_gdb.specs.declared.stopped.Moving.{Moving}
 use Rattle.ir_gdb.specs.declared.stopped.Stopped.{Stopped}
-use Rattle.ir_gdb.specs.Stub.{Stub, spoken}
-use Rattle.ir_gdb.specs.Stops.{stopped, GoesTo, MovesTo, direction_of, end_of}
-use Rattle.ir_gdb.specs.Together.{Halt, halt, Comes, OwnStop, stop_among, AreStops, AreWithin, passes, is_free, moves, moves_other, IsMet, IsNotMet, FirstMet, first_met, or_else, MetBy, StepsAmong, StopsAmong, NoneStops, FirstStop, furthest, ContinuesAmong, MovesAlone}
-use Rattle.ir_gdb.specs.Moves.{settled, after_told, interrupted_at, told_text, Moves, MovesBy}
+use Rattle.ir_gdb.specs.Stub.{Stub, stub_spoken}
+use Rattle.ir_gdb.specs.Stops.{stopped, StopsInDirection, MovesTo, direction_of, reason_at_end}
+use Rattle.ir_gdb.specs.Together.{Halt, halt, Comes, OwnStop, stop_among, AreStops, AreWithin, passes, is_free, moves, moves_other, IsMet, IsNotMet, FirstMet, first_met, halt_or, MetBy, StepsAmong, StopsAmong, NoneStops, FirstStop, furthest, ContinuesAmong, MovesAlone}
+use Rattle.ir_gdb.specs.Moves.{all_at_stop, after_told, interrupted_at, told_text, Moves, MovesBy}
 use Rattle.ir_gdb.specs.Replies.{RepliesToMove}
 use Rattle.ir_gdb.proofs.Together.{below_next_cases, holds_below_next_number_except_one}
 
 -- ---- of a stub that has spoken
 
-goes_to_if_goes_to_of_spoken : (d : Direction) (run : List Step) (s : Stub) (t : ℕ) (w : Bool) (to : Stopped) → GoesTo d run (spoken s) t w to → GoesTo d run s t w to
+goes_to_if_goes_to_of_spoken : (d : Direction) (run : List Step) (s : Stub) (t : ℕ) (w : Bool) (to : Stopped) → StopsInDirection d run (stub_spoken s) t w to → StopsInDirection d run s t w to
 goes_to_if_goes_to_of_spoken Forwards run s t true to goes = goes
 goes_to_if_goes_to_of_spoken Forwards run s t false to goes = goes
 goes_to_if_goes_to_of_spoken Backwards run s t true to goes = goes
 goes_to_if_goes_to_of_spoken Backwards run s t false to goes = goes
 
-are_stops_if_are_stops_of_spoken : (run : List Step) (s : Stub) (d : Direction) (mover : ℕ) (each : List Stopped) → AreStops run (spoken s) d mover each
+are_stops_if_are_stops_of_spoken : (run : List Step) (s : Stub) (d : Direction) (mover : ℕ) (each : List Stopped) → AreStops run (stub_spoken s) d mover each
     → AreStops run s d mover each
 are_stops_if_are_stops_of_spoken run s d mover each stops = record {
   count = stops.count;
@@ -36,18 +36,18 @@ are_stops_if_are_stops_of_spoken run s d mover each stops = record {
 }
 
 is_free_ignores_spoken : (s : Stub) (d : Direction) (each : List Stopped) (cut : List ℕ) (t n : ℕ)
-    → is_free (spoken s) d each cut t n ≡ is_free s d each cut t n
+    → is_free (stub_spoken s) d each cut t n ≡ is_free s d each cut t n
 unfolding is_free
 is_free_ignores_spoken s d each cut t zero = refl
 is_free_ignores_spoken s d each cut t (suc n) = ap (λ (b : Bool). b && passes s d each cut t n) (is_free_ignores_spoken s d each cut t n)
 
-moves_other_ignores_spoken : (s : Stub) (cut : List ℕ) (t n : ℕ) → moves_other (spoken s) cut t n ≡ moves_other s cut t n
+moves_other_ignores_spoken : (s : Stub) (cut : List ℕ) (t n : ℕ) → moves_other (stub_spoken s) cut t n ≡ moves_other s cut t n
 unfolding moves_other
 moves_other_ignores_spoken s cut t zero = refl
 moves_other_ignores_spoken s cut t (suc n) = ap (λ (b : Bool). b || moves s cut t n) (moves_other_ignores_spoken s cut t n)
 
 is_met_if_is_met_of_spoken : (run : List Step) (s : Stub) (d : Direction) (each : List Stopped) (cut : List ℕ) (u : ℕ) (own : List ℕ)
-    → IsMet run (spoken s) d each cut u own → IsMet run s d each cut u own
+    → IsMet run (stub_spoken s) d each cut u own → IsMet run s d each cut u own
 is_met_if_is_met_of_spoken run s d each cut u own met = record {
   meets = met.meets;
   comes = met.comes;
@@ -55,28 +55,28 @@ is_met_if_is_met_of_spoken run s d each cut u own met = record {
 }
 
 is_not_met_if_is_not_met_of_spoken : (run : List Step) (s : Stub) (d : Direction) (each : List Stopped) (cut : List ℕ) (u : ℕ)
-    → IsNotMet run (spoken s) d each cut u → IsNotMet run s d each cut u
+    → IsNotMet run (stub_spoken s) d each cut u → IsNotMet run s d each cut u
 is_not_met_if_is_not_met_of_spoken run s d each cut u (inl none) = inl none
 is_not_met_if_is_not_met_of_spoken run s d each cut u (inr (own, comes, free)) =
     inr (own, comes, sym (is_free_ignores_spoken s d each own u (threads_of s.desk.fitted)) ∙ free)
 
 first_met_if_first_met_of_spoken : (run : List Step) (s : Stub) (d : Direction) (each : List Stopped) (cut : List ℕ) (t : ℕ) (met : Option Halt)
-    → FirstMet run (spoken s) d each cut t met → FirstMet run s d each cut t met
+    → FirstMet run (stub_spoken s) d each cut t met → FirstMet run s d each cut t met
 first_met_if_first_met_of_spoken run s d each cut t None none = λ u below other. is_not_met_if_is_not_met_of_spoken run s d each cut u (none u below other)
 first_met_if_first_met_of_spoken run s d each cut t (Some h) first =
     (first.0, first.1, is_met_if_is_met_of_spoken run s d each cut h.thread h.cut first.2, first.3, λ u below other. is_not_met_if_is_not_met_of_spoken run s d each cut u (first.4 u below other))
 
-met_by_if_met_by_of_spoken : (run : List Step) (s : Stub) (d : Direction) (cut : List ℕ) (own h : Halt) → MetBy true run (spoken s) d cut own h
+met_by_if_met_by_of_spoken : (run : List Step) (s : Stub) (d : Direction) (cut : List ℕ) (own h : Halt) → MetBy true run (stub_spoken s) d cut own h
     → MetBy true run s d cut own h
 met_by_if_met_by_of_spoken run s d cut own h (each, stops, (met, first, is)) =
     (each, are_stops_if_are_stops_of_spoken run s d own.thread each stops, (met, first_met_if_first_met_of_spoken run s d each cut own.thread met first, is))
 
 stops_among_if_stops_among_of_spoken : (run : List Step) (s : Stub) (d : Direction) (each : List Stopped) (t : ℕ) (h : Option Halt)
-    → StopsAmong run (spoken s) d each t h → StopsAmong run s d each t h
+    → StopsAmong run (stub_spoken s) d each t h → StopsAmong run s d each t h
 stops_among_if_stops_among_of_spoken run s d each t h (cut, comes, (met, first, is)) = (cut, comes, (met, first_met_if_first_met_of_spoken run s d each cut t met first, is))
 
 first_stop_if_first_stop_of_spoken : (run : List Step) (s : Stub) (d : Direction) (each : List Stopped) (t : ℕ) (stop : Option Halt)
-    → FirstStop run (spoken s) d each t stop → FirstStop run s d each t stop
+    → FirstStop run (stub_spoken s) d each t stop → FirstStop run s d each t stop
 first_stop_if_first_stop_of_spoken run s d each t None (none, others) =
     (stops_among_if_stops_among_of_spoken run s d each t None none, λ u below other. stops_among_if_stops_among_of_spoken run s d each u None (others u below other))
 first_stop_if_first_stop_of_spoken run s d each t (Some h) (inl first) = inl (stops_among_if_stops_among_of_spoken run s d each t (Some h) first)
@@ -91,7 +91,7 @@ first_stop_if_first_stop_of_spoken run s d each t (Some h) (inr (none, (u, below
   ),
 )
 
-furthest_ignores_spoken : (s : Stub) (d : Direction) → furthest (spoken s) d ≡ furthest s d
+furthest_ignores_spoken : (s : Stub) (d : Direction) → furthest (stub_spoken s) d ≡ furthest s d
 furthest_ignores_spoken s Forwards = refl
 furthest_ignores_spoken s Backwards = refl
 
@@ -111,15 +111,15 @@ each_stop_has_property_after_push P xs new x n len is all next u below =
         subst (λ (k : ℕ). stop_among (xs ++ x ∷ []) k ≡ x) len (get_or-append_seam xs x [] (stopped 0 reason.End)) in
         subst (λ (k : ℕ). P k (stop_among (xs ++ x ∷ []) k)) (sym same) (subst (P n) (sym at) next)
 
-pub stops_are_own_stops_after_push : (s u : Stub) (d : Direction) (mover n : ℕ) (w : Bool) (xs new : List Stopped) (x : Stopped) → u ≡ spoken s → length xs ≡ n
-    → w ≡ (n == mover) → new ≡ xs ++ x ∷ [] → EachRun u.desk.fitted (λ run. GoesTo d run u n w x)
+pub stops_are_own_stops_after_push : (s u : Stub) (d : Direction) (mover n : ℕ) (w : Bool) (xs new : List Stopped) (x : Stopped) → u ≡ stub_spoken s → length xs ≡ n
+    → w ≡ (n == mover) → new ≡ xs ++ x ∷ [] → EachRun u.desk.fitted (λ run. StopsInDirection d run u n w x)
     → EachRun s.desk.fitted (λ run. (k : ℕ) → k < n → OwnStop run s d mover k (stop_among xs k))
     → EachRun s.desk.fitted (λ run. (k : ℕ) → k < n + 1 → OwnStop run s d mover k (stop_among new k))
 stops_are_own_stops_after_push s u d mover n w xs new x same len watched is goes all run whole =
-    let next = goes_to_if_goes_to_of_spoken d run s n w x (subst (λ (y : Stub). EachRun y.desk.fitted (λ r. GoesTo d r y n w x)) same goes run whole) in
-    each_stop_has_property_after_push (OwnStop run s d mover) xs new x n len is (all run whole) (subst (λ (b : Bool). GoesTo d run s n b x) watched next)
+    let next = goes_to_if_goes_to_of_spoken d run s n w x (subst (λ (y : Stub). EachRun y.desk.fitted (λ r. StopsInDirection d r y n w x)) same goes run whole) in
+    each_stop_has_property_after_push (OwnStop run s d mover) xs new x n len is (all run whole) (subst (λ (b : Bool). StopsInDirection d run s n b x) watched next)
 
-pub stops_within_last_after_push : (s u : Stub) (n : ℕ) (xs new : List Stopped) (x : Stopped) → u ≡ spoken s → length xs ≡ n → new ≡ xs ++ x ∷ []
+pub stops_within_last_after_push : (s u : Stub) (n : ℕ) (xs new : List Stopped) (x : Stopped) → u ≡ stub_spoken s → length xs ≡ n → new ≡ xs ++ x ∷ []
     → x.position ≤ last_of u.desk.fitted n → ((k : ℕ) → k < n → (stop_among xs k).position ≤ last_of s.desk.fitted k)
     → (k : ℕ) → k < n + 1 → (stop_among new k).position ≤ last_of s.desk.fitted k
 stops_within_last_after_push s u n xs new x same len is next all =
@@ -129,27 +129,27 @@ stops_within_last_after_push s u n xs new x same len is next all =
 -- ---- moves
 
 -- where all go to the cut of a stop
-settled_ignores_spoken : (s u v : Stub) (h : Halt) → u ≡ spoken s → v ≡ settled u h → v ≡ settled s h
-settled_ignores_spoken s u v h same is = is ∙ ap (λ (x : Stub). settled x h) same
+settled_ignores_spoken : (s u v : Stub) (h : Halt) → u ≡ stub_spoken s → v ≡ all_at_stop u h → v ≡ all_at_stop s h
+settled_ignores_spoken s u v h same is = is ∙ ap (λ (x : Stub). all_at_stop x h) same
 
-comes_in_each_run_if_comes_of_spoken : (s u : Stub) (t : ℕ) (m : Motion) (d : Direction) (to : Stopped) (cut : List ℕ) → u ≡ spoken s → d ≡ direction_of m
+comes_in_each_run_if_comes_of_spoken : (s u : Stub) (t : ℕ) (m : Motion) (d : Direction) (to : Stopped) (cut : List ℕ) → u ≡ stub_spoken s → d ≡ direction_of m
     → EachRun u.desk.fitted (λ run. Comes run u d t to.position cut)
     → EachRun s.desk.fitted (λ run. Comes run s (direction_of m) t to.position cut)
 comes_in_each_run_if_comes_of_spoken s u t m d to cut same way comes =
     let said = subst (λ (x : Stub). EachRun x.desk.fitted (λ run. Comes run x d t to.position cut)) same comes in
     subst (λ (e : Direction). EachRun s.desk.fitted (λ run. Comes run s e t to.position cut)) way said
 
-pub moves_alone_and_settles : (s u v : Stub) (t : ℕ) (m : Motion) (d : Direction) (to : Stopped) (cut : List ℕ) → u ≡ spoken s → d ≡ direction_of m
+pub moves_alone_and_settles : (s u v : Stub) (t : ℕ) (m : Motion) (d : Direction) (to : Stopped) (cut : List ℕ) → u ≡ stub_spoken s → d ≡ direction_of m
     → EachRun s.desk.fitted (λ run. MovesTo run s t m to) → EachRun u.desk.fitted (λ run. Comes run u d t to.position cut)
-    → v ≡ settled u (halt t cut to.reason) → (h : Halt) × EachRun s.desk.fitted (λ run. MovesAlone run s t m h) × (v ≡ settled s h)
+    → v ≡ all_at_stop u (halt t cut to.reason) → (h : Halt) × EachRun s.desk.fitted (λ run. MovesAlone run s t m h) × (v ≡ all_at_stop s h)
 moves_alone_and_settles s u v t m d to cut same way moves comes is =
     let said = comes_in_each_run_if_comes_of_spoken s u t m d to cut same way comes in
     (halt t cut to.reason, λ run whole. (to, moves run whole, said run whole, refl), settled_ignores_spoken s u v (halt t cut to.reason) same is)
 
 pub met_by_first_and_settles : (s u v : Stub) (d : Direction) (t : ℕ) (cut : List ℕ) (why : Reason) (each : List Stopped) (met : Option (ℕ × List ℕ)) (h : Halt)
-    → u ≡ spoken s → EachRun s.desk.fitted (λ run. AreStops run s d t each)
-    → EachRun u.desk.fitted (λ run. FirstMet run u d each cut t (first_met each met)) → h ≡ or_else (first_met each met) (halt t cut why)
-    → v ≡ settled u h → (h : Halt) × EachRun s.desk.fitted (λ run. MetBy true run s d cut (halt t cut why) h) × (v ≡ settled s h)
+    → u ≡ stub_spoken s → EachRun s.desk.fitted (λ run. AreStops run s d t each)
+    → EachRun u.desk.fitted (λ run. FirstMet run u d each cut t (first_met each met)) → h ≡ halt_or (first_met each met) (halt t cut why)
+    → v ≡ all_at_stop u h → (h : Halt) × EachRun s.desk.fitted (λ run. MetBy true run s d cut (halt t cut why) h) × (v ≡ all_at_stop s h)
 met_by_first_and_settles s u v d t cut why each met h same stops first is settles =
     let said = subst (λ (x : Stub). EachRun x.desk.fitted (λ run. FirstMet run x d each cut t (first_met each met))) same first in (
       h,
@@ -157,19 +157,19 @@ met_by_first_and_settles s u v d t cut why each met h same stops first is settle
       settled_ignores_spoken s u v h same settles,
     )
 
-moves_other_is_test_on_spoken_stub : (s : Stub) (t : ℕ) (cut : List ℕ) (b : Bool) → b ≡ moves_other (spoken s) cut t (threads_of s.desk.fitted)
+moves_other_is_test_on_spoken_stub : (s : Stub) (t : ℕ) (cut : List ℕ) (b : Bool) → b ≡ moves_other (stub_spoken s) cut t (threads_of s.desk.fitted)
     → moves_other s cut t (threads_of s.desk.fitted) ≡ b
 moves_other_is_test_on_spoken_stub s t cut b is = sym (is ∙ moves_other_ignores_spoken s cut t (threads_of s.desk.fitted))
 
-pub steps_among_if_others_move : (s u v : Stub) (t : ℕ) (m : Motion) (d : Direction) (to : Stopped) (cut : List ℕ) → u ≡ spoken s → d ≡ direction_of m
+pub steps_among_if_others_move : (s u v : Stub) (t : ℕ) (m : Motion) (d : Direction) (to : Stopped) (cut : List ℕ) → u ≡ stub_spoken s → d ≡ direction_of m
     → EachRun s.desk.fitted (λ run. MovesTo run s t m to) → EachRun u.desk.fitted (λ run. Comes run u d t to.position cut)
     → true ≡ moves_other u cut t (threads_of u.desk.fitted)
-    → ((h : Halt) × EachRun u.desk.fitted (λ run. MetBy true run u d cut (halt t cut to.reason) h) × (v ≡ settled u h))
-    → (h : Halt) × EachRun s.desk.fitted (λ run. StepsAmong run s t m h) × (v ≡ settled s h)
+    → ((h : Halt) × EachRun u.desk.fitted (λ run. MetBy true run u d cut (halt t cut to.reason) h) × (v ≡ all_at_stop u h))
+    → (h : Halt) × EachRun s.desk.fitted (λ run. StepsAmong run s t m h) × (v ≡ all_at_stop s h)
 steps_among_if_others_move s u v t m d to cut same way moves comes other (h, met, settles) =
     let said = comes_in_each_run_if_comes_of_spoken s u t m d to cut same way comes in
     let found = subst (λ (x : Stub). EachRun x.desk.fitted (λ run. MetBy true run x d cut (halt t cut to.reason) h)) same met in
-    let mets = subst (λ (e : Direction). EachRun s.desk.fitted (λ run. MetBy true run (spoken s) e cut (halt t cut to.reason) h)) way found in
+    let mets = subst (λ (e : Direction). EachRun s.desk.fitted (λ run. MetBy true run (stub_spoken s) e cut (halt t cut to.reason) h)) way found in
     let one = moves_other_is_test_on_spoken_stub s t cut true (subst (λ (x : Stub). true ≡ moves_other x cut t (threads_of x.desk.fitted)) same other) in (
       h,
       λ run whole. (
@@ -185,10 +185,10 @@ steps_among_if_others_move s u v t m d to cut same way moves comes other (h, met
       settled_ignores_spoken s u v h same settles,
     )
 
-pub steps_among_if_no_other_moves : (s u v : Stub) (t : ℕ) (m : Motion) (d : Direction) (to : Stopped) (cut : List ℕ) → u ≡ spoken s → d ≡ direction_of m
+pub steps_among_if_no_other_moves : (s u v : Stub) (t : ℕ) (m : Motion) (d : Direction) (to : Stopped) (cut : List ℕ) → u ≡ stub_spoken s → d ≡ direction_of m
     → EachRun s.desk.fitted (λ run. MovesTo run s t m to) → EachRun u.desk.fitted (λ run. Comes run u d t to.position cut)
-    → false ≡ moves_other u cut t (threads_of u.desk.fitted) → v ≡ settled u (halt t cut to.reason)
-    → (h : Halt) × EachRun s.desk.fitted (λ run. StepsAmong run s t m h) × (v ≡ settled s h)
+    → false ≡ moves_other u cut t (threads_of u.desk.fitted) → v ≡ all_at_stop u (halt t cut to.reason)
+    → (h : Halt) × EachRun s.desk.fitted (λ run. StepsAmong run s t m h) × (v ≡ all_at_stop s h)
 steps_among_if_no_other_moves s u v t m d to cut same way moves comes none settles =
     let said = comes_in_each_run_if_comes_of_spoken s u t m d to cut same way comes in
     let no = moves_other_is_test_on_spoken_stub s t cut false (subst (λ (x : Stub). false ≡ moves_other x cut t (threads_of x.desk.fitted)) same none) in (
@@ -201,14 +201,14 @@ steps_among_if_no_other_moves s u v t m d to cut same way moves comes none settl
       settled_ignores_spoken s u v (halt t cut to.reason) same settles,
     )
 
-pub continues_among_and_settles : (s u v : Stub) (t : ℕ) (d : Direction) (each : List Stopped) (stop : Option (ℕ × List ℕ)) (h : Halt) → u ≡ spoken s
+pub continues_among_and_settles : (s u v : Stub) (t : ℕ) (d : Direction) (each : List Stopped) (stop : Option (ℕ × List ℕ)) (h : Halt) → u ≡ stub_spoken s
     → EachRun s.desk.fitted (λ run. AreStops run s d t each) → EachRun u.desk.fitted (λ run. FirstStop run u d each t (first_met each stop))
-    → h ≡ or_else (first_met each stop) (halt t (furthest u d) (end_of d)) → v ≡ settled u h
-    → (h : Halt) × EachRun s.desk.fitted (λ run. ContinuesAmong run s t d h) × (v ≡ settled s h)
+    → h ≡ halt_or (first_met each stop) (halt t (furthest u d) (reason_at_end d)) → v ≡ all_at_stop u h
+    → (h : Halt) × EachRun s.desk.fitted (λ run. ContinuesAmong run s t d h) × (v ≡ all_at_stop s h)
 continues_among_and_settles s u v t d each stop h same stops first is settles =
     let said = subst (λ (x : Stub). EachRun x.desk.fitted (λ run. FirstStop run x d each t (first_met each stop))) same first in
     let far = ap (λ (x : Stub). furthest x d) same ∙ furthest_ignores_spoken s d in
-    let ends = is ∙ ap (λ (cut : List ℕ). or_else (first_met each stop) (halt t cut (end_of d))) far in (
+    let ends = is ∙ ap (λ (cut : List ℕ). halt_or (first_met each stop) (halt t cut (reason_at_end d))) far in (
       h,
       λ run whole. (each, stops run whole, (first_met each stop, first_stop_if_first_stop_of_spoken run s d each t (first_met each stop) (said run whole), ends)),
       settled_ignores_spoken s u v h same settles,
@@ -251,7 +251,7 @@ stop_among_ignores_default (y ∷ ys) zero x below = refl
 stop_among_ignores_default (y ∷ ys) (suc u) x below = stop_among_ignores_default ys u x (omega (arith, below))
 
 -- the stop of a thread that is met
-pub stop_of_met_thread_ignores_default : (s u : Stub) (each ys : List Stopped) (stop : Option (ℕ × List ℕ)) (other : ℕ) (cut : List ℕ) (x : Stopped) → u ≡ spoken s
+pub stop_of_met_thread_ignores_default : (s u : Stub) (each ys : List Stopped) (stop : Option (ℕ × List ℕ)) (other : ℕ) (cut : List ℕ) (x : Stopped) → u ≡ stub_spoken s
     → each ≡ ys → AreWithin s ys → stop ≡ Some (other, cut) → IfSome stop (λ m. m.0 < threads_of u.desk.fitted)
     → slice_index_or each other x ≡ stop_among each other
 stop_of_met_thread_ignores_default s u each ys stop other cut x same are all is below =
@@ -264,16 +264,16 @@ stop_of_met_thread_ignores_default s u each ys stop other cut x same are all is 
 -- ---- replies
 
 pub moves_by_interruption_if_stub_is_interrupted : (s v : Stub) (who : Moving) (m : Motion) (old new : List ℕ) → s.interrupted ≡ true
-    → v ≡ after_told (spoken s) (interrupted_at who.thread) → EachRun v.desk.fitted (λ run. new ≡ old ++ told_text run v)
-    → (x : Stub) × EachRun s.desk.fitted (λ run. Moves run s who m x × (new ≡ old ++ told_text run x)) × (v ≡ spoken x)
+    → v ≡ after_told (stub_spoken s) (interrupted_at who.thread) → EachRun v.desk.fitted (λ run. new ≡ old ++ told_text run v)
+    → (x : Stub) × EachRun s.desk.fitted (λ run. Moves run s who m x × (new ≡ old ++ told_text run x)) × (v ≡ stub_spoken x)
 moves_by_interruption_if_stub_is_interrupted s v who m old new stopped is told =
-    let after = after_told (spoken s) (interrupted_at who.thread) in
+    let after = after_told (stub_spoken s) (interrupted_at who.thread) in
     let said = subst (λ (x : Stub). EachRun x.desk.fitted (λ run. new ≡ old ++ told_text run x)) is told in
     (after, λ run whole. (subst (λ (b : Bool). MovesBy b run s who m after) (sym stopped) refl, said run whole), is)
 
 pub replies_to_move : (s v : Stub) (moving : Option Moving) (who : Moving) (m : Motion) (old new : List ℕ) → HasRun s.desk.fitted
     → moving ≡ Some who
-    → ((after : Stub) × EachRun s.desk.fitted (λ run. Moves run s who m after × (new ≡ old ++ told_text run after)) × (v ≡ spoken after))
+    → ((after : Stub) × EachRun s.desk.fitted (λ run. Moves run s who m after × (new ≡ old ++ told_text run after)) × (v ≡ stub_spoken after))
     → (text : List ℕ) × EachRun s.desk.fitted (λ run. RepliesToMove moving run s m text v) × (new ≡ old ++ text)
 replies_to_move s v moving who m old new has is (after, moves, said) =
     let text = told_text has.run after in

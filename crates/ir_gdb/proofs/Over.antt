@@ -15,11 +15,11 @@ use Rattle.ir_gdb.specs.declared.point.Watched.{Watched}
 use Rattle.ir_gdb.specs.declared.stopped.Moving.{Moving}
 use Rattle.ir_gdb.specs.declared.stopped.Stopped.{Stopped}
 use Rattle.ir_gdb.specs.Points.{points_upwards, with_point}
-use Rattle.ir_gdb.specs.Stub.{Stub, spoken}
+use Rattle.ir_gdb.specs.Stub.{Stub, stub_spoken}
 use Rattle.ir_gdb.specs.Stops.{position_of, MovesTo}
 use Rattle.ir_gdb.specs.Together.{Halt, Comes, MovesAlone}
-use Rattle.ir_gdb.specs.Over.{pc_of, points_over, OnWay, HasHit, NoneHasHit, OtherHasHit, PassesHit, over, StepsOver, is_step, waits, no_more, LeadsBy, LeadsAlone}
-use Rattle.ir_gdb.specs.Moves.{settled, arrived, told_text, Leads, Moves, MovesBy, together_after, with_together}
+use Rattle.ir_gdb.specs.Over.{pc_here, points_over, OnWay, HasHit, NoneHasHit, OtherHasHit, PassesHit, over, StepsOver, is_step, waits, no_more, LeadsBy, LeadsAlone}
+use Rattle.ir_gdb.specs.Moves.{all_at_stop, arrived, told_text, MotionLeads, Moves, MovesBy, together_after, with_together}
 use Rattle.ir_gdb.proofs.Together.{holds_below_next_number_except_one}
 
 -- ---- hits of a thread on its way
@@ -35,7 +35,7 @@ has_hit_is_whether_hit_on_way_is_some : (run : List Step) (s : Stub) (pc u : ℕ
 has_hit_is_whether_hit_on_way_is_some run s pc u cut None way = way
 has_hit_is_whether_hit_on_way_is_some run s pc u cut (Some h) way = (h, way)
 
-pub search_points_are_points_over : (s v : Stub) (pc u : ℕ) (points : List Numbered) (ws : List Watched) (bs : List Breakpoint) (own : List Numbered) → v ≡ spoken s
+pub search_points_are_points_over : (s v : Stub) (pc u : ℕ) (points : List Numbered) (ws : List Watched) (bs : List Breakpoint) (own : List Numbered) → v ≡ stub_spoken s
     → points ≡ with_point (points_upwards u ws bs own) u pc → ws ≡ [] → bs ≡ v.breaks → own ≡ v.desk.points → points ≡ points_over s pc u
 search_points_are_points_over s v pc u points ws bs own same is watches breaks mine =
     is ∙ ap (λ (x : List Watched). with_point (points_upwards u x bs own) u pc) watches
@@ -55,11 +55,11 @@ has_hit_is_whether_found_hit_is_some s f pc u to cut here points hit is same at 
 
 -- ---- hits of the others
 
-has_hit_if_has_hit_of_spoken : (is : Bool) (run : List Step) (s : Stub) (pc u : ℕ) (cut : List ℕ) → HasHit is run (spoken s) pc cut u → HasHit is run s pc cut u
+has_hit_if_has_hit_of_spoken : (is : Bool) (run : List Step) (s : Stub) (pc u : ℕ) (cut : List ℕ) → HasHit is run (stub_spoken s) pc cut u → HasHit is run s pc cut u
 has_hit_if_has_hit_of_spoken true run s pc u cut has = has
 has_hit_if_has_hit_of_spoken false run s pc u cut has = has
 
-has_hit_in_each_run_if_has_hit_of_spoken : (s v : Stub) (is : Bool) (pc u : ℕ) (cut : List ℕ) → v ≡ spoken s → EachRun v.desk.fitted (λ run. HasHit is run v pc cut u)
+has_hit_in_each_run_if_has_hit_of_spoken : (s v : Stub) (is : Bool) (pc u : ℕ) (cut : List ℕ) → v ≡ stub_spoken s → EachRun v.desk.fitted (λ run. HasHit is run v pc cut u)
     → EachRun s.desk.fitted (λ run. HasHit is run s pc cut u)
 has_hit_in_each_run_if_has_hit_of_spoken s v is pc u cut same has run whole =
     has_hit_if_has_hit_of_spoken is run s pc u cut (subst (λ (x : Stub). EachRun x.desk.fitted (λ r. HasHit is r x pc cut u)) same has run whole)
@@ -73,7 +73,7 @@ pub none_has_hit_step_for_mover : (s : Stub) (pc t n : ℕ) (cut : List ℕ) →
 none_has_hit_step_for_mover s pc t n cut same none run whole =
     holds_below_next_number_except_one (λ u. HasHit false run s pc cut u) t n (none run whole) (λ other. absurd (other same))
 
-pub none_has_hit_step : (s v : Stub) (is : Bool) (pc t n : ℕ) (cut : List ℕ) → v ≡ spoken s → is ≡ false
+pub none_has_hit_step : (s v : Stub) (is : Bool) (pc t n : ℕ) (cut : List ℕ) → v ≡ stub_spoken s → is ≡ false
     → EachRun v.desk.fitted (λ run. HasHit is run v pc cut n) → EachRun s.desk.fitted (λ run. NoneHasHit run s pc cut t n)
     → EachRun s.desk.fitted (λ run. NoneHasHit run s pc cut t (n + 1))
 none_has_hit_step s v is pc t n cut same lacks has none run whole =
@@ -81,18 +81,18 @@ none_has_hit_step s v is pc t n cut same lacks has none run whole =
     (λ other. subst (λ (b : Bool). HasHit b run s pc cut n) lacks (has_hit_in_each_run_if_has_hit_of_spoken s v is pc n cut same has run whole))
 
 pub pc_is_pc_of_at_own_position : (s : Stub) (t p pc : ℕ) → p ≡ position_of s t → EachRun s.desk.fitted (λ run. pc ≡ (thread_at s.desk.fitted run t p).core.pc)
-    → EachRun s.desk.fitted (λ run. pc ≡ pc_of run s t)
+    → EachRun s.desk.fitted (λ run. pc ≡ pc_here run s t)
 pc_is_pc_of_at_own_position s t p pc at is run whole = is run whole ∙ ap (λ (n : ℕ). (thread_at s.desk.fitted run t n).core.pc) at
 
-pub other_has_hit_if_found : (s v : Stub) (is : Bool) (pc t n : ℕ) (cut : List ℕ) → v ≡ spoken s → is ≡ true → n ≢ t → n < threads_of s.desk.fitted
-    → EachRun s.desk.fitted (λ run. pc ≡ pc_of run s t) → EachRun v.desk.fitted (λ run. HasHit is run v pc cut n)
-    → EachRun s.desk.fitted (λ run. OtherHasHit true run s (pc_of run s t) cut t)
+pub other_has_hit_if_found : (s v : Stub) (is : Bool) (pc t n : ℕ) (cut : List ℕ) → v ≡ stub_spoken s → is ≡ true → n ≢ t → n < threads_of s.desk.fitted
+    → EachRun s.desk.fitted (λ run. pc ≡ pc_here run s t) → EachRun v.desk.fitted (λ run. HasHit is run v pc cut n)
+    → EachRun s.desk.fitted (λ run. OtherHasHit true run s (pc_here run s t) cut t)
 other_has_hit_if_found s v is pc t n cut same hits other below at has run whole =
     let said = subst (λ (b : Bool). HasHit b run s pc cut n) hits (has_hit_in_each_run_if_has_hit_of_spoken s v is pc n cut same has run whole) in
     (n, below, other, subst (λ (a : ℕ). HasHit true run s a cut n) (at run whole) said)
 
-pub no_other_hit_if_none_found : (s : Stub) (pc t n : ℕ) (cut : List ℕ) → threads_of s.desk.fitted ≤ n → EachRun s.desk.fitted (λ run. pc ≡ pc_of run s t)
-    → EachRun s.desk.fitted (λ run. NoneHasHit run s pc cut t n) → EachRun s.desk.fitted (λ run. OtherHasHit false run s (pc_of run s t) cut t)
+pub no_other_hit_if_none_found : (s : Stub) (pc t n : ℕ) (cut : List ℕ) → threads_of s.desk.fitted ≤ n → EachRun s.desk.fitted (λ run. pc ≡ pc_here run s t)
+    → EachRun s.desk.fitted (λ run. NoneHasHit run s pc cut t n) → EachRun s.desk.fitted (λ run. OtherHasHit false run s (pc_here run s t) cut t)
 no_other_hit_if_none_found s pc t n cut all at none run whole =
     subst (λ (a : ℕ). NoneHasHit run s a cut t (threads_of s.desk.fitted)) (at run whole)
     (λ u below other. none run whole u (omega (arith, below, all)) other)
@@ -100,37 +100,37 @@ no_other_hit_if_none_found s pc t n cut all at none run whole =
 -- ---- whether one is passed
 
 pub passes_hit_as_other_has_hit_if_together : (s : Stub) (is : Bool) (t : ℕ) (cut : List ℕ) → s.together ≡ true
-    → EachRun s.desk.fitted (λ run. OtherHasHit is run s (pc_of run s t) cut t) → EachRun s.desk.fitted (λ run. PassesHit s.together is run s cut t)
+    → EachRun s.desk.fitted (λ run. OtherHasHit is run s (pc_here run s t) cut t) → EachRun s.desk.fitted (λ run. PassesHit s.together is run s cut t)
 passes_hit_as_other_has_hit_if_together s is t cut so has run whole = subst (λ (b : Bool). PassesHit b is run s cut t) (sym so) (has run whole)
 
 pub passes_no_hit_unless_together : (s : Stub) (t : ℕ) (cut : List ℕ) → s.together ≡ false → EachRun s.desk.fitted (λ run. PassesHit s.together false run s cut t)
 passes_no_hit_unless_together s t cut so run whole = subst (λ (b : Bool). PassesHit b false run s cut t) (sym so) refl
 
-passes_hit_if_passes_hit_of_spoken : (b is : Bool) (run : List Step) (s : Stub) (t : ℕ) (cut : List ℕ) → PassesHit b is run (spoken s) cut t → PassesHit b is run s cut t
+passes_hit_if_passes_hit_of_spoken : (b is : Bool) (run : List Step) (s : Stub) (t : ℕ) (cut : List ℕ) → PassesHit b is run (stub_spoken s) cut t → PassesHit b is run s cut t
 passes_hit_if_passes_hit_of_spoken true true run s t cut passes = passes
 passes_hit_if_passes_hit_of_spoken true false run s t cut passes = passes
 passes_hit_if_passes_hit_of_spoken false is run s t cut passes = passes
 
 -- ---- the step
 
-pub steps_over_and_settles : (s u v w : Stub) (t : ℕ) (to : Stopped) (cut : List ℕ) (is : Bool) (h : Halt) → u ≡ spoken s → v ≡ spoken u
+pub steps_over_and_settles : (s u v w : Stub) (t : ℕ) (to : Stopped) (cut : List ℕ) (is : Bool) (h : Halt) → u ≡ stub_spoken s → v ≡ stub_spoken u
     → EachRun s.desk.fitted (λ run. MovesTo run s t motion.Step to) → EachRun u.desk.fitted (λ run. Comes run u Forwards t to.position cut)
-    → EachRun u.desk.fitted (λ run. PassesHit u.together is run u cut t) → h ≡ over is s t cut to → w ≡ settled v h
-    → (h : Halt) × EachRun s.desk.fitted (λ run. StepsOver run s t h) × (w ≡ settled s h)
+    → EachRun u.desk.fitted (λ run. PassesHit u.together is run u cut t) → h ≡ over is s t cut to → w ≡ all_at_stop v h
+    → (h : Halt) × EachRun s.desk.fitted (λ run. StepsOver run s t h) × (w ≡ all_at_stop s h)
 steps_over_and_settles s u v w t to cut is h same again moves comes passes ends settles =
     let come = subst (λ (x : Stub). EachRun x.desk.fitted (λ run. Comes run x Forwards t to.position cut)) same comes in
     let pass = subst (λ (x : Stub). EachRun x.desk.fitted (λ run. PassesHit x.together is run x cut t)) same passes in
-    let said : v ≡ spoken s = again ∙ ap (λ (x : Stub). spoken x) same in (
+    let said : v ≡ stub_spoken s = again ∙ ap (λ (x : Stub). stub_spoken x) same in (
       h,
       λ run whole. (to, moves run whole, (cut, come run whole, (is, passes_hit_if_passes_hit_of_spoken s.together is run s t cut (pass run whole), ends))),
-      settles ∙ ap (λ (x : Stub). settled x h) said,
+      settles ∙ ap (λ (x : Stub). all_at_stop x h) said,
     )
 
 -- ---- a move alone
 
 pub leads_alone_if_waiting : (s v : Stub) (t : ℕ) (m n : Motion) → waits s t ≡ true → n ≡ no_more m
-    → ((h : Halt) × EachRun s.desk.fitted (λ run. MovesAlone run s t n h) × (v ≡ settled s h))
-    → (h : Halt) × EachRun s.desk.fitted (λ run. LeadsAlone run s t m h) × (v ≡ settled s h)
+    → ((h : Halt) × EachRun s.desk.fitted (λ run. MovesAlone run s t n h) × (v ≡ all_at_stop s h))
+    → (h : Halt) × EachRun s.desk.fitted (λ run. LeadsAlone run s t m h) × (v ≡ all_at_stop s h)
 leads_alone_if_waiting s v t m n so is (h, moves, settles) = (
   h,
   λ run whole. subst (λ (b : Bool). LeadsBy b (is_step m) run s t m h) (sym so) (subst (λ (x : Motion). MovesAlone run s t x h) is (moves run whole)),
@@ -138,8 +138,8 @@ leads_alone_if_waiting s v t m n so is (h, moves, settles) = (
 )
 
 pub leads_alone_by_step_over : (s v : Stub) (t : ℕ) (m : Motion) → waits s t ≡ false → is_step m ≡ true
-    → ((h : Halt) × EachRun s.desk.fitted (λ run. StepsOver run s t h) × (v ≡ settled s h))
-    → (h : Halt) × EachRun s.desk.fitted (λ run. LeadsAlone run s t m h) × (v ≡ settled s h)
+    → ((h : Halt) × EachRun s.desk.fitted (λ run. StepsOver run s t h) × (v ≡ all_at_stop s h))
+    → (h : Halt) × EachRun s.desk.fitted (λ run. LeadsAlone run s t m h) × (v ≡ all_at_stop s h)
 leads_alone_by_step_over s v t m free step (h, moves, settles) = (
   h,
   λ run whole. subst (λ (b : Bool). LeadsBy b (is_step m) run s t m h) (sym free) (subst (λ (b : Bool). LeadsBy false b run s t m h) (sym step) (moves run whole)),
@@ -147,8 +147,8 @@ leads_alone_by_step_over s v t m free step (h, moves, settles) = (
 )
 
 pub leads_alone_by_move : (s v : Stub) (t : ℕ) (m : Motion) → waits s t ≡ false → is_step m ≡ false
-    → ((h : Halt) × EachRun s.desk.fitted (λ run. MovesAlone run s t m h) × (v ≡ settled s h))
-    → (h : Halt) × EachRun s.desk.fitted (λ run. LeadsAlone run s t m h) × (v ≡ settled s h)
+    → ((h : Halt) × EachRun s.desk.fitted (λ run. MovesAlone run s t m h) × (v ≡ all_at_stop s h))
+    → (h : Halt) × EachRun s.desk.fitted (λ run. LeadsAlone run s t m h) × (v ≡ all_at_stop s h)
 leads_alone_by_move s v t m free step (h, moves, settles) = (
   h,
   λ run whole. subst (λ (b : Bool). LeadsBy b (is_step m) run s t m h) (sym free) (subst (λ (b : Bool). LeadsBy false b run s t m h) (sym step) (moves run whole)),
@@ -158,14 +158,14 @@ leads_alone_by_move s v t m free step (h, moves, settles) = (
 -- ---- a move, and its reply
 
 pub moves_and_replies_unless_interrupted : (s u v x : Stub) (who : Moving) (m : Motion) (together : Bool) (old new : List ℕ) → s.interrupted ≡ false
-    → ((h : Halt) × EachRun s.desk.fitted (λ run. Leads run s who.among who.thread m h) × (u ≡ arrived s who.among h))
-    → together ≡ together_after s who m → v ≡ with_together u together → EachRun v.desk.fitted (λ run. new ≡ old ++ told_text run v) → x ≡ spoken v
-    → (after : Stub) × EachRun s.desk.fitted (λ run. Moves run s who m after × (new ≡ old ++ told_text run after)) × (x ≡ spoken after)
+    → ((h : Halt) × EachRun s.desk.fitted (λ run. MotionLeads run s who.among who.thread m h) × (u ≡ arrived s who.among h))
+    → together ≡ together_after s who m → v ≡ with_together u together → EachRun v.desk.fitted (λ run. new ≡ old ++ told_text run v) → x ≡ stub_spoken v
+    → (after : Stub) × EachRun s.desk.fitted (λ run. Moves run s who m after × (new ≡ old ++ told_text run after)) × (x ≡ stub_spoken after)
 moves_and_replies_unless_interrupted s u v x who m together old new goes (h, leads, settles) says is told last =
     let after : Stub = with_together (arrived s who.among h) (together_after s who m) in
     let same : v ≡ after = is ∙ ap (λ (y : Stub). with_together y together) settles ∙ ap (λ (b : Bool). with_together (arrived s who.among h) b) says in
     let text = subst (λ (y : Stub). EachRun y.desk.fitted (λ run. new ≡ old ++ told_text run y)) same told in (
       after,
       λ run whole. (subst (λ (b : Bool). MovesBy b run s who m after) (sym goes) (h, leads run whole, refl), text run whole),
-      last ∙ ap (λ (y : Stub). spoken y) same,
+      last ∙ ap (λ (y : Stub). stub_spoken y) same,
     )

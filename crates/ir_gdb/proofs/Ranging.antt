@@ -6,11 +6,11 @@ use Rattle.ir_command.specs.declared.hit.Hit.{Hit}
 use Rattle.ir_hits.specs.Hits.{Numbered}
 use Rattle.ir_hits.specs.Searching.{IsNextHit}
 use Rattle.ir_gdb.specs.declared.stopped.Stopped.{Stopped}
-use Rattle.ir_gdb.specs.Stub.{Stub, spoken}
+use Rattle.ir_gdb.specs.Stub.{Stub, stub_spoken}
 use Rattle.ir_gdb.specs.Stops.{Leaves, RangesTo, StaysWithin, is_within, position_of, upwards_of, after_range, end_of_range, ranged}
 use Rattle.ir_gdb.proofs.Together.{below_next_cases}
 
-upwards_of_ignores_spoken : (s : Stub) (t : ℕ) (w : Bool) → upwards_of (spoken s) t w ≡ upwards_of s t w
+upwards_of_ignores_spoken : (s : Stub) (t : ℕ) (w : Bool) → upwards_of (stub_spoken s) t w ≡ upwards_of s t w
 upwards_of_ignores_spoken s t true = refl
 upwards_of_ignores_spoken s t false = refl
 
@@ -24,12 +24,12 @@ end_of_range_between_own_and_last_position : (s : Stub) (t low high : ℕ) (left
 end_of_range_between_own_and_last_position s t low high None has le leaves = (le, omega arith)
 end_of_range_between_own_and_last_position s t low high (Some k) has le leaves = let all = leaves has.run has.whole in (omega (arith, all.0), all.1)
 
-pub after_range_ignores_spoken : (s u : Stub) (t last : ℕ) (left : Option ℕ) (e : Stopped) → u ≡ spoken s → last ≡ last_of u.desk.fitted t → e ≡ after_range last left
+pub after_range_ignores_spoken : (s u : Stub) (t last : ℕ) (left : Option ℕ) (e : Stopped) → u ≡ stub_spoken s → last ≡ last_of u.desk.fitted t → e ≡ after_range last left
     → e ≡ after_range (last_of s.desk.fitted t) left
 after_range_ignores_spoken s u t last left e same at is =
     is ∙ ap (λ (n : ℕ). after_range n left) (at ∙ ap (λ (x : Stub). last_of x.desk.fitted t) same)
 
-pub after_range_position_between_own_and_last : (s u : Stub) (t low high : ℕ) (left : Option ℕ) (here : List ℕ) (e : Stopped) → u ≡ spoken s → HasRun u.desk.fitted
+pub after_range_position_between_own_and_last : (s u : Stub) (t low high : ℕ) (left : Option ℕ) (here : List ℕ) (e : Stopped) → u ≡ stub_spoken s → HasRun u.desk.fitted
     → position_of u t ≤ last_of u.desk.fitted t → EachRun s.desk.fitted (λ run. Leaves run s t low high left) → here ≡ u.desk.at
     → e ≡ after_range (last_of s.desk.fitted t) left → (cut_of here t ≤ e.position) × (e.position ≤ last_of u.desk.fitted t)
 after_range_position_between_own_and_last s u t low high left here e same has le leaves at is =
@@ -44,7 +44,7 @@ after_range_position_between_own_and_last s u t low high left here e same has le
     (up, down)
 
 pub ranges_to_found_stop : (s u v : Stub) (t low high : ℕ) (w : Bool) (left : Option ℕ) (here : List ℕ) (e to : Stopped) (points : List Numbered) (hit : Option Hit)
-    → u ≡ spoken s → v ≡ spoken s → EachRun s.desk.fitted (λ run. Leaves run s t low high left) → here ≡ u.desk.at
+    → u ≡ stub_spoken s → v ≡ stub_spoken s → EachRun s.desk.fitted (λ run. Leaves run s t low high left) → here ≡ u.desk.at
     → e ≡ after_range (last_of s.desk.fitted t) left → points ≡ upwards_of v t w
     → EachRun u.desk.fitted (λ run. IsNextHit u.desk.fitted run points t (cut_of here t) e.position hit) → to ≡ ranged s t w left hit
     → EachRun s.desk.fitted (λ run. RangesTo run s t low high w to)
@@ -66,7 +66,7 @@ next_hit_within_target f t p to points hit h has finds is =
     found.1
 
 -- pc of a thread at a cut is its pc at its position there
-pub pc_in_cut_is_pc_at_position : (s v : Stub) (t k pc : ℕ) (cut : List ℕ) → v ≡ spoken s → cut_of cut t ≡ k
+pub pc_in_cut_is_pc_at_position : (s v : Stub) (t k pc : ℕ) (cut : List ℕ) → v ≡ stub_spoken s → cut_of cut t ≡ k
     → EachRun v.desk.fitted (λ run. pc ≡ (thread_at v.desk.fitted run t (cut_of cut t)).core.pc) → EachRun s.desk.fitted (λ run. pc ≡ (thread_at s.desk.fitted run t k).core.pc)
 pc_in_cut_is_pc_at_position s v t k pc cut same there is =
     subst (λ (x : Stub). EachRun x.desk.fitted (λ run. pc ≡ (thread_at x.desk.fitted run t k).core.pc)) same

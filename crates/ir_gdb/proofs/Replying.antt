@@ -10,12 +10,12 @@ use Rattle.ir_packet.specs.declared.request.Motion.{Motion}
 use Rattle.ir_packet.specs.declared.request.Mover.{Mover}
 use Rattle.ir_packet.specs.declared.request.Request.{Request}
 use Rattle.ir_packet.specs.declared.request.Request.TheVariants as request
-use Rattle.ir_gdb.specs.Stub.{Stub, spoken}
-use Rattle.ir_gdb.specs.Texts.{supported_text, description_text, threads_text}
-use Rattle.ir_gdb.specs.Reads.{registers_text, register_text, memory_text}
+use Rattle.ir_gdb.specs.Stub.{Stub, stub_spoken}
+use Rattle.ir_gdb.specs.Texts.{supported_text, description_text, thread_list_text}
+use Rattle.ir_gdb.specs.Reads.{registers_reply, register_reply, memory_reply}
 use Rattle.ir_gdb.specs.Moves.{told_text, moving_of}
 use Rattle.ir_gdb.specs.Restarts.{RepliesToRestart}
-use Rattle.ir_gdb.specs.Replies.{CarriesOut, SaysPlain, RepliesToMove, Lacks, plain_reply, after_plain, has_reply, may_lack}
+use Rattle.ir_gdb.specs.Replies.{RepliesIfMemory, SaysPlain, RepliesToMove, Lacks, plain_reply, after_plain, has_reply, reply_may_lack}
 
 -- ---- replies that are always the same
 
@@ -24,7 +24,7 @@ says_plain_reply_text_if_reply_is_some None r after next e same = absurd cc
 says_plain_reply_text_if_reply_is_some (Some q) r after next e same = let is : q ≡ r = cc in (ap reply_text (sym is), same)
 
 pub plain_reply_text_carries_out_request : (run : List Step) (s : Stub) (asked : Request) (r : Reply) (next : Stub) → plain_reply s asked ≡ Some r
-    → next ≡ after_plain s asked → CarriesOut run s asked (reply_text r) next
+    → next ≡ after_plain s asked → RepliesIfMemory run s asked (reply_text r) next
 plain_reply_text_carries_out_request run s request.Supported r next e same = absurd cc
 plain_reply_text_carries_out_request run s request.NoAcknowledgements r next e same = says_plain_reply_text_if_reply_is_some (plain_reply s request.NoAcknowledgements) r (after_plain s request.NoAcknowledgements) next e same
 plain_reply_text_carries_out_request run s request.Reason r next e same = absurd cc
@@ -131,15 +131,15 @@ requests_without_plain_reply_are_listed s request.Unknown one e supported descri
 
 -- these bytes were put at the end, whichever run there is
 abbrev pub ReplyPut : Stub → Request → Stub → List ℕ → List ℕ → Type 0
-ReplyPut s asked next old new = (text : List ℕ) × EachRun s.desk.fitted (λ run. CarriesOut run s asked text next) × (new ≡ old ++ text)
+ReplyPut s asked next old new = (text : List ℕ) × EachRun s.desk.fitted (λ run. RepliesIfMemory run s asked text next) × (new ≡ old ++ text)
 
-reply_put_if_text_carries_out_in_all_runs : (s : Stub) (asked : Request) (next : Stub) (old new text : List ℕ) → ((run : List Step) → CarriesOut run s asked text next)
+reply_put_if_text_carries_out_in_all_runs : (s : Stub) (asked : Request) (next : Stub) (old new text : List ℕ) → ((run : List Step) → RepliesIfMemory run s asked text next)
     → new ≡ old ++ text → ReplyPut s asked next old new
 reply_put_if_text_carries_out_in_all_runs s asked next old new text go put = (text, (λ run of. go run), put)
 
 -- by a text that each run gives
 reply_put_if_text_of_each_run_carries_out : (s : Stub) (asked : Request) (next : Stub) (old new : List ℕ) (T : List Step → List ℕ) → HasRun s.desk.fitted
-    → ((run : List Step) (text : List ℕ) → text ≡ T run → CarriesOut run s asked text next)
+    → ((run : List Step) (text : List ℕ) → text ≡ T run → RepliesIfMemory run s asked text next)
     → EachRun s.desk.fitted (λ run. new ≡ old ++ T run) → ReplyPut s asked next old new
 reply_put_if_text_of_each_run_carries_out s asked next old new T has go each =
     let first : new ≡ old ++ T has.run = each has.run has.whole in
@@ -162,29 +162,29 @@ module _ (s : Stub) (asked : Request) (next : Stub) (old new : List ℕ) where
       (reply_put_if_text_carries_out_in_all_runs s (request.Description from most) next old new (piece_text text from most)
       (λ run. (ap (λ (x : List ℕ). piece_text x from most) e, same)) put)
 
-  pub threads_put : (from most : ℕ) → asked ≡ request.Threads from most → next ≡ s → new ≡ old ++ piece_text (threads_text s) from most
+  pub threads_put : (from most : ℕ) → asked ≡ request.Threads from most → next ≡ s → new ≡ old ++ piece_text (thread_list_text s) from most
       → ReplyPut s asked next old new
   threads_put from most is same put = over (request.Threads from most) is
-      (reply_put_if_text_carries_out_in_all_runs s (request.Threads from most) next old new (piece_text (threads_text s) from most) (λ run. (refl, same)) put)
+      (reply_put_if_text_carries_out_in_all_runs s (request.Threads from most) next old new (piece_text (thread_list_text s) from most) (λ run. (refl, same)) put)
 
-  module _ (has : HasRun s.desk.fitted) (said : next ≡ spoken s) where
+  module _ (has : HasRun s.desk.fitted) (said : next ≡ stub_spoken s) where
     pub reason_put : asked ≡ request.Reason → EachRun s.desk.fitted (λ run. new ≡ old ++ told_text run s) → ReplyPut s asked next old new
     reason_put is each = over request.Reason is
         (reply_put_if_text_of_each_run_carries_out s request.Reason next old new (λ run. told_text run s) has (λ run text e. (e, said)) each)
 
-    pub registers_put : asked ≡ request.Registers → EachRun s.desk.fitted (λ run. new ≡ old ++ registers_text run s) → ReplyPut s asked next old new
+    pub registers_put : asked ≡ request.Registers → EachRun s.desk.fitted (λ run. new ≡ old ++ registers_reply run s) → ReplyPut s asked next old new
     registers_put is each = over request.Registers is
-        (reply_put_if_text_of_each_run_carries_out s request.Registers next old new (λ run. registers_text run s) has (λ run text e. (e, said)) each)
+        (reply_put_if_text_of_each_run_carries_out s request.Registers next old new (λ run. registers_reply run s) has (λ run text e. (e, said)) each)
 
-    pub register_put : (n : ℕ) → asked ≡ request.Register n → EachRun s.desk.fitted (λ run. new ≡ old ++ register_text run s n)
+    pub register_put : (n : ℕ) → asked ≡ request.Register n → EachRun s.desk.fitted (λ run. new ≡ old ++ register_reply run s n)
         → ReplyPut s asked next old new
     register_put n is each = over (request.Register n) is
-        (reply_put_if_text_of_each_run_carries_out s (request.Register n) next old new (λ run. register_text run s n) has (λ run text e. (e, said)) each)
+        (reply_put_if_text_of_each_run_carries_out s (request.Register n) next old new (λ run. register_reply run s n) has (λ run text e. (e, said)) each)
 
     pub memory_put : (address size : ℕ) → asked ≡ request.Memory address size
-        → EachRun s.desk.fitted (λ run. new ≡ old ++ memory_text run s address size) → ReplyPut s asked next old new
+        → EachRun s.desk.fitted (λ run. new ≡ old ++ memory_reply run s address size) → ReplyPut s asked next old new
     memory_put address size is each = over (request.Memory address size) is
-        (reply_put_if_text_of_each_run_carries_out s (request.Memory address size) next old new (λ run. memory_text run s address size) has (λ run text e. (e, said)) each)
+        (reply_put_if_text_of_each_run_carries_out s (request.Memory address size) next old new (λ run. memory_reply run s address size) has (λ run text e. (e, said)) each)
 
   pub move_put : (motion : Motion) (mover : Mover) → asked ≡ request.Move motion mover
       → ((text : List ℕ) × EachRun s.desk.fitted (λ run. RepliesToMove (moving_of s mover) run s motion text next) × (new ≡ old ++ text))
@@ -200,13 +200,13 @@ module _ (s : Stub) (asked : Request) (next : Stub) (old new : List ℕ) where
   restart_at_put n is p = over (request.RestartAt n) is (p.0, p.1, p.2)
 
 -- out of memory
-pub lacks_if_request_may_lack_and_nothing_is_put : (s : Stub) (asked r : Request) (next : Stub) (old new : List ℕ) → asked ≡ r → may_lack s r ≡ true → (next ≡ s) ⊎ (next ≡ spoken s)
+pub lacks_if_request_may_lack_and_nothing_is_put : (s : Stub) (asked r : Request) (next : Stub) (old new : List ℕ) → asked ≡ r → reply_may_lack s r ≡ true → (next ≡ s) ⊎ (next ≡ stub_spoken s)
     → new ≡ old → Lacks s asked next × (new ≡ old)
-lacks_if_request_may_lack_and_nothing_is_put s asked r next old new is may same kept = ((ap (may_lack s) is ∙ may, same), kept)
+lacks_if_request_may_lack_and_nothing_is_put s asked r next old new is may same kept = ((ap (reply_may_lack s) is ∙ may, same), kept)
 
 -- what reads the run at the cut lacks memory only if that isn't in hand
 pub lacks_if_reading_fails : {X E : Type 0} (result : Result X E) (s : Stub) (asked r : Request) (next : Stub) (old new : List ℕ) → asked ≡ r
-    → may_lack s r ≡ not s.desk.fresh → next ≡ spoken s → OnErr result (s.desk.fresh ≡ false) → OnErr result (new ≡ old)
+    → reply_may_lack s r ≡ not s.desk.fresh → next ≡ stub_spoken s → OnErr result (s.desk.fresh ≡ false) → OnErr result (new ≡ old)
     → OnErr result (Lacks s asked next × (new ≡ old))
 lacks_if_reading_fails (Ok x) s asked r next old new is may same stale kept = tt
 lacks_if_reading_fails (Err e) s asked r next old new is may same stale kept =

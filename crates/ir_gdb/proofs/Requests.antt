@@ -2,7 +2,7 @@
 use Rattle.std.proofs.Common.{◌≡◌, ◌≤◌, ◌<◌, ℕ, Bool, true, false, leb, List, [], ◌∷◌, Option, Some, None, refl, sym, subst, arith, leb-true, if◌then◌else◌, drop}
 use Rattle.std.specs.Prelude.{⊤}
 use Rattle.ir_packet.specs.Numbers.{number, decimal_number, index_of, before, behind, are_pairs}
-use Rattle.ir_packet.specs.Requests.{plain, whatever, of_number, of_numbers, one, two, of_who, who_of, thread, register, console, move_of, mover_of, motion_of, thread_behind, others_of, first_action, actions, restart_with, restart, Row, queries, texts, restarts, commands, points, letters, after_name, made_by, asked_in, or_else, or_unknown, asked_queries, asked_texts, asked_restarts, asked_commands, asked_named, asked_points, asked_ends, asked_letters, request_of}
+use Rattle.ir_packet.specs.Requests.{without_argument, whatever, of_number, of_numbers, one, two_with_comma, of_who, who_of, thread, register_request, console, move_of, mover_of, motion_of, thread_behind, others_of, first_action, actions, restart_with, restart, PacketRow, queries, texts, restarts, commands, points, letters, after_name, request_by, asked_in, or_else, or_unknown, asked_queries, asked_texts, asked_restarts, asked_commands, asked_named, asked_points, asked_ends, asked_letters, request_of}
 use Rattle.ir_packet.specs.Requests as requests
 use Rattle.ir_packet.specs.declared.request.Request.{Request}
 use Rattle.ir_packet.specs.declared.request.Request.TheVariants as request
@@ -26,7 +26,7 @@ choice_of_requests_has_known_register false x y p q = q
 malformed_has_known_register : HasKnownRegister request.Malformed
 malformed_has_known_register = λ n e. absurd cc
 
-plain_request_has_known_register : (r : Request) → HasKnownRegister r → (rest : List ℕ) → HasKnownRegister (plain r rest)
+plain_request_has_known_register : (r : Request) → HasKnownRegister r → (rest : List ℕ) → HasKnownRegister (without_argument r rest)
 plain_request_has_known_register r p [] = p
 plain_request_has_known_register r p (b ∷ rest) = malformed_has_known_register
 
@@ -47,8 +47,8 @@ request_of_one_number_has_known_register_if_each_made_has : (makes : ℕ → Req
 unfolding one
 request_of_one_number_has_known_register_if_each_made_has makes p rest = request_of_number_has_known_register makes p (number rest)
 
-two_number_request_has_known_register : (makes : ℕ → ℕ → Request) → ((m n : ℕ) → HasKnownRegister (makes m n)) → (rest : List ℕ) → HasKnownRegister (two makes rest)
-unfolding two
+two_number_request_has_known_register : (makes : ℕ → ℕ → Request) → ((m n : ℕ) → HasKnownRegister (makes m n)) → (rest : List ℕ) → HasKnownRegister (two_with_comma makes rest)
+unfolding two_with_comma
 two_number_request_has_known_register makes p rest = request_of_numbers_has_known_register makes p (number (before 44 rest)) (number (behind 44 rest))
 
 thread_request_has_known_register : (makes : Who → Request) → ((w : Who) → HasKnownRegister (makes w)) → (rest : List ℕ) → HasKnownRegister (thread makes rest)
@@ -62,7 +62,7 @@ tested_register_request_has_known_register n true h = λ m e.
     omega (arith, few, same)
 tested_register_request_has_known_register n false h = malformed_has_known_register
 
-register_request_has_known_register : (n : ℕ) → HasKnownRegister (register n)
+register_request_has_known_register : (n : ℕ) → HasKnownRegister (register_request n)
 register_request_has_known_register n = tested_register_request_has_known_register n (leb n 32) refl
 
 console_request_has_known_register : (rest : List ℕ) → HasKnownRegister (console rest)
@@ -90,19 +90,19 @@ restart_has_known_register rest = restart_argument_has_known_register (drop (ind
 
 -- ---- rows
 
-abbrev pub AllMakeKnownRegisters : List Row → Type 0
+abbrev pub AllMakeKnownRegisters : List PacketRow → Type 0
 AllMakeKnownRegisters [] = ⊤
 AllMakeKnownRegisters (r ∷ rows) = ((rest : List ℕ) → HasKnownRegister (r.makes rest)) × AllMakeKnownRegisters rows
 
 pair_of_facts : {P Q : Type 0} → P → Q → P × Q
 pair_of_facts p q = (p, q)
 
-request_made_by_row_has_known_register : (r : Row) (rest : Option (List ℕ)) (next : Option Request) → ((rest : List ℕ) → HasKnownRegister (r.makes rest)) → HasKnownRegisterIfSome next
-    → HasKnownRegisterIfSome (made_by r rest next)
+request_made_by_row_has_known_register : (r : PacketRow) (rest : Option (List ℕ)) (next : Option Request) → ((rest : List ℕ) → HasKnownRegister (r.makes rest)) → HasKnownRegisterIfSome next
+    → HasKnownRegisterIfSome (request_by r rest next)
 request_made_by_row_has_known_register r None next p q = q
 request_made_by_row_has_known_register r (Some rest) next p q = p rest
 
-request_asked_in_rows_has_known_register : (rows : List Row) (payload : List ℕ) → AllMakeKnownRegisters rows → HasKnownRegisterIfSome (asked_in rows payload)
+request_asked_in_rows_has_known_register : (rows : List PacketRow) (payload : List ℕ) → AllMakeKnownRegisters rows → HasKnownRegisterIfSome (asked_in rows payload)
 request_asked_in_rows_has_known_register [] payload all = tt
 request_asked_in_rows_has_known_register (r ∷ rows) payload all = request_made_by_row_has_known_register r (after_name r.name payload) (asked_in rows payload) all.0 (request_asked_in_rows_has_known_register rows payload all.1)
 
@@ -155,10 +155,10 @@ requests_of_letters_table_have_known_registers =
     (pair_of_facts (thread_request_has_known_register request.Choose (λ w n e. absurd cc))
     (pair_of_facts (request_of_one_number_has_known_register_if_each_made_has request.Alive (λ a n e. absurd cc))
     (pair_of_facts (plain_request_has_known_register request.Registers (λ n e. absurd cc))
-    (pair_of_facts (request_of_one_number_has_known_register_if_each_made_has register register_request_has_known_register)
+    (pair_of_facts (request_of_one_number_has_known_register_if_each_made_has register_request register_request_has_known_register)
     (pair_of_facts (two_number_request_has_known_register request.Memory (λ a b n e. absurd cc)) tt))))))
 
-requests_of_ends_table_have_known_registers : AllMakeKnownRegisters requests.ends
+requests_of_ends_table_have_known_registers : AllMakeKnownRegisters requests.bare_rows
 requests_of_ends_table_have_known_registers =
     pair_of_facts (λ rest n e. absurd cc)
     (pair_of_facts (λ rest n e. absurd cc)
@@ -183,8 +183,8 @@ points_request_has_known_register payload = request_asked_in_rows_has_known_regi
 
 letters_request_has_known_register : (payload : List ℕ) → HasKnownRegisterIfSome (asked_letters payload)
 unfolding asked_letters asked_ends
-letters_request_has_known_register payload = request_or_else_other_has_known_register (asked_in letters payload) (asked_in requests.ends payload) (request_asked_in_rows_has_known_register letters payload requests_of_letters_table_have_known_registers)
-    (request_asked_in_rows_has_known_register requests.ends payload requests_of_ends_table_have_known_registers)
+letters_request_has_known_register payload = request_or_else_other_has_known_register (asked_in letters payload) (asked_in requests.bare_rows payload) (request_asked_in_rows_has_known_register letters payload requests_of_letters_table_have_known_registers)
+    (request_asked_in_rows_has_known_register requests.bare_rows payload requests_of_ends_table_have_known_registers)
 
 pub request_has_known_register : (payload : List ℕ) → HasKnownRegister (request_of payload)
 unfolding request_of

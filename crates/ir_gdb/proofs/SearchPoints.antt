@@ -9,7 +9,7 @@ use Rattle.ir_hits.specs.Watchable.{AreWatchable}
 use Rattle.ir_gdb.specs.declared.point.Breakpoint.{Breakpoint}
 use Rattle.ir_gdb.specs.declared.point.Watched.{Watched}
 use Rattle.ir_gdb.specs.Stub.{IsWatched}
-use Rattle.ir_gdb.specs.Points.{word_points, words_in, watch_points, break_points, own_points, points_upwards, points_downwards}
+use Rattle.ir_gdb.specs.Points.{word_points, watched_words, watch_points, break_points, own_points, points_upwards, points_downwards}
 
 -- ---- words, one by one
 
@@ -43,7 +43,7 @@ word_points_are_watchable t number (suc n) address aligned low high = (
 )
 
 -- the words of a watch that isn't of the objects end where private memory does, or before
-words_end_in_memory : (w : Watched) → IsWatched w → w.address / 4 * 4 < objects_start → w.address / 4 * 4 + 4 * words_in w ≤ memory_start + memory_size
+words_end_in_memory : (w : Watched) → IsWatched w → w.address / 4 * 4 < objects_start → w.address / 4 * 4 + 4 * watched_words w ≤ memory_start + memory_size
 words_end_in_memory w is less =
     let under : w.address < objects_start = omega (arith, less) in
     let own = is.own (grind (arith, nat_tests, under)) in
@@ -55,8 +55,8 @@ unfolding watch_points
 watch_points_are_watchable t number [] all = tt
 watch_points_are_watchable t number (w ∷ ws) all =
     let first = all.0 in
-    appended_points_are_watchable (word_points t number (words_in w) (w.address / 4 * 4)) (watch_points t (number + 1) ws)
-    (word_points_are_watchable t number (words_in w) (w.address / 4 * 4) (omega arith) (omega (arith, first.low)) (words_end_in_memory w first))
+    appended_points_are_watchable (word_points t number (watched_words w) (w.address / 4 * 4)) (watch_points t (number + 1) ws)
+    (word_points_are_watchable t number (watched_words w) (w.address / 4 * 4) (omega arith) (omega (arith, first.low)) (words_end_in_memory w first))
     (watch_points_are_watchable t (number + 1) ws all.1)
 
 break_points_are_watchable : (t number : ℕ) (bs : List Breakpoint) → AreWatchable (break_points t number bs)

@@ -19,7 +19,7 @@ use Rattle.ir_debug.proofs.CallerLemmas.{if_some_of_implied, if_served_by_implie
 pub use Rattle.ir_debug.proofs.CallerLemmas.{reads_up_to_of_implied, opens_ready_desk_if_opening_is_ready, read_fault_if_ended_by_read, write_fault_if_ended_by_write}
 use Rattle.ir_gdb.specs.Stub.{Stub, stub_of}
 use Rattle.ir_gdb.specs.Connection.{Link, link_of, LeadsTo}
-use Rattle.ir_gdb.specs.Session.{first_link, Serves, Refuses, Connects, Connected, Announced, IfNotRefused}
+use Rattle.ir_gdb.specs.Session.{first_link, ServesItems, EndsUnopened, Connects, Connected, Announced, IfNotRefused}
 
 -- ---- a connection
 
@@ -27,7 +27,7 @@ pub link_is_first_link : (l : Link) (s : Stub) (d : Desk) → l ≡ link_of s �
 link_is_first_link l s d is of = is ∙ ap link_of of
 
 serves_if_leads_to : (d : Desk) (l : Link) (r : Result Served Fault) (w w' : Option (List ℕ)) (input : List ℕ) → l ≡ first_link d
-    → LeadsTo l most_input r w w' input → Serves d (ended_by r) w w' input
+    → LeadsTo l most_input r w w' input → ServesItems d (ended_by r) w w' input
 serves_if_leads_to d l r w w' input is leads = record {
   served = r;
   ending = refl;
@@ -36,16 +36,16 @@ serves_if_leads_to d l r w w' input is leads = record {
 
 pub serves_by_read_input : (d : Desk) (l : Link) (result : Result Ended SessionErr) (r : Result Served Fault) (a b w w' : Option (List ℕ))
     → result ≡ ended_by r → l ≡ first_link d → IfEnded r (ReadsUpTo most_input a b (LeadsTo l most_input r w w'))
-    → IfServed result (ReadsUpTo most_input a b (Serves d result w w'))
+    → IfServed result (ReadsUpTo most_input a b (ServesItems d result w w'))
 serves_by_read_input d l result r a b w w' ended is p =
-    subst (λ (x : Result Ended SessionErr). IfServed x (ReadsUpTo most_input a b (Serves d x w w'))) (sym ended)
+    subst (λ (x : Result Ended SessionErr). IfServed x (ReadsUpTo most_input a b (ServesItems d x w w'))) (sym ended)
     (if_served_by_implied_end r _ _ (reads_up_to_of_implied most_input a b _ _ (λ input leads. serves_if_leads_to d l r w w' input is leads)) p)
 
 pub serves_by_known_input : (d : Desk) (l : Link) (result : Result Ended SessionErr) (r : Result Served Fault) (a w w' : Option (List ℕ))
     → result ≡ ended_by r → l ≡ first_link d → IfEnded r (IfSome a (LeadsTo l most_input r w w'))
-    → IfServed result (IfSome a (Serves d result w w'))
+    → IfServed result (IfSome a (ServesItems d result w w'))
 serves_by_known_input d l result r a w w' ended is p =
-    subst (λ (x : Result Ended SessionErr). IfServed x (IfSome a (Serves d x w w'))) (sym ended)
+    subst (λ (x : Result Ended SessionErr). IfServed x (IfSome a (ServesItems d x w w'))) (sym ended)
     (if_served_by_implied_end r _ _ (if_some_of_implied a _ _ (λ input leads. serves_if_leads_to d l r w w' input is leads)) p)
 
 pub if_served_from_if_ended : (result : Result Ended SessionErr) (r : Result Served Fault) (P : Type 0) → result ≡ ended_by r → IfEnded r P
@@ -79,13 +79,13 @@ if_served_of_implied (Err err.Write) P Q go p = tt
 if_served_of_implied (Err err.TooLong) P Q go p = go p
 
 pub connected_by_read_input_if_ready : (image trace : List ℕ) (d : Desk) (result : Result Ended SessionErr) (a b w w' : Option (List ℕ))
-    → Opens image trace (opening.Ready d) → IfServed result (ReadsUpTo most_input a b (Serves d result w w'))
+    → Opens image trace (opening.Ready d) → IfServed result (ReadsUpTo most_input a b (ServesItems d result w w'))
     → IfServed result (ReadsUpTo most_input a b (Connected image trace result w w'))
 connected_by_read_input_if_ready image trace d result a b w w' opens p = if_served_of_implied result _ _ (reads_up_to_of_implied most_input a b _ _
     (λ input serves_if_leads_to. record { opening = opening.Ready d; opens = opens; connects = serves_if_leads_to })) p
 
 pub connected_by_known_input_if_ready : (image trace : List ℕ) (d : Desk) (result : Result Ended SessionErr) (a w w' : Option (List ℕ))
-    → Opens image trace (opening.Ready d) → IfServed result (IfSome a (Serves d result w w'))
+    → Opens image trace (opening.Ready d) → IfServed result (IfSome a (ServesItems d result w w'))
     → IfServed result (IfSome a (Connected image trace result w w'))
 connected_by_known_input_if_ready image trace d result a w w' opens p = if_served_of_implied result _ _ (if_some_of_implied a _ _
     (λ input serves_if_leads_to. record { opening = opening.Ready d; opens = opens; connects = serves_if_leads_to })) p
@@ -100,17 +100,17 @@ if_refused_holds_vacuously_if_never_refused (Err e) P p = tt
 
 -- ---- nothing was opened
 
-connects_if_refused : (o : Opening) (e : Ended) (w : Option (List ℕ)) (input : List ℕ) → Refuses o e → Connects o (Ok e) w w input
+connects_if_refused : (o : Opening) (e : Ended) (w : Option (List ℕ)) (input : List ℕ) → EndsUnopened o e → Connects o (Ok e) w w input
 connects_if_refused (opening.ImageRefused x) e w input is = (e, is, refl, Appends-nil w)
 connects_if_refused (opening.TraceRefused x) e w input is = (e, is, refl, Appends-nil w)
 connects_if_refused (opening.Unfit v) e w input is = (e, is, refl, Appends-nil w)
 connects_if_refused (opening.Ready d) e w input is = absurd is
 
-connected_if_refused : (image trace : List ℕ) (o : Opening) (e : Ended) (w : Option (List ℕ)) (input : List ℕ) → Opens image trace o → Refuses o e
+connected_if_refused : (image trace : List ℕ) (o : Opening) (e : Ended) (w : Option (List ℕ)) (input : List ℕ) → Opens image trace o → EndsUnopened o e
     → Connected image trace (Ok e) w w input
 connected_if_refused image trace o e w input opens is = record { opening = o; opens = opens; connects = connects_if_refused o e w input is }
 
-pub connected_by_read_input_if_refused : (image trace : List ℕ) (o : Opening) (e : Ended) (a w : Option (List ℕ)) → Opens image trace o → Refuses o e
+pub connected_by_read_input_if_refused : (image trace : List ℕ) (o : Opening) (e : Ended) (a w : Option (List ℕ)) → Opens image trace o → EndsUnopened o e
     → ReadsUpTo most_input a a (Connected image trace (Ok e) w w)
 connected_by_read_input_if_refused image trace o e a w opens is = record {
   consumed = [];
@@ -119,12 +119,12 @@ connected_by_read_input_if_refused image trace o e a w opens is = record {
   holds = connected_if_refused image trace o e w [] opens is;
 }
 
-pub connected_by_known_input_if_refused : (image trace : List ℕ) (o : Opening) (e : Ended) (a w : Option (List ℕ)) → Opens image trace o → Refuses o e
+pub connected_by_known_input_if_refused : (image trace : List ℕ) (o : Opening) (e : Ended) (a w : Option (List ℕ)) → Opens image trace o → EndsUnopened o e
     → IfSome a (Connected image trace (Ok e) w w)
 connected_by_known_input_if_refused image trace o e None w opens is = tt
 connected_by_known_input_if_refused image trace o e (Some xs) w opens is = connected_if_refused image trace o e w xs opens is
 
-pub announced_if_refused : (image trace : List ℕ) (o : Opening) (e : Ended) (P : List ℕ → Type 0) → Opens image trace o → Refuses o e
+pub announced_if_refused : (image trace : List ℕ) (o : Opening) (e : Ended) (P : List ℕ → Type 0) → Opens image trace o → EndsUnopened o e
     → P (opening_text o) → IfRefused (Ok e) (Announced image trace (Ok e) P)
 announced_if_refused image trace o ended.Quit P opens is p = tt
 announced_if_refused image trace o ended.InputEnd P opens is p = tt
@@ -132,7 +132,7 @@ announced_if_refused image trace o ended.ImageRefused P opens is p = record { op
 announced_if_refused image trace o ended.TraceRefused P opens is p = record { opening = o; opens = opens; ended = ended.TraceRefused; refuses = is; ending = refl; text = p }
 announced_if_refused image trace o ended.NotFit P opens is p = record { opening = o; opens = opens; ended = ended.NotFit; refuses = is; ending = refl; text = p }
 
-pub if_not_refused_holds_vacuously_if_refused : (o : Opening) (e : Ended) (P : Type 0) → Refuses o e → IfNotRefused (Ok e) P
+pub if_not_refused_holds_vacuously_if_refused : (o : Opening) (e : Ended) (P : Type 0) → EndsUnopened o e → IfNotRefused (Ok e) P
 if_not_refused_holds_vacuously_if_refused (opening.ImageRefused x) e P is = subst (λ (y : Ended). IfNotRefused (Ok y) P) (sym is) tt
 if_not_refused_holds_vacuously_if_refused (opening.TraceRefused x) e P is = subst (λ (y : Ended). IfNotRefused (Ok y) P) (sym is) tt
 if_not_refused_holds_vacuously_if_refused (opening.Unfit v) e P is = subst (λ (y : Ended). IfNotRefused (Ok y) P) (sym is) tt

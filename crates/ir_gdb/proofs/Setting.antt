@@ -11,12 +11,12 @@ use Rattle.ir_hits.specs.Hits.{objects_start, object_size}
 use Rattle.ir_debug.proofs.CallerLemmas.{filter_keeps_property_of_all, filter_is_not_longer}
 use Rattle.ir_gdb.specs.declared.point.Breakpoint.{Breakpoint}
 use Rattle.ir_gdb.specs.declared.point.Watched.{Watched}
-use Rattle.ir_gdb.specs.Stub.{Stub, IsStub, IsWatched, is_shared, shared_of, most_points, most_watched}
+use Rattle.ir_gdb.specs.Stub.{Stub, IsStub, IsWatched, is_shared, shared_of, most_stub_points, most_watched}
 use Rattle.ir_gdb.specs.Setting.{lies_in_objects, can_watch, is_same_break, is_same_watch, breaks_without, watches_without}
 
 -- ---- a point more
 
-pub stub_with_break_is_stub_if_points_have_room : (s : Stub) (b : Breakpoint) → IsStub s → length s.breaks + length s.watches < most_points
+pub stub_with_break_is_stub_if_points_have_room : (s : Stub) (b : Breakpoint) → IsStub s → length s.breaks + length s.watches < most_stub_points
     → IsStub (record s { breaks = s.breaks ++ b ∷ [] })
 stub_with_break_is_stub_if_points_have_room s b is room = record {
   general = is.general;
@@ -77,7 +77,7 @@ watched_if_can_watch g w few can =
     }
 
 pub stub_with_watch_is_stub_if_room_and_can_watch : (s : Stub) (w : Watched) → IsStub s → object_count s.desk.fitted.guest ≤ most_objects
-    → can_watch s.desk.fitted.guest w ≡ true → length s.breaks + length s.watches < most_points
+    → can_watch s.desk.fitted.guest w ≡ true → length s.breaks + length s.watches < most_stub_points
     → IsStub (record s { watches = s.watches ++ w ∷ [] })
 stub_with_watch_is_stub_if_room_and_can_watch s w is objects can room = record {
   general = is.general;
@@ -118,7 +118,7 @@ shared_watches_are_watched ws all = filter_keeps_property_of_all IsWatched is_sh
 pub shared_watches_are_not_more : (ws : List Watched) → length (shared_of ws) ≤ length ws
 shared_watches_are_not_more ws = filter_is_not_longer is_shared ws
 
-pub shared_watches_are_few : (n : ℕ) (ws : List Watched) → n + length ws ≤ most_points → n + length (shared_of ws) ≤ most_points
+pub shared_watches_are_few : (n : ℕ) (ws : List Watched) → n + length ws ≤ most_stub_points → n + length (shared_of ws) ≤ most_stub_points
 shared_watches_are_few n ws few = let less = shared_watches_are_not_more ws in omega (arith, less, few)
 
 added_if : Bool → Watched → List Watched

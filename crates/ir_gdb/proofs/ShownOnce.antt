@@ -14,9 +14,9 @@ use Rattle.ir_gdb.specs.declared.point.Watched.{Watched}
 use Rattle.ir_gdb.specs.declared.stopped.Stopped.{Stopped}
 use Rattle.ir_gdb.specs.Points.{points_upwards, points_downwards}
 use Rattle.ir_gdb.specs.Stub.{Stub, shared_of}
-use Rattle.ir_gdb.specs.Stops.{position_of, watches_if, upwards_of, downwards_of, end_above, end_below, is_hit, GoesTo, BackBy, StopsBelow, ContinuesBackBy, end_of}
-use Rattle.ir_gdb.specs.Together.{Halt, halt, Comes, stop_among, is_on_way, AreStops, FirstMet, meets, or_else, own_halt, met_or, StopsAmong, FirstStop, furthest, ContinuesAmong}
-use Rattle.ir_gdb.specs.Laws.{MeetsNone, PassesNone, PassesNoHit, Stands, behind, ShowsHit, ContinuesToEnd, IsHitBeyond, ShowsAt, IsShownOnce}
+use Rattle.ir_gdb.specs.Stops.{position_of, watches_if, upwards_of, downwards_of, end_above, end_below, is_hit, StopsInDirection, BackBy, StopsBelow, ContinuesBackBy, reason_at_end}
+use Rattle.ir_gdb.specs.Together.{Halt, halt, Comes, stop_among, is_on_way, AreStops, FirstMet, meets, halt_or, own_halt, met_or, StopsAmong, FirstStop, furthest, ContinuesAmong}
+use Rattle.ir_gdb.specs.Laws.{MeetsNone, PassesNone, PassesNoHit, Stands, stub_behind, ShowsHit, ContinuesToEnd, IsHitBeyond, ShowsAt, IsShownOnce}
 use Rattle.ir_gdb.proofs.Alone.{no_watch_is_next, stop_above_is_at_hit, stop_below_is_at_hit}
 use Rattle.ir_gdb.proofs.Blocked.{Within, comes_on, comes_exactly, hit_on_way_if_meets}
 use Rattle.ir_gdb.proofs.Unpassed.{continuing_passes_no_hit, no_hit_without_stop}
@@ -83,12 +83,12 @@ hit_not_met run s Backwards u k c w none meets (beyond, (n, hits)) = elim (cases
 
 -- a hit that is beyond a stop is so from there on
 hit_beyond_stop : (run : List Step) (s : Stub) (d : Direction) (u k : ℕ) (h : Halt) → Beyond d (cut_of h.cut u) k → IsHitBeyond run s d u k
-    → IsHitBeyond run (behind s h) d u k
+    → IsHitBeyond run (stub_behind s h) d u k
 hit_beyond_stop run s Forwards u k h beyond hit = (beyond, hit.1)
 hit_beyond_stop run s Backwards u k h beyond hit = (beyond, hit.1)
 
 -- a thread's own stop at a hit is beyond its position
-own_hit_is_beyond : (run : List Step) (s : Stub) (d : Direction) (u : ℕ) (w : Bool) (to : Stopped) → s.watches ≡ [] → GoesTo d run s u w to → is_hit to.reason ≡ true
+own_hit_is_beyond : (run : List Step) (s : Stub) (d : Direction) (u : ℕ) (w : Bool) (to : Stopped) → s.watches ≡ [] → StopsInDirection d run s u w to → is_hit to.reason ≡ true
     → Beyond d (position_of s u) to.position
 own_hit_is_beyond run s Forwards u w to none (hit, finds, ends) told = by hit finds (ends ∙ ap (λ (ws : List Watched). end_above ws s.breaks (last_of s.desk.fitted u) hit)
     (watches_if_none s w none))
@@ -118,7 +118,7 @@ record IsHitStop (run : List Step) (s : Stub) (d : Direction) (h : Halt) : Type 
   to : Stopped
   watched : Bool
   thread : h.thread < threads_of s.desk.fitted
-  goes : GoesTo d run s h.thread watched to
+  goes : StopsInDirection d run s h.thread watched to
   hit : is_hit to.reason ≡ true
   told : is_hit h.reason ≡ true
   comes : Comes run s d h.thread to.position h.cut
@@ -177,7 +177,7 @@ none_beyond_without_stop run s d t each none stops (mine, all) u k below hit = n
       | inr other ↦ no_hit_without_stop run s d u each (all u below other)
     ]
 
-end_is_no_hit : (d : Direction) → is_hit (end_of d) ≡ false
+end_is_no_hit : (d : Direction) → is_hit (reason_at_end d) ≡ false
 end_is_no_hit Forwards = refl
 end_is_no_hit Backwards = refl
 
@@ -186,7 +186,7 @@ hit_stop_or_none_beyond : (run : List Step) (s : Stub) (d : Direction) (t : ℕ)
     → ContinuesAmong run s t d h → IsHitStop run s d h ⊎ ((is_hit h.reason ≡ false) × NoneBeyond run s d)
 hit_stop_or_none_beyond run s d t h none below (each, stops, (stop, first, is)) = by stop first is
   where
-    by : (stop : Option Halt) → FirstStop run s d each t stop → h ≡ or_else stop (halt t (furthest s d) (end_of d))
+    by : (stop : Option Halt) → FirstStop run s d each t stop → h ≡ halt_or stop (halt t (furthest s d) (reason_at_end d))
         → IsHitStop run s d h ⊎ ((is_hit h.reason ≡ false) × NoneBeyond run s d)
     by None first is = inr (ap (λ (x : Halt). is_hit x.reason) is ∙ end_is_no_hit d, none_beyond_without_stop run s d t each none stops first)
     by (Some other) (inl mine) is = inl (subst (IsHitStop run s d) (sym is) (stop_among_is_hit_stop run s d t t each other stops below mine))
@@ -208,7 +208,7 @@ none_beyond_if_not_told run s d t h none below continues isnt = elim (hit_stop_o
 ]
 
 -- all threads are then at a consistent cut
-stands_at_stop : (run : List Step) (s : Stub) (d : Direction) (h : Halt) → Stands run s → IsHitStop run s d h → Stands run (behind s h)
+stands_at_stop : (run : List Step) (s : Stub) (d : Direction) (h : Halt) → Stands run s → IsHitStop run s d h → Stands run (stub_behind s h)
 stands_at_stop run s Forwards h stands stop = record { whole = stands.whole; cut = stop.comes.1.cut; consistent = stop.comes.1.consistent }
 stands_at_stop run s Backwards h stands stop = record { whole = stands.whole; cut = stop.comes.1.cut; consistent = stop.comes.1.consistent }
 
@@ -240,7 +240,7 @@ shown_is_beyond run s d (m ∷ next ∷ ms) stands none continues u k zero shows
     subst (Beyond d (position_of s u)) mine.1 beyond
 shown_is_beyond run s d (m ∷ next ∷ ms) stands none continues u k (suc i) shows =
     let stop = hit_stop_if_told run s d m.0 m.1 none continues.0 continues.1 continues.2 in
-    let later = shown_is_beyond run (behind s m.1) d (next ∷ ms) (stands_at_stop run s d m.1 stands stop) none continues.3 u k i shows in
+    let later = shown_is_beyond run (stub_behind s m.1) d (next ∷ ms) (stands_at_stop run s d m.1 stands stop) none continues.3 u k i shows in
     beyond_if_within d (position_of s u) (cut_of m.1.cut u) k (comes_on run s d m.1.thread stop.to.position m.1.cut stop.comes u) later
 
 -- by the first stop, and by none behind it
@@ -266,7 +266,7 @@ each_hit_beyond_is_shown_once run s d [] stands none continues u k below hit = a
 each_hit_beyond_is_shown_once run s d (m ∷ []) stands none continues u k below hit =
     absurd (none_beyond_if_not_told run s d m.0 m.1 none continues.0 continues.1 continues.2 u k below hit)
 each_hit_beyond_is_shown_once run s d (m ∷ next ∷ ms) stands none continues u k below hit =
-    by (λ beyond. each_hit_beyond_is_shown_once run (behind s m.1) d (next ∷ ms) (stands_at_stop run s d m.1 stands stop) none continues.3 u k below
+    by (λ beyond. each_hit_beyond_is_shown_once run (stub_behind s m.1) d (next ∷ ms) (stands_at_stop run s d m.1 stands stop) none continues.3 u k below
     (hit_beyond_stop run s d u k m.1 beyond hit))
   where
     stop : IsHitStop run s d m.1
@@ -280,7 +280,7 @@ each_hit_beyond_is_shown_once run s d (m ∷ next ∷ ms) stands none continues 
 
     not_later : k ≡ cut_of m.1.cut u → (i : ℕ) → ShowsAt (next ∷ ms) u k i → ⊥
     not_later at i shows = not_beyond_itself d (cut_of m.1.cut u) k
-        (shown_is_beyond run (behind s m.1) d (next ∷ ms) (stands_at_stop run s d m.1 stands stop) none continues.3 u k i shows) at
+        (shown_is_beyond run (stub_behind s m.1) d (next ∷ ms) (stands_at_stop run s d m.1 stands stop) none continues.3 u k i shows) at
 
     by : (Beyond d (cut_of m.1.cut u) k → IsShownOnce (next ∷ ms) u k) → IsShownOnce (m ∷ next ∷ ms) u k
     by later = elim (cases_eq m.1.thread u) [

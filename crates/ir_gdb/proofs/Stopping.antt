@@ -16,7 +16,7 @@ use Rattle.ir_gdb.specs.declared.point.Watched.{Watched}
 use Rattle.ir_gdb.specs.declared.stopped.Stopped.{Stopped}
 use Rattle.ir_gdb.specs.Points.{watch_points, points_downwards}
 use Rattle.ir_gdb.specs.Serving.{Serving}
-use Rattle.ir_gdb.specs.Stub.{Stub, spoken}
+use Rattle.ir_gdb.specs.Stub.{Stub, stub_spoken}
 use Rattle.ir_gdb.specs.Stops.{watches_if, downwards_of, position_of, WatchNext, StepsBy, StepsTo, after_step, StepsBackBy, StepsBackTo, after_back, StopsBelow, BackBy, ContinuesBackBy, ContinuesBackTo, upwards_of, ContinuesTo, end_above, end_below, watch_reason}
 use Rattle.ir_gdb.proofs.Bounds.{end_above_within_last}
 
@@ -30,12 +30,12 @@ watches_if_ignores_desk : (u : Stub) (e : Desk) (w : Bool) → watches_if (recor
 watches_if_ignores_desk u e true = refl
 watches_if_ignores_desk u e false = refl
 
-pub watches_if_ignores_spoken_and_desk : (s u : Stub) (e : Desk) (w : Bool) → u ≡ spoken s → watches_if (record u { desk = e }) w ≡ watches_if s w
+pub watches_if_ignores_spoken_and_desk : (s u : Stub) (e : Desk) (w : Bool) → u ≡ stub_spoken s → watches_if (record u { desk = e }) w ≡ watches_if s w
 watches_if_ignores_spoken_and_desk s u e w same =
-    watches_if_ignores_desk u e w ∙ ap (λ (x : Stub). watches_if x w) same ∙ watches_if_ignores_desk s (spoken s).desk w
+    watches_if_ignores_desk u e w ∙ ap (λ (x : Stub). watches_if x w) same ∙ watches_if_ignores_desk s (stub_spoken s).desk w
 
-pub watches_if_ignores_spoken : (s u : Stub) (w : Bool) → u ≡ spoken s → watches_if u w ≡ watches_if s w
-watches_if_ignores_spoken s u w same = ap (λ (x : Stub). watches_if x w) same ∙ watches_if_ignores_desk s (spoken s).desk w
+pub watches_if_ignores_spoken : (s u : Stub) (w : Bool) → u ≡ stub_spoken s → watches_if u w ≡ watches_if s w
+watches_if_ignores_spoken s u w same = ap (λ (x : Stub). watches_if x w) same ∙ watches_if_ignores_desk s (stub_spoken s).desk w
 
 -- ---- the next watch
 
@@ -64,7 +64,7 @@ no_next_hit_without_watches f run t p to (x ∷ xs) empty = absurd (omega (arith
 pub length_is_zero_if_zero_test_is_true : (ws : List Watched) → true ≡ (length ws == 0) → length ws ≡ 0
 length_is_zero_if_zero_test_is_true ws empty = grind (arith, nat_tests, empty)
 
-pub watch_next_is_none_without_watches : (s u : Stub) (t p : ℕ) (w : Bool) (ws : List Watched) → u ≡ spoken s → ws ≡ watches_if u w → length ws ≡ 0
+pub watch_next_is_none_without_watches : (s u : Stub) (t p : ℕ) (w : Bool) (ws : List Watched) → u ≡ stub_spoken s → ws ≡ watches_if u w → length ws ≡ 0
     → EachRun s.desk.fitted (λ run. WatchNext run s t w p None)
 watch_next_is_none_without_watches s u t p w ws same are empty run whole = (
   None,
@@ -73,11 +73,11 @@ watch_next_is_none_without_watches s u t p w ws same are empty run whole = (
   refl,
 )
 
-watch_next_if_watch_next_of_spoken : (run : List Step) (s : Stub) (t p : ℕ) (w : Bool) (why : Option Reason) → WatchNext run (spoken s) t w p why → WatchNext run s t w p why
+watch_next_if_watch_next_of_spoken : (run : List Step) (s : Stub) (t p : ℕ) (w : Bool) (why : Option Reason) → WatchNext run (stub_spoken s) t w p why → WatchNext run s t w p why
 watch_next_if_watch_next_of_spoken run s t p true why next = next
 watch_next_if_watch_next_of_spoken run s t p false why next = next
 
-pub watch_next_in_each_run_if_watch_next_of_spoken : (s u : Stub) (t p : ℕ) (w : Bool) (why : Option Reason) → u ≡ spoken s
+pub watch_next_in_each_run_if_watch_next_of_spoken : (s u : Stub) (t p : ℕ) (w : Bool) (why : Option Reason) → u ≡ stub_spoken s
     → EachRun u.desk.fitted (λ run. WatchNext run u t w p why) → EachRun s.desk.fitted (λ run. WatchNext run s t w p why)
 watch_next_in_each_run_if_watch_next_of_spoken s u t p w why same next run whole =
     watch_next_if_watch_next_of_spoken run s t p w why (subst (λ (x : Stub). EachRun x.desk.fitted (λ r. WatchNext r x t w p why)) same next run whole)
@@ -87,7 +87,7 @@ watch_next_in_each_run_if_watch_next_of_spoken s u t p w why same next run whole
 pub own_position_is_below_last_if_not_at_last : (p l other here last : ℕ) → (p ≡ l → ⊥) → l ≡ other → l ≡ last → p ≡ here → p ≤ other → here < last
 own_position_is_below_last_if_not_at_last p l other here last differ same is at within = grind (arith, differ, same, is, at, within)
 
-pub steps_to_position_after_step_if_below_last : (s u : Stub) (t p : ℕ) (w : Bool) (why : Option Reason) (to : Stopped) → u ≡ spoken s → p ≡ position_of s t
+pub steps_to_position_after_step_if_below_last : (s u : Stub) (t p : ℕ) (w : Bool) (why : Option Reason) (to : Stopped) → u ≡ stub_spoken s → p ≡ position_of s t
     → position_of s t < last_of s.desk.fitted t → EachRun u.desk.fitted (λ run. WatchNext run u t w p why) → to ≡ after_step p why
     → EachRun s.desk.fitted (λ run. StepsTo run s t w to)
 steps_to_position_after_step_if_below_last s u t p w why to same here below next is run whole =
@@ -116,7 +116,7 @@ position_before_is_below_last k p here last is at above within = omega (arith, i
 
 -- ---- searches
 
-stops_below_if_stops_below_of_spoken : (run : List Step) (s : Stub) (t : ℕ) (w : Bool) (to : Stopped) → StopsBelow run (spoken s) t w to → StopsBelow run s t w to
+stops_below_if_stops_below_of_spoken : (run : List Step) (s : Stub) (t : ℕ) (w : Bool) (to : Stopped) → StopsBelow run (stub_spoken s) t w to → StopsBelow run s t w to
 stops_below_if_stops_below_of_spoken run s t true to stops = stops
 stops_below_if_stops_below_of_spoken run s t false to stops = stops
 
@@ -127,7 +127,7 @@ search_points_are_downwards_of u t w points ws bs own is watches breaks mine =
     ∙ ap (λ (x : List Numbered). points_downwards t (watches_if u w) u.breaks x) mine
 
 pub stops_below_at_end_of_search : (s u : Stub) (e : Desk) (t : ℕ) (w : Bool) (points : List Numbered) (hit : Option Hit) (ws : List Watched) (bs : List Breakpoint)
-    (to : Stopped) → u ≡ spoken s → points ≡ downwards_of u t w
+    (to : Stopped) → u ≡ stub_spoken s → points ≡ downwards_of u t w
     → EachRun u.desk.fitted (λ run. IsLastHit u.desk.fitted run points t (position_of u t) hit) → ws ≡ watches_if (record u { desk = e }) w
     → bs ≡ u.breaks → to ≡ end_below ws bs hit → EachRun s.desk.fitted (λ run. StopsBelow run s t w to)
 stops_below_at_end_of_search s u e t w points hit ws bs to same are finds watches breaks is run whole =
@@ -144,23 +144,23 @@ continues_back_by_stop_below_if_no_watch_is_next run s t (suc n) w why to above 
     let less : suc n - 1 ≡ n = omega arith in
     (why, subst (λ (k : ℕ). WatchNext run s t w k why) less next, subst (λ (x : Option Reason). BackBy run s t w (suc n) x to) (sym none) stops)
 
-pub continues_back_to_stop_below_if_no_watch_is_next : (s u : Stub) (t : ℕ) (w : Bool) (why : Option Reason) (to : Stopped) → u ≡ spoken s → 0 < position_of s t
+pub continues_back_to_stop_below_if_no_watch_is_next : (s u : Stub) (t : ℕ) (w : Bool) (why : Option Reason) (to : Stopped) → u ≡ stub_spoken s → 0 < position_of s t
     → EachRun s.desk.fitted (λ run. WatchNext run s t w (position_of s t - 1) why) → why ≡ None
     → EachRun u.desk.fitted (λ run. StopsBelow run u t w to) → EachRun s.desk.fitted (λ run. ContinuesBackTo run s t w to)
 continues_back_to_stop_below_if_no_watch_is_next s u t w why to same above next none stops run whole =
     continues_back_by_stop_below_if_no_watch_is_next run s t (position_of s t) w why to above (next run whole) none
     (stops_below_if_stops_below_of_spoken run s t w to (subst (λ (x : Stub). EachRun x.desk.fitted (λ r. StopsBelow r x t w to)) same stops run whole))
 
-upwards_of_ignores_spoken : (s : Stub) (t : ℕ) (w : Bool) → upwards_of (spoken s) t w ≡ upwards_of s t w
+upwards_of_ignores_spoken : (s : Stub) (t : ℕ) (w : Bool) → upwards_of (stub_spoken s) t w ≡ upwards_of s t w
 upwards_of_ignores_spoken s t true = refl
 upwards_of_ignores_spoken s t false = refl
 
-continues_to_if_continues_to_of_spoken : (run : List Step) (s : Stub) (t : ℕ) (w : Bool) (to : Stopped) → ContinuesTo run (spoken s) t w to → ContinuesTo run s t w to
+continues_to_if_continues_to_of_spoken : (run : List Step) (s : Stub) (t : ℕ) (w : Bool) (to : Stopped) → ContinuesTo run (stub_spoken s) t w to → ContinuesTo run s t w to
 continues_to_if_continues_to_of_spoken run s t true to stops = stops
 continues_to_if_continues_to_of_spoken run s t false to stops = stops
 
 pub continues_to_end_of_search : (s u v : Stub) (e : Desk) (t last : ℕ) (w : Bool) (points : List Numbered) (hit : Option Hit) (ws : List Watched) (bs : List Breakpoint)
-    (to : Stopped) → u ≡ spoken s → v ≡ spoken s → points ≡ upwards_of v t w
+    (to : Stopped) → u ≡ stub_spoken s → v ≡ stub_spoken s → points ≡ upwards_of v t w
     → EachRun u.desk.fitted (λ run. IsFirstHit u.desk.fitted run points t (position_of u t) hit) → ws ≡ watches_if (record u { desk = e }) w
     → bs ≡ u.breaks → last ≡ last_of u.desk.fitted t → to ≡ end_above ws bs last hit → EachRun s.desk.fitted (λ run. ContinuesTo run s t w to)
 continues_to_end_of_search s u v e t last w points hit ws bs to same other are finds watches breaks at is run whole =

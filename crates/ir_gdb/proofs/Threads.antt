@@ -2,11 +2,11 @@
 use Rattle.std.proofs.Common.{◌≡◌, ◌∙◌, ◌+◌, ℕ, suc, Bool, true, false, eqb, List, [], ◌++◌, codes, decimal, refl, sym, ap, arith, append_assoc, append-nil, if◌then◌else◌}
 use Rattle.std.proofs.lemmas.Bool.{eqb-true, eqb-false}
 use Rattle.ir_gdb.specs.Stub.{Stub}
-use Rattle.ir_packet.specs.Replies.{number_text}
+use Rattle.ir_packet.specs.Replies.{hex_number_text}
 use Rattle.ir_cut.specs.Positions.{last_of}
 use Rattle.ir_gdb.specs.Stops.{position_of}
 use Rattle.ir_gdb.specs.Endings.{end_of_thread, words_of_end}
-use Rattle.ir_gdb.specs.Texts.{place_text, thread_text, first_threads_text}
+use Rattle.ir_gdb.specs.Texts.{position_text, thread_text, first_threads_text}
 
 first_threads_text_step : (s : Stub) (n : ℕ) → first_threads_text s (n + 1) ≡ first_threads_text s n ++ thread_text s n
 unfolding first_threads_text
@@ -51,7 +51,7 @@ module _ (s : Stub) (t p last : ℕ) (at : p ≡ position_of s t) (end : last �
       ∙ append_of_seven_texts_reassociated (codes "\" name=\"thread ") (decimal t) (codes "\">at ") (decimal (position_of s t)) (codes " of ")
       (decimal (last_of s.desk.fitted t)) more
 
-  pub place_ended : (out mid new : List ℕ) → p ≡ last → mid ≡ out ++ t3 → new ≡ mid ++ words_of_end (end_of_thread s.desk.fitted t) → new ≡ out ++ place_text s t
+  pub place_ended : (out mid new : List ℕ) → p ≡ last → mid ≡ out ++ t3 → new ≡ mid ++ words_of_end (end_of_thread s.desk.fitted t) → new ≡ out ++ position_text s t
   place_ended out mid new e put ends = ends ∙ ap (λ (xs : List ℕ). xs ++ words_of_end (end_of_thread s.desk.fitted t)) put ∙ append_assoc out t3 (words_of_end (end_of_thread s.desk.fitted t))
       ∙ ap (λ (xs : List ℕ). out ++ xs) (
       ap (λ (xs : List ℕ). t3 ++ xs) (sym (end_text_at_last_position (eqb p last) p last (words_of_end (end_of_thread s.desk.fitted t)) refl e))
@@ -59,7 +59,7 @@ module _ (s : Stub) (t p last : ℕ) (at : p ≡ position_of s t) (end : last �
       ∙ ap (λ (n : ℕ). t3 ++ (if eqb (position_of s t) n then words_of_end (end_of_thread s.desk.fitted t) else [])) end
       ∙ before_end (if eqb (position_of s t) (last_of s.desk.fitted t) then words_of_end (end_of_thread s.desk.fitted t) else []))
 
-  pub place_going : (out new : List ℕ) → (p ≡ last → ⊥) → new ≡ out ++ t3 → new ≡ out ++ place_text s t
+  pub place_going : (out new : List ℕ) → (p ≡ last → ⊥) → new ≡ out ++ t3 → new ≡ out ++ position_text s t
   place_going out new going put = put ∙ ap (λ (xs : List ℕ). out ++ xs) (sym (append-nil t3)
       ∙ ap (λ (xs : List ℕ). t3 ++ xs) (sym (no_end_text_before_last_position (eqb p last) p last (words_of_end (end_of_thread s.desk.fitted t)) refl going))
       ∙ ap (λ (n : ℕ). t3 ++ (if eqb n last then words_of_end (end_of_thread s.desk.fitted t) else [])) at
@@ -69,10 +69,10 @@ module _ (s : Stub) (t p last : ℕ) (at : p ≡ position_of s t) (end : last �
 append_of_five_texts_reassociated : (o a b c d : List ℕ) → (((o ++ a) ++ b) ++ c) ++ d ≡ o ++ (a ++ b ++ c ++ d)
 append_of_five_texts_reassociated o a b c d = simp append_assoc
 
-pub thread_text_put_by_parts : (s : Stub) (t n : ℕ) (o0 o1 o2 o3 o4 : List ℕ) → n ≡ t + 1 → o1 ≡ o0 ++ codes "<thread id=\"" → o2 ≡ o1 ++ number_text n
-    → o3 ≡ o2 ++ place_text s t → o4 ≡ o3 ++ codes "</thread>" → o4 ≡ o0 ++ thread_text s t
+pub thread_text_put_by_parts : (s : Stub) (t n : ℕ) (o0 o1 o2 o3 o4 : List ℕ) → n ≡ t + 1 → o1 ≡ o0 ++ codes "<thread id=\"" → o2 ≡ o1 ++ hex_number_text n
+    → o3 ≡ o2 ++ position_text s t → o4 ≡ o3 ++ codes "</thread>" → o4 ≡ o0 ++ thread_text s t
 thread_text_put_by_parts s t n o0 o1 o2 o3 o4 id e1 e2 e3 e4 = e4
-    ∙ ap (λ (xs : List ℕ). xs ++ codes "</thread>") (e3 ∙ ap (λ (xs : List ℕ). xs ++ place_text s t) (e2
-    ∙ ap (λ (xs : List ℕ). xs ++ number_text n) e1))
-    ∙ append_of_five_texts_reassociated o0 (codes "<thread id=\"") (number_text n) (place_text s t) (codes "</thread>")
-    ∙ ap (λ (k : ℕ). o0 ++ (codes "<thread id=\"" ++ number_text k ++ place_text s t ++ codes "</thread>")) id
+    ∙ ap (λ (xs : List ℕ). xs ++ codes "</thread>") (e3 ∙ ap (λ (xs : List ℕ). xs ++ position_text s t) (e2
+    ∙ ap (λ (xs : List ℕ). xs ++ hex_number_text n) e1))
+    ∙ append_of_five_texts_reassociated o0 (codes "<thread id=\"") (hex_number_text n) (position_text s t) (codes "</thread>")
+    ∙ ap (λ (k : ℕ). o0 ++ (codes "<thread id=\"" ++ hex_number_text k ++ position_text s t ++ codes "</thread>")) id

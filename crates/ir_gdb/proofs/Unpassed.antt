@@ -19,8 +19,8 @@ use Rattle.ir_gdb.specs.declared.point.Watched.{Watched}
 use Rattle.ir_gdb.specs.declared.stopped.Stopped.{Stopped}
 use Rattle.ir_gdb.specs.Points.{watch_points}
 use Rattle.ir_gdb.specs.Stub.{Stub}
-use Rattle.ir_gdb.specs.Stops.{stopped, position_of, watches_if, upwards_of, break_reason, watch_reason, stop_above, end_above, is_hit, after_step, StepsBy, StepsTo, end_of_range, after_range, Leaves, RangesTo, after_back, StepsBackBy, GoesTo, direction_of, end_of}
-use Rattle.ir_gdb.specs.Together.{Halt, halt, Comes, stop_among, AreStops, is_on_way, meets, FirstMet, or_else, moves, moves_other, MetBy, own_halt, met_or, StopsAmong, FirstStop, furthest, ContinuesAmong, MovesAmong}
+use Rattle.ir_gdb.specs.Stops.{stopped, position_of, watches_if, upwards_of, break_reason, watch_reason, stop_above, end_above, is_hit, after_step, StepsBy, StepsTo, end_of_range, after_range, Leaves, RangesTo, after_back, StepsBackBy, StopsInDirection, direction_of, reason_at_end}
+use Rattle.ir_gdb.specs.Together.{Halt, halt, Comes, stop_among, AreStops, is_on_way, meets, FirstMet, halt_or, moves, moves_other, MetBy, own_halt, met_or, StopsAmong, FirstStop, furthest, ContinuesAmong, MovesAmong}
 use Rattle.ir_gdb.specs.Laws.{MeetsNone, PassesNone, PassesNoHit, Stands}
 use Rattle.ir_gdb.proofs.Ways.{stop_above_is_not_above_hit, stop_above_is_next_to_hit, meets_none_if_not_met, meets_none_if_it_stays, passes_none_to_own_stop, passes_none_if_meets_none, own_stop_is_behind, own_stop_is_ahead}
 use Rattle.ir_gdb.proofs.Blocked.{Within, comes_exactly, meets_none_of_free, no_hit_on_way_if_none_met}
@@ -35,7 +35,7 @@ here_within_last run s stands t below =
 record IsMove (run : List Step) (s : Stub) (d : Direction) (t : ℕ) (to : Stopped) : Type 0 where
   ahead : Within d (position_of s t) to.position
   none : PassesNone run s d t true to.position
-  near : (own : Stopped) → GoesTo d run s t true own → (k : ℕ) → position_of s t ≢ k → Within d (position_of s t) k → is_hit own.reason ≡ true
+  near : (own : Stopped) → StopsInDirection d run s t true own → (k : ℕ) → position_of s t ≢ k → Within d (position_of s t) k → is_hit own.reason ≡ true
       → Within d own.position k → Within d to.position k
 
 -- one step forwards, or none
@@ -155,7 +155,7 @@ range_to_end_is_move run s t end to ahead at none = record {
       | inr from ↦ (let up = first.0 in absurd (none h.position h.number up (omega (arith, from)) first.2.hits))
     ]
 
-    by : (own : Stopped) → GoesTo Forwards run s t true own → (k : ℕ) → is_hit own.reason ≡ true → own.position ≤ k → to.position ≤ k
+    by : (own : Stopped) → StopsInDirection Forwards run s t true own → (k : ℕ) → is_hit own.reason ≡ true → own.position ≤ k → to.position ≤ k
     by own (other, first, ends) k hit way = of_hit own other first ends k hit way
 
 -- or at a hit
@@ -183,7 +183,7 @@ range_to_hit_is_move run s t end h to next is =
         let there = ap (λ (x : Stopped). x.position) ends in
         omega (arith, same, here, there, way)
 
-    by : (own : Stopped) → GoesTo Forwards run s t true own → (k : ℕ) → is_hit own.reason ≡ true → own.position ≤ k → to.position ≤ k
+    by : (own : Stopped) → StopsInDirection Forwards run s t true own → (k : ℕ) → is_hit own.reason ≡ true → own.position ≤ k → to.position ≤ k
     by own (other, first, ends) k hit way = of_hit own other first ends k hit way
 
 range_is_move : (run : List Step) (s : Stub) (t low high : ℕ) (to : Stopped) → position_of s t ≤ last_of s.desk.fitted t → RangesTo run s t low high true to
@@ -204,7 +204,7 @@ others_meet_none run s d t each h stops none u below other =
     meets_none_if_not_met run s d u (cut_of h.cut u) (u == t) (stop_among each u) (stops.own u below) (none u below other)
 
 -- a thread's own stop isn't behind it
-own_stop_within : (run : List Step) (s : Stub) → Stands run s → (d : Direction) (u : ℕ) (w : Bool) (to : Stopped) → u < threads_of s.desk.fitted → GoesTo d run s u w to
+own_stop_within : (run : List Step) (s : Stub) → Stands run s → (d : Direction) (u : ℕ) (w : Bool) (to : Stopped) → u < threads_of s.desk.fitted → StopsInDirection d run s u w to
     → Within d (position_of s u) to.position
 own_stop_within run s stands Forwards u w to below goes =
     own_stop_is_ahead run s u (last_of s.desk.fitted u) w to (here_within_last run s stands u below) refl goes
@@ -291,7 +291,7 @@ pub continuing_passes_no_hit : (run : List Step) (s : Stub) → Stands run s →
     → PassesNoHit run s t d h
 continuing_passes_no_hit run s stands d t h below (each, stops, (stop, first, is)) = by stop first is
   where
-    by : (stop : Option Halt) → FirstStop run s d each t stop → h ≡ or_else stop (halt t (furthest s d) (end_of d)) → PassesNoHit run s t d h
+    by : (stop : Option Halt) → FirstStop run s d each t stop → h ≡ halt_or stop (halt t (furthest s d) (reason_at_end d)) → PassesNoHit run s t d h
     by None first is = no_stop_passes_no_hit run s d t each h stops below (ap (λ (x : Halt). x.thread) is) first
     by (Some other) (inl mine) is = subst (PassesNoHit run s t d) (sym is) (stop_among_passes_no_hit run s stands d t t each other stops below mine)
     by (Some other) (inr (none, (k, less, differs, others, its))) is =
@@ -328,12 +328,12 @@ few_steps_pass_no_hit run s stands d t to cut h below move comes met_by = by (mo
     of_none : ((u : ℕ) → u < threads_of s.desk.fitted → u ≢ t → MeetsNone run s d u (u == t) (cut_of cut u)) → h ≡ halt t cut to.reason → PassesNoHit run s t d h
     of_none others is = subst (PassesNoHit run s t d) (sym is) (record { others = others; own = own })
 
-    of_met : (each : List Stopped) → AreStops run s d t each → (met : Option Halt) → FirstMet run s d each cut t met → h ≡ or_else met (halt t cut to.reason)
+    of_met : (each : List Stopped) → AreStops run s d t each → (met : Option Halt) → FirstMet run s d each cut t met → h ≡ halt_or met (halt t cut to.reason)
         → PassesNoHit run s t d h
     of_met each stops (Some other) first is = subst (PassesNoHit run s t d) (sym is) (met_stop_passes_no_hit run s stands d t t each cut other stops first)
     of_met each stops None none is = of_none (others_meet_none run s d t each (halt t cut to.reason) stops
         (no_hit_on_way_if_none_met run s stands d each t to.position cut comes
-        (move.near (stop_among each t) (subst (λ (b : Bool). GoesTo d run s t b (stop_among each t)) (eq-eqb t t refl) (stops.own t below))) none)) is
+        (move.near (stop_among each t) (subst (λ (b : Bool). StopsInDirection d run s t b (stop_among each t)) (eq-eqb t t refl) (stops.own t below))) none)) is
 
     by : (b : Bool) → moves_other s cut t (threads_of s.desk.fitted) ≡ b → MetBy b run s d cut (halt t cut to.reason) h → PassesNoHit run s t d h
     by false stays is = of_none (λ u less other. meets_none_if_it_stays run s d u (cut_of cut u) (u == t)

@@ -16,7 +16,7 @@ use Rattle.ir_gdb.specs.declared.point.Watched.{Watched}
 use Rattle.ir_gdb.specs.declared.stopped.Stopped.{Stopped}
 use Rattle.ir_gdb.specs.Points.{watch_points}
 use Rattle.ir_gdb.specs.Stub.{Stub}
-use Rattle.ir_gdb.specs.Stops.{stopped, position_of, watches_if, upwards_of, downwards_of, reason_of_break, reason_of_watch, break_of, break_reason, watch_reason, stop_above, stop_below, end_above, end_below, is_hit, ContinuesTo, BackBy, ContinuesBackBy, GoesTo}
+use Rattle.ir_gdb.specs.Stops.{stopped, position_of, watches_if, upwards_of, downwards_of, reason_of_break, reason_of_watch, break_of, break_reason, watch_reason, stop_above, stop_below, end_above, end_below, is_hit, ContinuesTo, BackBy, ContinuesBackBy, StopsInDirection}
 use Rattle.ir_gdb.specs.Together.{is_on_way}
 use Rattle.ir_gdb.specs.Laws.{MeetsNone, PassesNone}
 
@@ -176,7 +176,7 @@ not_met_twice : (d : Direction) (p k : ℕ) (to : Stopped) → meets_by d p to k
 not_met_twice d p k to isnt other hit way = let is = met_if_parts_are d p k to other hit way in absurd (cc (is, isnt))
 
 -- a thread that meets no hit on its way to k has none there
-pub meets_none_if_not_met : (run : List Step) (s : Stub) (d : Direction) (u k : ℕ) (w : Bool) (to : Stopped) → GoesTo d run s u w to
+pub meets_none_if_not_met : (run : List Step) (s : Stub) (d : Direction) (u k : ℕ) (w : Bool) (to : Stopped) → StopsInDirection d run s u w to
     → meets_by d (position_of s u) to k ≡ false → MeetsNone run s d u w k
 meets_none_if_not_met run s Forwards u k w to goes isnt = λ j n low high hits.
     let own = goes_above run s u w to goes in
@@ -202,7 +202,7 @@ meets_none_if_it_stays run s Forwards u k w same = λ j n low high hits. absurd 
 meets_none_if_it_stays run s Backwards u k w same = (λ j n low high hits. absurd (omega (arith, same, low, high)), λ moved. absurd (omega (arith, same, moved)))
 
 -- a thread that comes to its own stop has passed no hit
-pub passes_none_to_own_stop : (run : List Step) (s : Stub) (d : Direction) (u k : ℕ) (w : Bool) (to : Stopped) → GoesTo d run s u w to → k ≡ to.position
+pub passes_none_to_own_stop : (run : List Step) (s : Stub) (d : Direction) (u k : ℕ) (w : Bool) (to : Stopped) → StopsInDirection d run s u w to → k ≡ to.position
     → PassesNone run s d u w k
 passes_none_to_own_stop run s Forwards u k w to goes same = λ j n low high hits. (goes_above run s u w to goes).none j n low (omega (arith, high, same)) hits
 passes_none_to_own_stop run s Backwards u k w to goes same =
@@ -220,11 +220,11 @@ passes_none_if_meets_none run s Forwards u k w none = λ j n low high hits. none
 passes_none_if_meets_none run s Backwards u k w none = (λ j n low high hits. none.0 j n (omega (arith, low)) high hits, none.1)
 
 -- a thread's own stop isn't behind it
-pub own_stop_is_behind : (run : List Step) (s : Stub) (u : ℕ) (w : Bool) (to : Stopped) → GoesTo Backwards run s u w to → to.position ≤ position_of s u
+pub own_stop_is_behind : (run : List Step) (s : Stub) (u : ℕ) (w : Bool) (to : Stopped) → StopsInDirection Backwards run s u w to → to.position ≤ position_of s u
 own_stop_is_behind run s u w to goes = (goes_under_by run s u w (position_of s u) to refl goes).behind
 
 pub own_stop_is_ahead : (run : List Step) (s : Stub) (u last : ℕ) (w : Bool) (to : Stopped) → position_of s u ≤ last → last ≡ last_of s.desk.fitted u
-    → GoesTo Forwards run s u w to → position_of s u ≤ to.position
+    → StopsInDirection Forwards run s u w to → position_of s u ≤ to.position
 own_stop_is_ahead run s u last w to within is (None, finds, ends) = let at = ap (λ (x : Stopped). x.position) ends in omega (arith, at, within, is)
 own_stop_is_ahead run s u last w to within is (Some h, finds, ends) =
     let at = ap (λ (x : Stopped). x.position) ends in

@@ -1,7 +1,7 @@
 -- Packets of a session's answer.
 use Rattle.std.proofs.Common.{◌≡◌, ◌≤◌, ◌<◌, ◌+◌, ◌/◌, ◌∙◌, ℕ, suc, Bool, true, false, leb, min, List, [], ◌++◌, length, take, drop, refl, sym, ap, arith, length-drop, take_all, drop_of_length-le, leb-true, leb-false}
 use Rattle.ir_packet.specs.Packets.{packet_of}
-use Rattle.ir_packet.specs.Replies.{output_text, reply_text}
+use Rattle.ir_packet.specs.Replies.{output_reply, reply_text}
 use Rattle.ir_packet.specs.declared.reply.Reply.{Reply}
 use Rattle.ir_packet.specs.declared.reply.Reply.TheVariants as reply
 use Rattle.ir_gdb.specs.Connection.{most_piece, answer_packets, answer_text}
@@ -12,7 +12,7 @@ answer_text_of_no_bytes_is_empty bytes e =
     let none : (length bytes + 499) / most_piece ≡ 0 = omega (arith, e) in ap (λ (n : ℕ). answer_packets n bytes) none
 
 answer_text_is_first_packet_and_rest : (bytes : List ℕ) → 0 < length bytes
-    → answer_text bytes ≡ packet_of (output_text (take most_piece bytes)) ++ answer_text (drop most_piece bytes)
+    → answer_text bytes ≡ packet_of (output_reply (take most_piece bytes)) ++ answer_text (drop most_piece bytes)
 unfolding answer_packets
 answer_text_is_first_packet_and_rest bytes some =
     let more : (length bytes + 499) / most_piece ≡ suc ((length (drop most_piece bytes) + 499) / most_piece) =
@@ -36,14 +36,14 @@ take_and_drop_ignore_min_with_length bytes false short =
 
 -- by a piece that is no longer than the rest
 pub answer_text_is_packet_of_piece_and_rest : (bytes piece more : List ℕ) (n : ℕ) → 0 < length bytes → n ≡ min most_piece (length bytes) → piece ≡ take n bytes
-    → more ≡ drop n bytes → answer_text bytes ≡ packet_of (output_text piece) ++ answer_text more
+    → more ≡ drop n bytes → answer_text bytes ≡ packet_of (output_reply piece) ++ answer_text more
 answer_text_is_packet_of_piece_and_rest bytes piece more n some least is-n rest-n =
     let is : piece ≡ take (min most_piece (length bytes)) bytes = is-n ∙ ap (λ (k : ℕ). take k bytes) least in
     let rest : more ≡ drop (min most_piece (length bytes)) bytes = rest-n ∙ ap (λ (k : ℕ). drop k bytes) least in
     let e = take_and_drop_ignore_min_with_length bytes (leb most_piece (length bytes)) refl in
     answer_text_is_first_packet_and_rest bytes some
-    ∙ ap (λ (x : List ℕ). packet_of (output_text x) ++ answer_text (drop most_piece bytes)) (sym e.0 ∙ sym is)
-    ∙ ap (λ (x : List ℕ). packet_of (output_text piece) ++ answer_text x) (sym e.1 ∙ sym rest)
+    ∙ ap (λ (x : List ℕ). packet_of (output_reply x) ++ answer_text (drop most_piece bytes)) (sym e.0 ∙ sym is)
+    ∙ ap (λ (x : List ℕ). packet_of (output_reply piece) ++ answer_text x) (sym e.1 ∙ sym rest)
 
 -- replies that are always the same are short
 pub reply_text_has_at_most_30_bytes : (r : Reply) → length (reply_text r) ≤ 30

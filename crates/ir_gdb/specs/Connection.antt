@@ -10,7 +10,7 @@ use Rattle.ir_stream.specs.declared.serving.Fault.TheVariants as fault
 use Rattle.ir_debug.specs.Machine.{Desk}
 use Rattle.ir_debug.specs.Machine as session
 use Rattle.ir_packet.specs.Packets.{packet_of}
-use Rattle.ir_packet.specs.Replies.{reply_text, output_text}
+use Rattle.ir_packet.specs.Replies.{reply_text, output_reply}
 use Rattle.ir_packet.specs.Requests.{request_of, console_line}
 use Rattle.ir_packet.specs.Reading.{Reading}
 use Rattle.ir_packet.specs.Stream.{Item, items, Packet, BadSum, TooLong, Interrupt, Acknowledged, Refused}
@@ -19,7 +19,7 @@ use Rattle.ir_packet.specs.declared.request.Request.{Request}
 use Rattle.ir_packet.specs.declared.request.Request.TheVariants as request
 use Rattle.ir_gdb.specs.declared.console.Answered.{Answered}
 use Rattle.ir_gdb.specs.Stub.{Stub}
-use Rattle.ir_gdb.specs.Replies.{Replies}
+use Rattle.ir_gdb.specs.Replies.{RepliesTo}
 
 pub record Link : Type 0 where
   pub stub : Stub
@@ -66,7 +66,7 @@ most_piece = 500
 -- n packets of an answer
 unfoldable pub answer_packets : ℕ → List ℕ → List ℕ
 answer_packets zero bytes = []
-answer_packets (suc n) bytes = packet_of (output_text (take most_piece bytes)) ++ answer_packets n (drop most_piece bytes)
+answer_packets (suc n) bytes = packet_of (output_reply (take most_piece bytes)) ++ answer_packets n (drop most_piece bytes)
 
 -- an answer, a packet for each piece
 abbrev pub answer_text : List ℕ → List ℕ
@@ -99,8 +99,8 @@ AnswersLine false l line text next =
 -- ---- packets
 
 -- the reply to a request, as a packet
-abbrev pub AnswersBy : Link → Request → List ℕ → Link → Type 0
-AnswersBy l asked text next = (payload : List ℕ) × (s : Stub) × Replies l.stub asked payload s × (text ≡ packet_of payload) × (next ≡ sent l s (packet_of payload))
+abbrev pub RepliesToItem : Link → Request → List ℕ → Link → Type 0
+RepliesToItem l asked text next = (payload : List ℕ) × (s : Stub) × RepliesTo l.stub asked payload s × (text ≡ packet_of payload) × (next ≡ sent l s (packet_of payload))
 
 -- no packet is acknowledged any more
 abbrev pub unacknowledged : Link → Link
@@ -111,7 +111,7 @@ abbrev pub AnswersRequest : Link → List ℕ → Request → List ℕ → Link 
 AnswersRequest l payload request.Kill text next = (text ≡ []) × (next ≡ l)
 AnswersRequest l payload request.Console text next = AnswersLine (session.quits (console_line payload)) l (console_line payload) text next
 AnswersRequest l payload request.NoAcknowledgements text next = (text ≡ packet_of (reply_text reply.Done)) × (next ≡ unacknowledged (sent l l.stub (packet_of (reply_text reply.Done))))
-AnswersRequest l payload asked text next = AnswersBy l asked text next
+AnswersRequest l payload asked text next = RepliesToItem l asked text next
 
 abbrev pub AnswersPacket : Link → List ℕ → List ℕ → Link → Type 0
 AnswersPacket l payload text next = (rest : List ℕ) × AnswersRequest l payload (request_of payload) rest next × (text ≡ sign l (codes "+") ++ rest)
@@ -147,12 +147,12 @@ ends_request request.Detach = true
 ends_request request.Kill = true
 ends_request asked = false
 
-abbrev pub ends_by : Item → Bool
-ends_by (Packet payload) = ends_request (request_of payload)
-ends_by item = false
+abbrev pub request_ends : Item → Bool
+request_ends (Packet payload) = ends_request (request_of payload)
+request_ends item = false
 
-abbrev pub ends : Link → Item → Bool
-ends l item = not (is_copy l) && ends_by item
+abbrev pub item_ends : Link → Item → Bool
+item_ends l item = not (is_copy l) && request_ends item
 
 -- ---- a stream
 
@@ -162,16 +162,16 @@ Rest true more l ended text last = (ended ≡ true) × (text ≡ []) × (last �
 Rest false more l ended text last = more ended text last
 
 -- what is written for items up to and with the first that ends the connection, and whether there is such a one
-unfoldable pub Answers : Link → List Item → Bool → List ℕ → Link → Type 0
-Answers l [] ended text last = (ended ≡ false) × (text ≡ []) × (last ≡ l)
-Answers l (item ∷ items) ended text last = (first : List ℕ) × (next : Link) × (rest : List ℕ) × AnswersItem l item first next
-    × Rest (ends l item) (Answers next items) next ended rest last × (text ≡ first ++ rest)
+unfoldable pub RepliesToItems : Link → List Item → Bool → List ℕ → Link → Type 0
+RepliesToItems l [] ended text last = (ended ≡ false) × (text ≡ []) × (last ≡ l)
+RepliesToItems l (item ∷ items) ended text last = (first : List ℕ) × (next : Link) × (rest : List ℕ) × AnswersItem l item first next
+    × Rest (item_ends l item) (RepliesToItems next items) next ended rest last × (text ≡ first ++ rest)
 
 -- the writer took all of the answers, and the connection is then the second
 pub record Wrote (l : Link) (items : List Item) (ended : Bool) (old new : Option (List ℕ)) : Type 0 where
   pub text : List ℕ
   pub last : Link
-  pub answers : Answers l items ended text last
+  pub answers : RepliesToItems l items ended text last
   pub grown : Appends old new text
 
 -- it took a text that may be written, and the connection is then the second

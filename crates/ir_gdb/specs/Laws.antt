@@ -13,7 +13,7 @@ use Rattle.ir_debug.specs.Machine.{Desk, CarriesOut, moved_to}
 use Rattle.ir_packet.specs.declared.reply.Reason.TheVariants as reason
 use Rattle.ir_packet.specs.declared.request.Motion.{Motion}
 use Rattle.ir_packet.specs.declared.request.Motion.TheVariants as motion
-use Rattle.ir_gdb.specs.Stub.{Stub, spoken}
+use Rattle.ir_gdb.specs.Stub.{Stub, stub_spoken}
 use Rattle.ir_gdb.specs.declared.stopped.Stopped.{Stopped}
 use Rattle.ir_gdb.specs.Points.{watch_points, break_points}
 use Rattle.ir_gdb.specs.Stops.{position_of, watches_if, upwards_of, downwards_of, is_hit, direction_of}
@@ -21,7 +21,7 @@ use Rattle.ir_gdb.specs.Together.{Halt, halt, Comes, stop_among, AreStops, meets
 use Rattle.ir_gdb.specs.declared.stopped.Moving.{Moving}
 use Rattle.ir_gdb.specs.Endings.{signal_of, end_of_thread, is_end, is_over}
 use Rattle.ir_gdb.specs.Moves.{arrived, with_together, Moves}
-use Rattle.ir_gdb.specs.Over.{waits, pc_of, OtherHasHit, LeadsAlone}
+use Rattle.ir_gdb.specs.Over.{waits, pc_here, OtherHasHit, LeadsAlone}
 
 -- ---- a thread that moves alone
 
@@ -57,7 +57,7 @@ ContinueBackIsSession = (run : List Step) (s : Stub) (t : ℕ) (h : Halt) → Le
 -- nothing moves, where gdb moves the threads together and another has a hit on its way to where `step T 1` leads
 abbrev pub StaysWhereItIs : List Step → Stub → ℕ → Halt → Type 0
 StaysWhereItIs run s t h = (s.together ≡ true) × (h ≡ halt t s.desk.at reason.Waits)
-    × ((cut : List ℕ) × SessionGoes run s t (command.Move (move.Step t 1)) cut × OtherHasHit true run s (pc_of run s t) cut t)
+    × ((cut : List ℕ) × SessionGoes run s t (command.Move (move.Step t 1)) cut × OtherHasHit true run s (pc_here run s t) cut t)
 
 -- `s` ends where `step T 1` does, or nothing moves
 abbrev pub StepIsSession : Type 0
@@ -112,15 +112,15 @@ abbrev pub ShowsHit : ℕ → ℕ → Halt → Type 0
 ShowsHit u k h = (h.thread ≡ u) × (cut_of h.cut u ≡ k) × (is_hit h.reason ≡ true)
 
 -- the stub behind the reply to a move of the threads together
-abbrev pub behind : Stub → Halt → Stub
-behind s h = spoken (with_together (arrived s true h) true)
+abbrev pub stub_behind : Stub → Halt → Stub
+stub_behind s h = stub_spoken (with_together (arrived s true h) true)
 
 -- threads continue in a direction, one after the other, with these stops: each is at a hit but the last
 unfoldable pub ContinuesToEnd : List Step → Stub → Direction → List (ℕ × Halt) → Type 0
 ContinuesToEnd run s d [] = ⊥
 ContinuesToEnd run s d (m ∷ []) = (m.0 < threads_of s.desk.fitted) × ContinuesAmong run s m.0 d m.1 × (is_hit m.1.reason ≡ false)
 ContinuesToEnd run s d (m ∷ next ∷ ms) = (m.0 < threads_of s.desk.fitted) × ContinuesAmong run s m.0 d m.1 × (is_hit m.1.reason ≡ true)
-    × ContinuesToEnd run (behind s m.1) d (next ∷ ms)
+    × ContinuesToEnd run (stub_behind s m.1) d (next ∷ ms)
 
 -- a point hits thread u at position k, beyond its own
 abbrev pub IsHitBeyond : List Step → Stub → Direction → ℕ → ℕ → Type 0

@@ -17,8 +17,8 @@ use Rattle.ir_gdb.specs.Stops.{position_of, upwards_of, StepsTo}
 use Rattle.ir_gdb.specs.Together.{Halt, halt, Comes, MovesAlone}
 
 -- the pc of a thread
-abbrev pub pc_of : List Step → Stub → ℕ → ℕ
-pc_of run s t = (thread_at s.desk.fitted run t (position_of s t)).core.pc
+abbrev pub pc_here : List Step → Stub → ℕ → ℕ
+pc_here run s t = (thread_at s.desk.fitted run t (position_of s t)).core.pc
 
 -- the points of thread u, and a breakpoint where gdb has taken one out
 abbrev pub points_over : Stub → ℕ → ℕ → List Numbered
@@ -44,7 +44,7 @@ OtherHasHit false run s pc cut t = NoneHasHit run s pc cut t (threads_of s.desk.
 
 -- whether a step of thread t to a cut would pass a hit of another, by whether the threads move together
 abbrev pub PassesHit : Bool → Bool → List Step → Stub → List ℕ → ℕ → Type 0
-PassesHit true passes run s cut t = OtherHasHit passes run s (pc_of run s t) cut t
+PassesHit true passes run s cut t = OtherHasHit passes run s (pc_here run s t) cut t
 PassesHit false passes run s cut t = passes ≡ false
 
 -- a thread that comes to its last position waits there for ever

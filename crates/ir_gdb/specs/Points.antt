@@ -11,13 +11,13 @@ word_points t number zero address = []
 word_points t number (suc n) address = record { number = number; point = Watch t address } ∷ word_points t number n (address + 4)
 
 -- how many words the bytes of a watch lie in
-abbrev pub words_in : Watched → ℕ
-words_in w = (w.address + w.size + 3) / 4 - w.address / 4
+abbrev pub watched_words : Watched → ℕ
+watched_words w = (w.address + w.size + 3) / 4 - w.address / 4
 
 -- the watched words of thread t, the first watch by this number, the others by the next
 unfoldable pub watch_points : ℕ → ℕ → List Watched → List Numbered
 watch_points t number [] = []
-watch_points t number (w ∷ ws) = word_points t number (words_in w) (w.address / 4 * 4) ++ watch_points t (number + 1) ws
+watch_points t number (w ∷ ws) = word_points t number (watched_words w) (w.address / 4 * 4) ++ watch_points t (number + 1) ws
 
 -- the breakpoints of thread t, the first by this number, the others by the next
 unfoldable pub break_points : ℕ → ℕ → List Breakpoint → List Numbered

@@ -10,7 +10,7 @@ use Rattle.ir_runs.specs.Run.{Step, object_at}
 use Rattle.ir_cut.specs.Positions.{machine_of, start_of, cut_of, threads_of, thread_at}
 use Rattle.ir_fit.specs.Fit.{FittedTrace}
 use Rattle.ir_hits.specs.Hits.{objects_start, object_size}
-use Rattle.ir_packet.specs.Replies.{word_text, words_text, reply_text}
+use Rattle.ir_packet.specs.Replies.{word_digits, words_reply, reply_text}
 use Rattle.ir_packet.specs.declared.reply.Reply.{Reply}
 use Rattle.ir_packet.specs.declared.reply.Reply.TheVariants as reply
 use Rattle.ir_packet.specs.declared.request.Who.{Who}
@@ -65,16 +65,16 @@ abbrev pub current_of : List Step → Stub → ℕ → thread.ThreadState
 current_of run s t = thread_at s.desk.fitted run t (cut_of s.desk.at t)
 
 -- x0 to x31, and pc
-abbrev pub words_of : Core → List ℕ
-words_of core = core.registers ++ core.pc ∷ []
+abbrev pub register_words : Core → List ℕ
+register_words core = core.registers ++ core.pc ∷ []
 
 -- `g`
-abbrev pub registers_text : List Step → Stub → List ℕ
-registers_text run s = words_text (words_of (current_of run s s.general).core)
+abbrev pub registers_reply : List Step → Stub → List ℕ
+registers_reply run s = words_reply (register_words (current_of run s s.general).core)
 
 -- `p n`
-abbrev pub register_text : List Step → Stub → ℕ → List ℕ
-register_text run s n = word_text (slice_index (words_of (current_of run s s.general).core) n)
+abbrev pub register_reply : List Step → Stub → ℕ → List ℕ
+register_reply run s n = word_digits (slice_index (register_words (current_of run s s.general).core) n)
 
 -- ---- memory
 
@@ -106,13 +106,13 @@ bytes_there seen zero address = []
 bytes_there seen (suc n) address = with_byte (seen address) (bytes_there seen n (address + 1))
 
 -- the most bytes that `m` gives
-abbrev pub most_bytes : ℕ
-most_bytes = 2000
+abbrev pub most_read_bytes : ℕ
+most_read_bytes = 2000
 
 abbrev pub bytes_text : List ℕ → List ℕ
 bytes_text [] = reply_text reply.BadAddress
 bytes_text (b ∷ bytes) = encode_lower (b ∷ bytes)
 
 -- `m address,size`
-abbrev pub memory_text : List Step → Stub → ℕ → ℕ → List ℕ
-memory_text run s address size = bytes_text (bytes_there (byte_seen run s) (min size most_bytes) address)
+abbrev pub memory_reply : List Step → Stub → ℕ → ℕ → List ℕ
+memory_reply run s address size = bytes_text (bytes_there (byte_seen run s) (min size most_read_bytes) address)

@@ -18,27 +18,27 @@ abbrev pub first_link : Desk → Link
 first_link d = link_of (stub_of d)
 
 -- the input leads to this result, and the writer took the answers to the items that are whole within the limit
-pub record Serves (d : Desk) (result : Result Ended SessionErr) (old new : Option (List ℕ)) (input : List ℕ) : Type 0 where
+pub record ServesItems (d : Desk) (result : Result Ended SessionErr) (old new : Option (List ℕ)) (input : List ℕ) : Type 0 where
   pub served : Result Served Fault
   pub ending : result ≡ ended_by served
   pub leads : LeadsTo (first_link d) most_input served old new input
 
 -- how a connection ends that isn't opened
-abbrev pub Refuses : Opening → Ended → Type 0
-Refuses (opening.ImageRefused e) ended = ended ≡ ImageRefused
-Refuses (opening.TraceRefused e) ended = ended ≡ TraceRefused
-Refuses (opening.Unfit v) ended = ended ≡ NotFit
-Refuses (opening.Ready d) ended = ⊥
+abbrev pub EndsUnopened : Opening → Ended → Type 0
+EndsUnopened (opening.ImageRefused e) ended = ended ≡ ImageRefused
+EndsUnopened (opening.TraceRefused e) ended = ended ≡ TraceRefused
+EndsUnopened (opening.Unfit v) ended = ended ≡ NotFit
+EndsUnopened (opening.Ready d) ended = ⊥
 
 -- nothing is written where nothing is opened
-abbrev pub IsRefused : Opening → Result Ended SessionErr → Option (List ℕ) → Option (List ℕ) → Type 0
-IsRefused o result old new = (ended : Ended) × Refuses o ended × (result ≡ Ok ended) × Appends old new []
+abbrev pub IsUnopened : Opening → Result Ended SessionErr → Option (List ℕ) → Option (List ℕ) → Type 0
+IsUnopened o result old new = (ended : Ended) × EndsUnopened o ended × (result ≡ Ok ended) × Appends old new []
 
 abbrev pub Connects : Opening → Result Ended SessionErr → Option (List ℕ) → Option (List ℕ) → List ℕ → Type 0
-Connects (opening.ImageRefused e) result old new input = IsRefused (opening.ImageRefused e) result old new
-Connects (opening.TraceRefused e) result old new input = IsRefused (opening.TraceRefused e) result old new
-Connects (opening.Unfit v) result old new input = IsRefused (opening.Unfit v) result old new
-Connects (opening.Ready d) result old new input = Serves d result old new input
+Connects (opening.ImageRefused e) result old new input = IsUnopened (opening.ImageRefused e) result old new
+Connects (opening.TraceRefused e) result old new input = IsUnopened (opening.TraceRefused e) result old new
+Connects (opening.Unfit v) result old new input = IsUnopened (opening.Unfit v) result old new
+Connects (opening.Ready d) result old new input = ServesItems d result old new input
 
 -- what the image and the trace open leads to the result
 pub record Connected (image trace : List ℕ) (result : Result Ended SessionErr) (old new : Option (List ℕ)) (input : List ℕ) : Type 0 where
@@ -51,18 +51,18 @@ pub record Announced (image trace : List ℕ) (result : Result Ended SessionErr)
   pub opening : Opening
   pub opens : Opens image trace opening
   pub ended : Ended
-  pub refuses : Refuses opening ended
+  pub refuses : EndsUnopened opening ended
   pub ending : result ≡ Ok ended
   pub text : P (opening_text opening)
 
 -- the writer took the answers to all items, none of which ends the connection
-pub record AnsweredWhole (image trace : List ℕ) (old new : Option (List ℕ)) (consumed : List ℕ) : Type 0 where
+pub record RepliedWhole (image trace : List ℕ) (old new : Option (List ℕ)) (consumed : List ℕ) : Type 0 where
   pub desk : Desk
   pub opens : Opens image trace (opening.Ready desk)
   pub wrote : Wrote (first_link desk) (items consumed) false old new
 
 -- the writer took the answers to all items but the last, and a prefix of that one's
-pub record AnsweredInPart (image trace : List ℕ) (old new : Option (List ℕ)) (consumed : List ℕ) : Type 0 where
+pub record RepliedInPart (image trace : List ℕ) (old new : Option (List ℕ)) (consumed : List ℕ) : Type 0 where
   pub desk : Desk
   pub opens : Opens image trace (opening.Ready desk)
   pub wrote : WroteInPart (first_link desk) (items consumed) old new

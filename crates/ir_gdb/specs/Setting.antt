@@ -11,16 +11,16 @@ use Rattle.ir_gdb.specs.declared.point.Breakpoint.{Breakpoint}
 use Rattle.ir_gdb.specs.declared.point.Watched.{Watched}
 use Rattle.ir_gdb.specs.declared.point.Setting.{Setting}
 use Rattle.ir_gdb.specs.declared.point.Setting.TheVariants as setting
-use Rattle.ir_gdb.specs.Stub.{Stub, most_points, most_watched}
+use Rattle.ir_gdb.specs.Stub.{Stub, most_stub_points, most_watched}
 
 -- ---- which are the same
 
-abbrev pub same_kind : Bool → Bool → Bool
-same_kind true other = other
-same_kind false other = not other
+abbrev pub same_way : Bool → Bool → Bool
+same_way true other = other
+same_way false other = not other
 
 abbrev pub is_same_break : Breakpoint → Breakpoint → Bool
-is_same_break a b = (a.address == b.address) && same_kind a.hardware b.hardware
+is_same_break a b = (a.address == b.address) && same_way a.hardware b.hardware
 
 abbrev pub is_same_watch : Watched → Watched → Bool
 is_same_watch a b = (a.address == b.address) && (a.size == b.size)
@@ -56,7 +56,7 @@ can_watch g w = nat_lt 0 w.size && (nat_le w.size most_watched && (lies_in_memor
 -- by whether it is there, and whether there is room
 abbrev pub room_setting : Stub → Bool → Setting
 room_setting s true = setting.There
-room_setting s false = if nat_lt (length s.breaks + length s.watches) most_points then setting.New else setting.Full
+room_setting s false = if nat_lt (length s.breaks + length s.watches) most_stub_points then setting.New else setting.Full
 
 abbrev pub break_setting : Stub → Breakpoint → Setting
 break_setting s b = if is_code_word s.desk.fitted.guest b.address then room_setting s (has_break s.breaks b) else setting.BadAddress

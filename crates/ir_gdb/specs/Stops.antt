@@ -184,17 +184,17 @@ direction_of motion.StepBack = Backwards
 direction_of motion.ContinueBack = Backwards
 
 -- where a thread stops that continues in a direction
-abbrev pub GoesTo : Direction → List Step → Stub → ℕ → Bool → Stopped → Type 0
-GoesTo Forwards run s t watched to = ContinuesTo run s t watched to
-GoesTo Backwards run s t watched to = ContinuesBackTo run s t watched to
+abbrev pub StopsInDirection : Direction → List Step → Stub → ℕ → Bool → Stopped → Type 0
+StopsInDirection Forwards run s t watched to = ContinuesTo run s t watched to
+StopsInDirection Backwards run s t watched to = ContinuesBackTo run s t watched to
 
 -- where a thread stops that moves so; watches count
 abbrev pub MovesTo : List Step → Stub → ℕ → Motion → Stopped → Type 0
 MovesTo run s t motion.Step to = StepsTo run s t true to
 MovesTo run s t (motion.Range low high) to = RangesTo run s t low high true to
-MovesTo run s t motion.Continue to = GoesTo Forwards run s t true to
+MovesTo run s t motion.Continue to = StopsInDirection Forwards run s t true to
 MovesTo run s t motion.StepBack to = StepsBackTo run s t true to
-MovesTo run s t motion.ContinueBack to = GoesTo Backwards run s t true to
+MovesTo run s t motion.ContinueBack to = StopsInDirection Backwards run s t true to
 
 -- whether it is a hit, and not that there is no step more in the direction
 abbrev pub is_hit : Reason → Bool
@@ -208,6 +208,6 @@ is_hit (reason.Ended how) = false
 is_hit reason.Waits = false
 
 -- why all threads stop that have no hit in a direction
-abbrev pub end_of : Direction → Reason
-end_of Forwards = reason.End
-end_of Backwards = reason.Begin
+abbrev pub reason_at_end : Direction → Reason
+reason_at_end Forwards = reason.End
+reason_at_end Backwards = reason.Begin

@@ -53,8 +53,8 @@ stub_of d = record {
 }
 
 -- after an answer of the small machine that is no move's
-abbrev pub spoken : Stub → Stub
-spoken s = record s { desk = desk.spoken s.desk }
+abbrev pub stub_spoken : Stub → Stub
+stub_spoken s = record s { desk = desk.spoken s.desk }
 
 -- the most bytes of a watch
 abbrev pub most_watched : ℕ
@@ -66,8 +66,8 @@ IsChoice f None = ⊤
 IsChoice f (Some t) = t < threads_of f
 
 -- the most breakpoints and watches together
-abbrev pub most_points : ℕ
-most_points = 64
+abbrev pub most_stub_points : ℕ
+most_stub_points = 64
 
 -- whether a watch is of the objects, which all threads share; any other is of private memory
 abbrev pub is_shared : Watched → Bool
@@ -92,4 +92,4 @@ pub record IsStub (s : Stub) : Type 0 where
   pub current : s.current < threads_of s.desk.fitted
   pub told : s.told.thread < threads_of s.desk.fitted
   pub watches : AllByRecursion IsWatched s.watches
-  pub few : length s.breaks + length s.watches ≤ most_points
+  pub few : length s.breaks + length s.watches ≤ most_stub_points

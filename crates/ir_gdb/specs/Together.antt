@@ -12,7 +12,7 @@ use Rattle.ir_packet.specs.declared.request.Motion.{Motion}
 use Rattle.ir_packet.specs.declared.request.Motion.TheVariants as motion
 use Rattle.ir_gdb.specs.declared.stopped.Stopped.{Stopped}
 use Rattle.ir_gdb.specs.Stub.{Stub}
-use Rattle.ir_gdb.specs.Stops.{stopped, position_of, GoesTo, MovesTo, direction_of, is_hit, end_of}
+use Rattle.ir_gdb.specs.Stops.{stopped, position_of, StopsInDirection, MovesTo, direction_of, is_hit, reason_at_end}
 
 -- a stop: the thread, the cut, and why
 pub record Halt : Type 0 where
@@ -29,7 +29,7 @@ Comes run s direction t k cut = StopsAt run s.desk.fitted s.desk.at t direction 
 
 -- thread u's own stop when `mover` moves, for whom alone watches of private memory count
 abbrev pub OwnStop : List Step → Stub → Direction → ℕ → ℕ → Stopped → Type 0
-OwnStop run s direction mover u to = GoesTo direction run s u (u == mover) to
+OwnStop run s direction mover u to = StopsInDirection direction run s u (u == mover) to
 
 -- the stop of a thread among those of all
 abbrev pub stop_among : List Stopped → ℕ → Stopped
@@ -101,9 +101,9 @@ halt_of each m = halt m.0 m.1 (stop_among each m.0).reason
 abbrev pub first_met : List Stopped → Option (ℕ × List ℕ) → Option Halt
 first_met each met = option_map (halt_of each) met
 
-abbrev pub or_else : Option Halt → Halt → Halt
-or_else None h = h
-or_else (Some met) h = met
+abbrev pub halt_or : Option Halt → Halt → Halt
+halt_or None h = h
+halt_or (Some met) h = met
 
 -- whether thread u is another than t, and isn't where it is in a cut
 abbrev pub moves : Stub → List ℕ → ℕ → ℕ → Bool
@@ -118,7 +118,7 @@ moves_other s cut t (suc u) = moves_other s cut t u || moves s cut t u
 abbrev pub MetBy : Bool → List Step → Stub → Direction → List ℕ → Halt → Halt → Type 0
 MetBy false run s direction cut own h = h ≡ own
 MetBy true run s direction cut own h = (each : List Stopped) × AreStops run s direction own.thread each
-    × ((met : Option Halt) × FirstMet run s direction each cut own.thread met × (h ≡ or_else met own))
+    × ((met : Option Halt) × FirstMet run s direction each cut own.thread met × (h ≡ halt_or met own))
 
 -- a few steps of a thread: they end at the first that is met, or where they would alone
 abbrev pub StepsAmong : List Step → Stub → ℕ → Motion → Halt → Type 0
@@ -158,7 +158,7 @@ furthest s Backwards = first_cut s.desk.fitted
 -- all continue
 abbrev pub ContinuesAmong : List Step → Stub → ℕ → Direction → Halt → Type 0
 ContinuesAmong run s t direction h = (each : List Stopped) × AreStops run s direction t each × ((stop : Option Halt)
-    × FirstStop run s direction each t stop × (h ≡ or_else stop (halt t (furthest s direction) (end_of direction))))
+    × FirstStop run s direction each t stop × (h ≡ halt_or stop (halt t (furthest s direction) (reason_at_end direction))))
 
 -- a move of a thread, in which the others may be stopped at their hits
 abbrev pub MovesAmong : List Step → Stub → ℕ → Motion → Halt → Type 0

@@ -3,7 +3,7 @@
 ghost use Rattle.std.specs.Prelude.{◌≡◌};
 ghost use Rattle.std.specs.Vec.{vec_capacity};
 ghost use Rattle.ir_gdb.specs.Setting.{is_same_break, is_same_watch, has_break, has_watch, breaks_without, watches_without};
-ghost use Rattle.ir_gdb.specs.Stub.{is_shared, shared_of, most_points};
+ghost use Rattle.ir_gdb.specs.Stub.{is_shared, shared_of, most_stub_points};
 
 use crate::point::{Breakpoint, Watched};
 use ir_hits::OBJECTS_START;
@@ -64,13 +64,13 @@ impl Model for Breaks {
     ghost use Rattle.std.specs.Prelude.{◌≤◌, List};
     ghost use Rattle.std.specs.Vec.{vec_capacity};
     ghost use Rattle.ir_gdb.specs.declared.point.Breakpoint.{Breakpoint};
-    ghost use Rattle.ir_gdb.specs.Stub.{most_points};
+    ghost use Rattle.ir_gdb.specs.Stub.{most_stub_points};
 
     ghost Value = { List Breakpoint };
 
     ghost view = { λ p. p.each.items };
 
-    ghost invariant = { λ p. most_points ≤ vec_capacity p.each };
+    ghost invariant = { λ p. most_stub_points ≤ vec_capacity p.each };
 }
 
 impl Breaks {
@@ -96,7 +96,7 @@ impl Breaks {
 
     /// Sets one more, for which there is room. Takes no memory.
     pub fn set(&mut self, point: Breakpoint)
-        requires { length self.old < most_points }
+        requires { length self.old < most_stub_points }
         ensures { self.new ≡ self.old ++ point ∷ [] }
     {
         self.each.push_reserved(point);
@@ -130,13 +130,13 @@ impl Model for Watches {
     ghost use Rattle.std.specs.Prelude.{◌≡◌, ◌≤◌, List};
     ghost use Rattle.std.specs.Vec.{vec_capacity};
     ghost use Rattle.ir_gdb.specs.declared.point.Watched.{Watched};
-    ghost use Rattle.ir_gdb.specs.Stub.{shared_of, most_points};
+    ghost use Rattle.ir_gdb.specs.Stub.{shared_of, most_stub_points};
 
     ghost Value = { List Watched };
 
     ghost view = { λ p. p.each.items };
 
-    ghost invariant = { λ p. (most_points ≤ vec_capacity p.each) × (most_points ≤ vec_capacity p.shared) × (p.shared.items ≡ shared_of p.each.items) };
+    ghost invariant = { λ p. (most_stub_points ≤ vec_capacity p.each) × (most_stub_points ≤ vec_capacity p.shared) × (p.shared.items ≡ shared_of p.each.items) };
 }
 
 impl Watches {
@@ -171,7 +171,7 @@ impl Watches {
     /// Sets one more, for which there is room. Takes no memory.
     #[tactic(auto, using(crate::proofs::Setting::shared_of_more_with_shared, crate::proofs::Setting::shared_of_more_with_private, crate::proofs::Setting::shared_watches_are_not_more))]
     pub fn set(&mut self, point: Watched)
-        requires { length self.old < most_points }
+        requires { length self.old < most_stub_points }
         ensures { self.new ≡ self.old ++ point ∷ [] }
     {
         self.each.push_reserved(point);

@@ -4,7 +4,7 @@ ghost use Rattle.std.specs.Prelude.{◌≡◌, ◌≤◌, ◌+◌, ◌*◌, ◌^
 ghost use Rattle.std.specs.List.{AllByRecursion};
 ghost use Rattle.ir_gdb.specs.Stub.{IsWatched};
 ghost use Rattle.ir_hits.specs.Watchable.{AreWatchable};
-ghost use Rattle.ir_gdb.specs.Points.{word_points, watch_points, break_points, own_points, words_in, points_upwards, points_downwards, with_point};
+ghost use Rattle.ir_gdb.specs.Points.{word_points, watch_points, break_points, own_points, watched_words, points_upwards, points_downwards, with_point};
 
 use crate::point::{Breakpoint, Watched};
 use ir_command::Point;
@@ -25,7 +25,7 @@ pub struct Halts<'a> {
 // How many words the bytes of a watch lie in.
 fn words_in(watched: Watched) -> u32
     requires { IsWatched watched }
-    ensures { result ≡ words_in watched }
+    ensures { result ≡ watched_words watched }
 {
     (watched.address + watched.size + 3) / 4 - watched.address / 4
 }

@@ -1,8 +1,8 @@
 //! Registers, as gdb numbers them.
 
 ghost use Rattle.std.specs.Prelude.{◌≡◌, ◌≤◌, ◌<◌, ◌+◌, ◌++◌, slice_index, vec_len, vec_capacity};
-ghost use Rattle.ir_packet.specs.Replies.{words_text};
-ghost use Rattle.ir_gdb.specs.Reads.{words_of};
+ghost use Rattle.ir_packet.specs.Replies.{words_reply};
+ghost use Rattle.ir_gdb.specs.Reads.{register_words};
 
 use ir_mach::Mach;
 use ir_packet::put_word;
@@ -14,7 +14,7 @@ pub const MOST_REGISTERS: usize = 264;
 #[tactic(auto, using(crate::proofs::Words::word_below_32_is_register, crate::proofs::Words::word_32_is_pc))]
 pub fn word_of(mach: &Mach, n: u32) -> u32
     requires { n < 33 }
-    ensures { result ≡ slice_index (words_of mach.now) n }
+    ensures { result ≡ slice_index (register_words mach.now) n }
 {
     if n == 32 {
         return mach.pc();
@@ -26,7 +26,7 @@ pub fn word_of(mach: &Mach, n: u32) -> u32
 #[tactic(auto, using(crate::proofs::Words::word_below_32_is_register, crate::proofs::Words::word_32_is_pc, crate::proofs::Words::length_of_words_of), unfolding(ir_packet::specs::Replies::words_text))]
 pub fn put_registers(out: &mut Vec<u8>, mach: &Mach)
     requires { vec_len out.old + 264 ≤ vec_capacity out.old }
-    ensures bytes { out.new.items ≡ out.old.items ++ words_text (words_of mach.now) }
+    ensures bytes { out.new.items ≡ out.old.items ++ words_reply (register_words mach.now) }
     ensures capacity { vec_capacity out.new ≡ vec_capacity out.old }
 {
     let pc = mach.pc();

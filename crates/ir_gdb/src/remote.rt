@@ -108,7 +108,7 @@ impl Remote {
     ghost use Rattle.std.specs.Prelude.{OnOk, OnErr, IfOk, true, false};
     ghost use Rattle.ir_cut.specs.Positions.{EachRun, cut_of, thread_at};
     ghost use Rattle.ir_weave.specs.Standing.{StandsAt};
-    ghost use Rattle.ir_gdb.specs.Stub.{stub_of, spoken};
+    ghost use Rattle.ir_gdb.specs.Stub.{stub_of, stub_spoken};
     ghost use Rattle.ir_gdb.specs.Serving.{IsThere};
     ghost use Rattle.ir_gdb.specs.Reads.{thread_of_id, reply_to, with_current, general_reply, after_general, chosen_reply, after_chosen, current_of};
 
@@ -206,7 +206,7 @@ impl Remote {
 
     // Brings the run in hand to the cut.
     fn bring_here<H: Hands>(&mut self, hands: &H) -> Result<(), AllocError>
-        ensures stub { self.new.stub ≡ spoken self.old.stub }
+        ensures stub { self.new.stub ≡ stub_spoken self.old.stub }
         ensures there { OnOk result (IsThere self.new) }
         ensures lacks { OnErr result (self.old.stub.desk.fresh ≡ false) }
     {
@@ -242,7 +242,7 @@ impl Remote {
 
     // Counts as an answer that is no move's.
     fn speak(&mut self)
-        ensures { self.new.stub ≡ spoken self.old.stub }
+        ensures { self.new.stub ≡ stub_spoken self.old.stub }
     {
         self.debugger.speak();
     }

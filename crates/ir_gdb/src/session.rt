@@ -8,7 +8,7 @@ ghost use Rattle.ir_debug.specs.Session.{most_input, IfServed, IfRefused, ended_
 ghost use Rattle.ir_debug.specs.Openings.{opening_of};
 ghost use Rattle.ir_debug.specs.declared.opening.Opened.TheVariants.{Ready};
 ghost use Rattle.ir_gdb.specs.Connection.{Wrote, WroteInPart};
-ghost use Rattle.ir_gdb.specs.Session.{first_link, Serves, Refuses, Connected, Announced, AnsweredWhole, AnsweredInPart, IfNotRefused};
+ghost use Rattle.ir_gdb.specs.Session.{first_link, ServesItems, EndsUnopened, Connected, Announced, RepliedWhole, RepliedInPart, IfNotRefused};
 
 use crate::connection::Connection;
 use crate::remote::Remote;
@@ -35,7 +35,7 @@ fn ended(served: Result<Served, Fault>) -> Result<Ended, SessionErr>
 // How a connection ends that isn't opened.
 fn refusal_of(opened: &Opened) -> Ended
     requires { (debugger : _) → opened.now ≡ Ready debugger → ⊥ }
-    ensures { Refuses (opening_of opened.now) result }
+    ensures { EndsUnopened (opening_of opened.now) result }
 {
     match opened {
         Opened::ImageRefused(_) => Ended::ImageRefused,

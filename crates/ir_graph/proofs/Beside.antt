@@ -15,7 +15,7 @@ use Rattle.ir_store.specs.Nodes.{source_of}
 use Rattle.ir_store.specs.Table.{no_source}
 use Rattle.ir_graph.specs.Plain.{sourced_flat, IsFair, GoesPlain, OthersStay}
 use Rattle.ir_graph.specs.Turn.{GoesAlone}
-use Rattle.ir_graph.specs.Stops.{IsRefused, IsSpent, StopsAt}
+use Rattle.ir_graph.specs.Stops.{IsNotFollowed, IsSpent, StopsFollowing}
 use Rattle.ir_graph.proofs.Stops.{stops_at_refused_ask}
 use Rattle.ir_explore.specs.declared.stop.Stop.{Stop}
 use Rattle.ir_explore.specs.declared.stop.Stop.TheVariants.{Log}
@@ -119,10 +119,10 @@ source_after_set g sources t a b at = get_or-set_same sources t b no_source (sli
 
 -- why the thread is not followed on from there
 pub stops_at_refused_ask_with_source_set : (f g : Flat) (sources : List Source) (t limit : ℕ) (a b : Source) (stop : Stop) → slice_get sources t ≡ Some a
-    → IsRefused t (ask_of g.code (thread_of g t)) b stop → StopsAt (sourced_flat f sources) (sourced_flat g (set sources t b)) t limit stop
+    → IsNotFollowed t (ask_of g.code (thread_of g t)) b stop → StopsFollowing (sourced_flat f sources) (sourced_flat g (set sources t b)) t limit stop
 stops_at_refused_ask_with_source_set f g sources t limit a b stop at h =
     stops_at_refused_ask (sourced_flat f sources) (sourced_flat g (set sources t b)) t limit stop
-    (subst (λ z. IsRefused t (ask_of g.code (thread_of g t)) z stop) (sym (source_after_set g sources t a b at)) h)
+    (subst (λ z. IsNotFollowed t (ask_of g.code (thread_of g t)) z stop) (sym (source_after_set g sources t a b at)) h)
 
-pub spent_ask_is_refused_by_log_stop : (t : ℕ) (asked : Ask) (source : Source) (stop : Stop) → stop ≡ Log t → IsSpent asked → IsRefused t asked source stop
-spent_ask_is_refused_by_log_stop t asked source stop is spent = subst (IsRefused t asked source) (sym is) (refl, spent)
+pub spent_ask_is_refused_by_log_stop : (t : ℕ) (asked : Ask) (source : Source) (stop : Stop) → stop ≡ Log t → IsSpent asked → IsNotFollowed t asked source stop
+spent_ask_is_refused_by_log_stop t asked source stop is spent = subst (IsNotFollowed t asked source) (sym is) (refl, spent)

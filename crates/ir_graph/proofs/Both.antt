@@ -19,7 +19,7 @@ use Rattle.ir_graph.specs.Setup.{Setup}
 use Rattle.ir_graph.specs.Ahead.{IsTurnOf}
 use Rattle.ir_graph.specs.Hand.{with_items, with_hand, IsHandOf}
 use Rattle.ir_graph.specs.Lone.{MustWait, TakesTurn}
-use Rattle.ir_graph.specs.Nodes.{LookAlike, AllRest, AreNodes, Stay, LeadsFrom}
+use Rattle.ir_graph.specs.Nodes.{LookAlike, AllRest, AreNodes, NodesStay, LeadsFrom}
 use Rattle.ir_graph.specs.Plain.{IsLike, MayGo, result_by}
 use Rattle.ir_graph.specs.Reached.{IsReached}
 use Rattle.ir_graph.specs.Times.{LeadsTickless}
@@ -179,10 +179,10 @@ module _ (states : List SourcedFlat) (shared : Shared) (s : SourcedFlat) (t : �
       (ask_may_go_if_it_begins_turn (get_or turn.numbers.items 0 0) refused (get_or (cells_at shared.words turn.spots.items) 0 empty).fields
       (ask_of s.flat.code (slice_index_or shared.threads turn.from idle_beside).0) takes.begins)
 
-  pub both_leads : (new : List SourcedFlat) (p : ℕ) → Stay states new → ((k : SourcedFlat) → slice_get new p ≡ Some k → LookAlike after_turn k)
+  pub both_leads : (new : List SourcedFlat) (p : ℕ) → NodesStay states new → ((k : SourcedFlat) → slice_get new p ≡ Some k → LookAlike after_turn k)
       → LeadsFrom new t refused v (Some p)
   both_leads = leads_to_node_if_reached_state_looks_alike states s goes.0 after_turn t refused v nodes at less both_may step goes.1.goes.goes
 
-  pub both_lead_tickless : (new : List SourcedFlat) (p : ℕ) → Stay states new → ((k : SourcedFlat) → slice_get new p ≡ Some k → LookAlike after_turn k)
+  pub both_lead_tickless : (new : List SourcedFlat) (p : ℕ) → NodesStay states new → ((k : SourcedFlat) → slice_get new p ≡ Some k → LookAlike after_turn k)
       → HaveNoTicks after_turn.sources → LeadsTickless new t refused v p
   both_lead_tickless = leads_tickless_if_reached_state_is states s goes.0 after_turn t refused v nodes at less both_may step goes.1.goes.goes

@@ -7,7 +7,7 @@ use Rattle.ir_image.specs.declared.form.ImageForm.{ImageForm}
 use Rattle.ir_thread.specs.State.{ThreadState, most_budget}
 use Rattle.ir_sources.specs.Sources.{source, seed_of}
 use Rattle.ir_flat.proofs.CallerLemmas.{length_of_start_threads}
-use Rattle.ir_graph.specs.Setup.{Setup, start_of, first_sources}
+use Rattle.ir_graph.specs.Setup.{Setup, setup_start, first_sources}
 use Rattle.ir_thread.specs.declared.profile.Profile.{Profile}
 use Rattle.ir_flat.specs.Flat.{Flat, idle, start_threads}
 use Rattle.ir_store.specs.Table.{HaveForm}
@@ -37,6 +37,6 @@ each_thread_has_first_source x =
     length_of_map (λ t. source (seed_of x.random t) x.input) (range_with_len 0 (length x.guest.entries))
     ∙ length_of_range_with_len 0 (length x.guest.entries)
 
-pub start_has_source_for_each_thread : (x : Setup) → length (start_of x).sources ≡ length (start_of x).flat.threads
+pub start_has_source_for_each_thread : (x : Setup) → length (setup_start x).sources ≡ length (setup_start x).flat.threads
 start_has_source_for_each_thread x =
     each_thread_has_first_source x ∙ sym (length_of_start_threads x.guest most_budget x.profile 0 (length x.guest.entries))

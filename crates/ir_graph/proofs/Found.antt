@@ -11,7 +11,7 @@ use Rattle.ir_flat.specs.Flat.{tables, machine, thread_of}
 use Rattle.ir_store.specs.Nodes.{SourcedFlat}
 use Rattle.ir_store.specs.Others.{HasOthersOf}
 use Rattle.ir_store.specs.Table.{HaveNoTicks}
-use Rattle.ir_graph.specs.Nodes.{Alike, seen_by, answered_by, seen_of, LookAlike, AllRest, AreNodes, Stay, LeadsFrom, IsStepBy, HasStepBy}
+use Rattle.ir_graph.specs.Nodes.{Alike, seen_by, answered_by, seen_of, LookAlike, AllRest, AreNodes, NodesStay, LeadsFrom, IsStepBy, HasStepBy}
 use Rattle.ir_graph.specs.Plain.{GoesPlain, IsLike, MayGo, OthersStay, Rests, result_by}
 use Rattle.ir_graph.specs.Times.{AlikeTickless, LeadsTickless}
 use Rattle.ir_graph.proofs.Alike.{look_alike_symmetric}
@@ -116,7 +116,7 @@ module _ (states : List SourcedFlat) (s u w : SourcedFlat) (t r v : ℕ) (nodes 
 
 pub leads_tickless_if_reached_state_is : (states : List SourcedFlat) (s u w : SourcedFlat) (t : ℕ) (refused : Bool) (v : ℕ) → AreNodes states
     → slice_get states v ≡ Some s → t < length s.flat.threads → MayGo refused (ask_of s.flat.code (thread_of s.flat t)) → TakesStep s u t (result_by refused)
-    → GoesPlain u w → (new : List SourcedFlat) (p : ℕ) → Stay states new → ((k : SourcedFlat) → slice_get new p ≡ Some k → LookAlike w k)
+    → GoesPlain u w → (new : List SourcedFlat) (p : ℕ) → NodesStay states new → ((k : SourcedFlat) → slice_get new p ≡ Some k → LookAlike w k)
     → HaveNoTicks w.sources → LeadsTickless new t refused v p
 leads_tickless_if_reached_state_is states s u w t refused v nodes at less may step goes new p stay alike none s' k here there =
     subst (λ z. (e : Step) → e.0 ≡ t → IsStepBy z refused e → Can (seen_by z.flat.code) (seen_of z) e
@@ -126,7 +126,7 @@ leads_tickless_if_reached_state_is states s u w t refused v nodes at less may st
 
 pub leads_to_node_if_reached_state_looks_alike : (states : List SourcedFlat) (s u w : SourcedFlat) (t : ℕ) (refused : Bool) (v : ℕ) → AreNodes states → slice_get states v ≡ Some s
     → t < length s.flat.threads → MayGo refused (ask_of s.flat.code (thread_of s.flat t)) → TakesStep s u t (result_by refused) → GoesPlain u w
-    → (new : List SourcedFlat) (p : ℕ) → Stay states new → ((k : SourcedFlat) → slice_get new p ≡ Some k → LookAlike w k)
+    → (new : List SourcedFlat) (p : ℕ) → NodesStay states new → ((k : SourcedFlat) → slice_get new p ≡ Some k → LookAlike w k)
     → LeadsFrom new t refused v (Some p)
 leads_to_node_if_reached_state_looks_alike states s u w t refused v nodes at less may step goes new p stay alike s' k here there =
     subst (λ z. HasStepBy z t refused

@@ -5,7 +5,7 @@ use Rattle.std.proofs.lemmas.List.{get_or-set_same, get_or-set_other}
 use Rattle.ir_runs.specs.Machine.{Machine, upd, target, reply, acted}
 use Rattle.ir_runs.specs.Run.{State, Step, asked, act, after, end}
 use Rattle.ir_runs.proofs.CallerLemmas.{upd_at_own_place, upd_at_other_place, upd_with_old_value}
-use Rattle.ir_states.specs.Counting.{Counts, is_own, GoesAhead, entering}
+use Rattle.ir_states.specs.Counting.{RunCounts, is_own, GoesAhead, entering}
 use Rattle.ir_states.specs.Sources.{Giving, answer_of, left_of, sourced, plain}
 use Rattle.ir_states.specs.Views.{IsView, viewed, IsLiveRun, beside}
 use Rattle.ir_states.proofs.CallerLemmas.{run_that_goes_ahead_counts, counts_append, goes_ahead_append, plain_end, sourced_view_is_view, viewed_end, viewed_entering, viewed_counts}
@@ -89,13 +89,13 @@ module _ (code : List ℕ) where
 
   -- and counts where that does
   pub counts_of_live_run_seen : (s : State (ThreadState × Source)) (run : List Step) → AreLive code s run
-      → Counts (full_by code) (sources_by code) s run → Counts (seen_by code) (answered_by code) (seen_state s) run
+      → RunCounts (full_by code) (sources_by code) s run → RunCounts (seen_by code) (answered_by code) (seen_state s) run
   counts_of_live_run_seen s run live =
       (viewed_counts (full_by code) (seen_by code) (λ x. (view x.0, x.1)) (λ x. IsLive code x.0) (seen_by_is_view_of_full_by code) (sources_by code)
       (answered_by code) (λ t x l. ap (λ q. answer_of given q x.1) ((seen_machine_is_view code).asks x.0 l)) s run live).0
 
   pub counts_if_seen : (s : State (ThreadState × Source)) (run : List Step) → AreLive code s run
-      → Counts (seen_by code) (answered_by code) (seen_state s) run → Counts (full_by code) (sources_by code) s run
+      → RunCounts (seen_by code) (answered_by code) (seen_state s) run → RunCounts (full_by code) (sources_by code) s run
   counts_if_seen s run live =
       (viewed_counts (full_by code) (seen_by code) (λ x. (view x.0, x.1)) (λ x. IsLive code x.0) (seen_by_is_view_of_full_by code) (sources_by code)
       (answered_by code) (λ t x l. ap (λ q. answer_of given q x.1) ((seen_machine_is_view code).asks x.0 l)) s run live).1

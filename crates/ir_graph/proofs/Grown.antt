@@ -21,9 +21,9 @@ use Rattle.ir_seen.specs.Seen.{seen_start}
 use Rattle.ir_seen.proofs.CallerLemmas.{start_view_ignores_budget}
 use Rattle.ir_flat.specs.Flat.{idle, start_threads, thread_of}
 use Rattle.ir_store.specs.Nodes.{SourcedFlat}
-use Rattle.ir_graph.specs.Setup.{Setup, start_of, first_source}
+use Rattle.ir_graph.specs.Setup.{Setup, setup_start, first_source}
 use Rattle.ir_graph.specs.Graph.{IsGraph}
-use Rattle.ir_graph.specs.Nodes.{seen_by, answered_by, Alike, seen_of, AllRest, AreNodes, Stay, LeadsFrom}
+use Rattle.ir_graph.specs.Nodes.{seen_by, answered_by, Alike, seen_of, AllRest, AreNodes, NodesStay, LeadsFrom}
 use Rattle.ir_graph.specs.Notes.{noted_by, noted_in}
 use Rattle.ir_graph.specs.Reached.{IsReached, AllReached}
 use Rattle.ir_graph.specs.Plain.{GoesPlain, IsLike, MayGo}
@@ -33,12 +33,12 @@ use Rattle.ir_graph.proofs.Plain.{like_reflexive}
 use Rattle.ir_graph.proofs.Reached.{plain_start_is_reached}
 
 -- a node that was there before is what it was
-pub old_node_is_unchanged : (flats new : List SourcedFlat) (v : ℕ) (f : SourcedFlat) → Stay flats new → v < length flats → slice_get new v ≡ Some f → slice_get flats v ≡ Some f
+pub old_node_is_unchanged : (flats new : List SourcedFlat) (v : ℕ) (f : SourcedFlat) → NodesStay flats new → v < length flats → slice_get new v ≡ Some f → slice_get flats v ≡ Some f
 old_node_is_unchanged flats new v f stay l is =
     let old = element_below_length_exists flats v l in
     subst (λ z. slice_get flats v ≡ Some z) (same_Some old.0 f (sym (stay v old.0 old.1) ∙ is)) old.1
 
-leads_from_after_nodes_added : (flats new : List SourcedFlat) (t : ℕ) (refused : Bool) (v : ℕ) (next : Option ℕ) → Stay flats new → v < length flats
+leads_from_after_nodes_added : (flats new : List SourcedFlat) (t : ℕ) (refused : Bool) (v : ℕ) (next : Option ℕ) → NodesStay flats new → v < length flats
     → ((w : ℕ) → next ≡ Some w → w < length flats) → LeadsFrom flats t refused v next → LeadsFrom new t refused v next
 leads_from_after_nodes_added flats new t refused v None stay l within h = λ f is. h f (old_node_is_unchanged flats new v f stay l is)
 leads_from_after_nodes_added flats new t refused v (Some w) stay l within h = λ f g is there.
@@ -82,7 +82,7 @@ refused_leads_nowhere_in_first_profile x flats t v one nodes reached = refused_l
 
 -- nodes were added
 pub is_graph_after_nodes_added : (x : Setup) (flats new : List SourcedFlat) (noted : ℕ → BothWays) (threads : ℕ)
-    → IsGraph x flats noted threads → Stay flats new → AreNodes new → AllReached x new → length flats ≤ length new
+    → IsGraph x flats noted threads → NodesStay flats new → AreNodes new → AllReached x new → length flats ≤ length new
     → IsGraph x new noted threads
 is_graph_after_nodes_added x flats new noted threads g stay nodes reached more = record {
   nodes = nodes;
@@ -156,7 +156,7 @@ is_graph_after_one_note_added x flats old new threads thread way node to g only 
 
 -- so is a graph that has grown, once more is noted of the rows of its ways
 pub is_graph_after_nodes_and_one_note_added : (x : Setup) (old flats : List SourcedFlat) (rows refused_rows new tries : List (Vec (Option (Option ℕ))))
-    (thread : ℕ) (way : Bool) (node : ℕ) (to : Option ℕ) → IsGraph x old (noted_by rows refused_rows) (length rows) → Stay old flats
+    (thread : ℕ) (way : Bool) (node : ℕ) (to : Option ℕ) → IsGraph x old (noted_by rows refused_rows) (length rows) → NodesStay old flats
     → AreNodes flats → AllReached x flats → length old ≤ length flats
     → ((t : ℕ) (refused : Bool) (v : ℕ) → (noted_by new tries t refused v ≡ noted_by rows refused_rows t refused v)
     ⊎ ((t ≡ thread) × (refused ≡ way) × (v ≡ node) × (noted_by new tries t refused v ≡ Some to)))
@@ -228,7 +228,7 @@ noted_by_past_threads_leads_nowhere rows refused_rows less t false v l = noted_i
 
 -- the graph at first
 pub start_is_graph : (x : Setup) (h : SourcedFlat) (noted : ℕ → BothWays) (threads : ℕ)
-    → GoesPlain (start_of x) h → AllRest h.flat → length h.sources ≡ length h.flat.threads → length h.flat.threads ≡ threads
+    → GoesPlain (setup_start x) h → AllRest h.flat → length h.sources ≡ length h.flat.threads → length h.flat.threads ≡ threads
     → threads ≡ length x.guest.entries → ((t v : ℕ) → t < threads → noted t false v ≡ None) → FreeToTry x.profile threads noted
     → ((t : ℕ) (refused : Bool) (v : ℕ) → threads ≤ t → noted t refused v ≡ Some None) → IsGraph x (h ∷ []) noted threads
 start_is_graph x h noted threads goes rest sourced many number free tries past =
@@ -242,7 +242,7 @@ start_is_graph x h noted threads goes rest sourced many number free tries past =
           subst (λ z. Begins (seen_by x.guest.code) (answered_by x.guest.code) (Alike x.guest.code) (seen_start x.guest x.profile (first_source x)) (seen_of z))
           (only 0 s is)
           (subst (λ z. Begins (seen_by x.guest.code) (answered_by x.guest.code) (Alike x.guest.code) (beside z (first_source x)) (seen_of h))
-          (start_view_ignores_budget x.guest most_budget 1 x.profile) (begins_by_plain_steps (start_of x) h goes));
+          (start_view_ignores_budget x.guest most_budget 1 x.profile) (begins_by_plain_steps (setup_start x) h goes));
       past = past;
       untried = λ one t v. untried tries one t v;
       asked = λ t refused v next few is. inr (first tries t refused v next few is);

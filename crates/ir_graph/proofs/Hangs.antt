@@ -14,7 +14,7 @@ use Rattle.ir_runs.specs.Machine.{Machine}
 use Rattle.ir_runs.specs.Lawful.{IsLawful}
 use Rattle.ir_runs.specs.Run.{State, Step, asked, after, end, IsDone}
 use Rattle.ir_runs.proofs.CallerLemmas.{StateInvariant, end_append}
-use Rattle.ir_states.specs.Counting.{Answers, IsAnswered, IsAtRest, Counts, entering}
+use Rattle.ir_states.specs.Counting.{Answers, IsAnswered, IsAtRest, RunCounts, entering}
 use Rattle.ir_states.specs.Nodes.{TellsNothing, Path}
 use Rattle.ir_states.specs.Outcomes.{switches, IsFinished, HasWay}
 use Rattle.ir_states.specs.Views.{beside}
@@ -26,7 +26,7 @@ use Rattle.ir_seen.specs.Seen.{view, seen_machine, IsLive, IsSpoilt, seen_start,
 use Rattle.ir_seen.proofs.CallerLemmas.{seen_machine_is_lawful, seen_machine_is_view, thread_is_live_or_next_step_spoils_it, look_same, start_view_ignores_budget, state_invariant_at_start, start_state_is_unspoilt}
 use Rattle.ir_flat.specs.Flat.{tables, start_flat}
 use Rattle.ir_store.specs.Nodes.{SourcedFlat}
-use Rattle.ir_graph.specs.Setup.{Setup, start_of, first_source, IsCountedOf}
+use Rattle.ir_graph.specs.Setup.{Setup, setup_start, first_source, IsCountedOf}
 use Rattle.ir_graph.specs.Graph.{IsGraph}
 use Rattle.ir_graph.specs.Hangs.{IsCounting, CanEndFrom, CanEnd, IsHangOf, AreMarked, AllStand, AreWays}
 use Rattle.ir_graph.specs.Nodes.{seen_by, answered_by, Alike, seen_of, LookAlike}
@@ -40,7 +40,7 @@ use Rattle.ir_graph.proofs.Reached.{answered_run_is_run}
 
 -- runs that count go on alike from alike states
 counts_from_alike_state_to_alike_end : {T : Type 0} (m : Machine T) (answers : Answers T) (Alike : State T → State T → Type 0) → TellsNothing m answers Alike
-    → (s v : State T) → Alike s v → (run : List Step) → Counts m answers s run → Counts m answers v run × Alike (end m s run) (end m v run)
+    → (s v : State T) → Alike s v → (run : List Step) → RunCounts m answers s run → RunCounts m answers v run × Alike (end m s run) (end m v run)
 counts_from_alike_state_to_alike_end m answers Alike tells s v alike [] counts = (tt, alike)
 counts_from_alike_state_to_alike_end m answers Alike tells s v alike (e ∷ run) counts =
     let more = counts_from_alike_state_to_alike_end m answers Alike tells (after m s e) (after m v e) (tells.steps s v alike e counts.0.0) run counts.1 in (
@@ -61,8 +61,8 @@ completes_from_alike_state m answers Alike tells s v alike (more, counts, done) 
     let k = counts_from_alike_state_to_alike_end m answers Alike tells s v alike more counts in
     (more, k.0, is_done_from_alike_state m answers Alike tells (end m s more) (end m v more) k.1 done)
 
-suffix_counts_from_end_of_prefix_if_append_counts : {T : Type 0} (m : Machine T) (answers : Answers T) (s : State T) (run more : List Step) → Counts m answers s (run ++ more)
-    → Counts m answers (end m s run) more
+suffix_counts_from_end_of_prefix_if_append_counts : {T : Type 0} (m : Machine T) (answers : Answers T) (s : State T) (run more : List Step) → RunCounts m answers s (run ++ more)
+    → RunCounts m answers (end m s run) more
 suffix_counts_from_end_of_prefix_if_append_counts m answers s [] more counts = counts
 suffix_counts_from_end_of_prefix_if_append_counts m answers s (e ∷ run) more counts = suffix_counts_from_end_of_prefix_if_append_counts m answers (after m s e) run more counts.1
 
@@ -72,12 +72,12 @@ answered_run_is_counting x steps a = record {
   runs = answered_run_is_run x.guest.code (beginning x) steps a;
   answered = ((sourced_counts (thread_machine x.guest.code) given (beginning x) steps).0 a.0).1;
   unspoilt = state_stays_unspoilt_after_live_run (thread_machine x.guest.code) (IsLive x.guest.code) (IsSpoilt x.guest.code) (thread_is_live_or_next_step_spoils_it x.guest.code)
-      (tables (start_of x).flat) steps (live_run_of_threads x.guest.code (beginning x) steps a.1) (start_state_is_unspoilt x.guest most_budget x.profile);
+      (tables (setup_start x).flat) steps (live_run_of_threads x.guest.code (beginning x) steps a.1) (start_state_is_unspoilt x.guest most_budget x.profile);
 }
 
 -- a run that counts is one of the guest as a search sees it, with the same entries
 pub counting_run_counts_as_seen : (x : Setup) (budget : ℕ) (steps : List Step) → IsCounting x budget steps
-    → Counts (seen_by x.guest.code) (answered_by x.guest.code) (seen_start x.guest x.profile (first_source x)) steps
+    → RunCounts (seen_by x.guest.code) (answered_by x.guest.code) (seen_start x.guest x.profile (first_source x)) steps
     × (entering (seen_by x.guest.code) (seen_start x.guest x.profile (first_source x)) steps
     ≡ entering (thread_machine x.guest.code) (tables (start_flat x.guest budget x.profile)) steps)
 counting_run_counts_as_seen x budget steps c =
@@ -89,7 +89,7 @@ counting_run_counts_as_seen x budget steps c =
     let one = sourced_counts m given full steps in
     let two = counts_of_live_run_seen x.guest.code full steps live (one.1 (c.runs, c.answered)) in
     let order = entering_of_live_run_seen x.guest.code full steps live ∙ sourced_entering m given full steps in (
-      subst (λ z. Counts (seen_by x.guest.code) (answered_by x.guest.code) (beside z (first_source x)) steps)
+      subst (λ z. RunCounts (seen_by x.guest.code) (answered_by x.guest.code) (beside z (first_source x)) steps)
           (start_view_ignores_budget x.guest budget 1 x.profile) two,
       ap (λ z. entering (seen_by x.guest.code) (beside z (first_source x)) steps) (start_view_ignores_budget x.guest 1 budget x.profile) ∙ order,
     )
@@ -104,8 +104,8 @@ hang_never_completes x budget steps h most more c =
     let r = real_seen (thread_machine x.guest.code) (seen_machine x.guest.code) view (IsLive x.guest.code) (IsSpoilt x.guest.code)
     (seen_machine_is_view x.guest.code) (thread_is_live_or_next_step_spoils_it x.guest.code) given s (first_source x) (steps ++ more) c.complete.0 c.answered
     c.complete.1 c.unspoilt in
-    let counts : Counts (seen_by x.guest.code) (answered_by x.guest.code) (seen_start x.guest x.profile (first_source x)) (steps ++ more) =
-    subst (λ z. Counts (seen_by x.guest.code) (answered_by x.guest.code) (beside z (first_source x)) (steps ++ more))
+    let counts : RunCounts (seen_by x.guest.code) (answered_by x.guest.code) (seen_start x.guest x.profile (first_source x)) (steps ++ more) =
+    subst (λ z. RunCounts (seen_by x.guest.code) (answered_by x.guest.code) (beside z (first_source x)) (steps ++ more))
     (start_view_ignores_budget x.guest most 1 x.profile) r.0 in
     let done : IsDone (seen_by x.guest.code) (end (seen_by x.guest.code) (seen_start x.guest x.profile (first_source x)) (steps ++ more)) =
     subst (λ z. IsDone (seen_by x.guest.code) (end (seen_by x.guest.code) (beside z (first_source x)) (steps ++ more)))
@@ -177,7 +177,7 @@ module _ (x : Setup) (flats : List SourcedFlat) (noted : ℕ → BothWays) (thre
       )
 
   -- a run that counts stands at a node
-  run_way : (steps : List Step) → Counts m answers_here start steps
+  run_way : (steps : List Step) → RunCounts m answers_here start steps
       → (v : ℕ) × (v < length flats) × Path (Steps m state noted (length flats)) 0 (entering m start steps) v
       × (CanEnd x steps ↔ Completes m answers_here (state v))
   run_way steps ok =
@@ -189,7 +189,7 @@ module _ (x : Setup) (flats : List SourcedFlat) (noted : ℕ → BothWays) (thre
       (a.node, a.is, a.path, (λ c. w.1 (b.0 c), λ c. b.1 (w.0 c)))
 
   -- a run that counts and ends where all threads rest ends at a node
-  run_found : (steps : List Step) → Counts m answers_here start steps → IsAtRest m (end m start steps)
+  run_found : (steps : List Step) → RunCounts m answers_here start steps → IsAtRest m (end m start steps)
       → (v : ℕ) × (v < length flats) × Alike x.guest.code (end m start steps) (state v)
   run_found steps ok rests =
       let a = finds m lawful answers_here (Alike x.guest.code) (tells_nothing_of_alike_seen_threads x.guest.code) start good state Node (Steps m state noted (length flats)) 0

@@ -10,7 +10,7 @@ use Rattle.ir_sources.specs.Sources.{Source}
 use Rattle.ir_thread.specs.State.{ThreadState, ask_of}
 use Rattle.ir_object.specs.Empty.{empty}
 use Rattle.ir_store.specs.declared.spot.Spot.{Spot}
-use Rattle.ir_store.specs.Table.{idle_beside, Keeps}
+use Rattle.ir_store.specs.Table.{idle_beside, KeepsNumbers}
 use Rattle.ir_store.specs.Nodes.{Shared, SourcedFlat, cell_in, cells_at, HaveWords, Grows}
 use Rattle.ir_store.proofs.CallerLemmas.{all_by_recursion_weaker, slice_get_element_satisfies_all_by_recursion, all_by_recursion_after_push, kept_element_is_equal, index_below_length_kept_if_elements_kept}
 use Rattle.ir_graph.specs.declared.known.Turn.{Turn}
@@ -29,7 +29,7 @@ grows_transitive old mid new a b = record {
 pub grows_not : (shared : Shared) → Grows shared shared
 grows_not shared = record { threads = λ n s e. e; words = λ n s e. e }
 
-module _ (old new : List (List ℕ)) (keeps : Keeps old new) where
+module _ (old new : List (List ℕ)) (keeps : KeepsNumbers old new) where
   pub have_words_grown : (spots : List Spot) → HaveWords old spots → HaveWords new spots
   have_words_grown spots all = all_by_recursion_weaker (λ (s : Spot). s.words < length old) (λ (s : Spot). s.words < length new) spots
       (λ s. index_below_length_kept_if_elements_kept old new [] keeps s.words) all

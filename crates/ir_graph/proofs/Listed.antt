@@ -24,10 +24,10 @@ use Rattle.ir_seen.specs.Seen.{seen_start}
 use Rattle.ir_seen.proofs.CallerLemmas.{seen_machine_is_view, guest_all, guest_outcome_within_switches_is_of_done_node}
 use Rattle.ir_flat.specs.Flat.{machine, tables, thread_of}
 use Rattle.ir_store.specs.Nodes.{SourcedFlat}
-use Rattle.ir_graph.specs.Setup.{Setup, start_of, first_source}
+use Rattle.ir_graph.specs.Setup.{Setup, setup_start, first_source}
 use Rattle.ir_graph.specs.Graph.{IsGraph}
 use Rattle.ir_graph.specs.Nodes.{seen_by, answered_by, Alike, seen_of, HasStepBy, IsStepBy}
-use Rattle.ir_graph.specs.Outcomes.{outcome_of, AllListed, WithinListed, AllShown}
+use Rattle.ir_graph.specs.Outcomes.{run_outcome, AllListed, WithinListed, AllShown}
 use Rattle.ir_graph.proofs.Grown.{thread_count_of_node_is_that_of_graph}
 use Rattle.ir_graph.proofs.Reached.{done_answered_run_is_counted, tables_of_reached_state_are_end_of_its_run}
 use Rattle.ir_graph.proofs.Leads.{ask_past_threads_is_done, seen_state_is_at_rest_if_all_rest, no_seen_step_if_done}
@@ -36,7 +36,7 @@ abbrev pub empty_state : SourcedFlat
 empty_state = record { flat = record { code = []; threads = []; objects = [] }; sources = [] }
 
 -- states that look the same have one outcome
-pub outcomes_of_alike_states_are_equal : (code : List ℕ) (u v : run.State (ThreadState × Source)) → Alike code u v → outcome_of (plain u) ≡ outcome_of (plain v)
+pub outcomes_of_alike_states_are_equal : (code : List ℕ) (u v : run.State (ThreadState × Source)) → Alike code u v → run_outcome (plain u) ≡ run_outcome (plain v)
 outcomes_of_alike_states_are_equal code u v alike = λ i. record {
   ends = λ t. end_at t i;
   outputs = λ t. output_at t i;
@@ -135,7 +135,7 @@ all_listed_if_all_asked x flats noted threads g origins refusals reached all ask
     asked_finished (seen_by x.guest.code) (answered_by x.guest.code) (Alike x.guest.code) (seen_start x.guest x.profile (first_source x))
     (state_of x flats noted threads g) noted threads (length flats) means origins refusals reached all g.some asked in
     let r = guest_all x.guest x.profile given (first_source x) (state_of x flats noted threads g) (λ v. v < length flats)
-    (Steps (seen_by x.guest.code) (state_of x flats noted threads g) noted (length flats)) 0 f outcome_of
+    (Steps (seen_by x.guest.code) (state_of x flats noted threads g) noted (length flats)) 0 f run_outcome
     (outcomes_of_alike_states_are_equal x.guest.code) budget steps counted in (
       r.0,
       flat_of x flats noted threads g r.0,
@@ -155,7 +155,7 @@ within_listed_if_covered x flats noted threads g origins first few c covered bud
     (state_of x flats noted threads g) _ 0 c =
     covered_covers (seen_by x.guest.code) (answered_by x.guest.code) (Alike x.guest.code) (seen_start x.guest x.profile (first_source x))
     (state_of x flats noted threads g) noted threads (length flats) means origins c covered first few in
-    let r = guest_outcome_within_switches_is_of_done_node x.guest x.profile given (first_source x) (state_of x flats noted threads g) _ 0 c covers outcome_of
+    let r = guest_outcome_within_switches_is_of_done_node x.guest x.profile given (first_source x) (state_of x flats noted threads g) _ 0 c covers run_outcome
     (outcomes_of_alike_states_are_equal x.guest.code) budget steps counted less in
     let v = r.2 in
     let n = r.4.1 in
@@ -177,7 +177,7 @@ pub all_shown_by_graph : (x : Setup) (flats : List SourcedFlat) (noted : ℕ →
     → AllShown x flats
 all_shown_by_graph x flats noted threads g v s at done =
     let r = g.reached v s at in
-    let ends : tables s.flat ≡ run.end (thread_machine x.guest.code) (tables (start_of x).flat) r.steps = tables_of_reached_state_are_end_of_its_run x s r in
-    let really : run.IsDone (thread_machine x.guest.code) (run.end (thread_machine x.guest.code) (tables (start_of x).flat) r.steps) =
+    let ends : tables s.flat ≡ run.end (thread_machine x.guest.code) (tables (setup_start x).flat) r.steps = tables_of_reached_state_are_end_of_its_run x s r in
+    let really : run.IsDone (thread_machine x.guest.code) (run.end (thread_machine x.guest.code) (tables (setup_start x).flat) r.steps) =
     subst (run.IsDone (thread_machine x.guest.code)) ends (subst (λ z. run.IsDone (thread_machine z) (tables s.flat)) r.like.code done) in
-    (r.steps, done_answered_run_is_counted x r.steps r.answered really, (at, done, ap outcome_of ends))
+    (r.steps, done_answered_run_is_counted x r.steps r.answered really, (at, done, ap run_outcome ends))

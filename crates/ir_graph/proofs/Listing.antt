@@ -9,7 +9,7 @@ use Rattle.ir_flat.specs.Flat.{machine, tables}
 use Rattle.ir_store.specs.Nodes.{SourcedFlat}
 use Rattle.ir_graph.specs.Listing.{HasOutcome, AreOutcomes}
 use Rattle.ir_graph.specs.Nodes.{AreNodes}
-use Rattle.ir_graph.specs.Outcomes.{outcome_of}
+use Rattle.ir_graph.specs.Outcomes.{run_outcome}
 use Rattle.ir_graph.proofs.OneOutcome.{look_alike_if_done_with_one_outcome}
 
 pub are_outcomes_below_zero : (flats : List SourcedFlat) → AreOutcomes flats 0 []
@@ -93,14 +93,14 @@ module _ (flats : List SourcedFlat) (until : ℕ) (listed : List ℕ) (f : Sourc
       new_at v g same here = same_Some f g (sym at ∙ subst (λ z. slice_get flats z ≡ Some g) (sym same) here)
 
       meets : (i v : ℕ) (g h : SourcedFlat) → slice_get listed i ≡ Some v → slice_get flats v ≡ Some g → f ≡ h
-          → outcome_of (tables g.flat) ≡ outcome_of (tables h.flat) → HasOutcome flats listed f.flat
+          → run_outcome (tables g.flat) ≡ run_outcome (tables h.flat) → HasOutcome flats listed f.flat
       meets i v g h is here one same = record {
         place = i;
         node = v;
         state = g;
         stands = is;
         at = here;
-        same = same ∙ sym (ap (λ (z : SourcedFlat). outcome_of (tables z.flat)) one);
+        same = same ∙ sym (ap (λ (z : SourcedFlat). run_outcome (tables z.flat)) one);
       }
 
       longer : (g : SourcedFlat) → HasOutcome flats listed g.flat → HasOutcome flats (listed ++ until ∷ []) g.flat
@@ -124,5 +124,5 @@ module _ (flats : List SourcedFlat) (until : ℕ) (listed : List ℕ) (f : Sourc
         state = f;
         stands = last listed until;
         at = at;
-        same = ap (λ (z : SourcedFlat). outcome_of (tables z.flat)) one;
+        same = ap (λ (z : SourcedFlat). run_outcome (tables z.flat)) one;
       }

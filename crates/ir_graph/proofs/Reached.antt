@@ -11,7 +11,7 @@ use Rattle.ir_seen.specs.Seen.{IsLive, IsSpoilt}
 use Rattle.ir_seen.proofs.CallerLemmas.{thread_is_live_or_next_step_spoils_it, start_state_is_unspoilt}
 use Rattle.ir_flat.specs.Flat.{tables, thread_of}
 use Rattle.ir_store.specs.Nodes.{SourcedFlat}
-use Rattle.ir_graph.specs.Setup.{Setup, start_of, IsCountedOf}
+use Rattle.ir_graph.specs.Setup.{Setup, setup_start, IsCountedOf}
 use Rattle.ir_graph.specs.Plain.{full_by, full_of, IsAnsweredRun, GoesPlain, Rests}
 use Rattle.ir_graph.specs.Reached.{beginning, IsReached, AllReached}
 use Rattle.ir_graph.proofs.Full.{tables_at_end_if_full_state_at_end, answered_run_append, plain_run_is_answered, live_run_of_threads}
@@ -23,23 +23,23 @@ answered_run_is_run code s run a = ((sourced_counts (thread_machine code) given 
 
 -- an answered run after which all are done is a complete run that counts
 pub done_answered_run_is_counted : (x : Setup) (steps : List Step) → IsAnsweredRun x.guest.code (beginning x) steps
-    → IsDone (thread_machine x.guest.code) (end (thread_machine x.guest.code) (tables (start_of x).flat) steps) → IsCountedOf x most_budget steps
+    → IsDone (thread_machine x.guest.code) (end (thread_machine x.guest.code) (tables (setup_start x).flat) steps) → IsCountedOf x most_budget steps
 done_answered_run_is_counted x steps a done = record {
   complete = (answered_run_is_run x.guest.code (beginning x) steps a, done);
   answered = ((sourced_counts (thread_machine x.guest.code) given (beginning x) steps).0 a.0).1;
   unspoilt = state_stays_unspoilt_after_live_run (thread_machine x.guest.code) (IsLive x.guest.code) (IsSpoilt x.guest.code) (thread_is_live_or_next_step_spoils_it x.guest.code)
-      (tables (start_of x).flat) steps (live_run_of_threads x.guest.code (beginning x) steps a.1) (start_state_is_unspoilt x.guest most_budget x.profile);
+      (tables (setup_start x).flat) steps (live_run_of_threads x.guest.code (beginning x) steps a.1) (start_state_is_unspoilt x.guest most_budget x.profile);
 }
 
 -- the threads and objects alone, where a run leads
 pub tables_of_reached_state_are_end_of_its_run : (x : Setup) (s : SourcedFlat) → (r : IsReached x s)
-    → tables s.flat ≡ end (thread_machine x.guest.code) (tables (start_of x).flat) r.steps
-tables_of_reached_state_are_end_of_its_run x s r = tables_at_end_if_full_state_at_end (start_of x) s r.steps r.ends
+    → tables s.flat ≡ end (thread_machine x.guest.code) (tables (setup_start x).flat) r.steps
+tables_of_reached_state_are_end_of_its_run x s r = tables_at_end_if_full_state_at_end (setup_start x) s r.steps r.ends
 
 -- the start, once the threads went on alone
-pub plain_start_is_reached : (x : Setup) (s : SourcedFlat) → GoesPlain (start_of x) s → IsReached x s
+pub plain_start_is_reached : (x : Setup) (s : SourcedFlat) → GoesPlain (setup_start x) s → IsReached x s
 plain_start_is_reached x s goes = record {
-  like = flat_after_plain_steps_is_like_flat_before (start_of x) s goes;
+  like = flat_after_plain_steps_is_like_flat_before (setup_start x) s goes;
   steps = goes.ahead;
   answered = plain_run_is_answered x.guest.code (beginning x) goes.ahead goes.plain;
   ends = goes.ends;
@@ -59,7 +59,7 @@ step_of_reached_is_reached x s u w t r reached rests step goes =
     (subst (λ z. IsAnsweredRun z (full_of s) ((t, r) ∷ goes.ahead)) reached.like.code here) in
     let ended : full_of w ≡ end (full_by s.flat.code) (full_of s) ((t, r) ∷ goes.ahead) =
     goes.ends ∙ ap (λ z. end (full_by z) (full_of u) goes.ahead) step.code ∙ ap (λ z. end (full_by s.flat.code) z goes.ahead) step.is in record {
-      like = like_transitive (start_of x).flat s.flat w.flat reached.like
+      like = like_transitive (setup_start x).flat s.flat w.flat reached.like
           (like_transitive s.flat u.flat w.flat (flat_after_step_is_like_flat_before s u t r step) (flat_after_plain_steps_is_like_flat_before u w goes));
       steps = reached.steps ++ (t, r) ∷ goes.ahead;
       answered = answered_run_append x.guest.code (beginning x) reached.steps ((t, r) ∷ goes.ahead) reached.answered late;

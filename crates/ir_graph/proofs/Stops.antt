@@ -5,15 +5,15 @@ use Rattle.ir_explore.specs.declared.stop.Stop.TheVariants.{Nodes, Private, Log,
 use Rattle.ir_thread.specs.State.{ask_of}
 use Rattle.ir_flat.specs.Flat.{thread_of}
 use Rattle.ir_store.specs.Nodes.{SourcedFlat, source_of}
-use Rattle.ir_graph.specs.Setup.{Setup, start_of}
+use Rattle.ir_graph.specs.Setup.{Setup, setup_start}
 use Rattle.ir_graph.specs.Plain.{GoesPlain, Rests}
 use Rattle.ir_graph.specs.Reached.{IsReached}
-use Rattle.ir_graph.specs.Stops.{IsRefused, StopsAt, IsStop, MayStop}
+use Rattle.ir_graph.specs.Stops.{IsNotFollowed, StopsFollowing, IsStop, MayStop}
 use Rattle.ir_graph.proofs.Plain.{TakesStep, goes_plain_reflexive, goes_plain_transitive}
 use Rattle.ir_graph.proofs.Reached.{plain_start_is_reached, step_of_reached_is_reached}
 
 pub stops_at_refused_ask : (s u : SourcedFlat) (t limit : ℕ) (stop : Stop)
-    → IsRefused t (ask_of u.flat.code (thread_of u.flat t)) (source_of u t) stop → StopsAt s u t limit stop
+    → IsNotFollowed t (ask_of u.flat.code (thread_of u.flat t)) (source_of u t) stop → StopsFollowing s u t limit stop
 stops_at_refused_ask s u t limit Nodes h = absurd h
 stops_at_refused_ask s u t limit (Private v) h = absurd h
 stops_at_refused_ask s u t limit (Log v) h = h
@@ -37,21 +37,21 @@ pub may_stop_by_nodes : (x : Setup) (flats : List SourcedFlat) (nodes limit : �
 may_stop_by_nodes x flats nodes limit stop is full = subst (MayStop x flats nodes limit) (sym is) full
 
 -- a thread that goes on from the start, after others
-pub is_stop_if_stops_after_plain_steps_from_start : (x : Setup) (limit t : ℕ) (stop : Stop) (s u w : SourcedFlat) → s ≡ start_of x → GoesPlain s u → GoesPlain u w
-    → StopsAt u w t limit stop → IsStop x limit stop
+pub is_stop_if_stops_after_plain_steps_from_start : (x : Setup) (limit t : ℕ) (stop : Stop) (s u w : SourcedFlat) → s ≡ setup_start x → GoesPlain s u → GoesPlain u w
+    → StopsFollowing u w t limit stop → IsStop x limit stop
 is_stop_if_stops_after_plain_steps_from_start x limit t stop s u w is goes more stops =
-    let first : GoesPlain (start_of x) u = subst (λ z. GoesPlain z u) is goes in record {
+    let first : GoesPlain (setup_start x) u = subst (λ z. GoesPlain z u) is goes in record {
       from = u;
       at = w;
       thread = t;
       before = plain_start_is_reached x u first;
-      reached = plain_start_is_reached x w (goes_plain_transitive (start_of x) u w first more);
+      reached = plain_start_is_reached x w (goes_plain_transitive (setup_start x) u w first more);
       stops = stops;
     }
 
 -- a thread that goes on after its entry
 pub is_stop_if_stops_after_entry_from_reached_state : (x : Setup) (limit : ℕ) (stop : Stop) (s u w : SourcedFlat) (t r : ℕ) → IsReached x s
-    → Rests (ask_of s.flat.code (thread_of s.flat t)) → TakesStep s u t r → GoesPlain u w → StopsAt u w t limit stop → IsStop x limit stop
+    → Rests (ask_of s.flat.code (thread_of s.flat t)) → TakesStep s u t r → GoesPlain u w → StopsFollowing u w t limit stop → IsStop x limit stop
 is_stop_if_stops_after_entry_from_reached_state x limit stop s u w t r reached rests step goes stops = record {
   from = u;
   at = w;

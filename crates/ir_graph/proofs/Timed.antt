@@ -12,10 +12,10 @@ use Rattle.ir_seen.proofs.CallerLemmas.{start_view_ignores_budget}
 use Rattle.ir_store.specs.Nodes.{SourcedFlat}
 use Rattle.ir_store.specs.Table.{HaveTicks, HaveNoTicks}
 use Rattle.ir_graph.specs.Graph.{IsGraph}
-use Rattle.ir_graph.specs.Nodes.{seen_by, answered_by, seen_of, Stay}
+use Rattle.ir_graph.specs.Nodes.{seen_by, answered_by, seen_of, NodesStay}
 use Rattle.ir_graph.specs.Notes.{noted_by}
 use Rattle.ir_graph.specs.Plain.{GoesPlain}
-use Rattle.ir_graph.specs.Setup.{Setup, start_of, first_source}
+use Rattle.ir_graph.specs.Setup.{Setup, setup_start, first_source}
 use Rattle.ir_graph.specs.Times.{HasTimedRun, AlikeTickless, LeadsTickless, KnowsTimes}
 use Rattle.ir_graph.proofs.Grown.{FreeToTry, Untried, Tried, old_node_is_unchanged}
 use Rattle.ir_graph.proofs.Leads.{begins_tickless}
@@ -35,7 +35,7 @@ noted_nodes_exist x flats noted threads g t refused v w is = elim (cases_lt t th
 
 -- nodes were added
 pub knows_times_after_nodes_added : (x : Setup) (flats new : List SourcedFlat) (noted : ℕ → BothWays) (threads : ℕ) (old timed : Bool)
-    → IsGraph x flats noted threads → KnowsTimes x flats noted old → Stay flats new → (timed ≡ true → HasTimedRun x) → (timed ≡ false → old ≡ false)
+    → IsGraph x flats noted threads → KnowsTimes x flats noted old → NodesStay flats new → (timed ≡ true → HasTimedRun x) → (timed ≡ false → old ≡ false)
     → KnowsTimes x new noted timed
 knows_times_after_nodes_added x flats new noted threads old timed g known stay has were = record {
   has = has;
@@ -72,7 +72,7 @@ knows_times_of_equal_rows x flats timed new tries {rows} {refused_rows} same als
     (subst (λ z. KnowsTimes x flats (noted_by new z) timed) (sym also) known)
 
 -- the graph at first
-pub start_knows_times : (x : Setup) (h : SourcedFlat) (noted : ℕ → BothWays) (threads : ℕ) (timed : Bool) → GoesPlain (start_of x) h
+pub start_knows_times : (x : Setup) (h : SourcedFlat) (noted : ℕ → BothWays) (threads : ℕ) (timed : Bool) → GoesPlain (setup_start x) h
     → ((t v : ℕ) → t < threads → noted t false v ≡ None) → FreeToTry x.profile threads noted
     → ((t : ℕ) (refused : Bool) (v : ℕ) → threads ≤ t → noted t refused v ≡ Some None)
     → (timed ≡ true → HaveTicks h.sources) → (timed ≡ false → HaveNoTicks h.sources) → KnowsTimes x (h ∷ []) noted timed
@@ -82,7 +82,7 @@ start_knows_times x h noted threads timed goes free tries past some none = recor
       subst (λ z. Begins (seen_by x.guest.code) (answered_by x.guest.code) (AlikeTickless x.guest.code) (seen_start x.guest x.profile (first_source x)) (seen_of z))
       (same_Some h s is)
       (subst (λ z. Begins (seen_by x.guest.code) (answered_by x.guest.code) (AlikeTickless x.guest.code) (beside z (first_source x)) (seen_of h))
-      (start_view_ignores_budget x.guest most_budget 1 x.profile) (begins_tickless (start_of x) h goes (none e)));
+      (start_view_ignores_budget x.guest most_budget 1 x.profile) (begins_tickless (setup_start x) h goes (none e)));
   leads = λ e t refused v w is. elim (cases_lt t threads) [
     | inl few ↦ absurd (nowhere tries t refused v w few is)
     | inr many ↦ absurd (cc (sym (past t refused v many) ∙ is))

@@ -7,7 +7,7 @@ use Rattle.ir_runs.specs.Machine.{Machine, Done, Admits, act_of, target}
 use Rattle.ir_runs.specs.Lawful.{IsLawful}
 use Rattle.ir_runs.specs.Run.{State, Step, asked, act, Can, after, end, log}
 use Rattle.ir_runs.proofs.CallerLemmas.{StateInvariant, upd_at_own_place, thread_after_step_of_other}
-use Rattle.ir_states.specs.Counting.{Answers, is_own, Counts, GoesAhead, entering}
+use Rattle.ir_states.specs.Counting.{Answers, is_own, RunCounts, GoesAhead, entering}
 use Rattle.ir_states.specs.Nodes.{LeadsTo, Noted, IsClosed, Chain}
 use Rattle.ir_states.specs.Orders.{is_refusal}
 use Rattle.ir_states.specs.Sources.{left_of}
@@ -24,7 +24,7 @@ use Rattle.ir_graph.specs.Graph.{IsGraph}
 use Rattle.ir_graph.specs.Hangs.{IsCounting}
 use Rattle.ir_graph.specs.Nodes.{seen_by, answered_by, Alike}
 use Rattle.ir_graph.specs.Reached.{IsReached}
-use Rattle.ir_graph.specs.Setup.{Setup, start_of, first_source}
+use Rattle.ir_graph.specs.Setup.{Setup, setup_start, first_source}
 use Rattle.ir_graph.specs.Times.{HasTimedRun, IsTickless, AlikeTickless, KnowsTimes}
 use Rattle.ir_graph.proofs.Full.{end_of_live_run_seen}
 use Rattle.ir_graph.proofs.Hangs.{answered_run_is_counting, counting_run_counts_as_seen, tells_nothing_of_alike_seen_threads}
@@ -35,10 +35,10 @@ use Rattle.ir_graph.proofs.Ticks.{left_after, ticks_rise_if_log_has_time, log_ha
 pub has_timed_run_if_reached_state_has_ticks : (x : Setup) (s : SourcedFlat) → IsReached x s → HaveTicks s.sources → HasTimedRun x
 has_timed_run_if_reached_state_has_ticks x s reached ticks =
     let t = ticks.0 in
-    let es = log (thread_machine x.guest.code) (tables (start_of x).flat) reached.steps t in
+    let es = log (thread_machine x.guest.code) (tables (setup_start x).flat) reached.steps t in
     let left : source_of s t ≡ left_after (first_source x t) es =
     ap (λ (z : State (ThreadState × Source)). (z.now t).1) reached.ends
-    ∙ source_at_end_is_left_after_log (thread_machine x.guest.code) (tables (start_of x).flat) (first_source x) reached.steps t in (
+    ∙ source_at_end_is_left_after_log (thread_machine x.guest.code) (tables (setup_start x).flat) (first_source x) reached.steps t in (
       _,
       reached.steps,
       answered_run_is_counting x reached.steps reached.answered,
@@ -201,7 +201,7 @@ module _ (x : Setup) (flats : List SourcedFlat) (noted : ℕ → BothWays) (thre
     }
 
     -- a run that counts ends before any call for the time is answered
-    seen_end_is_tickless : (steps : List Step) → Counts m answers start steps → IsTickless (end m start steps)
+    seen_end_is_tickless : (steps : List Step) → RunCounts m answers start steps → IsTickless (end m start steps)
     seen_end_is_tickless steps counts t =
         let begins = known.begins refl (flat_of x flats noted threads g 0) (at x flats noted threads g 0 g.some) in
         let first : State (ThreadState × Source) = end m start begins.ahead in

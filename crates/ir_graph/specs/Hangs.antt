@@ -4,7 +4,7 @@ use Rattle.ir_explore.specs.declared.origin.Origin.{Origin}
 use Rattle.ir_explore.specs.Following.{BothWays, IsOpen}
 use Rattle.ir_explore.specs.Ways.{HasMarked}
 use Rattle.ir_runs.specs.Run.{Step, IsRun, IsDone, end, log}
-use Rattle.ir_states.specs.Counting.{Counts, entering}
+use Rattle.ir_states.specs.Counting.{RunCounts, entering}
 use Rattle.ir_states.specs.Outcomes.{switches}
 use Rattle.ir_states.specs.Sources.{Gives}
 use Rattle.ir_states.specs.Views.{IsUnspoilt}
@@ -25,13 +25,13 @@ pub record IsCounting (x : Setup) (budget : ℕ) (steps : List Step) : Type 0 wh
 
 -- some run that counts leads from this state to the end of all threads, if no budget and no log comes to its end
 abbrev pub CanEndFrom : SourcedFlat → Type 0
-CanEndFrom s = (more : List Step) × Counts (seen_by s.flat.code) (answered_by s.flat.code) (seen_of s) more
+CanEndFrom s = (more : List Step) × RunCounts (seen_by s.flat.code) (answered_by s.flat.code) (seen_of s) more
     × IsDone (seen_by s.flat.code) (end (seen_by s.flat.code) (seen_of s) more)
 
 -- so it does from where this run of a guest stands
 abbrev pub CanEnd : Setup → List Step → Type 0
 CanEnd x steps = (more : List Step)
-    × Counts (seen_by x.guest.code) (answered_by x.guest.code)
+    × RunCounts (seen_by x.guest.code) (answered_by x.guest.code)
     (end (seen_by x.guest.code) (seen_start x.guest x.profile (first_source x)) steps) more
     × IsDone (seen_by x.guest.code)
     (end (seen_by x.guest.code) (end (seen_by x.guest.code) (seen_start x.guest x.profile (first_source x)) steps) more)

@@ -3,7 +3,7 @@ use Rattle.std.specs.Prelude.{◌≡◌, ℕ, ◌<◌, ◌≤◌, List, Some, sl
 use Rattle.ir_runs.specs.Run.{IsDone}
 use Rattle.ir_flat.specs.Flat.{Flat, machine, tables}
 use Rattle.ir_store.specs.Nodes.{SourcedFlat}
-use Rattle.ir_graph.specs.Outcomes.{outcome_of}
+use Rattle.ir_graph.specs.Outcomes.{run_outcome}
 
 -- one of the listed nodes has the outcome of this state
 pub record HasOutcome (states : List SourcedFlat) (listed : List ℕ) (f : Flat) : Type 0 where
@@ -12,7 +12,7 @@ pub record HasOutcome (states : List SourcedFlat) (listed : List ℕ) (f : Flat)
   pub state : SourcedFlat
   pub stands : slice_get listed place ≡ Some node
   pub at : slice_get states node ≡ Some state
-  pub same : outcome_of (tables state.flat) ≡ outcome_of (tables f)
+  pub same : run_outcome (tables state.flat) ≡ run_outcome (tables f)
 
 -- Of the nodes below `until` where all threads are done, the first with each outcome is listed.
 pub record AreOutcomes (states : List SourcedFlat) (until : ℕ) (listed : List ℕ) : Type 0 where
@@ -21,5 +21,5 @@ pub record AreOutcomes (states : List SourcedFlat) (until : ℕ) (listed : List 
   pub all : (v : ℕ) (s : SourcedFlat) → v < until → slice_get states v ≡ Some s → IsDone (machine s.flat) (tables s.flat)
       → (h : HasOutcome states listed s.flat) × (h.node ≤ v)
   pub different : (i j v w : ℕ) (s u : SourcedFlat) → slice_get listed i ≡ Some v → slice_get listed j ≡ Some w → slice_get states v ≡ Some s
-      → slice_get states w ≡ Some u → outcome_of (tables s.flat) ≡ outcome_of (tables u.flat) → i ≡ j
+      → slice_get states w ≡ Some u → run_outcome (tables s.flat) ≡ run_outcome (tables u.flat) → i ≡ j
   pub rising : (i j v w : ℕ) → slice_get listed i ≡ Some v → slice_get listed j ≡ Some w → i < j → v < w

@@ -51,8 +51,8 @@ pub record AreNodes (states : List SourcedFlat) : Type 0 where
   pub apart : AreApart states
 
 -- no more than nodes were added
-abbrev pub Stay : List SourcedFlat → List SourcedFlat → Type 0
-Stay old new = (v : ℕ) (s : SourcedFlat) → slice_get old v ≡ Some s → slice_get new v ≡ Some s
+abbrev pub NodesStay : List SourcedFlat → List SourcedFlat → Type 0
+NodesStay old new = (v : ℕ) (s : SourcedFlat) → slice_get old v ≡ Some s → slice_get new v ≡ Some s
 
 -- the step of a state is a refused try, or it isn't
 abbrev pub IsStepBy : SourcedFlat → Bool → run.Step → Type 0

@@ -11,18 +11,18 @@ use Rattle.ir_store.specs.Nodes.{SourcedFlat}
 use Rattle.ir_graph.specs.Setup.{Setup, IsCountedOf}
 
 -- of each thread how it ended and what it printed, of each object its words
-pub record Outcome : Type 0 where
+pub record RunOutcome : Type 0 where
   pub ends : ℕ → Option End
   pub outputs : ℕ → List ℕ
   pub words : ℕ → ℕ → ℕ
 
-abbrev pub outcome_of : run.State ThreadState → Outcome
-outcome_of s = record { ends = λ t. (s.now t).ended; outputs = λ t. (s.now t).output; words = λ o. (s.objects o).words }
+abbrev pub run_outcome : run.State ThreadState → RunOutcome
+run_outcome s = record { ends = λ t. (s.now t).ended; outputs = λ t. (s.now t).output; words = λ o. (s.objects o).words }
 
 -- A state of the list where all threads are done has the outcome of this complete run.
 abbrev pub IsListed : Setup → List SourcedFlat → ℕ → List run.Step → ℕ → SourcedFlat → Type 0
 IsListed x states budget steps v s = (slice_get states v ≡ Some s) × run.IsDone (machine s.flat) (tables s.flat)
-    × (outcome_of (tables s.flat) ≡ outcome_of (run.end (thread_machine x.guest.code) (tables (start_flat x.guest budget x.profile)) steps))
+    × (run_outcome (tables s.flat) ≡ run_outcome (run.end (thread_machine x.guest.code) (tables (start_flat x.guest budget x.profile)) steps))
 
 -- The outcome of each complete run is listed, whatever its budget; runs in which a budget is spent or a log is full aside.
 abbrev pub AllListed : Setup → List SourcedFlat → Type 0

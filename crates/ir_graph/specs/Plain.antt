@@ -2,7 +2,7 @@
 use Rattle.std.specs.Prelude.{◌≡◌, ◌≢◌, ℕ, Bool, true, false, List, length}
 use Rattle.ir_runs.specs.Machine.{Machine}
 use Rattle.ir_runs.specs.Run.{State, Step, end}
-use Rattle.ir_states.specs.Counting.{Answers, Counts, GoesAhead}
+use Rattle.ir_states.specs.Counting.{Answers, RunCounts, GoesAhead}
 use Rattle.ir_states.specs.Sources.{sourced, by_source}
 use Rattle.ir_states.specs.Views.{IsLiveRun, beside}
 use Rattle.ir_thread.specs.State.{ThreadState, thread_machine}
@@ -37,7 +37,7 @@ AreLive code s run = IsLiveRun (full_by code) (λ x. IsLive code x.0) s run
 
 -- a run of live threads, each of whose calls is answered by the thread's source
 abbrev pub IsAnsweredRun : List ℕ → State (ThreadState × Source) → List Step → Type 0
-IsAnsweredRun code s run = Counts (full_by code) (sources_by code) s run × AreLive code s run
+IsAnsweredRun code s run = RunCounts (full_by code) (sources_by code) s run × AreLive code s run
 
 -- such a run of steps that concern no other thread: none is an entry or a try
 abbrev pub IsPlainRun : List ℕ → State (ThreadState × Source) → List Step → Type 0

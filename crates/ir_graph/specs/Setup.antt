@@ -27,8 +27,8 @@ abbrev pub first_source : Setup → ℕ → Source
 first_source x t = slice_index_or (first_sources x) t no_source
 
 -- where its runs begin, each thread with the highest budget
-abbrev pub start_of : Setup → SourcedFlat
-start_of x = record { flat = start_flat x.guest most_budget x.profile; sources = first_sources x }
+abbrev pub setup_start : Setup → SourcedFlat
+setup_start x = record { flat = start_flat x.guest most_budget x.profile; sources = first_sources x }
 
 -- a complete run of it that counts
 abbrev pub IsCountedOf : Setup → ℕ → List Step → Type 0

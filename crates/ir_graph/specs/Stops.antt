@@ -27,17 +27,17 @@ IsCall (ask.Env Clock) source = 2 ^ 32 ≤ source.ticks + 1
 IsCall _ source = ⊥
 
 -- why thread t, which asks so, is not followed
-abbrev pub IsRefused : ℕ → Ask → Source → Stop → Type 0
-IsRefused t asked source (Log u) = (u ≡ t) × IsSpent asked
-IsRefused t asked source (World u) = (u ≡ t) × IsCall asked source
-IsRefused t asked source _ = ⊥
+abbrev pub IsNotFollowed : ℕ → Ask → Source → Stop → Type 0
+IsNotFollowed t asked source (Log u) = (u ≡ t) × IsSpent asked
+IsNotFollowed t asked source (World u) = (u ≡ t) × IsCall asked source
+IsNotFollowed t asked source _ = ⊥
 
 -- why thread t, which went on alone from s to u, is not followed from there: it took so many steps and goes on, or by what it asks
-abbrev pub StopsAt : SourcedFlat → SourcedFlat → ℕ → ℕ → Stop → Type 0
-StopsAt s u t limit (Private v) = (v ≡ t) × GoesAlone s u t false limit 0 × IsFair (ask_of u.flat.code (thread_of u.flat t))
-StopsAt s u t limit (Log v) = IsRefused t (ask_of u.flat.code (thread_of u.flat t)) (source_of u t) (Log v)
-StopsAt s u t limit (World v) = IsRefused t (ask_of u.flat.code (thread_of u.flat t)) (source_of u t) (World v)
-StopsAt s u t limit _ = ⊥
+abbrev pub StopsFollowing : SourcedFlat → SourcedFlat → ℕ → ℕ → Stop → Type 0
+StopsFollowing s u t limit (Private v) = (v ≡ t) × GoesAlone s u t false limit 0 × IsFair (ask_of u.flat.code (thread_of u.flat t))
+StopsFollowing s u t limit (Log v) = IsNotFollowed t (ask_of u.flat.code (thread_of u.flat t)) (source_of u t) (Log v)
+StopsFollowing s u t limit (World v) = IsNotFollowed t (ask_of u.flat.code (thread_of u.flat t)) (source_of u t) (World v)
+StopsFollowing s u t limit _ = ⊥
 
 -- runs of this guest lead to two states from the one of which a thread goes on to the other, where it is not followed
 pub record IsStop (x : Setup) (limit : ℕ) (stop : Stop) : Type 0 where
@@ -46,7 +46,7 @@ pub record IsStop (x : Setup) (limit : ℕ) (stop : Stop) : Type 0 where
   pub thread : ℕ
   pub before : IsReached x from
   pub reached : IsReached x at
-  pub stops : StopsAt from at thread limit stop
+  pub stops : StopsFollowing from at thread limit stop
 
 -- Why a search over these states stops: there are as many as there may be, out of memory, or some thread is not followed.
 abbrev pub MayStop : Setup → List SourcedFlat → ℕ → ℕ → Stop → Type 0

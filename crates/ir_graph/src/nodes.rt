@@ -3,7 +3,7 @@
 ghost use Rattle.std.specs.Prelude.{◌≡◌, ◌⊎◌, ℕ, suc, ◌<◌, ◌≤◌, true, false, Some, None, length, slice_get, IfOk, IfErr, IfSome, OnOk, OnErr, IsErrOf};
 ghost use Rattle.ir_explore.specs.declared.stop.Stop.TheVariants.{Nodes, Memory};
 ghost use Rattle.ir_graph.specs.Ahead.{AreTurns, IsTurnOf};
-ghost use Rattle.ir_graph.specs.Nodes.{LookAlike, AllRest, AreNodes, Stay, LeadsFrom};
+ghost use Rattle.ir_graph.specs.Nodes.{LookAlike, AllRest, AreNodes, NodesStay, LeadsFrom};
 ghost use Rattle.ir_graph.specs.Plain.{IsLike};
 ghost use Rattle.ir_graph.specs.Reached.{IsReached, AllReached};
 ghost use Rattle.ir_graph.specs.Stops.{MayStop};
@@ -45,7 +45,7 @@ fn node_of<'a>(
     requires rest { AllRest (sourced_in flats.old.shared new).flat }
     requires room { length flats.old.items ≤ most }
     ensures nodes { AreNodes flats.new.items }
-    ensures stay { Stay flats.old.items flats.new.items }
+    ensures stay { NodesStay flats.old.items flats.new.items }
     ensures shared { flats.new.shared ≡ flats.old.shared }
     ensures code { flats.new.code ≡ flats.old.code }
     ensures reached { (x : Setup) → AllReached x flats.old.items → IsReached x (sourced_in flats.old.shared new.entry) → AllReached x flats.new.items }
@@ -87,7 +87,7 @@ fn node_by<'a>(
     requires code { (s : SourcedFlat) → slice_get flats.old.items way.node ≡ Some s → flats.old.code ≡ s.flat.code }
     requires room { length flats.old.items ≤ most }
     ensures nodes { AreNodes flats.new.items }
-    ensures stay { Stay flats.old.items flats.new.items }
+    ensures stay { NodesStay flats.old.items flats.new.items }
     ensures shared { flats.new.shared ≡ flats.old.shared }
     ensures code { flats.new.code ≡ flats.old.code }
     ensures reached { (x : Setup) → AllReached x flats.old.items → AllReached x flats.new.items }
@@ -126,7 +126,7 @@ fn node_by_steps<'a>(
     requires code { (s : SourcedFlat) → slice_get flats.old.items way.node ≡ Some s → flats.old.code ≡ s.flat.code }
     requires room { length flats.old.items ≤ bounds.nodes }
     ensures nodes { AreNodes flats.new.items }
-    ensures stay { Stay flats.old.items flats.new.items }
+    ensures stay { NodesStay flats.old.items flats.new.items }
     ensures grows { Grows flats.old.shared flats.new.shared }
     ensures code { flats.new.code ≡ flats.old.code }
     ensures reached { (x : Setup) → AllReached x flats.old.items → AllReached x flats.new.items }
@@ -179,7 +179,7 @@ pub fn successor<'a>(
     requires turns { AreTurns code.now flats.old.shared ahead.old }
     requires room { length flats.old.items ≤ bounds.nodes }
     ensures nodes { AreNodes flats.new.items }
-    ensures stay { Stay flats.old.items flats.new.items }
+    ensures stay { NodesStay flats.old.items flats.new.items }
     ensures turns { AreTurns code.now flats.new.shared ahead.new }
     ensures store { flats.new.code ≡ flats.old.code }
     ensures reached { (x : Setup) → AllReached x flats.old.items → AllReached x flats.new.items }

@@ -4,7 +4,7 @@ ghost use Rattle.std.specs.Prelude.{◌≡◌, ◌<◌, ◌≤◌, ℕ, List, Bo
 ghost use Rattle.ir_flat.specs.Flat.{IsFlat, thread_of};
 ghost use Rattle.ir_graph.specs.Plain.{IsFair, GoesPlain, OthersStay, Rests, sourced_flat};
 ghost use Rattle.ir_graph.specs.Lone.{IsGiven};
-ghost use Rattle.ir_graph.specs.Stops.{IsRefused, IsSpent, StopsAt};
+ghost use Rattle.ir_graph.specs.Stops.{IsNotFollowed, IsSpent, StopsFollowing};
 ghost use Rattle.ir_graph.specs.Turn.{GoesAlone};
 ghost use Rattle.ir_sources.specs.Sources.{Source, given};
 ghost use Rattle.ir_states.specs.Sources.{answer_of, left_of};
@@ -35,7 +35,7 @@ fn answer(source: &mut Sources<'_>, thread: usize, asked: Ask) -> Result<u32, St
     ensures answer { IfOk result (λ r. r ≡ answer_of given (shared_ask asked) source.old) }
     ensures left { OnOk result (source.new ≡ left_of given (shared_ask asked) source.old) }
     ensures given { OnOk result (IsGiven source.old asked) }
-    ensures stopped { IfErr result (λ stop. IsRefused thread asked source.new stop) }
+    ensures stopped { IfErr result (λ stop. IsNotFollowed thread asked source.new stop) }
     ensures unchanged { OnErr result (source.new ≡ source.old) }
 {
     let Ask::Env(kind) = asked else {
@@ -64,7 +64,7 @@ fn run_thread(
     ensures rests { OnOk result (Rests (ask_of flat.new.code (thread_of flat.new thread))) }
     ensures flat { IsFlat flat.new }
     ensures stopped { IfErr result (λ stop. (sources : List Source) → slice_get sources thread ≡ Some source.old
-        → StopsAt (sourced_flat flat.old sources) (sourced_flat flat.new (slice_set sources thread source.new)) thread limit stop) }
+        → StopsFollowing (sourced_flat flat.old sources) (sourced_flat flat.new (slice_set sources thread source.new)) thread limit stop) }
 {
     let mut taken = 0;
     'private: loop {
@@ -106,7 +106,7 @@ pub fn run_to_rest(state: &mut SourcedFlat<'_>, thread: usize, limit: u64) -> Re
     ensures others { OthersStay state.old state.new thread }
     ensures rests { OnOk result (Rests (ask_of state.new.flat.code (thread_of state.new.flat thread))) }
     ensures flat { IsFlat state.new.flat }
-    ensures stopped { IfErr result (λ stop. StopsAt state.old state.new thread limit stop) }
+    ensures stopped { IfErr result (λ stop. StopsFollowing state.old state.new thread limit stop) }
 {
     run_thread(&mut state.flat, &mut state.sources[thread], thread, limit)
 }

@@ -3,7 +3,7 @@
 ghost use Rattle.std.specs.Prelude.{◌≡◌, ℕ, IfOk, length};
 ghost use Rattle.ir_thread.specs.State.{IsAllowed};
 ghost use Rattle.ir_sources.specs.Sources.{seed_of, source};
-ghost use Rattle.ir_graph.specs.Setup.{Setup, first_sources, start_of};
+ghost use Rattle.ir_graph.specs.Setup.{Setup, first_sources, setup_start};
 
 use ir_flat::Flat;
 use ir_image::{Code, Image};
@@ -91,7 +91,7 @@ impl<'a> Setup<'a> {
     /// Out of memory.
     pub fn start(&self, alloc: Global) -> Result<SourcedFlat<'a>, AllocError>
         requires { IsAllowed self.now.profile self.now.guest }
-        ensures { IfOk result (λ state. state ≡ start_of self.now) }
+        ensures { IfOk result (λ state. state ≡ setup_start self.now) }
     {
         let flat = Flat::start(alloc, self.image, MOST_BUDGET, self.profile)?;
         let sources = self.sources(alloc)?;

@@ -7,7 +7,7 @@ ghost use Rattle.ir_graph.specs.Graph.{IsGraph};
 ghost use Rattle.ir_graph.specs.Nodes.{AllRest};
 ghost use Rattle.ir_graph.specs.Notes.{noted_by, noted_in};
 ghost use Rattle.ir_graph.specs.Plain.{GoesPlain};
-ghost use Rattle.ir_graph.specs.Setup.{Setup, start_of};
+ghost use Rattle.ir_graph.specs.Setup.{Setup, setup_start};
 ghost use Rattle.ir_graph.specs.Stops.{IsStop};
 ghost use Rattle.ir_graph.specs.Times.{KnowsTimes};
 ghost use Rattle.ir_mach.specs.Core.{memory_size};
@@ -36,7 +36,7 @@ fn rest_all(state: &mut SourcedFlat<'_>, limit: u64) -> Result<(), Stop>
     ensures goes { GoesPlain state.old state.new }
     ensures rest { OnOk result (AllRest state.new.flat) }
     ensures flat { IsFlat state.new.flat }
-    ensures stopped { IfErr result (λ stop. (x : Setup) → state.old ≡ start_of x → IsStop x limit stop) }
+    ensures stopped { IfErr result (λ stop. (x : Setup) → state.old ≡ setup_start x → IsStop x limit stop) }
 {
     for thread in 0..state.flat.threads().len() {
         if let Err(stop) = run_to_rest(state, thread, limit) {

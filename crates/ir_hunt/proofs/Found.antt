@@ -8,21 +8,21 @@ use Rattle.ir_flat.proofs.CallerLemmas.{length_of_start_threads}
 use Rattle.ir_runs.specs.Run.{Step, log}
 use Rattle.ir_runs.specs.Orders.{IsByOrder}
 use Rattle.ir_trace.specs.Recorded.{Recorded}
-use Rattle.ir_record.specs.Worlds.{answers_at, Answered, answers_in}
+use Rattle.ir_record.specs.Worlds.{answers_at, AnsweredCall, answers_in}
 use Rattle.ir_record.specs.Recording.{order_of_turns}
-use Rattle.ir_sources.specs.Sources.{origin_of, IsAnswered}
+use Rattle.ir_sources.specs.Sources.{origin_of, IsAnsweredFrom}
 use Rattle.ir_record_run.specs.Plan.{Plan}
 use Rattle.ir_record_run.specs.Recording.{IsRecordedOf}
 use Rattle.ir_order.specs.Recording.{IsPlanned}
 use Rattle.ir_order.specs.Spelling.{Spells}
 use Rattle.ir_order.proofs.CallerLemmas.{complete_runs_have_steps, recordings_by_plain_list_are_of_the_run}
 use Rattle.ir_chaos.proofs.CallerLemmas.{schedules_are_orders, schedules_are_of_threads}
-use Rattle.ir_chaos.specs.Conditions.{fulfils, outcome_of}
+use Rattle.ir_chaos.specs.Conditions.{fulfils, end_state}
 use Rattle.ir_chaos.specs.Moments.{Moment}
-use Rattle.ir_chaos.specs.Schedules.{IsSchedule, threads_of}
+use Rattle.ir_chaos.specs.Schedules.{IsSchedule, chosen_threads}
 use Rattle.ir_chaos.specs.Choices.{chooser_of}
 use Rattle.ir_chaos.specs.declared.chooser.Chooser.{Chooser}
-use Rattle.ir_hunt.specs.Finding.{has_tries, first, IsJudged, IsFound, by_list}
+use Rattle.ir_hunt.specs.Finding.{has_tries, first_flat, IsJudged, IsFound, by_list}
 use Rattle.ir_hunt.specs.Hunt.{Hunt}
 use Rattle.ir_hunt.specs.Hunted.{IsFoundIn, IsFinding}
 use Rattle.ir_hunt.specs.Seeking.{RanBy}
@@ -31,35 +31,35 @@ use Rattle.ir_hunt.specs.Tried.{Fails}
 use Rattle.ir_hunt.specs.declared.plan.HuntPlan.{HuntPlan}
 
 -- no world had answered
-get_or_of_replicated_empty_is_empty : (n t : ℕ) → get_or {A = List Answered} (replicate n []) t [] ≡ []
+get_or_of_replicated_empty_is_empty : (n t : ℕ) → get_or {A = List AnsweredCall} (replicate n []) t [] ≡ []
 get_or_of_replicated_empty_is_empty zero t = refl
 get_or_of_replicated_empty_is_empty (suc n) zero = refl
 get_or_of_replicated_empty_is_empty (suc n) (suc t) = get_or_of_replicated_empty_is_empty n t
 
 -- a run by a chooser to its end is the run by the order of its turns
 schedule_is_run_by_order_of_its_turns : (guest : Guest) (plan : Plan) (chooser : Chooser) (run : List Step)
-    → IsSchedule (has_tries plan.profile) (machine (first guest plan)) (length (first guest plan).threads) (tables (first guest plan)) chooser run
-    → IsByOrder (machine (first guest plan)) (tables (first guest plan)) (length guest.entries) (threads_of run) run
-schedule_is_run_by_order_of_its_turns guest plan chooser run h = schedules_are_orders (has_tries plan.profile) (machine (first guest plan)) (length guest.entries)
-    (tables (first guest plan)) chooser run
-    (subst (λ n. IsSchedule (has_tries plan.profile) (machine (first guest plan)) n (tables (first guest plan)) chooser run)
+    → IsSchedule (has_tries plan.profile) (machine (first_flat guest plan)) (length (first_flat guest plan).threads) (tables (first_flat guest plan)) chooser run
+    → IsByOrder (machine (first_flat guest plan)) (tables (first_flat guest plan)) (length guest.entries) (chosen_threads run) run
+schedule_is_run_by_order_of_its_turns guest plan chooser run h = schedules_are_orders (has_tries plan.profile) (machine (first_flat guest plan)) (length guest.entries)
+    (tables (first_flat guest plan)) chooser run
+    (subst (λ n. IsSchedule (has_tries plan.profile) (machine (first_flat guest plan)) n (tables (first_flat guest plan)) chooser run)
     (length_of_start_threads guest plan.budget plan.profile 0 (length guest.entries)) h)
 
 -- a run by a chooser to its end is planned by the order of its turns
 run_is_planned : (guest : Guest) (plan : Plan) (chooser : Chooser) (b : Moment) (h : RanBy guest plan chooser b)
-    → ((t : ℕ) → t < length guest.entries → IsAnswered (origin_of true plan.random plan.input t) (answers_at b.answers t))
+    → ((t : ℕ) → t < length guest.entries → IsAnsweredFrom (origin_of true plan.random plan.input t) (answers_at b.answers t))
     → IsPlanned guest plan (order_of_turns b.turns) h.run
 run_is_planned guest plan chooser b h answered = record {
-  by_order = subst (λ o. IsByOrder (machine (first guest plan)) (tables (first guest plan)) (length guest.entries) o h.run)
+  by_order = subst (λ o. IsByOrder (machine (first_flat guest plan)) (tables (first_flat guest plan)) (length guest.entries) o h.run)
       (sym h.gained.order) (schedule_is_run_by_order_of_its_turns guest plan chooser h.run h.schedule);
-  answered = λ t l. subst (IsAnswered (origin_of true plan.random plan.input t))
-      (h.gained.answers t (subst (λ n. t < n) (sym (length_of_start_threads guest plan.budget plan.profile 0 (length guest.entries))) l) ∙ ap (λ z. z ++ answers_in (log (machine (first guest plan)) (tables (first guest plan)) h.run t))
+  answered = λ t l. subst (IsAnsweredFrom (origin_of true plan.random plan.input t))
+      (h.gained.answers t (subst (λ n. t < n) (sym (length_of_start_threads guest plan.budget plan.profile 0 (length guest.entries))) l) ∙ ap (λ z. z ++ answers_in (log (machine (first_flat guest plan)) (tables (first_flat guest plan)) h.run t))
       (get_or_of_replicated_empty_is_empty (length guest.entries) t)) (answered t l);
 }
 
 -- what is found of what it came to
 run_is_judged : (hunt : Hunt) (chooser : Chooser) (b : Moment) (h : RanBy hunt.guest hunt.plan chooser b) (holds : Bool)
-    → list_all (λ c. fulfils c (outcome_of b.flat)) hunt.conditions ≡ holds → IsJudged hunt h.run holds
+    → list_all (λ c. fulfils c (end_state b.flat)) hunt.conditions ≡ holds → IsJudged hunt h.run holds
 run_is_judged hunt chooser b h holds is = record {
   flat = b.flat;
   came = record { ends = h.gained.ends; threads = h.gained.threads; objects = h.gained.objects };
@@ -70,8 +70,8 @@ run_is_judged hunt chooser b h holds is = record {
 turns_are_of_guest_threads : (guest : Guest) (plan : Plan) (chooser : Chooser) (b : Moment) → RanBy guest plan chooser b
     → AllByRecursion (λ t. t < length guest.entries) (order_of_turns b.turns)
 turns_are_of_guest_threads guest plan chooser b h = subst (AllByRecursion (λ t. t < length guest.entries)) (sym h.gained.order)
-    (schedules_are_of_threads (has_tries plan.profile) (machine (first guest plan)) (length guest.entries) (tables (first guest plan)) chooser
-    h.run (subst (λ n. IsSchedule (has_tries plan.profile) (machine (first guest plan)) n (tables (first guest plan)) chooser h.run)
+    (schedules_are_of_threads (has_tries plan.profile) (machine (first_flat guest plan)) (length guest.entries) (tables (first_flat guest plan)) chooser
+    h.run (subst (λ n. IsSchedule (has_tries plan.profile) (machine (first_flat guest plan)) n (tables (first_flat guest plan)) chooser h.run)
     (length_of_start_threads guest plan.budget plan.profile 0 (length guest.entries)) h.schedule))
 
 -- and there are some
@@ -95,8 +95,8 @@ planned_run_fails_stale guest plan order (Some has) run h planned = h run planne
 -- the list of a seed's turns, where what its run came to fulfils each condition, and the run has what is wanted of its stale writes
 pub is_found_if_seed_run_fulfils : (hunt : Hunt) (seed : ℕ) (b : Moment) (list : List ℕ)
     → RanBy hunt.guest hunt.plan (chooser_of hunt.way seed (length hunt.guest.entries) hunt.choices) b
-    → ((t : ℕ) → t < length hunt.guest.entries → IsAnswered (origin_of true hunt.plan.random hunt.plan.input t) (answers_at b.answers t))
-    → list_all (λ c. fulfils c (outcome_of b.flat)) hunt.conditions ≡ true → IsWanted hunt.guest hunt.plan (order_of_turns b.turns) hunt.wanted true
+    → ((t : ℕ) → t < length hunt.guest.entries → IsAnsweredFrom (origin_of true hunt.plan.random hunt.plan.input t) (answers_at b.answers t))
+    → list_all (λ c. fulfils c (end_state b.flat)) hunt.conditions ≡ true → IsWanted hunt.guest hunt.plan (order_of_turns b.turns) hunt.wanted true
     → Spells list (order_of_turns b.turns) → IsFound hunt seed list
 is_found_if_seed_run_fulfils hunt seed b list h answered holds stale spells =
     let chooser = chooser_of hunt.way seed (length hunt.guest.entries) hunt.choices in
@@ -113,7 +113,7 @@ is_found_if_seed_run_fulfils hunt seed b list h answered holds stale spells =
 
 fails_in_one_way : (hunt : Hunt) (chooser : Chooser) (b : Moment) (h : RanBy hunt.guest hunt.plan chooser b)
     → IsPlanned hunt.guest hunt.plan (order_of_turns b.turns) h.run
-    → (list_all (λ c. fulfils c (outcome_of b.flat)) hunt.conditions ≡ false) ⊎ IsWanted hunt.guest hunt.plan (order_of_turns b.turns) hunt.wanted false
+    → (list_all (λ c. fulfils c (end_state b.flat)) hunt.conditions ≡ false) ⊎ IsWanted hunt.guest hunt.plan (order_of_turns b.turns) hunt.wanted false
     → IsJudged hunt h.run false ⊎ FailsStale hunt.guest hunt.plan hunt.wanted h.run
 fails_in_one_way hunt chooser b h planned (inl some) = inl (run_is_judged hunt chooser b h false some)
 fails_in_one_way hunt chooser b h planned (inr stale) = inr (planned_run_fails_stale hunt.guest hunt.plan (order_of_turns b.turns) hunt.wanted h.run stale planned)
@@ -121,8 +121,8 @@ fails_in_one_way hunt chooser b h planned (inr stale) = inr (planned_run_fails_s
 -- a seed's run that came to its end and doesn't fulfil some condition, or hasn't what is wanted of its stale writes
 pub fails_if_seed_run_does : (hunt : Hunt) (seed : ℕ) (b : Moment)
     → RanBy hunt.guest hunt.plan (chooser_of hunt.way seed (length hunt.guest.entries) hunt.choices) b
-    → ((t : ℕ) → t < length hunt.guest.entries → IsAnswered (origin_of true hunt.plan.random hunt.plan.input t) (answers_at b.answers t))
-    → (list_all (λ c. fulfils c (outcome_of b.flat)) hunt.conditions ≡ false) ⊎ IsWanted hunt.guest hunt.plan (order_of_turns b.turns) hunt.wanted false
+    → ((t : ℕ) → t < length hunt.guest.entries → IsAnsweredFrom (origin_of true hunt.plan.random hunt.plan.input t) (answers_at b.answers t))
+    → (list_all (λ c. fulfils c (end_state b.flat)) hunt.conditions ≡ false) ⊎ IsWanted hunt.guest hunt.plan (order_of_turns b.turns) hunt.wanted false
     → Fails hunt seed
 fails_if_seed_run_does hunt seed b h answered fails =
     let chooser = chooser_of hunt.way seed (length hunt.guest.entries) hunt.choices in

@@ -4,7 +4,7 @@ use Rattle.std.specs.Prelude.{All, Option, Some, None, Result, Ok, Err, IfOk}
 use Rattle.ir_hunt.specs.Hunt.{Hunt}
 use Rattle.std.proofs.lemmas.List.Elements.{All-push}
 use Rattle.ir_hunt.specs.Parts.{IsTried, IsBegun, IsPartOf, HasTried}
-use Rattle.ir_hunt.specs.Tried.{Fails, AreTried, AreAllTried, IsLowest, IsPart}
+use Rattle.ir_hunt.specs.Tried.{Fails, AreTried, AreAllTried, IsLowestSeed, WereTried}
 use Rattle.ir_hunt.specs.declared.part.Part.{Part}
 use Rattle.ir_hunt.specs.declared.plan.Seeds.{Seeds}
 
@@ -39,7 +39,7 @@ tried_with_one_left_out h first seed a from before =
 
 -- a part in which none is found, and the next
 pub parts_are_a_part : (h : Hunt) (first last next end a b : ℕ) (list : Option (List ℕ)) → first ≤ last → next ≡ last + 1 → next ≤ end
-    → IsPart h first last a None → IsPart h next end b list → IsPart h first end (a + b) list
+    → WereTried h first last a None → WereTried h next end b list → WereTried h first end (a + b) list
 parts_are_a_part h first last next end a b None some is more before after =
     let there : next ≡ first + (last + 1 - first) = omega (arith, some, is) in
     tried_with_those_after h first (last + 1 - first) (end + 1 - next) (end + 1 - first) a b (a + b) (omega (arith, some, is, more)) refl before
@@ -90,7 +90,7 @@ left_out_at_most_tried h first (suc n) a (inr (before, more, rest)) = let few = 
 
 -- the last seed of a part is found, and it is the lowest
 pub last_of_part_is_lowest : (h : Hunt) (seeds : Seeds) (first last a : ℕ) (list : List ℕ) → first ≡ seeds.first → last ≤ seeds.last
-    → IsPart h first last a (Some list) → IsLowest h seeds.first seeds.last last a list
+    → WereTried h first last a (Some list) → IsLowestSeed h seeds.first seeds.last last a list
 last_of_part_is_lowest h seeds first last a list from within part = record {
   from = subst (λ z. z ≤ last) from part.from;
   to = within;
@@ -100,7 +100,7 @@ last_of_part_is_lowest h seeds first last a list from within part = record {
 
 -- where no seed is found in a part of all seeds, all were tried
 pub seeds_of_whole_part_are_tried : (h : Hunt) (seeds : Seeds) (first last a : ℕ) → first ≡ seeds.first → last ≡ seeds.last
-    → IsPart h first last a None → AreAllTried h seeds.first seeds.last a
+    → WereTried h first last a None → AreAllTried h seeds.first seeds.last a
 seeds_of_whole_part_are_tried h seeds first last a from to part =
     subst (λ z. AreAllTried h seeds.first z a) to (subst (λ z. AreAllTried h z last a) from part)
 

@@ -10,9 +10,9 @@ use Rattle.ir_thread.specs.declared.profile.Profile.{Profile}
 use Rattle.ir_record.specs.Recording.{IsTraceOf}
 use Rattle.ir_record.specs.Recordings.{IsRecordingByTurns}
 use Rattle.ir_record.specs.Refusing.{plain_turns}
-use Rattle.ir_record.specs.Worlds.{Answered}
+use Rattle.ir_record.specs.Worlds.{AnsweredCall}
 use Rattle.ir_record_run.specs.Plan.{Plan}
-use Rattle.ir_sources.specs.Sources.{origin_of, IsAnswered}
+use Rattle.ir_sources.specs.Sources.{origin_of, IsAnsweredFrom}
 use Rattle.ir_order.proofs.CallerLemmas.{recording_in_turns_is_of_run}
 use Rattle.ir_rests.specs.Stale.{HasRests}
 use Rattle.ir_hunt.specs.Stale.{HasStaleBy, IsTraceBy}
@@ -29,22 +29,22 @@ trace_of_run_has_run guest budget profile run trace h = (
 )
 
 -- and so does what is recorded in turns
-pub recording_has_run : (guest : Guest) (budget : ℕ) (profile : Profile) (order : List ℕ) (before : List (List Answered)) (trace : Recorded)
-    (outputs : List (List ℕ)) (answers : List (List Answered)) → IsRecordingByTurns guest budget profile (plain_turns order) before trace outputs answers
+pub recording_has_run : (guest : Guest) (budget : ℕ) (profile : Profile) (order : List ℕ) (before : List (List AnsweredCall)) (trace : Recorded)
+    (outputs : List (List ℕ)) (answers : List (List AnsweredCall)) → IsRecordingByTurns guest budget profile (plain_turns order) before trace outputs answers
     → (run : List Step) × IsRunOf guest trace run
 recording_has_run guest budget profile order before trace outputs answers r = (r.0, trace_of_run_has_run guest budget profile r.0 trace r.2.emitted)
 
 -- what is recorded in turns, with fresh worlds, is the trace of each run by their order
-pub fresh_recording_is_trace_by_order : (guest : Guest) (plan : Plan) (entries order : List ℕ) (before : List (List Answered)) (trace : Recorded) (outputs : List (List ℕ))
-    (answers : List (List Answered)) → entries ≡ guest.entries → before ≡ replicate (length entries) []
+pub fresh_recording_is_trace_by_order : (guest : Guest) (plan : Plan) (entries order : List ℕ) (before : List (List AnsweredCall)) (trace : Recorded) (outputs : List (List ℕ))
+    (answers : List (List AnsweredCall)) → entries ≡ guest.entries → before ≡ replicate (length entries) []
     → IsRecordingByTurns guest plan.budget plan.profile (plain_turns order) before trace outputs answers
-    → ((t : ℕ) → t < length entries → IsAnswered (origin_of true plan.random plan.input t) (get_or answers t []))
+    → ((t : ℕ) → t < length entries → IsAnsweredFrom (origin_of true plan.random plan.input t) (get_or answers t []))
     → IsTraceBy guest plan order trace
 fresh_recording_is_trace_by_order guest plan entries order before trace outputs answers same fresh r answered run planned =
     let long : length entries ≡ length guest.entries = ap (λ (z : List ℕ). length z) same in (
       outputs,
       recording_in_turns_is_of_run guest plan order run trace outputs answers planned
-          (subst (λ (z : List (List Answered)). IsRecordingByTurns guest plan.budget plan.profile (plain_turns order) z trace outputs answers)
+          (subst (λ (z : List (List AnsweredCall)). IsRecordingByTurns guest plan.budget plan.profile (plain_turns order) z trace outputs answers)
           (fresh ∙ ap (λ (n : ℕ). replicate n []) long) r) (λ t l. answered t (subst (λ n. t < n) (sym long) l)),
     )
 

@@ -10,7 +10,7 @@ use Rattle.ir_hunt.specs.declared.plan.HuntPlan.{HuntPlan}
 use Rattle.ir_hunt.specs.Finding.{IsFound, IsOrderOfSeed}
 use Rattle.ir_hunt.specs.Hunt.{Hunt, hunt_of}
 use Rattle.ir_hunt.specs.Hunted.{IsFoundIn, IsNoneIn}
-use Rattle.ir_hunt.specs.Tried.{AreAllTried, Fails, IsLowest}
+use Rattle.ir_hunt.specs.Tried.{AreAllTried, Fails, IsLowestSeed}
 use Rattle.ir_hunt.specs.Lines.{found_line, left_out_words, none_line}
 use Rattle.ir_hunt.specs.Stopping.{IsHuntLine, TellsLeftOut}
 
@@ -34,7 +34,7 @@ line_is_hunt_line seed_of list_of image plan (Some f) left_out line h e = inl (l
 pub search_is_hunt : {F : Type 0} (seed_of : F → ℕ) (list_of : F → List ℕ) (image : List ℕ) (plan : HuntPlan) (guest : Guest) (choices : List ℕ) (found : Option F)
     (left_out : ℕ) → guest_at image ≡ Ok guest
     → MatchOption found (AreAllTried (hunt_of guest plan choices) plan.seeds.first plan.seeds.last left_out)
-    (λ f. IsLowest (hunt_of guest plan choices) plan.seeds.first plan.seeds.last (seed_of f) left_out (list_of f))
+    (λ f. IsLowestSeed (hunt_of guest plan choices) plan.seeds.first plan.seeds.last (seed_of f) left_out (list_of f))
     → MatchOption found (IsNoneIn image plan left_out) (λ f. IsFoundIn image plan left_out (seed_of f) (list_of f))
 search_is_hunt seed_of list_of image plan guest choices None left_out is h = record { guest = guest; is = is; choices = choices; tried = h }
 search_is_hunt seed_of list_of image plan guest choices (Some f) left_out is h = record { guest = guest; is = is; choices = choices; lowest = h }

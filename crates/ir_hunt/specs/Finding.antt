@@ -13,25 +13,25 @@ use Rattle.ir_thread.specs.declared.profile.Profile.TheVariants.{One, Two}
 use Rattle.ir_chaos.specs.Choices.{chooser_of}
 use Rattle.ir_chaos.specs.Schedules.{IsSchedule}
 use Rattle.ir_chaos.specs.declared.way.Way.{Way}
-use Rattle.ir_chaos.specs.Conditions.{fulfils, outcome_of}
+use Rattle.ir_chaos.specs.Conditions.{fulfils, end_state}
 use Rattle.ir_hunt.specs.Hunt.{Hunt}
 use Rattle.ir_hunt.specs.Stale.{FulfilsStale}
 
 -- the guest before its first step
-abbrev pub first : Guest → Plan → Flat
-first guest plan = start_flat guest plan.budget plan.profile
+abbrev pub first_flat : Guest → Plan → Flat
+first_flat guest plan = start_flat guest plan.budget plan.profile
 
 -- these threads and objects are what the guest came to by the run
 pub record CameTo (guest : Guest) (plan : Plan) (run : List Step) (f : Flat) : Type 0 where
-  pub ends : tables f ≡ end (machine (first guest plan)) (tables (first guest plan)) run
-  pub threads : length f.threads ≡ length (first guest plan).threads
-  pub objects : length f.objects ≡ length (first guest plan).objects
+  pub ends : tables f ≡ end (machine (first_flat guest plan)) (tables (first_flat guest plan)) run
+  pub threads : length f.threads ≡ length (first_flat guest plan).threads
+  pub objects : length f.objects ≡ length (first_flat guest plan).objects
 
 -- whether what the guest came to by the run fulfils each condition
 pub record IsJudged (hunt : Hunt) (run : List Step) (holds : Bool) : Type 0 where
   pub flat : Flat
   pub came : CameTo hunt.guest hunt.plan run flat
-  pub each : list_all (λ c. fulfils c (outcome_of flat)) hunt.conditions ≡ holds
+  pub each : list_all (λ c. fulfils c (end_state flat)) hunt.conditions ≡ holds
 
 -- it fulfils each
 abbrev pub FulfilsEach : Hunt → List Step → Type 0
@@ -48,8 +48,8 @@ has_tries Two = true
 
 -- the complete run of the guest by the chooser of a seed
 abbrev pub IsOfSeed : Hunt → ℕ → List Step → Type 0
-IsOfSeed hunt seed run = IsSchedule (has_tries hunt.plan.profile) (machine (first hunt.guest hunt.plan)) (length (first hunt.guest hunt.plan).threads)
-    (tables (first hunt.guest hunt.plan)) (chooser_of hunt.way seed (length hunt.guest.entries) hunt.choices) run
+IsOfSeed hunt seed run = IsSchedule (has_tries hunt.plan.profile) (machine (first_flat hunt.guest hunt.plan)) (length (first_flat hunt.guest hunt.plan).threads)
+    (tables (first_flat hunt.guest hunt.plan)) (chooser_of hunt.way seed (length hunt.guest.entries) hunt.choices) run
 
 -- a list spells the order of the run of the guest by a seed, which fulfils each condition and has what is wanted of its stale writes
 pub record IsFound (hunt : Hunt) (seed : ℕ) (list : List ℕ) : Type 0 where

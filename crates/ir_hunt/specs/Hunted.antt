@@ -4,7 +4,7 @@ use Rattle.ir_image.specs.Guest.{Guest, guest_at}
 use Rattle.ir_trace.specs.Recorded.{Recorded}
 use Rattle.ir_order.specs.Recording.{IsOfRun}
 use Rattle.ir_hunt.specs.Hunt.{hunt_of}
-use Rattle.ir_hunt.specs.Tried.{AreAllTried, IsLowest}
+use Rattle.ir_hunt.specs.Tried.{AreAllTried, IsLowestSeed}
 use Rattle.ir_hunt.specs.declared.plan.HuntPlan.{HuntPlan}
 
 -- none of the plan's seeds is found: each was tried, and so many were left out
@@ -19,7 +19,7 @@ pub record IsFoundIn (image : List ℕ) (plan : HuntPlan) (left_out seed : ℕ) 
   pub guest : Guest
   pub is : guest_at image ≡ Ok guest
   pub choices : List ℕ
-  pub lowest : IsLowest (hunt_of guest plan choices) plan.seeds.first plan.seeds.last seed left_out list
+  pub lowest : IsLowestSeed (hunt_of guest plan choices) plan.seeds.first plan.seeds.last seed left_out list
 
 -- the trace of that run, and what its threads printed
 pub record IsFinding (image : List ℕ) (plan : HuntPlan) (left_out seed : ℕ) (list : List ℕ) (trace : Recorded) (outputs : List (List ℕ)) : Type 0 where

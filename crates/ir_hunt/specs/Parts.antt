@@ -2,13 +2,13 @@
 use Rattle.std.specs.Prelude.{◌≡◌, ◌≤◌, List, All, None, option_map}
 use Rattle.std.specs.String.{string_bytes}
 use Rattle.ir_hunt.specs.Hunt.{Hunt}
-use Rattle.ir_hunt.specs.Tried.{IsPart}
+use Rattle.ir_hunt.specs.Tried.{WereTried}
 use Rattle.ir_hunt.specs.declared.part.Part.{Part}
 use Rattle.ir_hunt.specs.declared.plan.Seeds.{Seeds}
 
 -- the seeds of the part were tried
 abbrev pub IsTried : Hunt → Part → Type 0
-IsTried hunt part = IsPart hunt part.seeds.first part.seeds.last part.left_out (option_map string_bytes part.list)
+IsTried hunt part = WereTried hunt part.seeds.first part.seeds.last part.left_out (option_map string_bytes part.list)
 
 -- some of these seeds were tried, from the first on
 pub record IsBegun (hunt : Hunt) (seeds : Seeds) (part : Part) : Type 0 where

@@ -4,11 +4,11 @@ use Rattle.ir_image.specs.Guest.{Guest}
 use Rattle.ir_record_run.specs.Plan.{Plan}
 use Rattle.ir_chaos.specs.Moments.{Moment, RanToEnd}
 use Rattle.ir_chaos.specs.declared.chooser.Chooser.{Chooser}
-use Rattle.ir_hunt.specs.Finding.{first, has_tries}
+use Rattle.ir_hunt.specs.Finding.{first_flat, has_tries}
 
 -- before the first step: no turns, and no world has answered
 abbrev pub fresh : Guest → Plan → Moment
-fresh guest plan = record { flat = first guest plan; turns = []; answers = replicate (length guest.entries) [] }
+fresh guest plan = record { flat = first_flat guest plan; turns = []; answers = replicate (length guest.entries) [] }
 
 -- it has run to its end by this chooser
 abbrev pub RanBy : Guest → Plan → Chooser → Moment → Type 0

@@ -3,7 +3,7 @@ use Rattle.std.specs.Prelude.{◌≡◌, ◌≢◌, ℕ, zero, suc, List, ◌⊎
 use Rattle.ir_files.specs.Writers.{Writer, Reports, fault_text}
 use Rattle.ir_files.specs.declared.exit_status.ExitStatus.{ExitStatus}
 use Rattle.ir_files.specs.declared.exit_status.ExitStatus.TheVariants.{NotSo, GaveUp}
-use Rattle.ir_record_run.specs.Faults.{fault_words, Refuses}
+use Rattle.ir_record_run.specs.Faults.{record_fault_words, RefusesRecord}
 use Rattle.ir_record_run.specs.Plan.{Plan}
 use Rattle.ir_record_run.specs.declared.record_fault.RecordFault.{RecordFault}
 use Rattle.ir_record_run.specs.declared.record_fault.RecordFault.TheVariants.{Clock, Order}
@@ -13,13 +13,13 @@ use Rattle.ir_hunt.specs.declared.plan.HuntPlan.{HuntPlan}
 
 -- why no seed is tried: the image's first fault, or more threads or objects than the profile allows; if memory ran out, that says nothing of them
 pub record RefusesHunt (e : RecordFault) (image : List ℕ) (plan : Plan) : Type 0 where
-  pub refused : Refuses e image plan
+  pub refused : RefusesRecord e image plan
   pub no_clock : e ≢ Clock
   pub no_list : (n : ℕ) → e ≢ Order n
 
 -- a fault is reported in its own words
 abbrev pub IsTold : RecordFault → Writer → Type 0
-IsTold e faults = Reports faults (fault_text (fault_words e))
+IsTold e faults = Reports faults (fault_text (record_fault_words e))
 
 -- the line of a hunt: of the seed that is found, or that there is none of the plan's
 abbrev pub IsHuntLine : List ℕ → HuntPlan → List ℕ → Type 0

@@ -21,7 +21,7 @@ AreTried hunt first (suc n) left_out = (Fails hunt (first + n) × AreTried hunt 
     ⊎ ((before : ℕ) × (left_out ≡ before + 1) × AreTried hunt first n before)
 
 -- the list spells the order of the run by a seed from the first to the last, which is found; each lower one of these was tried
-pub record IsLowest (hunt : Hunt) (first last seed left_out : ℕ) (list : List ℕ) : Type 0 where
+pub record IsLowestSeed (hunt : Hunt) (first last seed left_out : ℕ) (list : List ℕ) : Type 0 where
   pub from : first ≤ seed
   pub to : seed ≤ last
   pub found : IsFound hunt seed list
@@ -32,6 +32,6 @@ abbrev pub AreAllTried : Hunt → ℕ → ℕ → ℕ → Type 0
 AreAllTried hunt first last left_out = AreTried hunt first (last + 1 - first) left_out
 
 -- the seeds from the first to the last were tried, one after the other: all of them if there is no list, and else the last is found
-abbrev pub IsPart : Hunt → ℕ → ℕ → ℕ → Option (List ℕ) → Type 0
-IsPart hunt first last left_out None = AreAllTried hunt first last left_out
-IsPart hunt first last left_out (Some list) = IsLowest hunt first last last left_out list
+abbrev pub WereTried : Hunt → ℕ → ℕ → ℕ → Option (List ℕ) → Type 0
+WereTried hunt first last left_out None = AreAllTried hunt first last left_out
+WereTried hunt first last left_out (Some list) = IsLowestSeed hunt first last last left_out list

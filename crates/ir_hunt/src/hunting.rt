@@ -6,8 +6,8 @@ ghost use Rattle.std.specs.Io.KnownBytes.{Appends};
 ghost use Rattle.ir_trace.specs.Encoding.{encoding};
 ghost use Rattle.ir_files.specs.Outputs.{output_writer_of, TookEach};
 ghost use Rattle.ir_files.specs.Writers.{writer_of, Failed, Reports};
-ghost use Rattle.ir_record_run.specs.Faults.{fault_status, Stops, IsReported, unwritten_of};
-ghost use Rattle.ir_record_run.specs.Recording.{lines_of};
+ghost use Rattle.ir_record_run.specs.Faults.{fault_status, StopsRecord, IsReported, unwritten_of};
+ghost use Rattle.ir_record_run.specs.Recording.{recording_lines};
 ghost use Rattle.ir_record_run.specs.declared.record_fault.RecordFault.{RecordFault};
 ghost use Rattle.ir_record_run.specs.declared.record_fault.RecordFault.TheVariants.{Lines};
 ghost use Rattle.ir_hunt.specs.Finding.{IsOrderOfSeed, by_list};
@@ -200,7 +200,7 @@ where
     ensures done { IfOk result (λ recorded. (left_out seed : ℕ) × (list : List ℕ) × (printed : List (List ℕ)) × IsFinding image.now plan.now left_out seed list recorded printed
         × Appends (W.written files.old.trace) (W.written files.new.trace) (encoding recorded)
         × TookEach (output_writer_of (P.taken files.old.outputs) (P.taken files.new.outputs) (P.broken files.new.outputs)) printed
-        × Appends (O.written out.old) (O.written out.new) (found_line seed list ++ lines_of recorded)
+        × Appends (O.written out.old) (O.written out.new) (found_line seed list ++ recording_lines recorded)
         × TellsLeftOut left_out (writer_of (E.written faults.old) (E.written faults.new) (E.broken faults.new)) (faults.new ≡ faults.old)) }
     ensures whole { OnOk result (W.whole files.new.trace ≡ true) }
     // Else each seed was tried and none is found, which was written, and it is reported how many were left out, if some were; or nothing was
@@ -219,7 +219,7 @@ where
         × Appends (O.written out.old) (O.written said) (found_line seed list)
         × IsReported e image.now (by_list plan.now.record list) (unwritten_of (W.called files.new.trace) (W.cause files.new.trace)) (unwritten_of (P.called files.new.outputs) (P.cause files.new.outputs))
         (writer_of (E.written faults.old) (E.written faults.new) (E.broken faults.new))
-        × Stops e image.now (by_list plan.now.record list)
+        × StopsRecord e image.now (by_list plan.now.record list)
         (writer_of (W.written files.old.trace) (W.written files.new.trace) (W.broken files.new.trace))
         (output_writer_of (P.taken files.old.outputs) (P.taken files.new.outputs) (P.broken files.new.outputs))
         (writer_of (O.written said) (O.written out.new) (O.broken out.new))

@@ -4,7 +4,7 @@ ghost use Rattle.std.specs.Prelude.{◌≡◌, ◌≤◌, ◌<◌, All, IfOk, Ma
 ghost use Rattle.std.specs.String.{string_bytes};
 ghost use Rattle.ir_hunt.specs.Hunt.{Hunt, hunt_of};
 ghost use Rattle.ir_hunt.specs.Parts.{HasTried, IsBegun, IsPartOf};
-ghost use Rattle.ir_hunt.specs.Tried.{AreAllTried, IsLowest};
+ghost use Rattle.ir_hunt.specs.Tried.{AreAllTried, IsLowestSeed};
 ghost use Rattle.ir_hunt.specs.declared.plan.Seeds.{Seeds};
 ghost use Rattle.ir_thread.specs.State.{IsAllowed};
 
@@ -210,7 +210,7 @@ fn try_all<R: Threads + Clock + Sync + Eprint>(
 // What was found of seeds that were tried up to the first that is found.
 fn found_in(part: Part) -> Search
     ensures { (hunt : Hunt) (seeds : Seeds) → IsPartOf hunt seeds part → MatchOption result.found (AreAllTried hunt seeds.first seeds.last result.left_out)
-        (λ f. IsLowest hunt seeds.first seeds.last f.seed result.left_out (string_bytes f.list)) }
+        (λ f. IsLowestSeed hunt seeds.first seeds.last f.seed result.left_out (string_bytes f.list)) }
 {
     let Part {
         seeds,
@@ -244,7 +244,7 @@ pub fn lowest_seed<R: Threads + Clock + Sync + Eprint>(
 ) -> Result<Search, AllocError>
     requires { IsAllowed plan.now.record.profile image.now }
     ensures { IfOk result (λ s. (choices : List ℕ) × MatchOption s.found (AreAllTried (hunt_of image.now plan.now choices) plan.now.seeds.first plan.now.seeds.last s.left_out)
-        (λ f. IsLowest (hunt_of image.now plan.now choices) plan.now.seeds.first plan.now.seeds.last f.seed s.left_out (string_bytes f.list))) }
+        (λ f. IsLowestSeed (hunt_of image.now plan.now choices) plan.now.seeds.first plan.now.seeds.last f.seed s.left_out (string_bytes f.list))) }
 {
     let seeds = plan.seeds;
     if seeds.first > seeds.last {

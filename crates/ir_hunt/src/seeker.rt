@@ -7,8 +7,8 @@ ghost use Rattle.ir_thread.specs.State.{IsAllowed};
 ghost use Rattle.ir_record.specs.Recording.{order_of_turns};
 ghost use Rattle.ir_record.specs.Worlds.{NoneFailed};
 ghost use Rattle.ir_sources.specs.Sources.{made_with, origins};
-ghost use Rattle.ir_chaos.specs.Choices.{Serves, chooser_of};
-ghost use Rattle.ir_chaos.specs.Conditions.{as_condition, fulfils, outcome_of};
+ghost use Rattle.ir_chaos.specs.Choices.{CanChoose, chooser_of};
+ghost use Rattle.ir_chaos.specs.Conditions.{as_condition, fulfils, end_state};
 ghost use Rattle.ir_chaos.specs.Moments.{moment_of};
 ghost use Rattle.ir_hunt.specs.Finding.{has_tries, IsFound};
 ghost use Rattle.ir_hunt.specs.Hunt.{hunt_of};
@@ -142,7 +142,7 @@ impl<'a, C: Clock> Seeker<'a, C> {
 
     // The run by a chooser, and how often each thread was chosen.
     fn run(&mut self, chooser: &mut Chooser) -> Result<Choices, Lost>
-        requires serves { Serves (length self.old.image.now.entries) chooser.old }
+        requires serves { CanChoose (length self.old.image.now.entries) chooser.old }
         ensures image { self.new.image ≡ self.old.image }
         ensures plan { self.new.plan ≡ self.old.plan }
         ensures ran { OnOk result (RanBy self.old.image.now self.old.plan.now.record chooser.old (moment_of (λ w. w.answers.items) self.new.runner)) }
@@ -170,7 +170,7 @@ impl<'a, C: Clock> Seeker<'a, C> {
 
     // Whether what the run came to fulfils each condition.
     fn holds(&self) -> bool
-        ensures { result ≡ list_all (λ c. fulfils (as_condition c) (outcome_of self.now.runner.flat)) self.now.plan.now.conditions.now }
+        ensures { result ≡ list_all (λ c. fulfils (as_condition c) (end_state self.now.runner.flat)) self.now.plan.now.conditions.now }
     {
         let flat = &self.runner.flat;
         self.plan
@@ -201,9 +201,9 @@ impl<'a, C: Clock> Seeker<'a, C> {
         ensures plan { self.new.plan ≡ self.old.plan }
         ensures ran { OnOk result (RanBy self.old.image.now self.old.plan.now.record (chooser_of self.old.plan.now.way seed (length self.old.image.now.entries) choices.now) (moment_of (λ w. w.answers.items) self.new.runner)) }
         ensures some { OnOk result (order_of_turns self.new.runner.turns.items ≢ []) }
-        ensures each { IfOk result (λ b. b ≡ true → list_all (λ c. fulfils (as_condition c) (outcome_of self.new.runner.flat)) self.old.plan.now.conditions.now ≡ true) }
+        ensures each { IfOk result (λ b. b ≡ true → list_all (λ c. fulfils (as_condition c) (end_state self.new.runner.flat)) self.old.plan.now.conditions.now ≡ true) }
         ensures wanted { IfOk result (λ b. b ≡ true → IsWanted self.old.image.now self.old.plan.now.record (order_of_turns self.new.runner.turns.items) self.old.plan.now.stale true) }
-        ensures other { IfOk result (λ b. b ≡ false → (list_all (λ c. fulfils (as_condition c) (outcome_of self.new.runner.flat)) self.old.plan.now.conditions.now ≡ false)
+        ensures other { IfOk result (λ b. b ≡ false → (list_all (λ c. fulfils (as_condition c) (end_state self.new.runner.flat)) self.old.plan.now.conditions.now ≡ false)
             ⊎ IsWanted self.old.image.now self.old.plan.now.record (order_of_turns self.new.runner.turns.items) self.old.plan.now.stale false) }
     {
         let threads = self.image.entries().len();

@@ -14,7 +14,7 @@ use Rattle.ir_mach.specs.Core.{Core, register, put, next_pc, Outcome, Goes, Call
 use Rattle.ir_mach.specs.declared.outcome.Fault.TheVariants.{TargetMisaligned}
 use Rattle.ir_mach.specs.Execution.{low_32, immediate_result, shift_result, register_result, is_taken, loaded, stored, sum_of, jumps, branches, loads, stores, execute, execute_fetched, outcome_of}
 use Rattle.ir_mach.specs.Execution as execution
-use Rattle.ir_live.specs.Flow.{constant_of, writes, MayGoTo}
+use Rattle.ir_live.specs.Flow.{constant_of, writes_register, MayGoTo}
 use Rattle.ir_live.specs.Agreement.{AgreeOnLive}
 use Rattle.ir_live.proofs.Registers.{number_equals_itself}
 use Rattle.ir_live.proofs.Steps.{call_asked, IsConstant, read_register_agrees, cores_agree_after_write, cores_agree_without_write}
@@ -35,14 +35,14 @@ AreAlike code x Calls (Ends f) = ⊥
 
 module _ (code : List ℕ) (inst : Inst) (x y : Core) (agree : AgreeOnLive code x y) (at : fetched code x.pc ≡ Found inst) where
   writes_of_agreeing_cores_are_alike : (rd value other : ℕ) → rd < 32 → value ≡ other
-      → ((n : ℕ) → writes inst (call_asked x) n ≡ ((rd == n) && nat_lt 0 n))
+      → ((n : ℕ) → writes_register inst (call_asked x) n ≡ ((rd == n) && nat_lt 0 n))
       → MayGoTo inst (call_asked x) x.pc (next_pc x.pc) → IsConstant (constant_of inst) value
       → AreAlike code x (execution.writes x rd value) (execution.writes y rd other)
   writes_of_agreeing_cores_are_alike rd value other fits same is goes constant = cores_agree_after_write code inst x y agree at rd value other (next_pc x.pc) (next_pc y.pc)
       x.memory y.memory fits same (ap next_pc agree.pc) agree.memory is goes constant
 
   jumps_of_agreeing_cores_are_alike : (rd target other : ℕ) → rd < 32 → target ≡ other
-      → ((n : ℕ) → writes inst (call_asked x) n ≡ ((rd == n) && nat_lt 0 n))
+      → ((n : ℕ) → writes_register inst (call_asked x) n ≡ ((rd == n) && nat_lt 0 n))
       → (target % 4 ≡ 0 → MayGoTo inst (call_asked x) x.pc target) → IsConstant (constant_of inst) (next_pc x.pc)
       → AreAlike code x (jumps x rd target) (jumps y rd other)
   jumps_of_agreeing_cores_are_alike rd target other fits same is goes constant =
@@ -59,7 +59,7 @@ module _ (code : List ℕ) (inst : Inst) (x y : Core) (agree : AgreeOnLive code 
       by false e = refl
 
   branches_of_agreeing_cores_are_alike : (taken other_taken : Bool) (target other : ℕ) → taken ≡ other_taken → target ≡ other
-      → ((n : ℕ) → writes inst (call_asked x) n ≡ false)
+      → ((n : ℕ) → writes_register inst (call_asked x) n ≡ false)
       → (target % 4 ≡ 0 → MayGoTo inst (call_asked x) x.pc target)
       → MayGoTo inst (call_asked x) x.pc (next_pc x.pc)
       → AreAlike code x (branches x taken target) (branches y other_taken other)
@@ -79,7 +79,7 @@ module _ (code : List ℕ) (inst : Inst) (x y : Core) (agree : AgreeOnLive code 
           cores_agree_without_write code inst x y agree at (next_pc x.pc) (next_pc y.pc) x.memory y.memory (ap next_pc agree.pc) agree.memory none passes
 
   loads_of_agreeing_cores_are_alike : (rd : ℕ) (found other : Option ℕ) → rd < 32 → found ≡ other
-      → ((n : ℕ) → writes inst (call_asked x) n ≡ ((rd == n) && nat_lt 0 n))
+      → ((n : ℕ) → writes_register inst (call_asked x) n ≡ ((rd == n) && nat_lt 0 n))
       → MayGoTo inst (call_asked x) x.pc (next_pc x.pc) → constant_of inst ≡ None
       → AreAlike code x (loads x rd found) (loads y rd other)
   loads_of_agreeing_cores_are_alike rd found other fits same is goes varies = subst (λ o. AreAlike code x (loads x rd found) (loads y rd o)) same (by found)
@@ -89,7 +89,7 @@ module _ (code : List ℕ) (inst : Inst) (x y : Core) (agree : AgreeOnLive code 
       by None = refl
 
   stores_of_agreeing_cores_are_alike : (memory other : Option (List ℕ)) → memory ≡ other
-      → ((n : ℕ) → writes inst (call_asked x) n ≡ false)
+      → ((n : ℕ) → writes_register inst (call_asked x) n ≡ false)
       → MayGoTo inst (call_asked x) x.pc (next_pc x.pc)
       → AreAlike code x (stores x memory) (stores y other)
   stores_of_agreeing_cores_are_alike memory other same none goes = subst (λ o. AreAlike code x (stores x memory) (stores y o)) same (by memory)

@@ -6,7 +6,7 @@ use Rattle.std.proofs.lemmas.Bool.Decides.{nat_tests}
 use Rattle.ir_isa.specs.declared.inst.Inst.{Inst}
 use Rattle.ir_image.specs.Guest.{fetched, fetched_word, code_start}
 use Rattle.ir_image.specs.declared.fetched.Fetched.TheVariants.{Found}
-use Rattle.ir_live.specs.Flow.{call_limit, writes, constant_of, AsksAfter}
+use Rattle.ir_live.specs.Flow.{call_limit, writes_register, constant_of, AsksAfter}
 use Rattle.ir_live.specs.Live.{Point, IsLiveAlong, IsLiveRegister}
 use Rattle.ir_live.specs.Table.{place_of, is_marked, IsLiveTable}
 use Rattle.ir_live.specs.Marks.{places_of_word, point_at, IsSeen, AreLive, IsClosedAt}
@@ -23,7 +23,7 @@ pub register_is_live_if_seen : (code : List ℕ) (marks : List Bool) (p : Point)
     → p.number < call_limit → register < 32 → IsSeen marks inst p register → IsLiveRegister code p register
 register_is_live_if_seen code marks p register inst live at low few (inl read) = ([], inr (inst, at, read))
 register_is_live_if_seen code marks p register inst live at low few (inr (keeps, (next, goes, asks, is))) =
-    let rest = live next register (call_asked_after_is_below_limit (writes inst p.number 17) (constant_of inst) p.number next.number low asks) few is in
+    let rest = live next register (call_asked_after_is_below_limit (writes_register inst p.number 17) (constant_of inst) p.number next.number low asks) few is in
     (next ∷ rest.0, (record { inst = inst; at = at; goes = goes; asks = asks; keeps = keeps }, rest.1))
 
 pub marks_are_live_after_live_mark : (code : List ℕ) (marks : List Bool) (word place : ℕ) (inst : Inst) → place < places_of_word
@@ -97,7 +97,7 @@ live_register_is_marked_if_closed code marks closed [] p register low few (inr (
 live_register_is_marked_if_closed code marks closed (next ∷ path) p register low few (step, along) =
     elim (cases_eq (p.pc % 4) 0) [
       | inl aligned ↦
-          let after = call_asked_after_is_below_limit (writes step.inst p.number 17) (constant_of step.inst) p.number next.number low step.asks in
+          let after = call_asked_after_is_below_limit (writes_register step.inst p.number 17) (constant_of step.inst) p.number next.number low step.asks in
           let is = live_register_is_marked_if_closed code marks closed path next register after few along in
           seen_register_is_marked_if_closed code marks p register step.inst closed aligned low few step.at (inr (step.keeps, (next, step.goes, step.asks, is)))
       | inr odd ↦ point_between_words_is_marked marks p register odd

@@ -8,7 +8,7 @@ use Rattle.ir_isa.specs.declared.inst.Inst.{Inst}
 use Rattle.ir_image.specs.Guest.{fetched}
 use Rattle.ir_image.specs.declared.fetched.Fetched.TheVariants.{Found}
 use Rattle.ir_mach.specs.Core.{Core, register, put}
-use Rattle.ir_live.specs.Flow.{call_limit, call_number, constant_of, reads, writes, AsksAfter, MayGoTo}
+use Rattle.ir_live.specs.Flow.{call_limit, call_number, constant_of, reads_register, writes_register, AsksAfter, MayGoTo}
 use Rattle.ir_live.specs.Live.{Point, IsLiveAlong}
 use Rattle.ir_live.specs.Agreement.{point_of, IsRegisterFile, AgreeOnLive}
 use Rattle.ir_live.proofs.Registers.{written_register_has_value, other_register_is_kept, register_file_after_put, register_file_of_kept_registers}
@@ -39,29 +39,29 @@ call_asked_after_step true None value old new is written kept = call_number_belo
 -- ---- two cores at an instruction
 
 module _ (code : List ℕ) (inst : Inst) (x y : Core) (agree : AgreeOnLive code x y) (at : fetched code x.pc ≡ Found inst) where
-  pub read_register_agrees : (n : ℕ) → reads inst (call_asked x) n ≡ true → register x n ≡ register y n
+  pub read_register_agrees : (n : ℕ) → reads_register inst (call_asked x) n ≡ true → register x n ≡ register y n
   read_register_agrees n is = agree.live n ([], inr (inst, at, is))
 
   cores_agree_after_step : (u v : Core) → IsRegisterFile u → IsRegisterFile v → u.pc ≡ v.pc → u.memory ≡ v.memory
       → MayGoTo inst (call_asked x) x.pc u.pc
-      → AsksAfter (writes inst (call_asked x) 17) (constant_of inst) (call_asked x) (call_number (register u 17))
-      → ((n : ℕ) → writes inst (call_asked x) n ≡ true → register u n ≡ register v n)
-      → ((n : ℕ) → writes inst (call_asked x) n ≡ false → (register u n ≡ register x n) × (register v n ≡ register y n))
+      → AsksAfter (writes_register inst (call_asked x) 17) (constant_of inst) (call_asked x) (call_number (register u 17))
+      → ((n : ℕ) → writes_register inst (call_asked x) n ≡ true → register u n ≡ register v n)
+      → ((n : ℕ) → writes_register inst (call_asked x) n ≡ false → (register u n ≡ register x n) × (register v n ≡ register y n))
       → AgreeOnLive code u v
   cores_agree_after_step u v first second pcs memories goes asks written kept = record {
     first = first;
     second = second;
     pc = pcs;
     memory = memories;
-    call = by_write 17 agree.call (writes inst (call_asked x) 17) refl;
-    live = λ n way. by_way n way.0 way.1 (writes inst (call_asked x) n) refl;
+    call = by_write 17 agree.call (writes_register inst (call_asked x) 17) refl;
+    live = λ n way. by_way n way.0 way.1 (writes_register inst (call_asked x) n) refl;
   }
     where
-      by_write : (n : ℕ) → register x n ≡ register y n → (b : Bool) → writes inst (call_asked x) n ≡ b → register u n ≡ register v n
+      by_write : (n : ℕ) → register x n ≡ register y n → (b : Bool) → writes_register inst (call_asked x) n ≡ b → register u n ≡ register v n
       by_write n same true is = written n is
       by_write n same false is = (kept n is).0 ∙ same ∙ sym (kept n is).1
 
-      by_way : (n : ℕ) (path : List Point) → IsLiveAlong code n (point_of u) path → (b : Bool) → writes inst (call_asked x) n ≡ b
+      by_way : (n : ℕ) (path : List Point) → IsLiveAlong code n (point_of u) path → (b : Bool) → writes_register inst (call_asked x) n ≡ b
           → register u n ≡ register v n
       by_way n path along true is = written n is
       by_way n path along false is = (kept n is).0
@@ -70,14 +70,14 @@ module _ (code : List ℕ) (inst : Inst) (x y : Core) (agree : AgreeOnLive code 
   -- the same value is written to the same register
   pub cores_agree_after_write : (rd value other pc other_pc : ℕ) (memory other_memory : List ℕ) → rd < 32 → value ≡ other → pc ≡ other_pc
       → memory ≡ other_memory
-      → ((n : ℕ) → writes inst (call_asked x) n ≡ ((rd == n) && nat_lt 0 n))
+      → ((n : ℕ) → writes_register inst (call_asked x) n ≡ ((rd == n) && nat_lt 0 n))
       → MayGoTo inst (call_asked x) x.pc pc → IsConstant (constant_of inst) value
       → AgreeOnLive code (record { pc = pc; registers = put x.registers rd value; memory = memory })
       (record { pc = other_pc; registers = put y.registers rd other; memory = other_memory })
   cores_agree_after_write rd value other pc other_pc memory other_memory fits values pcs memories is goes constant =
       cores_agree_after_step _ _ (register_file_after_put x rd value pc memory agree.first)
       (register_file_after_put y rd other other_pc other_memory agree.second) pcs memories goes
-      (call_asked_after_step (writes inst (call_asked x) 17) (constant_of inst) value (register x 17) _ constant (has_first 17) (keeps_first 17))
+      (call_asked_after_step (writes_register inst (call_asked x) 17) (constant_of inst) value (register x 17) _ constant (has_first 17) (keeps_first 17))
       (λ n w. has_first n w ∙ values ∙ sym (has_second n w)) (λ n w. (keeps_first n w, keeps_second n w))
     where
       fits_first : rd < length x.registers
@@ -86,21 +86,21 @@ module _ (code : List ℕ) (inst : Inst) (x y : Core) (agree : AgreeOnLive code 
       fits_second : rd < length y.registers
       fits_second = subst (λ k. rd < k) (sym agree.second.count) fits
 
-      has_first : (n : ℕ) → writes inst (call_asked x) n ≡ true → slice_index (put x.registers rd value) n ≡ value
+      has_first : (n : ℕ) → writes_register inst (call_asked x) n ≡ true → slice_index (put x.registers rd value) n ≡ value
       has_first n w = written_register_has_value x.registers rd value n fits_first (sym (is n) ∙ w)
 
-      has_second : (n : ℕ) → writes inst (call_asked x) n ≡ true → slice_index (put y.registers rd other) n ≡ other
+      has_second : (n : ℕ) → writes_register inst (call_asked x) n ≡ true → slice_index (put y.registers rd other) n ≡ other
       has_second n w = written_register_has_value y.registers rd other n fits_second (sym (is n) ∙ w)
 
-      keeps_first : (n : ℕ) → writes inst (call_asked x) n ≡ false → slice_index (put x.registers rd value) n ≡ register x n
+      keeps_first : (n : ℕ) → writes_register inst (call_asked x) n ≡ false → slice_index (put x.registers rd value) n ≡ register x n
       keeps_first n w = other_register_is_kept x.registers rd value n (sym (is n) ∙ w)
 
-      keeps_second : (n : ℕ) → writes inst (call_asked x) n ≡ false → slice_index (put y.registers rd other) n ≡ register y n
+      keeps_second : (n : ℕ) → writes_register inst (call_asked x) n ≡ false → slice_index (put y.registers rd other) n ≡ register y n
       keeps_second n w = other_register_is_kept y.registers rd other n (sym (is n) ∙ w)
 
   -- nothing is written
   pub cores_agree_without_write : (pc other_pc : ℕ) (memory other_memory : List ℕ) → pc ≡ other_pc → memory ≡ other_memory
-      → ((n : ℕ) → writes inst (call_asked x) n ≡ false)
+      → ((n : ℕ) → writes_register inst (call_asked x) n ≡ false)
       → MayGoTo inst (call_asked x) x.pc pc
       → AgreeOnLive code (record { pc = pc; registers = x.registers; memory = memory })
       (record { pc = other_pc; registers = y.registers; memory = other_memory })

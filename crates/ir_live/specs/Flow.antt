@@ -59,36 +59,36 @@ abbrev pub is_written : Register → ℕ → Bool
 is_written rd register = (rd.number == register) && nat_lt 0 register
 
 -- whether an instruction reads a register, where a7 asks for this call
-abbrev pub reads : Inst → ℕ → ℕ → Bool
-reads (Lui rd imm) number register = false
-reads (Auipc rd imm) number register = false
-reads (Jal rd offset) number register = false
-reads (Jalr rd rs1 imm) number register = is_one rs1 register
-reads (Branch op rs1 rs2 offset) number register = is_one rs1 register || is_one rs2 register
-reads (Load op rd rs1 imm) number register = is_one rs1 register
-reads (Store op rs1 rs2 imm) number register = is_one rs1 register || is_one rs2 register
-reads (OpImm op rd rs1 imm) number register = is_one rs1 register
-reads (Shift op rd rs1 amount) number register = is_one rs1 register
-reads (Op op rd rs1 rs2) number register = is_one rs1 register || is_one rs2 register
-reads (Fence rd rs1 imm) number register = false
-reads Ecall number register = nat_le 10 register && nat_lt register (10 + argument_count (call_of Two number))
-reads Ebreak number register = false
+abbrev pub reads_register : Inst → ℕ → ℕ → Bool
+reads_register (Lui rd imm) number register = false
+reads_register (Auipc rd imm) number register = false
+reads_register (Jal rd offset) number register = false
+reads_register (Jalr rd rs1 imm) number register = is_one rs1 register
+reads_register (Branch op rs1 rs2 offset) number register = is_one rs1 register || is_one rs2 register
+reads_register (Load op rd rs1 imm) number register = is_one rs1 register
+reads_register (Store op rs1 rs2 imm) number register = is_one rs1 register || is_one rs2 register
+reads_register (OpImm op rd rs1 imm) number register = is_one rs1 register
+reads_register (Shift op rd rs1 amount) number register = is_one rs1 register
+reads_register (Op op rd rs1 rs2) number register = is_one rs1 register || is_one rs2 register
+reads_register (Fence rd rs1 imm) number register = false
+reads_register Ecall number register = nat_le 10 register && nat_lt register (10 + argument_count (call_of Two number))
+reads_register Ebreak number register = false
 
 -- whether it writes the register
-abbrev pub writes : Inst → ℕ → ℕ → Bool
-writes (Lui rd imm) number register = is_written rd register
-writes (Auipc rd imm) number register = is_written rd register
-writes (Jal rd offset) number register = is_written rd register
-writes (Jalr rd rs1 imm) number register = is_written rd register
-writes (Branch op rs1 rs2 offset) number register = false
-writes (Load op rd rs1 imm) number register = is_written rd register
-writes (Store op rs1 rs2 imm) number register = false
-writes (OpImm op rd rs1 imm) number register = is_written rd register
-writes (Shift op rd rs1 amount) number register = is_written rd register
-writes (Op op rd rs1 rs2) number register = is_written rd register
-writes (Fence rd rs1 imm) number register = false
-writes Ecall number register = (register == 10) && has_answer (call_of Two number)
-writes Ebreak number register = false
+abbrev pub writes_register : Inst → ℕ → ℕ → Bool
+writes_register (Lui rd imm) number register = is_written rd register
+writes_register (Auipc rd imm) number register = is_written rd register
+writes_register (Jal rd offset) number register = is_written rd register
+writes_register (Jalr rd rs1 imm) number register = is_written rd register
+writes_register (Branch op rs1 rs2 offset) number register = false
+writes_register (Load op rd rs1 imm) number register = is_written rd register
+writes_register (Store op rs1 rs2 imm) number register = false
+writes_register (OpImm op rd rs1 imm) number register = is_written rd register
+writes_register (Shift op rd rs1 amount) number register = is_written rd register
+writes_register (Op op rd rs1 rs2) number register = is_written rd register
+writes_register (Fence rd rs1 imm) number register = false
+writes_register Ecall number register = (register == 10) && has_answer (call_of Two number)
+writes_register Ebreak number register = false
 
 -- the value that an instruction writes, if it is the same whatever the registers hold, of which x0 holds 0
 abbrev pub constant_of : Inst → Option ℕ

@@ -4,7 +4,7 @@ use Rattle.std.specs.List.{slice_index_or}
 use Rattle.ir_isa.specs.declared.inst.Inst.{Inst}
 use Rattle.ir_image.specs.Guest.{fetched, code_start}
 use Rattle.ir_image.specs.declared.fetched.Fetched.TheVariants.{Found}
-use Rattle.ir_live.specs.Flow.{reads, writes, constant_of, AsksAfter, MayGoTo, call_limit}
+use Rattle.ir_live.specs.Flow.{reads_register, writes_register, constant_of, AsksAfter, MayGoTo, call_limit}
 use Rattle.ir_live.specs.Live.{Point, IsLiveRegister}
 use Rattle.ir_live.specs.Table.{is_marked}
 
@@ -30,11 +30,11 @@ AreAnywhere marks anywhere = (place : ℕ) → place < places_of_word
 -- a register is marked at a point that may come after this one
 abbrev pub IsMarkedAfter : List Bool → Inst → Point → ℕ → Type 0
 IsMarkedAfter marks inst p register = (next : Point) × MayGoTo inst p.number p.pc next.pc
-    × AsksAfter (writes inst p.number 17) (constant_of inst) p.number next.number × (is_marked marks next register ≡ true)
+    × AsksAfter (writes_register inst p.number 17) (constant_of inst) p.number next.number × (is_marked marks next register ≡ true)
 
 -- the instruction at a point reads a register, or leaves it to a point where it is marked
 abbrev pub IsSeen : List Bool → Inst → Point → ℕ → Type 0
-IsSeen marks inst p register = (reads inst p.number register ≡ true) ⊎ ((writes inst p.number register ≡ false) × IsMarkedAfter marks inst p register)
+IsSeen marks inst p register = (reads_register inst p.number register ≡ true) ⊎ ((writes_register inst p.number register ≡ false) × IsMarkedAfter marks inst p register)
 
 -- live registers alone are marked
 abbrev pub AreLive : List ℕ → List Bool → Type 0

@@ -5,7 +5,7 @@ ghost use Rattle.ir_mach.specs.Core.{next_pc};
 ghost use Rattle.ir_mach.specs.Execution.{immediate_result, low_32};
 ghost use Rattle.ir_thread.specs.State.{call_of};
 ghost use Rattle.ir_thread.specs.declared.profile.Profile.TheVariants.{Two};
-ghost use Rattle.ir_live.specs.Flow.{argument_count, has_answer, can_go_on, call_limit, call_number, is_one, is_written, reads, writes, constant_of, AsksAfter, MayGoTo};
+ghost use Rattle.ir_live.specs.Flow.{argument_count, has_answer, can_go_on, call_limit, call_number, is_one, is_written, reads_register, writes_register, constant_of, AsksAfter, MayGoTo};
 ghost use Rattle.ir_live.specs.Ways.{LeadsTo, MayAsk};
 
 use ir_isa::{ImmediateOp, Inst, Register};
@@ -114,7 +114,7 @@ fn call_writes(number: u32, register: u8) -> bool
 
 /// Whether an instruction reads a register, where a7 asks for this call.
 pub fn reads(inst: &Inst, number: u32, register: u8) -> bool
-    ensures { result ≡ reads inst.now number register }
+    ensures { result ≡ reads_register inst.now number register }
 {
     match *inst {
         Inst::Lui { .. } => false,
@@ -135,7 +135,7 @@ pub fn reads(inst: &Inst, number: u32, register: u8) -> bool
 
 /// Whether it writes the register.
 pub fn writes(inst: &Inst, number: u32, register: u8) -> bool
-    ensures { result ≡ writes inst.now number register }
+    ensures { result ≡ writes_register inst.now number register }
 {
     match *inst {
         Inst::Lui { rd, .. } => is_written(rd, register),
@@ -211,8 +211,8 @@ fn constant_sum(op: ImmediateOp, rs1: Register, imm: i32) -> Option<u32>
 pub fn asked_after(inst: &Inst, number: u32) -> Option<u32>
     requires { number < call_limit }
     ensures low { IfSome result (λ known. known < call_limit) }
-    ensures asks { (after : ℕ) → MayAsk result after → AsksAfter (writes inst.now number 17) (constant_of inst.now) number after }
-    ensures only { (after : ℕ) → AsksAfter (writes inst.now number 17) (constant_of inst.now) number after → MayAsk result after }
+    ensures asks { (after : ℕ) → MayAsk result after → AsksAfter (writes_register inst.now number 17) (constant_of inst.now) number after }
+    ensures only { (after : ℕ) → AsksAfter (writes_register inst.now number 17) (constant_of inst.now) number after → MayAsk result after }
 {
     if !writes(inst, number, A7) {
         return Some(number);

@@ -10,7 +10,7 @@ use Rattle.ir_record.specs.Refusing.{Turn, plain_turns}
 use Rattle.ir_record.specs.declared.item.Item.{Item}
 use Rattle.ir_record.proofs.CallerLemmas.{plain_turns_of_append}
 use Rattle.ir_record.specs.declared.turns.Turns.{Turns}
-use Rattle.ir_record_run.specs.Order.{most_turns, joined, item_of, items_of, order_of}
+use Rattle.ir_record_run.specs.Order.{most_turns, items_joined, item_of, items_of, order_of}
 use Rattle.ir_order.specs.Spelling.{item_text, with_item, SpellsTurns, Spells, IsListOf}
 use Rattle.ir_order.proofs.Items.{item_of_item_text_is_repeated_turn, split_of_item_text_is_itself, item_text_is_not_empty}
 
@@ -37,19 +37,19 @@ split_at_mark_between p (b ∷ bs) mark cs is = elim (cases_Bool (p b)) [
 
 -- ---- items one after the other
 
-joined_associative : (a b c : Option (List Turn)) → joined a (joined b c) ≡ joined (joined a b) c
+joined_associative : (a b c : Option (List Turn)) → items_joined a (items_joined b c) ≡ items_joined (items_joined a b) c
 joined_associative None b c = refl
 joined_associative (Some a) None c = refl
 joined_associative (Some a) (Some b) None = refl
 joined_associative (Some a) (Some b) (Some c) = ap (λ (z : List Turn). Some z) (sym (append_assoc a b c))
 
-joined_with_empty : (a : Option (List Turn)) → joined (Some []) a ≡ a
+joined_with_empty : (a : Option (List Turn)) → items_joined (Some []) a ≡ a
 joined_with_empty None = refl
 joined_with_empty (Some a) = refl
 
-items_of_append_are_joined : (n : ℕ) (items more : List (List ℕ)) → items_of n (items ++ more) ≡ joined (items_of n items) (items_of n more)
+items_of_append_are_joined : (n : ℕ) (items more : List (List ℕ)) → items_of n (items ++ more) ≡ items_joined (items_of n items) (items_of n more)
 items_of_append_are_joined n [] more = sym (joined_with_empty (items_of n more))
-items_of_append_are_joined n (item ∷ items) more = ap (joined (item_of n item)) (items_of_append_are_joined n items more)
+items_of_append_are_joined n (item ∷ items) more = ap (items_joined (item_of n item)) (items_of_append_are_joined n items more)
     ∙ joined_associative (item_of n item) (items_of n items) (items_of n more)
 
 -- ---- all of two lists
@@ -69,10 +69,10 @@ order_of_item_text_is_repeated_turn : (n thread : ℕ) (refused : Bool) (count :
     → order_of n (item_text thread refused count) ≡ Some (replicate count (thread, refused))
 order_of_item_text_is_repeated_turn n thread refused count l small some few =
     ap (items_of n) (split_of_item_text_is_itself thread refused count small few)
-    ∙ ap (λ (z : Option (List Turn)). joined z (Some [])) (item_of_item_text_is_repeated_turn n thread refused count l small some few)
+    ∙ ap (λ (z : Option (List Turn)). items_joined z (Some [])) (item_of_item_text_is_repeated_turn n thread refused count l small some few)
     ∙ ap (λ (z : List Turn). Some z) (append-nil (replicate count (thread, refused)))
 
-order_of_list_with_item_is_joined_orders : (n : ℕ) (list item : List ℕ) → order_of n (list ++ 44 ∷ item) ≡ joined (order_of n list) (order_of n item)
+order_of_list_with_item_is_joined_orders : (n : ℕ) (list item : List ℕ) → order_of n (list ++ 44 ∷ item) ≡ items_joined (order_of n list) (order_of n item)
 order_of_list_with_item_is_joined_orders n list item = ap (items_of n) (split_at_mark_between (λ b. b == 44) list 44 item (eq-eqb 44 44 refl))
     ∙ items_of_append_are_joined n (slice_split (λ b. b == 44) list) (slice_split (λ b. b == 44) item)
 
@@ -97,8 +97,8 @@ is_list_of_holds_with_item_added (b ∷ list) turns thread refused count small s
   λ n all.
       let parts = all_by_recursion_of_both_parts_if_of_append (λ t. t.0 < n) turns (replicate count (thread, refused)) all in
       order_of_list_with_item_is_joined_orders n (b ∷ list) (item_text thread refused count)
-      ∙ ap (λ (z : Option (List Turn)). joined z (order_of n (item_text thread refused count))) (h.1 n parts.0)
-      ∙ ap (joined (Some turns))
+      ∙ ap (λ (z : Option (List Turn)). items_joined z (order_of n (item_text thread refused count))) (h.1 n parts.0)
+      ∙ ap (items_joined (Some turns))
       (order_of_item_text_is_repeated_turn n thread refused count (element_has_property_if_all_of_replicate_do (λ t. t.0 < n) count (thread, refused) some parts.1) small some few),
 )
 

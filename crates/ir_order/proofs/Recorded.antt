@@ -13,11 +13,11 @@ use Rattle.ir_record.specs.Recording.{AreAnswers, IsRecordingOf}
 use Rattle.ir_record.specs.Recordings.{IsRecordingByTurns}
 use Rattle.ir_record.specs.Refusing.{Turn, plain_turns}
 use Rattle.ir_record.proofs.CallerLemmas.{is_run_if_in_turns}
-use Rattle.ir_record.specs.Worlds.{Answered, answers_in}
+use Rattle.ir_record.specs.Worlds.{AnsweredCall, answers_in}
 use Rattle.ir_record_run.specs.Order.{order_of}
 use Rattle.ir_record_run.specs.Plan.{Plan}
 use Rattle.ir_record_run.specs.Recording.{unasked, IsRecordedBy, IsRecordedOf}
-use Rattle.ir_sources.specs.Sources.{origin_of, IsAnswered}
+use Rattle.ir_sources.specs.Sources.{origin_of, IsAnsweredFrom}
 use Rattle.ir_order.specs.OneRun.{AreSame, IsAnsweredByTurns}
 use Rattle.ir_order.specs.Recording.{IsPlanned, IsPlannedInTurns, IsOfRun, RecordingsAreOfTheRun, OneRecordingByAList}
 use Rattle.ir_order.proofs.OneRun.{one_run_by_turns, answered_by_turns_if_answered_by_order}
@@ -34,8 +34,8 @@ is_whole_of_same_run m s n tr a b same runs done w = record {
 }
 
 -- what is recorded of a run is of each that is the same
-recording_is_of_same_run : (guest : Guest) (budget : ℕ) (profile : Profile) (turns : List Turn) (run b : List Step) (before : List (List Answered)) (trace : Recorded)
-    (outputs : List (List ℕ)) (answers : List (List Answered)) (made : _) → IsAnsweredByTurns guest budget profile turns made run
+recording_is_of_same_run : (guest : Guest) (budget : ℕ) (profile : Profile) (turns : List Turn) (run b : List Step) (before : List (List AnsweredCall)) (trace : Recorded)
+    (outputs : List (List ℕ)) (answers : List (List AnsweredCall)) (made : _) → IsAnsweredByTurns guest budget profile turns made run
     → AreSame (machine (start_flat guest budget profile)) (tables (start_flat guest budget profile)) run b
     → IsRecordingOf guest budget profile b before trace outputs answers → IsOfRun guest budget profile run trace outputs
 recording_is_of_same_run guest budget profile turns run b before trace outputs answers made x same h =
@@ -56,30 +56,30 @@ recording_is_of_same_run guest budget profile turns run b before trace outputs a
     }
 
 -- the answers that were kept of a thread are those in its log
-kept_answers_are_logged : (guest : Guest) (budget : ℕ) (profile : Profile) (run : List Step) (answers : List (List Answered)) (t : ℕ) → t < length guest.entries
+kept_answers_are_logged : (guest : Guest) (budget : ℕ) (profile : Profile) (run : List Step) (answers : List (List AnsweredCall)) (t : ℕ) → t < length guest.entries
     → AreAnswers guest budget profile run (unasked guest) answers
     → get_or answers t [] ≡ answers_in (log (machine (start_flat guest budget profile)) (tables (start_flat guest budget profile)) run t)
 kept_answers_are_logged guest budget profile run answers t l h =
     get_or_from_slice_get answers t _ [] (h.each t l)
-    ∙ ap (λ (z : List Answered). z ++ answers_in (log (machine (start_flat guest budget profile)) (tables (start_flat guest budget profile)) run t))
+    ∙ ap (λ (z : List AnsweredCall). z ++ answers_in (log (machine (start_flat guest budget profile)) (tables (start_flat guest budget profile)) run t))
     (get_or-replicate (length guest.entries) t [] [] l)
 
 -- the run that was recorded was answered by the plan's sources
-recorded_run_is_planned : (guest : Guest) (plan : Plan) (list : List ℕ) (turns : List Turn) (trace : Recorded) (outputs : List (List ℕ)) (answers : List (List Answered))
+recorded_run_is_planned : (guest : Guest) (plan : Plan) (list : List ℕ) (turns : List Turn) (trace : Recorded) (outputs : List (List ℕ)) (answers : List (List AnsweredCall))
     → plan.order ≡ Some list → (r : IsRecordingByTurns guest plan.budget plan.profile turns (unasked guest) trace outputs answers)
-    → ((t : ℕ) → t < length guest.entries → IsAnswered (origin_of (is_some plan.order) plan.random plan.input t) (get_or answers t []))
+    → ((t : ℕ) → t < length guest.entries → IsAnsweredFrom (origin_of (is_some plan.order) plan.random plan.input t) (get_or answers t []))
     → IsPlannedInTurns guest plan turns r.0
 recorded_run_is_planned guest plan list turns trace outputs answers is r answered = record {
   by_turns = r.1;
-  answered = λ t l. subst (IsAnswered (origin_of true plan.random plan.input t))
+  answered = λ t l. subst (IsAnsweredFrom (origin_of true plan.random plan.input t))
       (kept_answers_are_logged guest plan.budget plan.profile r.0 answers t l r.2.answered)
-      (subst (λ c. IsAnswered (origin_of c plan.random plan.input t) (get_or answers t [])) (ap is_some is) (answered t l));
+      (subst (λ c. IsAnsweredFrom (origin_of c plan.random plan.input t) (get_or answers t [])) (ap is_some is) (answered t l));
 }
 
 recording_is_of_planned_run : (guest : Guest) (plan : Plan) (list : List ℕ) (turns : List Turn) (run : List Step) (trace : Recorded) (outputs : List (List ℕ))
-    (answers : List (List Answered)) → plan.order ≡ Some list → IsPlannedInTurns guest plan turns run
+    (answers : List (List AnsweredCall)) → plan.order ≡ Some list → IsPlannedInTurns guest plan turns run
     → IsRecordingByTurns guest plan.budget plan.profile turns (unasked guest) trace outputs answers
-    → ((t : ℕ) → t < length guest.entries → IsAnswered (origin_of (is_some plan.order) plan.random plan.input t) (get_or answers t []))
+    → ((t : ℕ) → t < length guest.entries → IsAnsweredFrom (origin_of (is_some plan.order) plan.random plan.input t) (get_or answers t []))
     → IsOfRun guest plan.budget plan.profile run trace outputs
 recording_is_of_planned_run guest plan list turns run trace outputs answers is x r answered =
     recording_is_of_same_run guest plan.budget plan.profile turns run r.0 (unasked guest) trace outputs answers (origin_of true plan.random plan.input) x
@@ -92,9 +92,9 @@ planned_in_turns_if_planned_by_order : (guest : Guest) (plan : Plan) (order : Li
 planned_in_turns_if_planned_by_order guest plan order run x = answered_by_turns_if_answered_by_order guest plan.budget plan.profile order (origin_of true plan.random plan.input) run x
 
 -- what is recorded in turns is of each run that the guest makes by their order with the same answers
-pub recording_in_turns_is_of_run : (guest : Guest) (plan : Plan) (order : List ℕ) (run : List Step) (trace : Recorded) (outputs : List (List ℕ)) (answers : List (List Answered))
+pub recording_in_turns_is_of_run : (guest : Guest) (plan : Plan) (order : List ℕ) (run : List Step) (trace : Recorded) (outputs : List (List ℕ)) (answers : List (List AnsweredCall))
     → IsPlanned guest plan order run → IsRecordingByTurns guest plan.budget plan.profile (plain_turns order) (unasked guest) trace outputs answers
-    → ((t : ℕ) → t < length guest.entries → IsAnswered (origin_of true plan.random plan.input t) (get_or answers t []))
+    → ((t : ℕ) → t < length guest.entries → IsAnsweredFrom (origin_of true plan.random plan.input t) (get_or answers t []))
     → IsOfRun guest plan.budget plan.profile run trace outputs
 recording_in_turns_is_of_run guest plan order run trace outputs answers x r answered =
     recording_is_of_planned_run guest (record plan { order = Some [] }) [] (plain_turns order) run trace outputs answers refl (planned_in_turns_if_planned_by_order guest plan order run x) r
@@ -102,10 +102,10 @@ recording_in_turns_is_of_run guest plan order run trace outputs answers x r answ
 
 -- the same of a recording by the list
 recording_by_list_is_of_run : (guest : Guest) (plan : Plan) (list : List ℕ) (turns : List Turn) (run : List Step) (trace : Recorded) (outputs : List (List ℕ))
-    (answers : List (List Answered)) → plan.order ≡ Some list → order_of (length guest.entries) list ≡ Some turns
+    (answers : List (List AnsweredCall)) → plan.order ≡ Some list → order_of (length guest.entries) list ≡ Some turns
     → IsPlannedInTurns guest plan turns run
     → IsRecordedBy (Some list) guest plan.budget plan.profile trace outputs answers
-    → ((t : ℕ) → t < length guest.entries → IsAnswered (origin_of (is_some plan.order) plan.random plan.input t) (get_or answers t []))
+    → ((t : ℕ) → t < length guest.entries → IsAnsweredFrom (origin_of (is_some plan.order) plan.random plan.input t) (get_or answers t []))
     → IsOfRun guest plan.budget plan.profile run trace outputs
 recording_by_list_is_of_run guest plan list turns run trace outputs answers is spelled x (other, spelled', r) answered =
     let same : other ≡ turns = cc (spelled, spelled') in
@@ -144,9 +144,9 @@ record RecordedRun (image : List ℕ) (plan : Plan) (list : List ℕ) (guest : G
   planned : IsPlannedInTurns guest plan turns run
   of : IsOfRun guest plan.budget plan.profile run trace outputs
 
-recording_by_list_has_run : (image : List ℕ) (plan : Plan) (list : List ℕ) (guest : Guest) (trace : Recorded) (outputs : List (List ℕ)) (answers : List (List Answered))
+recording_by_list_has_run : (image : List ℕ) (plan : Plan) (list : List ℕ) (guest : Guest) (trace : Recorded) (outputs : List (List ℕ)) (answers : List (List AnsweredCall))
     → plan.order ≡ Some list → IsRecordedBy (Some list) guest plan.budget plan.profile trace outputs answers
-    → ((t : ℕ) → t < length guest.entries → IsAnswered (origin_of (is_some plan.order) plan.random plan.input t) (get_or answers t []))
+    → ((t : ℕ) → t < length guest.entries → IsAnsweredFrom (origin_of (is_some plan.order) plan.random plan.input t) (get_or answers t []))
     → RecordedRun image plan list guest trace outputs
 recording_by_list_has_run image plan list guest trace outputs answers is (turns, spelled, r) answered = record {
   turns = turns;

@@ -10,7 +10,7 @@ use Rattle.ir_flat.specs.Flat.{start_flat, tables, machine}
 use Rattle.ir_thread.specs.State as thread
 use Rattle.ir_record.specs.Refusing.{Turn, plain_turns, IsByTurns}
 use Rattle.ir_record.specs.Worlds.{answers_in}
-use Rattle.ir_sources.specs.Sources.{MadeWith, IsAnswered}
+use Rattle.ir_sources.specs.Sources.{MadeWith, IsAnsweredFrom}
 
 -- of each step of a run its thread and its act
 abbrev pub acts : {T : Type 0} → Machine T → State T → List Step → List (ℕ × Act)
@@ -30,7 +30,7 @@ pub record AreSame {T : Type 0} (m : Machine T) (s : State T) (a b : List Step) 
 
 -- in the run each of the first n threads was answered by a world that was made so
 abbrev pub AreAnswered : {T : Type 0} → Machine T → State T → ℕ → (ℕ → MadeWith) → List Step → Type 0
-AreAnswered m s n made run = (t : ℕ) → t < n → IsAnswered (made t) (answers_in (log m s run t))
+AreAnswered m s n made run = (t : ℕ) → t < n → IsAnsweredFrom (made t) (answers_in (log m s run t))
 
 -- a run of a guest by an order, whose threads were answered by worlds that were made so
 pub record IsAnsweredByOrder (guest : Guest) (budget : ℕ) (profile : Profile) (order : List ℕ) (made : ℕ → MadeWith) (run : List Step) : Type 0 where

@@ -8,7 +8,7 @@ use Rattle.ir_states.specs.Orders.{IsAlone}
 use Rattle.ir_store.specs.Nodes.{SourcedFlat}
 use Rattle.ir_graph.specs.Plain.{full_by, full_of, IsAnsweredRun}
 use Rattle.ir_graph.specs.Reached.{beginning}
-use Rattle.ir_graph.specs.Setup.{Setup, start_of}
+use Rattle.ir_graph.specs.Setup.{Setup, setup_start}
 use Rattle.ir_graph.specs.Turn.{GoesAlone, ways_taken}
 use Rattle.ir_graph.proofs.CallerLemmas.{ways_taken-append, like_reflexive, like_transitive, flat_after_going_alone_is_like_flat_before, answered_run_append, run_of_going_alone_is_in_turns_of_its_thread}
 use Rattle.ir_explore.specs.declared.origin.Origin.{Origin}
@@ -57,9 +57,9 @@ threads_of_turns_append_replicate [] t refused (suc n) = ap (λ z. t ∷ z) (thr
 threads_of_turns_append_replicate (u ∷ turns) t refused n = ap (λ z. u.0 ∷ z) (threads_of_turns_append_replicate turns t refused n)
 
 -- the start is a run of no step
-pub start_is_again_by_no_turns : (setup : Setup) → IsAgain setup [] [] (start_of setup)
+pub start_is_again_by_no_turns : (setup : Setup) → IsAgain setup [] [] (setup_start setup)
 start_is_again_by_no_turns setup = record {
-  like = like_reflexive (start_of setup).flat;
+  like = like_reflexive (setup_start setup).flat;
   steps = [];
   answered = (tt, tt);
   in_turns = refl;
@@ -90,7 +90,7 @@ is_again_after_going_alone setup turns before s u t refused n e a goes =
     ∙ sym (end_append (full_by code) first a.steps goes.run) in
     let late : ways_taken (full_by code) there goes.run ≡ replicate e (t, refused) =
     ap (λ z. ways_taken (full_by code) z goes.run) (sym a.ends) ∙ ap (λ z. ways_taken (full_by z) (full_of s) goes.run) (sym same) ∙ goes.ways in record {
-      like = like_transitive (start_of setup).flat s.flat u.flat a.like (flat_after_going_alone_is_like_flat_before s u t refused n e goes);
+      like = like_transitive (setup_start setup).flat s.flat u.flat a.like (flat_after_going_alone_is_like_flat_before s u t refused n e goes);
       steps = a.steps ++ goes.run;
       answered = answered_run_append code first a.steps goes.run a.answered answered;
       in_turns = in_turns_append (full_by code) first turns (replicate n (t, refused)) a.steps goes.run a.in_turns in_turns;

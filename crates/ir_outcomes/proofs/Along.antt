@@ -12,7 +12,7 @@ use Rattle.ir_store.specs.Nodes.{SourcedFlat}
 use Rattle.ir_graph.specs.Graph.{IsGraph}
 use Rattle.ir_graph.specs.Nodes.{AllRest}
 use Rattle.ir_graph.specs.Plain.{GoesPlain}
-use Rattle.ir_graph.specs.Setup.{Setup, start_of}
+use Rattle.ir_graph.specs.Setup.{Setup, setup_start}
 use Rattle.ir_graph.proofs.CallerLemmas.{plain_start_is_reached}
 use Rattle.ir_outcomes.specs.Along.{AlongPath, ArrivesBy, FailsBy, HaveWays, MayFail, StandsAt}
 use Rattle.ir_outcomes.specs.Path.{FallInLevel, IsPathTo, ways_of}
@@ -108,7 +108,7 @@ module _ {table : List Refusal} {path : List Origin} {node : ℕ} {s : SourcedFl
 -- where the threads come to rest from the start the path can be gone along
 abbrev pub along_path_from_first_node : (setup : Setup) (flats : List SourcedFlat) (noted : ℕ → BothWays) (threads : ℕ) (table : List Refusal)
     (origins path : List Origin) (node : ℕ) (s : SourcedFlat) → IsGraph setup flats noted threads → AreReached noted table origins
-    → IsPathTo origins node path → GoesPlain (start_of setup) s → AllRest s.flat → length s.sources ≡ length s.flat.threads
+    → IsPathTo origins node path → GoesPlain (setup_start setup) s → AllRest s.flat → length s.sources ≡ length s.flat.threads
     → AlongPath table path node s
 along_path_from_first_node setup flats noted threads table origins path node s graph reached leads goes rest each =
     let first = element_below_length_exists flats 0 graph.some in record {

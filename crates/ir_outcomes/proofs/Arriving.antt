@@ -17,8 +17,8 @@ use Rattle.ir_store.specs.Nodes.{SourcedFlat}
 use Rattle.ir_graph.specs.Graph.{IsGraph}
 use Rattle.ir_graph.specs.Nodes.{seen_by, answered_by, seen_of, Alike, AllRest, IsStepBy, HasStepBy}
 use Rattle.ir_graph.specs.Plain.{full_by, full_of, sources_by, GoesPlain, OthersStay, MayGo, Rests, result_by}
-use Rattle.ir_graph.specs.Setup.{Setup, start_of}
-use Rattle.ir_graph.specs.Stops.{IsStop, StopsAt}
+use Rattle.ir_graph.specs.Setup.{Setup, setup_start}
+use Rattle.ir_graph.specs.Stops.{IsStop, StopsFollowing}
 use Rattle.ir_graph.proofs.CallerLemmas.{TakesStep, all_rest_after_turn, every_number_rests_if_all_rest, flat_after_plain_steps_is_like_flat_before, is_stop_if_stops_after_entry_from_reached_state, like_transitive, no_seen_refusal_unless_try, no_seen_step_if_no_step, rest_ask_is_not_own, seen_state, step_of_reached_is_reached}
 use Rattle.ir_outcomes.specs.Along.{StandsAt, ArrivesBy, FailsBy}
 use Rattle.ir_outcomes.specs.declared.rerun_error.RerunError.{RerunError}
@@ -90,7 +90,7 @@ stands_after_plain_steps setup flats v s u stands goes =
           (subst (λ z. Rests (ask_of s.flat.code z)) (sym (ap (λ z. (z.now t).0) same))
           (stands.rest t (let n = goes.threads in omega (arith, less, n))));
       reached = record {
-        like = like_transitive (start_of setup).flat s.flat u.flat stands.reached.like (flat_after_plain_steps_is_like_flat_before s u goes);
+        like = like_transitive (setup_start setup).flat s.flat u.flat stands.reached.like (flat_after_plain_steps_is_like_flat_before s u goes);
         steps = stands.reached.steps;
         answered = stands.reached.answered;
         ends = same ∙ stands.reached.ends;
@@ -105,7 +105,7 @@ arrives_by_plain_steps t s u goes setup flats noted threads size v w g stands sa
 pub arrives_by_no_ways : (t : ℕ) (s : SourcedFlat) → ArrivesBy t [] s s
 arrives_by_no_ways t s setup flats noted threads size v w g stands same = subst (λ z. StandsAt setup flats z s) same stands
 
-pub fails_at_rest : (limit t : ℕ) (ways : List Bool) (s u : SourcedFlat) (stop : Stop) → GoesPlain s u → StopsAt s u t limit stop
+pub fails_at_rest : (limit t : ℕ) (ways : List Bool) (s u : SourcedFlat) (stop : Stop) → GoesPlain s u → StopsFollowing s u t limit stop
     → FailsBy limit t ways s (Stopped stop)
 fails_at_rest limit t ways s u stop goes stops setup flats noted threads size v w g stands path = record {
   from = s;
@@ -171,7 +171,7 @@ module _ (setup : Setup) (flats : List SourcedFlat) (noted : ℕ → BothWays) (
         each = goes.sources ∙ step.sources ∙ stands.each ∙ sym step.threads ∙ sym goes.threads;
       }
 
-  pub stop_after_turn : (limit : ℕ) (stop : Stop) (u k : SourcedFlat) → TakesStep s u t (result_by refused) → GoesPlain u k → StopsAt u k t limit stop
+  pub stop_after_turn : (limit : ℕ) (stop : Stop) (u k : SourcedFlat) → TakesStep s u t (result_by refused) → GoesPlain u k → StopsFollowing u k t limit stop
       → IsStop setup limit stop
   stop_after_turn limit stop u k step goes stops =
       is_stop_if_stops_after_entry_from_reached_state setup limit stop s u k t (result_by refused) stands.reached rests step goes stops

@@ -12,21 +12,21 @@ use Rattle.ir_thread.specs.State.{most_budget}
 use Rattle.ir_flat.specs.Flat.{Flat, tables}
 use Rattle.ir_store.specs.Nodes.{SourcedFlat}
 use Rattle.ir_graph.specs.Listing.{HasOutcome, AreOutcomes}
-use Rattle.ir_graph.specs.Outcomes.{outcome_of, AllListed}
+use Rattle.ir_graph.specs.Outcomes.{run_outcome, AllListed}
 use Rattle.ir_graph.specs.Searched.{AreSearched}
 use Rattle.ir_graph.specs.Setup.{Setup, IsCountedOf}
 use Rattle.ir_explore.specs.Following.{Stay}
 use Rattle.ir_outcomes.specs.Exploring.{HasShown}
-use Rattle.ir_outcomes.specs.Explored.{IsAt, IsIn, AreExplored, AreAll, AreShown}
+use Rattle.ir_outcomes.specs.Explored.{ShowsState, IsIn, AreExplored, AreAll, AreOutcomesShown}
 use Rattle.ir_outcomes.specs.Shown.{outcome_by, switches_by, IsShown}
 use Rattle.ir_outcomes.specs.declared.shown.Shown.{Shown}
 
 -- one more is shown
 pub are_shown_step : (setup : Setup) (flats : List SourcedFlat) (origins : List Origin) (listed : List ℕ) (many : ℕ) (outcomes : List Shown) (x : Shown)
-    → AreShown setup flats origins listed many outcomes → slice_get listed many ≡ Some x.node
+    → AreOutcomesShown setup flats origins listed many outcomes → slice_get listed many ≡ Some x.node
     → ((n : Origin) → slice_get origins x.node ≡ Some n → x.level ≡ n.level)
     → ((f : SourcedFlat) → slice_get flats x.node ≡ Some f → IsShown setup f x.level (turns_of_items x.turns.items))
-    → AreShown setup flats origins listed (many + 1) (outcomes ++ x ∷ [])
+    → AreOutcomesShown setup flats origins listed (many + 1) (outcomes ++ x ∷ [])
 are_shown_step setup flats origins listed many outcomes x s node level shown = record {
   count = let a = length-append outcomes (x ∷ []) in let b = s.count in omega (arith, a, b);
   node = λ i y is. elim (slice_get_after_push_cases outcomes x i y is) [
@@ -58,7 +58,7 @@ module _ (setup : Setup) (flats : List SourcedFlat) (origins : List Origin) (lev
       (x.0, x.1, same_Some x.0.node v (sym (has.shown.node i x.0 x.1) ∙ is))
 
   -- where a listed node has the outcome of a state, it is in the list
-  has_in : (f : Flat) → HasOutcome flats listed f → IsIn flats outcomes (outcome_of (tables f))
+  has_in : (f : Flat) → HasOutcome flats listed f → IsIn flats outcomes (run_outcome (tables f))
   has_in f h =
       let x = in_list h.place h.node h.stands in
       (h.place, x.0, h.state, (x.1, subst (λ z. slice_get flats z ≡ Some h.state) (sym x.2) h.at), h.same)
@@ -85,8 +85,8 @@ module _ (setup : Setup) (flats : List SourcedFlat) (origins : List Origin) (lev
         let h = has.different.all r.0 r.1 near r.3.0 r.3.1 in
         subst (IsIn flats outcomes) r.3.2 (has_in r.1.flat h.0)
 
-    level_least : (i : ℕ) (x : Shown) (f : SourcedFlat) → IsAt flats outcomes i x f → (budget : ℕ) (steps : List Step)
-        → IsCountedOf setup budget steps → outcome_by setup budget steps ≡ outcome_of (tables f.flat)
+    level_least : (i : ℕ) (x : Shown) (f : SourcedFlat) → ShowsState flats outcomes i x f → (budget : ℕ) (steps : List Step)
+        → IsCountedOf setup budget steps → outcome_by setup budget steps ≡ run_outcome (tables f.flat)
         → x.level ≤ switches_by setup budget steps
     level_least i x f at budget steps counted same = elim (cases_lt (switches_by setup budget steps) x.level) [
       | inl less ↦
@@ -237,14 +237,14 @@ pub has_shown_step : (setup : Setup) (flats : List SourcedFlat) (origins : List 
     → HasShown setup flats origins (suc seen) (listed ++ seen ∷ []) (outcomes ++ x ∷ [])
 has_shown_step setup flats origins seen listed outcomes x has different node level shown = record {
   different = different;
-  shown = subst (λ n. AreShown setup flats origins (listed ++ seen ∷ []) n (outcomes ++ x ∷ []))
+  shown = subst (λ n. AreOutcomesShown setup flats origins (listed ++ seen ∷ []) n (outcomes ++ x ∷ []))
       (let a = length-append listed (seen ∷ []) in omega (arith, a))
       (are_shown_step setup flats origins (listed ++ seen ∷ []) (length listed) outcomes x wide (slice_get_of_last_pushed listed seen ∙ ap Some (sym node))
       (λ n is. level n (subst (λ z. slice_get origins z ≡ Some n) node is))
       (λ f is. shown f (subst (λ z. slice_get flats z ≡ Some f) node is)));
 }
   where
-    wide : AreShown setup flats origins (listed ++ seen ∷ []) (length listed) outcomes
+    wide : AreOutcomesShown setup flats origins (listed ++ seen ∷ []) (length listed) outcomes
     wide = record {
       count = has.shown.count;
       node = λ i y is. slice_get_kept_by_append listed (seen ∷ []) i y.node (has.shown.node i y is);

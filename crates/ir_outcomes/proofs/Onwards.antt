@@ -20,10 +20,10 @@ use Rattle.ir_flat.specs.Flat.{tables, machine, thread_of, start_flat}
 use Rattle.ir_store.specs.Nodes.{SourcedFlat}
 use Rattle.ir_graph.specs.Graph.{IsGraph}
 use Rattle.ir_graph.specs.Nodes.{seen_by, answered_by, Alike, seen_of, LookAlike, AllRest, IsStepBy, HasStepBy}
-use Rattle.ir_graph.specs.Outcomes.{outcome_of}
+use Rattle.ir_graph.specs.Outcomes.{run_outcome}
 use Rattle.ir_graph.specs.Plain.{GoesPlain, MayGo, result_by}
 use Rattle.ir_graph.specs.Reached.{beginning, IsReached}
-use Rattle.ir_graph.specs.Setup.{Setup, first_source, start_of}
+use Rattle.ir_graph.specs.Setup.{Setup, first_source, setup_start}
 use Rattle.ir_graph.proofs.CallerLemmas.{TakesStep, every_number_rests_if_all_rest, seen_state_is_at_rest_if_all_rest, way_leads_to_alike_node, begins_by_plain_steps, look_alike_reflexive, counts_of_live_run_seen, end_of_live_run_seen, seen_state, tells_nothing_of_alike_seen_threads, outcomes_of_alike_states_are_equal}
 
 -- ---- what is seen of a state that a run leads to
@@ -31,7 +31,7 @@ use Rattle.ir_graph.proofs.CallerLemmas.{TakesStep, every_number_rests_if_all_re
 seen_machine_with_sources_is_lawful : (code : List ℕ) → IsLawful (seen_by code)
 seen_machine_with_sources_is_lawful code = sourced_machine_is_lawful (seen_machine code) given (seen_machine_is_lawful code)
 
-pub beginning_is_good : (x : Setup) → StateInvariant (seen_by x.guest.code) (seen_of (start_of x))
+pub beginning_is_good : (x : Setup) → StateInvariant (seen_by x.guest.code) (seen_of (setup_start x))
 beginning_is_good x = seen_good (thread_machine x.guest.code) (seen_machine x.guest.code) view (IsLive x.guest.code) (IsSpoilt x.guest.code)
     (seen_machine_is_view x.guest.code) (thread_is_live_or_next_step_spoils_it x.guest.code) given (λ y o. refl)
     (tables (start_flat x.guest most_budget x.profile)) (first_source x) (state_invariant_at_start x.guest most_budget x.profile)
@@ -39,10 +39,10 @@ beginning_is_good x = seen_good (thread_machine x.guest.code) (seen_machine x.gu
 pub reached_state_is_good : (x : Setup) (s : SourcedFlat) → IsReached x s → StateInvariant (seen_by x.guest.code) (seen_of s)
 reached_state_is_good x s r =
     let code = x.guest.code in
-    let ends : end (seen_by code) (seen_of (start_of x)) r.steps ≡ seen_of s =
+    let ends : end (seen_by code) (seen_of (setup_start x)) r.steps ≡ seen_of s =
     end_of_live_run_seen code (beginning x) r.steps r.answered.1 ∙ ap seen_state (sym r.ends) in
     subst (StateInvariant (seen_by code)) ends
-    (state_invariant_after_counting_run (seen_by code) (seen_machine_with_sources_is_lawful code) (answered_by code) (seen_of (start_of x)) (beginning_is_good x) r.steps
+    (state_invariant_after_counting_run (seen_by code) (seen_machine_with_sources_is_lawful code) (answered_by code) (seen_of (setup_start x)) (beginning_is_good x) r.steps
     (counts_of_live_run_seen code (beginning x) r.steps r.answered.1 r.answered.0))
 
 -- what looks the same as a state at rest is at rest
@@ -118,15 +118,15 @@ goes_where_alike_leads x s k u w n t refused reached same also alike rest rests 
 
 -- where the threads of a guest come to rest from its start looks the same as the first node
 pub rests_alike_at_first_node : (x : Setup) (flats : List SourcedFlat) (noted : ℕ → BothWays) (threads : ℕ) → IsGraph x flats noted threads
-    → (s n : SourcedFlat) → slice_get flats 0 ≡ Some n → GoesPlain (start_of x) s → AllRest s.flat → LookAlike s n
+    → (s n : SourcedFlat) → slice_get flats 0 ≡ Some n → GoesPlain (setup_start x) s → AllRest s.flat → LookAlike s n
 rests_alike_at_first_node x flats noted threads g s n at goes rest =
     let code = x.guest.code in
-    let own = begins_by_plain_steps (start_of x) s goes in
-    let seen : seen_start x.guest x.profile (first_source x) ≡ seen_of (start_of x) =
+    let own = begins_by_plain_steps (setup_start x) s goes in
+    let seen : seen_start x.guest x.profile (first_source x) ≡ seen_of (setup_start x) =
     ap (λ z. beside z (first_source x)) (start_view_ignores_budget x.guest 1 most_budget x.profile) in
     let begins = subst (λ z. Begins (seen_by code) (answered_by code) (Alike code) z (seen_of n)) seen (g.begins n at) in
     subst (λ c. Alike c (seen_of s) (seen_of n)) (sym goes.code)
-    (both_rest_alike code (seen_of (start_of x)) (beginning_is_good x) s n goes.code (g.code n at) rest (g.nodes.rest 0 n at) own.ahead begins.ahead own.goes begins.goes
+    (both_rest_alike code (seen_of (setup_start x)) (beginning_is_good x) s n goes.code (g.code n at) rest (g.nodes.rest 0 n at) own.ahead begins.ahead own.goes begins.goes
     own.alike begins.alike)
 
 -- ---- states in which all threads are done
@@ -140,6 +140,6 @@ done_if_alike_is s u same alike done t =
     ((tells_nothing_of_alike_seen_threads s.flat.code).asks (seen_of s) (seen_of u) alike t ∙ seen)
 
 pub done_with_its_outcome_if_alike_is : (s u : SourcedFlat) → u.flat.code ≡ s.flat.code → LookAlike s u → IsDone (machine u.flat) (tables u.flat)
-    → IsDone (machine s.flat) (tables s.flat) × (outcome_of (tables s.flat) ≡ outcome_of (tables u.flat))
+    → IsDone (machine s.flat) (tables s.flat) × (run_outcome (tables s.flat) ≡ run_outcome (tables u.flat))
 done_with_its_outcome_if_alike_is s u same alike done =
     (done_if_alike_is s u same alike done, outcomes_of_alike_states_are_equal s.flat.code (seen_of s) (seen_of u) alike)

@@ -12,7 +12,7 @@ use Rattle.ir_states.proofs.CallerLemmas.{plain_end, sourced_entering}
 use Rattle.ir_thread.specs.State.{most_budget, thread_machine}
 use Rattle.ir_flat.specs.Flat.{machine, start_flat, tables}
 use Rattle.ir_store.specs.Nodes.{SourcedFlat}
-use Rattle.ir_graph.specs.Outcomes.{outcome_of}
+use Rattle.ir_graph.specs.Outcomes.{run_outcome}
 use Rattle.ir_graph.specs.Plain.{full_by}
 use Rattle.ir_graph.specs.Reached.{beginning}
 use Rattle.ir_graph.specs.Setup.{Setup}
@@ -35,7 +35,7 @@ module _ (setup : Setup) (turns : List Turn) (table : List Refusal) (path : List
       subst (λ n. n ≤ length path - 1) same (switches_of_ways_back_below_path_length table path w.ways w.back)
 
   pub shown_if_again : (level : ℕ) (s : SourcedFlat) → length path ≤ suc level → IsDone (machine u.flat) (tables u.flat)
-      → outcome_of (tables u.flat) ≡ outcome_of (tables s.flat) → IsShown setup s level turns
+      → run_outcome (tables u.flat) ≡ run_outcome (tables s.flat) → IsShown setup s level turns
   shown_if_again level s few done same =
       let a = w.again in
       let code = setup.guest.code in
@@ -51,6 +51,6 @@ module _ (setup : Setup) (turns : List Turn) (table : List Refusal) (path : List
           done = really;
         };
         taken = a.taken;
-        same = ap outcome_of (sym threads_again) ∙ same;
+        same = ap run_outcome (sym threads_again) ∙ same;
         few = let l = switches_again in omega (arith, l, few);
       }

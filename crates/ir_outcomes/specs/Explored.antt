@@ -16,14 +16,14 @@ use Rattle.ir_graph.specs.Setup.{Setup, IsCountedOf}
 use Rattle.ir_graph.specs.Stops.{MayStop}
 use Rattle.ir_graph.specs.Times.{HasTimedRun}
 use Rattle.ir_graph.specs.declared.nodes.Bounds.{Bounds}
-use Rattle.ir_graph.specs.Outcomes.{Outcome, outcome_of}
+use Rattle.ir_graph.specs.Outcomes.{RunOutcome, run_outcome}
 use Rattle.ir_outcomes.specs.declared.explored.Explored.{Explored}
 use Rattle.ir_outcomes.specs.Shown.{outcome_by, switches_by, IsShown, IsHangShown}
 use Rattle.ir_outcomes.specs.declared.shown.Shown.{Shown}
 
 -- some complete run of the guest comes to it: one in which each call is answered by its thread's source, no budget is spent and no log is full,
 -- whatever the budget
-abbrev pub IsOutcomeOf : Setup → Outcome → Type 0
+abbrev pub IsOutcomeOf : Setup → RunOutcome → Type 0
 IsOutcomeOf setup x = (budget : ℕ) × (steps : List Step) × IsCountedOf setup budget steps × (outcome_by setup budget steps ≡ x)
 
 -- some run of the guest hangs: it counts, and no run that counts brings it to an end, even if no budget and no log came to its end
@@ -31,21 +31,21 @@ abbrev pub HasHang : Setup → Type 0
 HasHang setup = (budget : ℕ) × (steps : List Step) × IsHangOf setup budget steps
 
 -- the i-th of the listed is at this state
-abbrev pub IsAt : List SourcedFlat → List Shown → ℕ → Shown → SourcedFlat → Type 0
-IsAt flats outcomes i x s = (slice_get outcomes i ≡ Some x) × (slice_get flats x.node ≡ Some s)
+abbrev pub ShowsState : List SourcedFlat → List Shown → ℕ → Shown → SourcedFlat → Type 0
+ShowsState flats outcomes i x s = (slice_get outcomes i ≡ Some x) × (slice_get flats x.node ≡ Some s)
 
 -- one of the listed is this outcome
-abbrev pub IsIn : List SourcedFlat → List Shown → Outcome → Type 0
-IsIn flats outcomes y = (i : ℕ) × (x : Shown) × (s : SourcedFlat) × IsAt flats outcomes i x s × (outcome_of (tables s.flat) ≡ y)
+abbrev pub IsIn : List SourcedFlat → List Shown → RunOutcome → Type 0
+IsIn flats outcomes y = (i : ℕ) × (x : Shown) × (s : SourcedFlat) × ShowsState flats outcomes i x s × (run_outcome (tables s.flat) ≡ y)
 
 -- Different outcomes of the guest, each with turns that lead to it with fewest switches, by rising numbers of them. Those of runs with
 -- fewer switches than levels are all among them, and none needs more. Runs in which a budget is spent or a log is full aside.
 pub record AreExplored (setup : Setup) (flats : List SourcedFlat) (levels : ℕ) (outcomes : List Shown) : Type 0 where
-  pub shown : (i : ℕ) (x : Shown) (s : SourcedFlat) → IsAt flats outcomes i x s → IsShown setup s x.level (turns_of_items x.turns.items)
-  pub fewest : (i : ℕ) (x : Shown) (s : SourcedFlat) → IsAt flats outcomes i x s → (budget : ℕ) (steps : List Step)
-      → IsCountedOf setup budget steps → outcome_by setup budget steps ≡ outcome_of (tables s.flat) → x.level ≤ switches_by setup budget steps
-  pub different : (i j : ℕ) (x y : Shown) (s u : SourcedFlat) → IsAt flats outcomes i x s → IsAt flats outcomes j y u
-      → outcome_of (tables s.flat) ≡ outcome_of (tables u.flat) → i ≡ j
+  pub shown : (i : ℕ) (x : Shown) (s : SourcedFlat) → ShowsState flats outcomes i x s → IsShown setup s x.level (turns_of_items x.turns.items)
+  pub fewest : (i : ℕ) (x : Shown) (s : SourcedFlat) → ShowsState flats outcomes i x s → (budget : ℕ) (steps : List Step)
+      → IsCountedOf setup budget steps → outcome_by setup budget steps ≡ run_outcome (tables s.flat) → x.level ≤ switches_by setup budget steps
+  pub different : (i j : ℕ) (x y : Shown) (s u : SourcedFlat) → ShowsState flats outcomes i x s → ShowsState flats outcomes j y u
+      → run_outcome (tables s.flat) ≡ run_outcome (tables u.flat) → i ≡ j
   pub rising : (i j : ℕ) (x y : Shown) → slice_get outcomes i ≡ Some x → slice_get outcomes j ≡ Some y → i < j → x.level ≤ y.level
   pub nodes : (i : ℕ) (x : Shown) → slice_get outcomes i ≡ Some x → x.node < length flats
   pub most : (i : ℕ) (x : Shown) → slice_get outcomes i ≡ Some x → x.level ≤ levels
@@ -54,15 +54,15 @@ pub record AreExplored (setup : Setup) (flats : List SourcedFlat) (levels : ℕ)
 
 -- exactly the outcomes of the guest are listed
 abbrev pub AreAll : Setup → List SourcedFlat → List Shown → Type 0
-AreAll setup flats outcomes = (x : Outcome) → IsOutcomeOf setup x ↔ IsIn flats outcomes x
+AreAll setup flats outcomes = (x : RunOutcome) → IsOutcomeOf setup x ↔ IsIn flats outcomes x
 
 -- each of the listed nodes, up to a place, is shown
-pub record AreShown (setup : Setup) (flats : List SourcedFlat) (origins : List Origin) (listed : List ℕ) (many : ℕ) (outcomes : List Shown)
+pub record AreOutcomesShown (setup : Setup) (flats : List SourcedFlat) (origins : List Origin) (listed : List ℕ) (many : ℕ) (outcomes : List Shown)
     : Type 0 where
   pub count : length outcomes ≡ many
   pub node : (i : ℕ) (x : Shown) → slice_get outcomes i ≡ Some x → slice_get listed i ≡ Some x.node
   pub level : (i : ℕ) (x : Shown) (n : Origin) → slice_get outcomes i ≡ Some x → slice_get origins x.node ≡ Some n → x.level ≡ n.level
-  pub shown : (i : ℕ) (x : Shown) (s : SourcedFlat) → IsAt flats outcomes i x s → IsShown setup s x.level (turns_of_items x.turns.items)
+  pub shown : (i : ℕ) (x : Shown) (s : SourcedFlat) → ShowsState flats outcomes i x s → IsShown setup s x.level (turns_of_items x.turns.items)
 
 -- So many states can't be brought to an end, each of which some run leads to. Where there is one, a run is shown that hangs, with fewest
 -- switches of those that do.

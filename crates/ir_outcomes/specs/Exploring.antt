@@ -7,14 +7,14 @@ use Rattle.ir_graph.specs.Listing.{AreOutcomes}
 use Rattle.ir_graph.specs.Searched.{AreSearched, IsSearch, StandsBetween}
 use Rattle.ir_graph.specs.Setup.{Setup}
 use Rattle.ir_graph.specs.Stops.{MayStop}
-use Rattle.ir_outcomes.specs.Explored.{AreExplored, AreShown}
+use Rattle.ir_outcomes.specs.Explored.{AreExplored, AreOutcomesShown}
 use Rattle.ir_outcomes.specs.declared.exploring.Exploring.{Exploring}
 use Rattle.ir_outcomes.specs.declared.shown.Shown.{Shown}
 
 -- of the first `seen` nodes where all threads are done, the first with each outcome is listed, and shown
 pub record HasShown (setup : Setup) (flats : List SourcedFlat) (origins : List Origin) (seen : ℕ) (listed : List ℕ) (outcomes : List Shown) : Type 0 where
   pub different : AreOutcomes flats seen listed
-  pub shown : AreShown setup flats origins listed (length listed) outcomes
+  pub shown : AreOutcomesShown setup flats origins listed (length listed) outcomes
 
 -- The search can go on: it stands between two levels, and the outcomes among all states that it has found are shown, once it has gone over a
 -- level.

@@ -8,13 +8,13 @@ use Rattle.ir_thread.specs.State.{most_budget, thread_machine}
 use Rattle.ir_flat.specs.Flat.{tables, start_flat}
 use Rattle.ir_store.specs.Nodes.{SourcedFlat}
 use Rattle.ir_graph.specs.Hangs.{IsCounting, CanEnd, CanEndFrom, IsHangOf}
-use Rattle.ir_graph.specs.Outcomes.{Outcome, outcome_of}
+use Rattle.ir_graph.specs.Outcomes.{RunOutcome, run_outcome}
 use Rattle.ir_graph.specs.Setup.{Setup, IsCountedOf}
 use Rattle.ir_outcomes.specs.Again.{TakesEach}
 
 -- what a run of a guest comes to
-abbrev pub outcome_by : Setup → ℕ → List Step → Outcome
-outcome_by setup budget steps = outcome_of (end (thread_machine setup.guest.code) (tables (start_flat setup.guest budget setup.profile)) steps)
+abbrev pub outcome_by : Setup → ℕ → List Step → RunOutcome
+outcome_by setup budget steps = run_outcome (end (thread_machine setup.guest.code) (tables (start_flat setup.guest budget setup.profile)) steps)
 
 -- how often the thread that enters or tries is switched in it
 abbrev pub switches_by : Setup → ℕ → List Step → ℕ
@@ -29,7 +29,7 @@ pub record IsShown (setup : Setup) (s : SourcedFlat) (level : ℕ) (turns : List
   pub by_turns : IsByTurns (thread_machine setup.guest.code) (tables (start_flat setup.guest most_budget setup.profile)) (length setup.guest.entries)
       turns steps
   pub taken : TakesEach turns steps
-  pub same : outcome_by setup most_budget steps ≡ outcome_of (tables s.flat)
+  pub same : outcome_by setup most_budget steps ≡ run_outcome (tables s.flat)
   pub few : switches_by setup most_budget steps ≤ level
 
 -- A run by these turns, each of which takes a step, counts, and stands at what looks the same as the state: it can be brought to an end only

@@ -8,8 +8,8 @@ ghost use Rattle.ir_graph.specs.Graph.{IsGraph};
 ghost use Rattle.ir_graph.specs.Nodes.{AllRest, LookAlike};
 ghost use Rattle.ir_graph.specs.Plain.{GoesPlain, OthersStay, Rests};
 ghost use Rattle.ir_graph.specs.Searched.{IsSearch};
-ghost use Rattle.ir_graph.specs.Setup.{Setup, start_of};
-ghost use Rattle.ir_graph.specs.Stops.{MayStop, StopsAt};
+ghost use Rattle.ir_graph.specs.Setup.{Setup, setup_start};
+ghost use Rattle.ir_graph.specs.Stops.{MayStop, StopsFollowing};
 ghost use Rattle.ir_graph.specs.Turn.{GoesAlone};
 ghost use Rattle.ir_record.specs.Recording.{turns_of_items};
 ghost use Rattle.ir_store.specs.Nodes.{SourcedFlat};
@@ -240,7 +240,7 @@ fn add_rest(
     ensures goes { GoesPlain state.old state.new }
     ensures others { OthersStay state.old state.new thread }
     ensures rests { OnOk result (Rests (ask_of state.new.flat.code (thread_of state.new.flat thread))) }
-    ensures fails { IfErr result (λ e. (setup : Setup) → GoesPlain (start_of setup) state.old → MayFail setup limit e) }
+    ensures fails { IfErr result (λ e. (setup : Setup) → GoesPlain (setup_start setup) state.old → MayFail setup limit e) }
 {
     let steps = match run_to_rest(state, thread, limit) {
         Ok(steps) => steps,
@@ -267,7 +267,7 @@ fn add_rests(
     ensures again { OnOk result ((setup : Setup) (ways : List (ℕ × Bool)) → IsAgain setup (turns_of_items items.old.items) ways state.old → IsAgain setup (turns_of_items items.new.items) ways state.new) }
     ensures goes { GoesPlain state.old state.new }
     ensures rest { OnOk result (AllRest state.new.flat) }
-    ensures fails { IfErr result (λ e. (setup : Setup) → state.old ≡ start_of setup → MayFail setup limit e) }
+    ensures fails { IfErr result (λ e. (setup : Setup) → state.old ≡ setup_start setup → MayFail setup limit e) }
 {
     for thread in 0..state.flat.threads().len() {
         if let Err(e) = add_rest(state, items, thread, limit) {

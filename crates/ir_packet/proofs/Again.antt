@@ -4,8 +4,8 @@ use Rattle.std.specs.Prelude.{bit_xor, slice_index, Option}
 use Rattle.std.proofs.lemmas.Bool.{eqb-true, eq-eqb, le-ltb, false≢true}
 use Rattle.hex.specs.Hex.{hex_digit_value, lower_digits}
 use Rattle.hex.proofs.HexLemmas.{IsDigits-lower_digits}
-use Rattle.ir_packet.specs.Packets.{checksum, unescaped, unescaped_from, joined, two_digits, is_number, needs_escape, escaped_byte, escaped, packet_of}
-use Rattle.ir_packet.specs.Stream.{Item, Packet, TooLong, BadSum, Between, Inside, Summing, packet_item, items_from, items, most_bytes}
+use Rattle.ir_packet.specs.Packets.{checksum, unescaped, unescaped_from, digits_joined, two_digits, is_number, needs_escape, escaped_byte, escaped, packet_of}
+use Rattle.ir_packet.specs.Stream.{Item, Packet, TooLong, BadSum, Between, Inside, Summing, packet_item, items_from, items, most_packet_bytes}
 
 -- what holds of the four bytes that are escaped holds of each byte that is
 escaped_byte_has_property_if_all_four_have : (P : ℕ → Type 0) (b : ℕ) (t u v w : Bool) → eqb b 35 ≡ t → eqb b 36 ≡ u → eqb b 125 ≡ v → eqb b 42 ≡ w
@@ -76,9 +76,9 @@ unescaped_of_escaped (b ∷ payload) =
 eqb_reflexive : (n : ℕ) → eqb n n ≡ true
 eqb_reflexive n = eq-eqb n n refl
 
-joined_digits_are_number : (x y : Option ℕ) (h l n : ℕ) → x ≡ Some h → y ≡ Some l → h * 16 + l ≡ n → is_number (joined x y) n ≡ true
+joined_digits_are_number : (x y : Option ℕ) (h l n : ℕ) → x ≡ Some h → y ≡ Some l → h * 16 + l ≡ n → is_number (digits_joined x y) n ≡ true
 joined_digits_are_number x y h l n p q e =
-    ap (λ (o : Option ℕ). is_number (joined o y) n) p ∙ ap (λ (o : Option ℕ). is_number (joined (Some h) o) n) q
+    ap (λ (o : Option ℕ). is_number (digits_joined o y) n) p ∙ ap (λ (o : Option ℕ). is_number (digits_joined (Some h) o) n) q
     ∙ ap (λ (m : ℕ). eqb m n) e ∙ eqb_reflexive n
 
 two_lower_digits_are_number : (n : ℕ) → n < 256 → is_number (two_digits (slice_index lower_digits (n / 16)) (slice_index lower_digits (n % 16))) n ≡ true
@@ -105,7 +105,7 @@ items_after_packet_end_are_packet_item_and_rest : (raw : List ℕ) (a b : ℕ) (
 unfolding items_from
 items_after_packet_end_are_packet_item_and_rest raw a b rest = refl
 
-pub items_of_packet_begin_with_payload : (payload rest : List ℕ) → length (escaped payload) ≤ most_bytes → items (packet_of payload ++ rest) ≡ Packet payload ∷ items rest
+pub items_of_packet_begin_with_payload : (payload rest : List ℕ) → length (escaped payload) ≤ most_packet_bytes → items (packet_of payload ++ rest) ≡ Packet payload ∷ items rest
 items_of_packet_begin_with_payload payload rest fits =
     let raw = escaped payload in
     let s = checksum raw in

@@ -4,7 +4,7 @@ use Rattle.std.specs.Prelude.{flat_map}
 use Rattle.std.specs.List.{AllByRecursion}
 use Rattle.std.proofs.lemmas.Bool.{eqb-true, eqb-false, false≢true}
 use Rattle.std.proofs.lemmas.Grind.{flat_map-append}
-use Rattle.ir_packet.specs.Stream.{Item, Place, Between, Inside, Summing, Digit, byte_items, ends, step, items_from, items}
+use Rattle.ir_packet.specs.Stream.{Item, Place, Between, Inside, Summing, Digit, byte_items, ended_items, step, items_from, items}
 use Rattle.ir_packet.specs.Parts.{Part, Byte, Whole, CutOff, bytes_of, items_of, begun, part_at, parts_from, parts, IsPlain, IsPlainPlace, IsPart}
 
 -- what a byte after `$` leads to, by whether it is `$` or `#`
@@ -58,7 +58,7 @@ items_of_part_inside_packet_are_none : (raw : List ℕ) (t : Bool) → flat_map 
 items_of_part_inside_packet_are_none raw true = refl
 items_of_part_inside_packet_are_none raw false = refl
 
-items_of_part_are_ends : (p : Place) (b : ℕ) → flat_map items_of (part_at p b) ≡ ends p b
+items_of_part_are_ends : (p : Place) (b : ℕ) → flat_map items_of (part_at p b) ≡ ended_items p b
 items_of_part_are_ends Between b = items_of_part_between_packets_are_byte_items b (eqb b 36) refl
 items_of_part_are_ends (Inside raw) b = items_of_part_inside_packet_are_none raw (eqb b 36)
 items_of_part_are_ends (Summing raw) b = refl
@@ -80,8 +80,8 @@ items_of_parts_are_items_of_stream bytes = items_of_parts_from_are_items_from Be
 
 plain_after_plain_byte : (raw : List ℕ) (b : ℕ) → IsPlain raw → (b ≡ 36 → ⊥) → (b ≡ 35 → ⊥) → IsPlain (raw ++ b ∷ [])
 unfolding IsPlain
-plain_after_plain_byte [] b plain begins ends = (begins, ends, tt)
-plain_after_plain_byte (x ∷ xs) b plain begins ends = (plain.0, plain.1, plain_after_plain_byte xs b plain.2 begins ends)
+plain_after_plain_byte [] b plain begins ended_items = (begins, ended_items, tt)
+plain_after_plain_byte (x ∷ xs) b plain begins ended_items = (plain.0, plain.1, plain_after_plain_byte xs b plain.2 begins ended_items)
 
 empty_is_plain : IsPlain []
 unfolding IsPlain

@@ -3,15 +3,15 @@ use Rattle.std.proofs.Common.{◌≡◌, ◌≤◌, ◌<◌, ◌++◌, ◌∷◌
 use Rattle.std.proofs.lemmas.Bool.{lt-ltb, ltb-true, ltb-false}
 use Rattle.std.proofs.lemmas.List.{take-append-le, take_all}
 use Rattle.ir_packet.specs.Packets.{checksum, unescaped, two_digits, is_number}
-use Rattle.ir_packet.specs.Stream.{Item, Packet, TooLong, BadSum, Place, Between, Inside, Summing, Digit, packet_item, ends, step, place_after, items_from}
+use Rattle.ir_packet.specs.Stream.{Item, Packet, TooLong, BadSum, Place, Between, Inside, Summing, Digit, packet_item, ended_items, step, place_after, items_from}
 use Rattle.ir_packet.specs.Reading.{kept, items_read}
 
 pub items_from_of_append : (p : Place) (xs ys : List ℕ) → items_from p (xs ++ ys) ≡ items_from p xs ++ items_from (place_after p xs) ys
 unfolding items_from place_after
 items_from_of_append p [] ys = refl
 items_from_of_append p (x ∷ xs) ys =
-    ap (λ (r : List Item). ends p x ++ r) (items_from_of_append (step p x) xs ys)
-    ∙ sym (append_assoc (ends p x) (items_from (step p x) xs) (items_from (place_after (step p x) xs) ys))
+    ap (λ (r : List Item). ended_items p x ++ r) (items_from_of_append (step p x) xs ys)
+    ∙ sym (append_assoc (ended_items p x) (items_from (step p x) xs) (items_from (place_after (step p x) xs) ys))
 
 take_of_take : (n : ℕ) (xs : List ℕ) → take n (take n xs) ≡ take n xs
 take_of_take n xs = take_all n (take n xs) (omega (arith, length-take n xs))
@@ -36,7 +36,7 @@ packet_item_ignores_take raw a b false short =
     let h : length raw ≤ 4096 = ltb-false 4096 (length raw) short in
     ap (λ (r : List ℕ). packet_item r a b) (take_all 4097 raw (omega (arith, h)))
 
-pub ends_ignores_kept : (p : Place) (b : ℕ) → ends (kept p) b ≡ ends p b
+pub ends_ignores_kept : (p : Place) (b : ℕ) → ended_items (kept p) b ≡ ended_items p b
 ends_ignores_kept Between b = refl
 ends_ignores_kept (Inside raw) b = refl
 ends_ignores_kept (Summing raw) b = refl
@@ -59,5 +59,5 @@ unfolding items_from items_read
 items_read_of_kept_are_items_from p [] = refl
 items_read_of_kept_are_items_from p (b ∷ bytes) =
     ap (λ (e : List Item). e ++ items_read (kept (step (kept p) b)) bytes) (ends_ignores_kept p b)
-    ∙ ap (λ (q : Place). ends p b ++ items_read q bytes) (kept_step_ignores_kept p b)
-    ∙ ap (λ (r : List Item). ends p b ++ r) (items_read_of_kept_are_items_from (step p b) bytes)
+    ∙ ap (λ (q : Place). ended_items p b ++ items_read q bytes) (kept_step_ignores_kept p b)
+    ∙ ap (λ (r : List Item). ended_items p b ++ r) (items_read_of_kept_are_items_from (step p b) bytes)

@@ -60,12 +60,12 @@ are_pairs [] = true
 are_pairs (a ∷ []) = false
 are_pairs (a ∷ b ∷ digits) = is_some (two_digits a b) && are_pairs digits
 
-abbrev pub byte_of : Option ℕ → List ℕ
-byte_of None = []
-byte_of (Some v) = v ∷ []
+abbrev pub byte_if : Option ℕ → List ℕ
+byte_if None = []
+byte_if (Some v) = v ∷ []
 
 -- the bytes that pairs of digits write
 unfoldable pub bytes_of_pairs : List ℕ → List ℕ
 bytes_of_pairs [] = []
 bytes_of_pairs (a ∷ []) = []
-bytes_of_pairs (a ∷ b ∷ digits) = byte_of (two_digits a b) ++ bytes_of_pairs digits
+bytes_of_pairs (a ∷ b ∷ digits) = byte_if (two_digits a b) ++ bytes_of_pairs digits

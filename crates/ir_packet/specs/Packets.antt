@@ -33,14 +33,14 @@ abbrev pub unescaped : List ℕ → List ℕ
 unescaped raw = unescaped_from false raw
 
 -- the number of two digits
-abbrev pub joined : Option ℕ → Option ℕ → Option ℕ
-joined None low = None
-joined (Some h) None = None
-joined (Some h) (Some l) = Some (h * 16 + l)
+abbrev pub digits_joined : Option ℕ → Option ℕ → Option ℕ
+digits_joined None low = None
+digits_joined (Some h) None = None
+digits_joined (Some h) (Some l) = Some (h * 16 + l)
 
 -- the number that two bytes are the hexadecimal digits of, in either case
 abbrev pub two_digits : ℕ → ℕ → Option ℕ
-two_digits a b = joined (hex_digit_value a) (hex_digit_value b)
+two_digits a b = digits_joined (hex_digit_value a) (hex_digit_value b)
 
 -- whether it is this number
 abbrev pub is_number : Option ℕ → ℕ → Bool

@@ -1,6 +1,6 @@
 -- What a reader of a stream keeps.
 use Rattle.std.specs.Prelude.{ℕ, List, [], ◌∷◌, ◌++◌, take, Option, Some, None}
-use Rattle.ir_packet.specs.Stream.{Item, Place, Packet, BadSum, TooLong, Interrupt, Acknowledged, Refused, Between, Inside, Summing, Digit, ends, step}
+use Rattle.ir_packet.specs.Stream.{Item, Place, Packet, BadSum, TooLong, Interrupt, Acknowledged, Refused, Between, Inside, Summing, Digit, ended_items, step}
 use Rattle.ir_packet.specs.declared.standing.Standing.{Standing}
 use Rattle.ir_packet.specs.declared.standing.Standing.TheVariants as standing
 use Rattle.ir_packet.specs.declared.found.Found.{Found}
@@ -46,4 +46,4 @@ items_found (Some f) payload = item_found f payload ∷ []
 -- what a reader finds that takes the bytes one after the other
 unfoldable pub items_read : Place → List ℕ → List Item
 items_read p [] = []
-items_read p (b ∷ bytes) = ends p b ++ items_read (kept (step p b)) bytes
+items_read p (b ∷ bytes) = ended_items p b ++ items_read (kept (step p b)) bytes

@@ -11,12 +11,12 @@ use Rattle.ir_packet.specs.declared.reply.Signal.TheVariants as signal
 use Rattle.ir_packet.specs.declared.reply.Stop.{Stop}
 
 -- a number as eight lower-case digits, the highest first
-abbrev pub number_text : ℕ → List ℕ
-number_text n = encode_lower (n / 2 ^ 24 % 256 ∷ n / 2 ^ 16 % 256 ∷ n / 256 % 256 ∷ n % 256 ∷ [])
+abbrev pub hex_number_text : ℕ → List ℕ
+hex_number_text n = encode_lower (n / 2 ^ 24 % 256 ∷ n / 2 ^ 16 % 256 ∷ n / 256 % 256 ∷ n % 256 ∷ [])
 
 -- a word as eight digits, its lowest byte first
-abbrev pub word_text : ℕ → List ℕ
-word_text word = encode_lower (word_bytes word)
+abbrev pub word_digits : ℕ → List ℕ
+word_digits word = encode_lower (word_bytes word)
 
 -- replies that are always the same; an error's number is that of Linux, and gdb shows a text behind `E.`
 unfoldable pub reply_text : Reply → List ℕ
@@ -32,15 +32,15 @@ reply_text reply.Offsets = codes "Text=0;Data=0;Bss=0"
 reply_text reply.Motions = codes "vCont;c;C;s;S;r"
 
 -- why a thread stopped
-unfoldable pub reason_text : Reason → List ℕ
-reason_text reason.Step = []
-reason_text reason.SoftwareBreak = codes "swbreak:;"
-reason_text reason.HardwareBreak = codes "hwbreak:;"
-reason_text (reason.Watch address) = codes "watch:" ++ number_text address ++ codes ";"
-reason_text reason.End = codes "replaylog:end;"
-reason_text reason.Begin = codes "replaylog:begin;"
-reason_text (reason.Ended how) = []
-reason_text reason.Waits = []
+unfoldable pub stop_reason_text : Reason → List ℕ
+stop_reason_text reason.Step = []
+stop_reason_text reason.SoftwareBreak = codes "swbreak:;"
+stop_reason_text reason.HardwareBreak = codes "hwbreak:;"
+stop_reason_text (reason.Watch address) = codes "watch:" ++ hex_number_text address ++ codes ";"
+stop_reason_text reason.End = codes "replaylog:end;"
+stop_reason_text reason.Begin = codes "replaylog:begin;"
+stop_reason_text (reason.Ended how) = []
+stop_reason_text reason.Waits = []
 
 -- a signal by the number that gdb's protocol gives it
 abbrev pub ended_signal : Signal → List ℕ
@@ -71,21 +71,21 @@ signal_text false why = reason_signal why
 
 -- the registers that spare gdb a `g` at each stop
 unfoldable pub stop_registers : Stop → List ℕ
-stop_registers s = codes "20:" ++ word_text s.pc ++ codes ";02:" ++ word_text s.sp ++ codes ";08:" ++ word_text s.fp ++ codes ";01:" ++ word_text s.ra ++ codes ";"
+stop_registers s = codes "20:" ++ word_digits s.pc ++ codes ";02:" ++ word_digits s.sp ++ codes ";08:" ++ word_digits s.fp ++ codes ";01:" ++ word_digits s.ra ++ codes ";"
 
 -- a stop of a thread, whose id is its number and 1
-unfoldable pub stop_text : Stop → List ℕ
-stop_text s = signal_text s.interrupted s.reason ++ codes "thread:" ++ number_text s.thread ++ codes ";" ++ reason_text s.reason ++ stop_registers s
+unfoldable pub stop_reply_text : Stop → List ℕ
+stop_reply_text s = signal_text s.interrupted s.reason ++ codes "thread:" ++ hex_number_text s.thread ++ codes ";" ++ stop_reason_text s.reason ++ stop_registers s
 
 -- registers, or bytes that are shown as words
-unfoldable pub words_text : List ℕ → List ℕ
-words_text [] = []
-words_text (word ∷ words) = word_text word ++ words_text words
+unfoldable pub words_reply : List ℕ → List ℕ
+words_reply [] = []
+words_reply (word ∷ words) = word_digits word ++ words_reply words
 
 -- a piece of a text: `m`, or `l` if the text ends with it
 unfoldable pub piece_text : List ℕ → ℕ → ℕ → List ℕ
 piece_text text from most = if nat_lt (from + most) (length text) then codes "m" ++ take most (drop from text) else codes "l" ++ drop from text
 
 -- what a session prints
-unfoldable pub output_text : List ℕ → List ℕ
-output_text bytes = codes "O" ++ encode_lower bytes
+unfoldable pub output_reply : List ℕ → List ℕ
+output_reply bytes = codes "O" ++ encode_lower bytes

@@ -13,9 +13,9 @@ use Rattle.ir_packet.specs.declared.request.Mover.{Mover}
 use Rattle.ir_packet.specs.declared.request.Mover.TheVariants as mover
 
 -- what is made of nothing behind the name
-abbrev pub plain : Request → List ℕ → Request
-plain asked [] = asked
-plain asked (b ∷ rest) = request.Malformed
+abbrev pub without_argument : Request → List ℕ → Request
+without_argument asked [] = asked
+without_argument asked (b ∷ rest) = request.Malformed
 
 -- what is made of anything behind the name
 abbrev pub whatever : Request → List ℕ → Request
@@ -36,8 +36,8 @@ unfoldable pub one : (ℕ → Request) → List ℕ → Request
 one makes rest = of_number makes (number rest)
 
 -- two numbers with a `,` between them
-unfoldable pub two : (ℕ → ℕ → Request) → List ℕ → Request
-two makes rest = of_numbers makes (number (before 44 rest)) (number (behind 44 rest))
+unfoldable pub two_with_comma : (ℕ → ℕ → Request) → List ℕ → Request
+two_with_comma makes rest = of_numbers makes (number (before 44 rest)) (number (behind 44 rest))
 
 -- 0 is any thread
 abbrev pub who_of_number : Option ℕ → Option Who
@@ -56,8 +56,8 @@ unfoldable pub thread : (Who → Request) → List ℕ → Request
 thread makes rest = of_who makes (who_of rest)
 
 -- a register of x0 to x31, or pc, which is 32
-abbrev pub register : ℕ → Request
-register n = if nat_le n 32 then request.Register n else request.Malformed
+abbrev pub register_request : ℕ → Request
+register_request n = if nat_le n 32 then request.Register n else request.Malformed
 
 -- a line, each byte as two digits
 unfoldable pub console : List ℕ → Request
@@ -125,81 +125,81 @@ unfoldable pub restart : List ℕ → Request
 restart rest = restart_with (drop (index_of 59 rest) rest)
 
 -- the bytes that a packet begins with, and what is made of those behind them
-pub record Row : Type 0 where
+pub record PacketRow : Type 0 where
   pub name : List ℕ
   pub makes : List ℕ → Request
 
-abbrev pub row : List ℕ → (List ℕ → Request) → Row
-row name makes = record { name = name; makes = makes }
+abbrev pub packet_row : List ℕ → (List ℕ → Request) → PacketRow
+packet_row name makes = record { name = name; makes = makes }
 
 -- what gdb asks of the target as a whole
-abbrev pub queries : List Row
+abbrev pub queries : List PacketRow
 queries =
-    row (codes "qSupported") (whatever request.Supported) ∷
-    row (codes "QStartNoAckMode") (plain request.NoAcknowledgements) ∷
-    row (codes "qAttached") (whatever request.Attached) ∷
-    row (codes "qOffsets") (plain request.Offsets) ∷
-    row (codes "qSymbol::") (plain request.Symbols) ∷
+    packet_row (codes "qSupported") (whatever request.Supported) ∷
+    packet_row (codes "QStartNoAckMode") (without_argument request.NoAcknowledgements) ∷
+    packet_row (codes "qAttached") (whatever request.Attached) ∷
+    packet_row (codes "qOffsets") (without_argument request.Offsets) ∷
+    packet_row (codes "qSymbol::") (without_argument request.Symbols) ∷
     []
 
 -- texts that gdb reads piece by piece
-abbrev pub texts : List Row
+abbrev pub texts : List PacketRow
 texts =
-    row (codes "qXfer:features:read:target.xml:") (two request.Description) ∷
-    row (codes "qXfer:threads:read::") (two request.Threads) ∷
+    packet_row (codes "qXfer:features:read:target.xml:") (two_with_comma request.Description) ∷
+    packet_row (codes "qXfer:threads:read::") (two_with_comma request.Threads) ∷
     []
 
 -- runs of the program from a kept cut on
-abbrev pub restarts : List Row
+abbrev pub restarts : List PacketRow
 restarts =
-    row (codes "!") (plain request.Extended) ∷
-    row (codes "vRun;") restart ∷
-    row (codes "vKill") (whatever request.EndProcess) ∷
+    packet_row (codes "!") (without_argument request.Extended) ∷
+    packet_row (codes "vRun;") restart ∷
+    packet_row (codes "vKill") (whatever request.EndProcess) ∷
     []
 
 -- a session's lines, and moves with their threads
-abbrev pub commands : List Row
+abbrev pub commands : List PacketRow
 commands =
-    row (codes "qRcmd,") console ∷
-    row (codes "vCont?") (plain request.Motions) ∷
-    row (codes "vCont;") actions ∷
+    packet_row (codes "qRcmd,") console ∷
+    packet_row (codes "vCont?") (without_argument request.Motions) ∷
+    packet_row (codes "vCont;") actions ∷
     []
 
 -- breakpoints and watches
-abbrev pub points : List Row
+abbrev pub points : List PacketRow
 points =
-    row (codes "Z0,") (two (λ a kind. request.SetBreak a false)) ∷
-    row (codes "Z1,") (two (λ a kind. request.SetBreak a true)) ∷
-    row (codes "Z2,") (two request.SetWatch) ∷
-    row (codes "z0,") (two (λ a kind. request.ClearBreak a false)) ∷
-    row (codes "z1,") (two (λ a kind. request.ClearBreak a true)) ∷
-    row (codes "z2,") (two request.ClearWatch) ∷
+    packet_row (codes "Z0,") (two_with_comma (λ a kind. request.SetBreak a false)) ∷
+    packet_row (codes "Z1,") (two_with_comma (λ a kind. request.SetBreak a true)) ∷
+    packet_row (codes "Z2,") (two_with_comma request.SetWatch) ∷
+    packet_row (codes "z0,") (two_with_comma (λ a kind. request.ClearBreak a false)) ∷
+    packet_row (codes "z1,") (two_with_comma (λ a kind. request.ClearBreak a true)) ∷
+    packet_row (codes "z2,") (two_with_comma request.ClearWatch) ∷
     []
 
 -- packets of a letter or two
-abbrev pub letters : List Row
+abbrev pub letters : List PacketRow
 letters =
-    row (codes "?") (plain request.Reason) ∷
-    row (codes "Hg") (thread request.General) ∷
-    row (codes "Hc") (thread request.Choose) ∷
-    row (codes "T") (one request.Alive) ∷
-    row (codes "g") (plain request.Registers) ∷
-    row (codes "p") (one register) ∷
-    row (codes "m") (two request.Memory) ∷
+    packet_row (codes "?") (without_argument request.Reason) ∷
+    packet_row (codes "Hg") (thread request.General) ∷
+    packet_row (codes "Hc") (thread request.Choose) ∷
+    packet_row (codes "T") (one request.Alive) ∷
+    packet_row (codes "g") (without_argument request.Registers) ∷
+    packet_row (codes "p") (one register_request) ∷
+    packet_row (codes "m") (two_with_comma request.Memory) ∷
     []
 
 -- packets of a letter or two that have no argument, or none that counts
-abbrev pub ends : List Row
-ends =
-    row (codes "G") (whatever request.Change) ∷
-    row (codes "P") (whatever request.Change) ∷
-    row (codes "M") (whatever request.Change) ∷
-    row (codes "s") (plain (request.Move motion.Step mover.Chosen)) ∷
-    row (codes "c") (plain (request.Move motion.Continue mover.Chosen)) ∷
-    row (codes "bs") (plain (request.Move motion.StepBack mover.Chosen)) ∷
-    row (codes "bc") (plain (request.Move motion.ContinueBack mover.Chosen)) ∷
-    row (codes "D") (whatever request.Detach) ∷
-    row (codes "k") (whatever request.Kill) ∷
+abbrev pub bare_rows : List PacketRow
+bare_rows =
+    packet_row (codes "G") (whatever request.Change) ∷
+    packet_row (codes "P") (whatever request.Change) ∷
+    packet_row (codes "M") (whatever request.Change) ∷
+    packet_row (codes "s") (without_argument (request.Move motion.Step mover.Chosen)) ∷
+    packet_row (codes "c") (without_argument (request.Move motion.Continue mover.Chosen)) ∷
+    packet_row (codes "bs") (without_argument (request.Move motion.StepBack mover.Chosen)) ∷
+    packet_row (codes "bc") (without_argument (request.Move motion.ContinueBack mover.Chosen)) ∷
+    packet_row (codes "D") (whatever request.Detach) ∷
+    packet_row (codes "k") (whatever request.Kill) ∷
     []
 
 -- the bytes behind a name, if the payload begins with it
@@ -208,14 +208,14 @@ after_name [] bytes = Some bytes
 after_name (n ∷ name) [] = None
 after_name (n ∷ name) (b ∷ bytes) = if b == n then after_name name bytes else None
 
-abbrev pub made_by : Row → Option (List ℕ) → Option Request → Option Request
-made_by r None next = next
-made_by r (Some rest) next = Some (r.makes rest)
+abbrev pub request_by : PacketRow → Option (List ℕ) → Option Request → Option Request
+request_by r None next = next
+request_by r (Some rest) next = Some (r.makes rest)
 
 -- what the first row makes whose name the payload begins with
-abbrev pub asked_in : List Row → List ℕ → Option Request
+abbrev pub asked_in : List PacketRow → List ℕ → Option Request
 asked_in [] payload = None
-asked_in (r ∷ rows) payload = made_by r (after_name r.name payload) (asked_in rows payload)
+asked_in (r ∷ rows) payload = request_by r (after_name r.name payload) (asked_in rows payload)
 
 abbrev pub or_else : Option Request → Option Request → Option Request
 or_else None next = next
@@ -245,7 +245,7 @@ unfoldable pub asked_points : List ℕ → Option Request
 asked_points payload = asked_in points payload
 
 unfoldable pub asked_ends : List ℕ → Option Request
-asked_ends payload = asked_in ends payload
+asked_ends payload = asked_in bare_rows payload
 
 unfoldable pub asked_letters : List ℕ → Option Request
 asked_letters payload = or_else (asked_in letters payload) (asked_ends payload)

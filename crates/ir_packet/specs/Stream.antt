@@ -3,8 +3,8 @@ use Rattle.std.specs.Prelude.{◌==◌, ℕ, List, [], ◌∷◌, ◌++◌, leng
 use Rattle.ir_packet.specs.Packets.{dollar, hash, checksum, unescaped, two_digits, is_number}
 
 -- the most bytes that may be between `$` and `#`
-abbrev pub most_bytes : ℕ
-most_bytes = 4096
+abbrev pub most_packet_bytes : ℕ
+most_packet_bytes = 4096
 
 -- a packet by its payload, one with a wrong sum, one with too many bytes, or a byte that counts between packets: 03, `+`, `-`
 pub data Item : Type 0 where
@@ -24,7 +24,7 @@ pub data Place : Type 0 where
 
 -- what `$`, these bytes, `#` and two bytes are
 abbrev pub packet_item : List ℕ → ℕ → ℕ → Item
-packet_item raw a b = if nat_lt most_bytes (length raw) then TooLong else if is_number (two_digits a b) (checksum raw) then Packet
+packet_item raw a b = if nat_lt most_packet_bytes (length raw) then TooLong else if is_number (two_digits a b) (checksum raw) then Packet
     (unescaped raw) else BadSum
 
 -- what a byte between packets is; all other bytes are dropped
@@ -39,11 +39,11 @@ step (Summing raw) b = Digit raw b
 step (Digit raw a) b = Between
 
 -- what a byte ends
-abbrev pub ends : Place → ℕ → List Item
-ends Between b = byte_items b
-ends (Inside raw) b = []
-ends (Summing raw) b = []
-ends (Digit raw a) b = packet_item raw a b ∷ []
+abbrev pub ended_items : Place → ℕ → List Item
+ended_items Between b = byte_items b
+ended_items (Inside raw) b = []
+ended_items (Summing raw) b = []
+ended_items (Digit raw a) b = packet_item raw a b ∷ []
 
 -- where the byte after these stands
 unfoldable pub place_after : Place → List ℕ → Place
@@ -53,7 +53,7 @@ place_after p (b ∷ bytes) = place_after (step p b) bytes
 -- what the bytes end, from a place on
 unfoldable pub items_from : Place → List ℕ → List Item
 items_from p [] = []
-items_from p (b ∷ bytes) = ends p b ++ items_from (step p b) bytes
+items_from p (b ∷ bytes) = ended_items p b ++ items_from (step p b) bytes
 
 -- what a stream of bytes holds; a packet that the bytes end in is none
 abbrev pub items : List ℕ → List Item

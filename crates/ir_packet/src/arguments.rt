@@ -36,7 +36,7 @@ fn cut(mark: u8, bytes: &[u8]) -> (&[u8], &[u8])
 
 /// What is made of nothing behind the name.
 pub fn plain(asked: Request, rest: &[u8]) -> Request
-    ensures { result ≡ requests.plain asked rest.now }
+    ensures { result ≡ requests.without_argument asked rest.now }
 {
     match rest {
         [] => asked,
@@ -58,8 +58,8 @@ pub fn one(rest: &[u8]) -> Option<u32>
 #[tactic(auto, unfolding(crate::specs::Requests::two))]
 pub fn two(rest: &[u8]) -> Option<(u32, u32)>
     ensures { MatchOption result
-        ((makes : ℕ → ℕ → Request) → requests.two makes rest.now ≡ Malformed)
-        (λ pair. (makes : ℕ → ℕ → Request) → requests.two makes rest.now ≡ makes pair.0 pair.1) }
+        ((makes : ℕ → ℕ → Request) → requests.two_with_comma makes rest.now ≡ Malformed)
+        (λ pair. (makes : ℕ → ℕ → Request) → requests.two_with_comma makes rest.now ≡ makes pair.0 pair.1) }
 {
     let at = index_of(b',', rest);
     let first = number(&rest[..at])?;
@@ -97,7 +97,7 @@ pub fn thread(rest: &[u8]) -> Option<Who>
 
 /// A register of x0 to x31, or pc, which is 32.
 pub fn register(n: u32) -> Request
-    ensures { result ≡ requests.register n }
+    ensures { result ≡ requests.register_request n }
 {
     if n <= 32 {
         return Request::Register(n);

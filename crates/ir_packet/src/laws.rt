@@ -3,7 +3,7 @@
 ghost use Rattle.std.specs.Prelude.{◌≡◌, ◌≤◌, ◌++◌, ◌∷◌, ℕ, List, length, flat_map};
 ghost use Rattle.std.specs.List.{AllByRecursion};
 ghost use Rattle.ir_packet.specs.Packets.{escaped, packet_of};
-ghost use Rattle.ir_packet.specs.Stream.{Place, Packet, place_after, items_from, items, most_bytes};
+ghost use Rattle.ir_packet.specs.Stream.{Place, Packet, place_after, items_from, items, most_packet_bytes};
 ghost use Rattle.ir_packet.specs.Parts.{Part, IsPart, AreCutOff, bytes_of, items_of, parts};
 ghost use Rattle.ir_packet.specs.Reading.{kept, items_read};
 
@@ -33,5 +33,5 @@ pub fn parts_hold_what_the_stream_holds()
 
 /// A payload that is written as a packet is read back.
 pub fn packet_is_read_back()
-    ensures { (payload rest : List ℕ) → length (escaped payload) ≤ most_bytes → items (packet_of payload ++ rest) ≡ Packet payload ∷ items rest }
+    ensures { (payload rest : List ℕ) → length (escaped payload) ≤ most_packet_bytes → items (packet_of payload ++ rest) ≡ Packet payload ∷ items rest }
 {}

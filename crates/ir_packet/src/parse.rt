@@ -30,7 +30,7 @@ fn asked_queries(payload: &[u8]) -> Option<Request>
 
 // A piece of the target's description.
 fn description(rest: &[u8]) -> Request
-    ensures { result ≡ requests.two Description rest.now }
+    ensures { result ≡ requests.two_with_comma Description rest.now }
 {
     two(rest).map_or(
         Request::Malformed,
@@ -40,7 +40,7 @@ fn description(rest: &[u8]) -> Request
 
 // A piece of the list of threads.
 fn threads(rest: &[u8]) -> Request
-    ensures { result ≡ requests.two Threads rest.now }
+    ensures { result ≡ requests.two_with_comma Threads rest.now }
 {
     two(rest).map_or(
         Request::Malformed,

@@ -2,7 +2,7 @@
 
 ghost use Rattle.std.specs.Prelude.{◌≡◌, ◌≤◌, ◌∷◌, [], ◌<◌, length, vec_len, vec_capacity, IfOk, Some, None};
 ghost use Rattle.ir_packet.specs.Packets.{two_digits};
-ghost use Rattle.ir_packet.specs.Stream.{Between, Inside, ends, step, byte_items, packet_item};
+ghost use Rattle.ir_packet.specs.Stream.{Between, Inside, ended_items, step, byte_items, packet_item};
 ghost use Rattle.ir_packet.specs.Reading.{kept, items_found, item_found, place_of};
 
 use crate::found::Found;
@@ -48,7 +48,7 @@ impl Reader {
     /// Takes the next byte of the stream and gives what it ends.
     pub fn take(&mut self, byte: u8) -> Option<Found>
         ensures place { self.new.place ≡ kept (step self.old.place byte) }
-        ensures found { items_found result self.new.payload ≡ ends self.old.place byte }
+        ensures found { items_found result self.new.payload ≡ ended_items self.old.place byte }
     {
         match self.standing {
             Standing::Between => {

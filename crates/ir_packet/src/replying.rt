@@ -1,7 +1,7 @@
 //! Payloads of replies, into room that was made before.
 
 ghost use Rattle.std.specs.Prelude.{◌≡◌, ◌≤◌, ◌+◌, ◌*◌, ◌++◌, length, vec_len, vec_capacity};
-ghost use Rattle.ir_packet.specs.Replies.{number_text, reply_text, reason_text, stop_registers, stop_text, words_text, piece_text, output_text, signal_text, ended_signal};
+ghost use Rattle.ir_packet.specs.Replies.{hex_number_text, reply_text, stop_reason_text, stop_registers, stop_reply_text, words_reply, piece_text, output_reply, signal_text, ended_signal};
 
 use crate::reply::{Reason, Reply, Signal, Stop};
 use crate::writing::{put_hex, put_word};
@@ -43,7 +43,7 @@ pub fn put_text(out: &mut Vec<u8>, text: &[u8])
 /// Puts the eight lower-case digits of a number at the end, the highest first.
 pub fn put_number(out: &mut Vec<u8>, number: u32)
     requires { vec_len out.old + 8 ≤ vec_capacity out.old }
-    ensures bytes { out.new.items ≡ out.old.items ++ number_text number }
+    ensures bytes { out.new.items ≡ out.old.items ++ hex_number_text number }
     ensures len { vec_len out.new ≡ vec_len out.old + 8 }
     ensures capacity { vec_capacity out.new ≡ vec_capacity out.old }
 {
@@ -54,7 +54,7 @@ pub fn put_number(out: &mut Vec<u8>, number: u32)
 #[tactic(auto, unfolding(crate::specs::Replies::reason_text))]
 fn put_reason(out: &mut Vec<u8>, reason: Reason)
     requires { vec_len out.old + 16 ≤ vec_capacity out.old }
-    ensures bytes { out.new.items ≡ out.old.items ++ reason_text reason }
+    ensures bytes { out.new.items ≡ out.old.items ++ stop_reason_text reason }
     ensures len { vec_len out.new ≤ vec_len out.old + 16 }
     ensures capacity { vec_capacity out.new ≡ vec_capacity out.old }
 {
@@ -127,7 +127,7 @@ fn put_stop_registers(out: &mut Vec<u8>, stop: &Stop)
 #[tactic(auto, unfolding(crate::specs::Replies::stop_text))]
 pub fn put_stop(out: &mut Vec<u8>, stop: &Stop)
     requires { vec_len out.old + 96 ≤ vec_capacity out.old }
-    ensures bytes { out.new.items ≡ out.old.items ++ stop_text stop.now }
+    ensures bytes { out.new.items ≡ out.old.items ++ stop_reply_text stop.now }
     ensures len { vec_len out.new ≤ vec_len out.old + 96 }
     ensures capacity { vec_capacity out.new ≡ vec_capacity out.old }
 {
@@ -143,7 +143,7 @@ pub fn put_stop(out: &mut Vec<u8>, stop: &Stop)
 #[tactic(auto, unfolding(crate::specs::Replies::words_text))]
 pub fn put_words(out: &mut Vec<u8>, words: &[u32])
     requires { vec_len out.old + 8 * length words.now ≤ vec_capacity out.old }
-    ensures bytes { out.new.items ≡ out.old.items ++ words_text words.now }
+    ensures bytes { out.new.items ≡ out.old.items ++ words_reply words.now }
     ensures len { vec_len out.new ≡ vec_len out.old + 8 * length words.now }
     ensures capacity { vec_capacity out.new ≡ vec_capacity out.old }
 {
@@ -176,7 +176,7 @@ pub fn put_piece(out: &mut Vec<u8>, text: &[u8], from: u32, most: u32)
 #[tactic(auto, unfolding(crate::specs::Replies::output_text))]
 pub fn put_output(out: &mut Vec<u8>, bytes: &[u8])
     requires { vec_len out.old + 2 * length bytes.now + 1 ≤ vec_capacity out.old }
-    ensures bytes { out.new.items ≡ out.old.items ++ output_text bytes.now }
+    ensures bytes { out.new.items ≡ out.old.items ++ output_reply bytes.now }
     ensures len { vec_len out.new ≡ vec_len out.old + 2 * length bytes.now + 1 }
     ensures capacity { vec_capacity out.new ≡ vec_capacity out.old }
 {

@@ -8,7 +8,7 @@ use Rattle.ir_files.specs.Writers.{Writer, writer_of}
 use Rattle.ir_files.specs.declared.exit_status.ExitStatus.{ExitStatus}
 use Rattle.ir_files.specs.declared.exit_status.ExitStatus.TheVariants as status
 use Rattle.ir_past.specs.Past.{AreStaleWrites, write_count}
-use Rattle.ir_past.specs.Answers.{AreCoherent, IsRefusedFor, IsAnswerOf, Answered, NotAnswered, Stops, refusal_text, refusal_status}
+use Rattle.ir_past.specs.Answers.{AreCoherent, IsRefusedFor, IsAnswerOf, Answered, NotAnswered, Stops, trace_refusal_text, refusal_status}
 use Rattle.ir_past.specs.Lines.{stale_text, IsStaleAnswer}
 use Rattle.ir_past.specs.declared.opened.Refusal.{Refusal}
 use Rattle.ir_past.specs.declared.opened.Refusal.TheVariants as refusal
@@ -45,18 +45,18 @@ stale_text_is_answer r rows writes coherent all count = inl (record {
 -- a line that says why bytes are no coherent trace was written, or was stopped
 pub refusal_is_answered_or_stopped : (P : Recorded → List ℕ → Type 0) (read : Result Recorded TraceErr) (why : Refusal) (result : Result ExitStatus PastErr)
     (a b : Option (List ℕ)) (failed : Bool) → IsRefusedFor read why → IfOk result (λ s. s ≡ refusal_status why)
-    → OnOk result (Appends a b (refusal_text why)) → OnOk result (failed ≡ false)
-    → IfErr result (λ e. Stops e (writer_of a b failed) (refusal_text why))
+    → OnOk result (Appends a b (trace_refusal_text why)) → OnOk result (failed ≡ false)
+    → IfErr result (λ e. Stops e (writer_of a b failed) (trace_refusal_text why))
     → IfOk result (λ s. Answered (IsAnswerOf P read) s (writer_of a b failed))
     × IfErr result (λ e. NotAnswered (IsAnswerOf P read) e (writer_of a b failed))
 refusal_is_answered_or_stopped P read why (Ok s) a b failed because same written works fails = (
-  answered_if_written (IsAnswerOf P read) s a b failed (refusal_text why) (inr (record { why = why; because = because; status = same; line = refl }))
+  answered_if_written (IsAnswerOf P read) s a b failed (trace_refusal_text why) (inr (record { why = why; because = because; status = same; line = refl }))
       written works,
   tt,
 )
 refusal_is_answered_or_stopped P read why (Err e) a b failed because same written works fails = (
   tt,
-  not_answered_if_stopped (IsAnswerOf P read) (refusal_status why) (refusal_text why) e (writer_of a b failed)
+  not_answered_if_stopped (IsAnswerOf P read) (refusal_status why) (trace_refusal_text why) e (writer_of a b failed)
       (inr (record { why = why; because = because; status = refl; line = refl })) fails,
 )
 

@@ -44,9 +44,9 @@ incoherent_line f =
     ++ (decimal (cause_number f.cause) ++ 10 ∷ [])))))
 
 -- the line that says why bytes are no coherent trace
-abbrev pub refusal_text : Refusal → List ℕ
-refusal_text (refusal.NoTrace fault) = refused_line fault
-refusal_text (refusal.Incoherent x) = incoherent_line x
+abbrev pub trace_refusal_text : Refusal → List ℕ
+trace_refusal_text (refusal.NoTrace fault) = refused_line fault
+trace_refusal_text (refusal.Incoherent x) = incoherent_line x
 
 -- and the exit status
 abbrev pub refusal_status : Refusal → ExitStatus
@@ -58,7 +58,7 @@ pub record IsRefusal (read : Result Recorded TraceErr) (answered : ExitStatus) (
   pub why : Refusal
   pub because : IsRefusedFor read why
   pub status : answered ≡ refusal_status why
-  pub line : text ≡ refusal_text why
+  pub line : text ≡ trace_refusal_text why
 
 -- the answer to a coherent trace, which is one such as these
 pub record IsTraceAnswer (IsAnswer : Recorded → List ℕ → Type 0) (read : Result Recorded TraceErr) (answered : ExitStatus) (text : List ℕ) : Type 0 where

@@ -104,9 +104,9 @@ write_one (Write object version readers) = 1
 write_one (Try object) = 0
 
 -- how many write entries a log has
-abbrev pub writes_in : List Event → ℕ
-writes_in es = sum_by write_one es
+abbrev pub write_entries : List Event → ℕ
+write_entries es = sum_by write_one es
 
 -- how many write entries a trace has
 abbrev pub write_count : Recorded → ℕ
-write_count r = sum_by (λ (t : RecordedThread). writes_in t.events) r.threads
+write_count r = sum_by (λ (t : RecordedThread). write_entries t.events) r.threads

@@ -2,7 +2,7 @@
 
 ghost use Rattle.std.specs.Prelude.{◌≡◌, ◌≤◌, length};
 ghost use Rattle.ir_thread.specs.State.{most_events};
-ghost use Rattle.ir_past.specs.Past.{write_one, writes_in, write_count};
+ghost use Rattle.ir_past.specs.Past.{write_one, write_entries, write_count};
 
 use ir_log::Event;
 use ir_trace::Trace;
@@ -21,7 +21,7 @@ fn write_one(event: Event) -> usize
 // How many write entries a log has.
 fn writes_in(events: &[Event]) -> usize
     requires { length events.now ≤ most_events }
-    ensures count { result ≡ writes_in events.now }
+    ensures count { result ≡ write_entries events.now }
     ensures few { result ≤ length events.now }
 {
     let mut count = 0;

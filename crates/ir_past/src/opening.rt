@@ -5,7 +5,7 @@ ghost use Rattle.std.specs.String.{string_bytes};
 ghost use Rattle.std.specs.Io.KnownBytes.{Appends};
 ghost use Rattle.ir_trace.specs.Recorded.{recorded_at};
 ghost use Rattle.ir_files.specs.Writers.{writer_of};
-ghost use Rattle.ir_past.specs.Answers.{IsOpened, refused_line, incoherent_line, refusal_text, refusal_status, Stops};
+ghost use Rattle.ir_past.specs.Answers.{IsOpened, refused_line, incoherent_line, trace_refusal_text, refusal_status, Stops};
 
 use crate::opened::{Opened, Refusal};
 use crate::past_err::PastErr;
@@ -60,7 +60,7 @@ fn incoherent_line(alloc: Global, first: &Incoherence) -> Result<String, AllocEr
 
 // The line that says why bytes are no coherent trace.
 fn refusal_line(alloc: Global, why: &Refusal) -> Result<String, AllocError>
-    ensures { IfOk result (λ s. string_bytes s ≡ refusal_text why.now) }
+    ensures { IfOk result (λ s. string_bytes s ≡ trace_refusal_text why.now) }
 {
     match why {
         Refusal::NoTrace(fault) => refused_line(alloc, *fault),
@@ -75,9 +75,9 @@ fn refusal_line(alloc: Global, why: &Refusal) -> Result<String, AllocError>
 pub fn refuse<O: Sink>(alloc: Global, why: &Refusal, out: &mut O) -> Result<ExitStatus, PastErr>
     requires { O.broken out.old ≡ false }
     ensures status { IfOk result (λ status. status ≡ refusal_status why.now) }
-    ensures ok { OnOk result (Appends (O.written out.old) (O.written out.new) (refusal_text why.now)) }
+    ensures ok { OnOk result (Appends (O.written out.old) (O.written out.new) (trace_refusal_text why.now)) }
     ensures works { OnOk result (O.broken out.new ≡ false) }
-    ensures fails { IfErr result (λ e. Stops e (writer_of (O.written out.old) (O.written out.new) (O.broken out.new)) (refusal_text why.now)) }
+    ensures fails { IfErr result (λ e. Stops e (writer_of (O.written out.old) (O.written out.new) (O.broken out.new)) (trace_refusal_text why.now)) }
 {
     let line = refusal_line(alloc, why)?;
     write_all(out, line.as_bytes())?;

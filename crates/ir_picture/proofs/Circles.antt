@@ -14,7 +14,7 @@ use Rattle.ir_past.specs.Past.{event_at}
 use Rattle.ir_past.specs.Answers.{AreCoherent}
 use Rattle.ir_picture.specs.Needs.{placed, CanFollow, HasNoCircle, IsCircleAt}
 use Rattle.ir_picture.specs.Boxes.{IsBox, AreBoxes}
-use Rattle.ir_picture.specs.Places.{EndsIn, IsThreadEnd, ArePlaced}
+use Rattle.ir_picture.specs.Places.{EndsIn, IsThreadEnd, AreBoxesPlaced}
 use Rattle.ir_picture.specs.Placing.{EndsWhere, IsAfter, IsOf, IsCut, IsNear, AreBeingPlaced, IsNext, first_point, after_needs, unknown, left_of, events_of_all}
 use Rattle.ir_picture.specs.declared.event_box.EventBox.{EventBox}
 use Rattle.ir_picture.specs.declared.placed_box.Point.{Point}
@@ -160,7 +160,7 @@ no_circle_if_no_next_box r boxes lanes f h over = (h.order, h.is, λ t. events_p
 
 pub are_placed_if_no_next_box : (r : Recorded) (boxes : List PlacedBox) (lanes : List Lane) (f : ℕ → ℕ → Version) → AreBeingPlaced r boxes lanes f
     → ((t : ℕ) (l : Lane) (b : PlacedBox) → slice_get lanes t ≡ Some l → slice_get boxes l.next ≡ Some b → b.events.thread ≡ t → ⊥)
-    → ArePlaced r boxes (map (λ (l : Lane). l.free) lanes)
+    → AreBoxesPlaced r boxes (map (λ (l : Lane). l.free) lanes)
 are_placed_if_no_next_box r boxes lanes f h over = record {
   all = h.boxes;
   placed = λ k b is.

@@ -10,7 +10,7 @@ use Rattle.ir_trace.specs.Recorded.{Recorded, recorded_thread}
 use Rattle.ir_past.specs.Past.{event_at, IsReadAt, IsWriteAt}
 use Rattle.ir_past.specs.Answers.{AreCoherent}
 use Rattle.ir_past.proofs.CallerLemmas.{label_of_event_is_at_its_place, entered_version_was_made}
-use Rattle.ir_picture.specs.Needs.{Needs, IsEntryAt, CanFollow}
+use Rattle.ir_picture.specs.Needs.{Needs, IsEntryOf, CanFollow}
 use Rattle.ir_picture.specs.Placing.{Knows, placed_reads, made_by, after_needs, first_point, later_of}
 use Rattle.ir_picture.specs.declared.placed_box.Point.{Point}
 use Rattle.ir_picture.specs.declared.placed_box.PlacedBox.{PlacedBox}
@@ -130,7 +130,7 @@ can_follow_if_place_known r boxes c f coherent knows t (Write o v l) p is after 
 
 -- a version that is entered has a place after its maker, if that is placed
 maker_is_known_if_can_follow : (r : Recorded) (boxes : List PlacedBox) (c : ℕ → ℕ) (f : ℕ → ℕ → Version) → AreCoherent r → Knows r boxes c f → (t o v : ℕ)
-    → IsEntryAt r t (c t) o v → CanFollow r c t → made_by (f o v) v ≡ None → ⊥
+    → IsEntryOf r t (c t) o v → CanFollow r c t → made_by (f o v) v ≡ None → ⊥
 maker_is_known_if_can_follow r boxes c f coherent knows t o zero entry follow none = none-some first_point (sym none)
 maker_is_known_if_can_follow r boxes c f coherent knows t o (suc v) entry follow none =
     knows.none o v (sym (made_by_of_successor_version_is_made (f o (suc v)) v) ∙ none) made.0 made.1 (
@@ -144,7 +144,7 @@ maker_is_known_if_can_follow r boxes c f coherent knows t o (suc v) entry follow
       (made.2, made.3),
     )
   where
-    made_of : IsEntryAt r t (c t) o (suc v) → (u j k : ℕ) × IsWriteAt r u j o v k
+    made_of : IsEntryOf r t (c t) o (suc v) → (u j k : ℕ) × IsWriteAt r u j o v k
     made_of (inl read) = entered_version_was_made r coherent t (c t) o v Reading 0 (label_of_event_is_at_its_place (recorded_thread r t).events (c t) (Read o (suc v)) read)
     made_of (inr write) = entered_version_was_made r coherent t (c t) o v Writing write.0
         (label_of_event_is_at_its_place (recorded_thread r t).events (c t) (Write o (suc v) write.0) write.1)

@@ -8,7 +8,7 @@ use Rattle.ir_log.specs.declared.event.Event.TheVariants.{Answer, Read, Write, T
 use Rattle.ir_trace.specs.Recorded.{Recorded, recorded_thread}
 use Rattle.ir_past.specs.Past.{event_at, IsWriteAt}
 use Rattle.ir_past.specs.Answers.{AreCoherent}
-use Rattle.ir_picture.specs.Needs.{Needs, IsEntryAt}
+use Rattle.ir_picture.specs.Needs.{Needs, IsEntryOf}
 use Rattle.ir_picture.specs.Boxes.{IsInBox, IsBox, AreBoxes}
 use Rattle.ir_picture.specs.Places.{IsLeastAbove, IsPlaced, EndsBefore, EndsEarlier, length_of}
 use Rattle.ir_picture.specs.Placing.{Knows, EndsWhere, IsAfter, IsOf, ReadsPlaced, WritesPlaced, made_by, after_needs, first_point, later_of, box_at, events_of_all}
@@ -36,12 +36,12 @@ made_place_is_after_makers_if_they_are_placed r boxes c f knows o (suc v) p made
     (λ u i m. (all u i m, (m.1, subst (λ z. IsWriteAt r u i o z m.1) (omega (arith, m.2)) m.3)))
     (knows.made o v p (sym (made_by_of_successor_version_is_made (f o (suc v)) v) ∙ made)).1
 
-maker_is_needed_by_entry : (r : Recorded) (t i o v : ℕ) → IsEntryAt r t i o v → (u j : ℕ) → MakesVersion r o v u j → Needs r t i u j
+maker_is_needed_by_entry : (r : Recorded) (t i o v : ℕ) → IsEntryOf r t i o v → (u j : ℕ) → MakesVersion r o v u j → Needs r t i u j
 maker_is_needed_by_entry r t i o v entry u j m = inl record {
   object = o;
   version = m.0;
   readers = m.1;
-  entry = subst (λ z. IsEntryAt r t i o z) m.2 entry;
+  entry = subst (λ z. IsEntryOf r t i o z) m.2 entry;
   made = m.3;
 }
 

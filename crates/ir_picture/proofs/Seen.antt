@@ -15,7 +15,7 @@ use Rattle.ir_past.specs.Answers.{AreCoherent}
 use Rattle.ir_past.specs.declared.makers.Makers.{Makers}
 use Rattle.ir_past.specs.declared.place.Place.{Place}
 use Rattle.ir_past.proofs.CallerLemmas.{event_is_of_existing_thread}
-use Rattle.ir_picture.specs.Needs.{IsEntryAt, IsMakerOf}
+use Rattle.ir_picture.specs.Needs.{IsEntryOf, IsMakerOf}
 use Rattle.ir_picture.specs.Boxes.{IsInBox, IsBox, ReadsAgain, TriesAgain}
 use Rattle.ir_picture.specs.Boxing.{AreSomeBoxes}
 use Rattle.ir_picture.specs.Placing.{events_of_all}
@@ -39,19 +39,19 @@ enters_is_unique e o v p w (inl a) (inr b) = absurd (let bad : ◌≡◌ {A = Ev
 enters_is_unique e o v p w (inr a) (inl b) = absurd (let bad : ◌≡◌ {A = Event} (Write o v a.0) (Read p w) = sym a.1 ∙ b in cc)
 enters_is_unique e o v p w (inr a) (inr b) = let same : ◌≡◌ {A = Event} (Write o v a.0) (Write p w b.0) = sym a.1 ∙ b.1 in (cc, cc)
 
-entry_at_if_enters : (r : Recorded) (t i o v : ℕ) (e : Event) → event_at r t i ≡ Some e → Enters e o v → IsEntryAt r t i o v
+entry_at_if_enters : (r : Recorded) (t i o v : ℕ) (e : Event) → event_at r t i ≡ Some e → Enters e o v → IsEntryOf r t i o v
 entry_at_if_enters r t i o v e at (inl read) = inl (at ∙ ap Some read)
 entry_at_if_enters r t i o v e at (inr write) = inr (write.0, at ∙ ap Some write.1)
 
-enters_if_entry_at : (r : Recorded) (t i o v : ℕ) (e : Event) → event_at r t i ≡ Some e → IsEntryAt r t i o v → Enters e o v
+enters_if_entry_at : (r : Recorded) (t i o v : ℕ) (e : Event) → event_at r t i ≡ Some e → IsEntryOf r t i o v → Enters e o v
 enters_if_entry_at r t i o v e at (inl read) = inl (event_at_is_unique r t i e (Read o v) at read)
 enters_if_entry_at r t i o v e at (inr write) = inr (write.0, event_at_is_unique r t i e (Write o v write.0) at write.1)
 
-event_of_entry_enters : (r : Recorded) (t i o v : ℕ) → IsEntryAt r t i o v → (e : Event) × (event_at r t i ≡ Some e) × Enters e o v
+event_of_entry_enters : (r : Recorded) (t i o v : ℕ) → IsEntryOf r t i o v → (e : Event) × (event_at r t i ≡ Some e) × Enters e o v
 event_of_entry_enters r t i o v (inl read) = (Read o v, read, inl refl)
 event_of_entry_enters r t i o v (inr write) = (Write o v write.0, write.1, inr (write.0, refl))
 
-pub entry_at_is_unique : (r : Recorded) (t i o v p w : ℕ) → IsEntryAt r t i o v → IsEntryAt r t i p w → (o ≡ p) × (v ≡ w)
+pub entry_at_is_unique : (r : Recorded) (t i o v p w : ℕ) → IsEntryOf r t i o v → IsEntryOf r t i p w → (o ≡ p) × (v ≡ w)
 entry_at_is_unique r t i o v p w a b =
     let x = event_of_entry_enters r t i o v a in
     enters_is_unique x.0 o v p w x.2 (enters_if_entry_at r t i p w x.0 x.1 b)
@@ -89,7 +89,7 @@ last_entry_was_last_before_event_not_entering_object r t n o i v e at ne p = eli
   | inl less ↦ record { before = less; entry = p.entry; alone = λ k f after below is enters. p.alone k f after (omega (arith, below)) is enters }
   | inr not ↦
       let here : i ≡ n = omega (arith, p.before, not) in
-      let enters = enters_if_entry_at r t n o v e at (subst (λ z. IsEntryAt r t z o v) here p.entry) in
+      let enters = enters_if_entry_at r t n o v e at (subst (λ z. IsEntryOf r t z o v) here p.entry) in
       absurd (ne (entered_if_enters e o v enters))
 ]
 
@@ -98,7 +98,7 @@ last_entry_is_entering_event r t n o i v e at enters p = elim (cases_lt i n) [
   | inl less ↦ absurd (p.alone n e less (omega arith) at enters)
   | inr not ↦
       let here : i ≡ n = omega (arith, p.before, not) in
-      enters_if_entry_at r t n o v e at (subst (λ z. IsEntryAt r t z o v) here p.entry)
+      enters_if_entry_at r t n o v e at (subst (λ z. IsEntryOf r t z o v) here p.entry)
 ]
 
 -- an event that is no entry
@@ -201,8 +201,8 @@ pub sees_nothing_new_if_noted : (r : Recorded) (t n o v : ℕ) (table : List (Op
 sees_nothing_new_if_noted r t n o v table e at enters h noted p w sees =
     let same = entry_at_is_unique r t n p w o v sees.entry (entry_at_if_enters r t n o v e at enters) in
     let last = h.found o v noted in
-    let k = sees.new last.0 last.1.before (subst (λ z. IsEntryAt r t last.0 z w) (sym same.0)
-    (subst (λ z. IsEntryAt r t last.0 o z) (sym same.1) last.1.entry)) in
+    let k = sees.new last.0 last.1.before (subst (λ z. IsEntryOf r t last.0 z w) (sym same.0)
+    (subst (λ z. IsEntryOf r t last.0 o z) (sym same.1) last.1.entry)) in
     last.1.alone k.0 k.1 k.2 k.3 k.4 (k.5 ∙ ap Some same.0)
 
 pub sees_nothing_new_without_entry : (r : Recorded) (t n : ℕ) (e : Event) → event_at r t n ≡ Some e → entered e ≡ None → (o v : ℕ) → SeesNew r t n o v → ⊥
@@ -273,8 +273,8 @@ seeing_event_is_first_of_box r b t i o v is has sees = elim (cases_eq b.event i)
     | inl again ↦
         let here : SeesNew r b.thread i o v = subst (λ z. SeesNew r z i o v) (sym has.thread) sees in
         let same = entry_at_is_unique r b.thread i again.object again.version o v (inl again.read) here.entry in
-        let k = here.new again.before again.earlier (subst (λ z. IsEntryAt r b.thread again.before z v) same.0
-        (subst (λ z. IsEntryAt r b.thread again.before again.object z) same.1 (inl again.same))) in
+        let k = here.new again.before again.earlier (subst (λ z. IsEntryOf r b.thread again.before z v) same.0
+        (subst (λ z. IsEntryOf r b.thread again.before again.object z) same.1 (inl again.same))) in
         again.alone k.0 k.1 k.2 k.3 k.4 (k.5 ∙ ap Some (sym same.0))
     | inr again ↦
         let here : SeesNew r b.thread i o v = subst (λ z. SeesNew r z i o v) (sym has.thread) sees in
@@ -336,9 +336,9 @@ sight_of_event_is_unique r boxes t i s z coherent some a b =
     made x h = subst (λ n. IsMakerOf r n i x.maker.events.thread x.maker.events.event) h.thread
         (subst (λ n. IsMakerOf r x.seer.events.thread n x.maker.events.thread x.maker.events.event) h.event h.sight.made)
 
-    entry : (x : Sight) (h : SeesAt r boxes t i x) → IsEntryAt r t i x.object h.sight.version
-    entry x h = subst (λ n. IsEntryAt r n i x.object h.sight.version) h.thread
-        (subst (λ n. IsEntryAt r x.seer.events.thread n x.object h.sight.version) h.event h.sight.sees.entry)
+    entry : (x : Sight) (h : SeesAt r boxes t i x) → IsEntryOf r t i x.object h.sight.version
+    entry x h = subst (λ n. IsEntryOf r n i x.object h.sight.version) h.thread
+        (subst (λ n. IsEntryOf r x.seer.events.thread n x.object h.sight.version) h.event h.sight.sees.entry)
 
 -- a sight by its parts
 pub sight_from_parts : (r : Recorded) (boxes : List PlacedBox) (t i o v k m : ℕ) (p : Place) (maker seer : PlacedBox) → AreSomeBoxes r (events_of_all boxes)

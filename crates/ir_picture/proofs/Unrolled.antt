@@ -19,7 +19,7 @@ use Rattle.ir_trace.specs.Recorded.{Recorded, recorded_thread}
 use Rattle.ir_past.specs.Past.{event_at}
 use Rattle.ir_past.specs.Returning.{leaves_one}
 use Rattle.ir_past.proofs.CallerLemmas.{label_of_event_is_at_its_place, Enters, log_of_own_step, log_of_other_step, target_object_after_step, other_object_after_step, act_emitting_entry_is_entering, exiting_thread_is_inside, entering_thread_is_not_inside, own_step_not_entering_keeps_object_or_exits, other_step_adds_leaves_one_to_version_and_keeps_inside}
-use Rattle.ir_picture.specs.Needs.{IsEntryAt, Needs, placed, CanFollow, IsOrder, HasNoCircle}
+use Rattle.ir_picture.specs.Needs.{IsEntryOf, Needs, placed, CanFollow, IsOrder, HasNoCircle}
 
 -- ---- versions only grow
 
@@ -273,7 +273,7 @@ thread_can_follow_logging_step m law s good e can run ok r order logs h = record
     read o v l is u (inr tail) = no_later_read_of_written_over_version m law (after m s e) (state_invariant_after_step m law s good e can) run ok o v e.0 u tail.0
         (written_over_after_write_entry m s e o v l is) tail.1
 
-    entry_label : (o v : ℕ) → IsEntryAt r e.0 (placed order e.0) o v → (a : Access) × (x : ℕ) × (label m s e ≡ In o a v x)
+    entry_label : (o v : ℕ) → IsEntryOf r e.0 (placed order e.0) o v → (a : Access) × (x : ℕ) × (label m s e ≡ In o a v x)
     entry_label o v (inl is) = (Reading, 0, is_label (variant.Read o v) is)
     entry_label o v (inr (l, is)) = (Writing, l, is_label (variant.Write o v l) is)
 

@@ -7,8 +7,8 @@ use Rattle.ir_files.specs.declared.exit_status.ExitStatus.TheVariants as status
 use Rattle.ir_past.specs.Answers.{AreCoherent, Answered, NotAnswered, Stops}
 use Rattle.ir_past.specs.declared.past_err.PastErr.{PastErr}
 use Rattle.ir_past.proofs.CallerLemmas.{not_answered_if_stopped}
-use Rattle.ir_picture.specs.Answers.{IsForm, page_head, page_tail, IsThere, IsTraceAnswer, IsViewAnswer, most_boxes}
-use Rattle.ir_picture.specs.Numbers.{rows_from, listed, box_row, stale_row, data_start, thread_list, data_text}
+use Rattle.ir_picture.specs.Answers.{IsForm, page_head, page_tail, IsThere, IsPictureAnswer, IsViewAnswer, most_boxes}
+use Rattle.ir_picture.specs.Numbers.{rows_from, named_list, box_row, stale_row, data_start, thread_list, data_text}
 use Rattle.ir_picture.specs.Progress.{data_head, stale_head, data_rows}
 use Rattle.ir_picture.specs.declared.asked.Around.{Around}
 use Rattle.ir_picture.specs.declared.asked.Form.TheVariants as form
@@ -23,12 +23,12 @@ use Rattle.ir_picture.specs.declared.sights.Sight.{Sight}
 
 -- the answer about a coherent trace is one about its bytes
 pub trace_answer_is_view_answer : (asked : Asked) (r : Recorded) (s : ExitStatus) (text : List ℕ) → AreCoherent r → IsThere r asked.around
-    → IsTraceAnswer asked r s text → IsViewAnswer asked (Ok r) s text
+    → IsPictureAnswer asked r s text → IsViewAnswer asked (Ok r) s text
 trace_answer_is_view_answer asked r s text coherent there is = inl (r, refl, coherent, there, is)
 
 -- it was stopped
 pub view_not_answered_if_stopped : (asked : Asked) (r : Recorded) (s : ExitStatus) (text : List ℕ) (e : PastErr) (w : Writer) → AreCoherent r
-    → IsThere r asked.around → IsTraceAnswer asked r s text → Stops e w text → NotAnswered (IsViewAnswer asked (Ok r)) e w
+    → IsThere r asked.around → IsPictureAnswer asked r s text → Stops e w text → NotAnswered (IsViewAnswer asked (Ok r)) e w
 view_not_answered_if_stopped asked r s text e w coherent there is stops =
     not_answered_if_stopped (IsViewAnswer asked (Ok r)) s text e w (trace_answer_is_view_answer asked r s text coherent there is) stops
 
@@ -74,8 +74,8 @@ pub rows_with_end_are_data_text : (r : Recorded) (near : Option Around) (p : Pic
 rows_with_end_are_data_text r near p last =
     data_parts_regroup_with_end (data_start false r near) (thread_list r p.ends.items) (codes ",\"boxes\":[") (rows_from (box_row r) 0 p.boxes.items) (codes "\n]")
     (codes ",\"stale\":[") (rows_from stale_row 0 p.stale.items) (codes "}" ++ last)
-    ∙ data_parts_regroup_before_last_text (data_start false r near) (thread_list r p.ends.items) (listed (codes ",\"boxes\":[") (box_row r) p.boxes.items)
-    (listed (codes ",\"stale\":[") stale_row p.stale.items) (codes "}") last
+    ∙ data_parts_regroup_before_last_text (data_start false r near) (thread_list r p.ends.items) (named_list (codes ",\"boxes\":[") (box_row r) p.boxes.items)
+    (named_list (codes ",\"stale\":[") stale_row p.stale.items) (codes "}") last
 
 -- in a frame of its own it is the data of the picture
 pub framed_rows_are_data_form : (r : Recorded) (near : Option Around) (p : Picture) (before after : List ℕ) → before ≡ [] → after ≡ codes "\n]}\n"

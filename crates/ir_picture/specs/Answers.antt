@@ -11,7 +11,7 @@ use Rattle.ir_past.specs.Answers.{AreCoherent, IsRefusal, NotAnswered, fault_wor
 use Rattle.ir_past.specs.declared.stale_write.StaleWrite.{StaleWrite}
 use Rattle.ir_past.specs.declared.past_err.PastErr.TheVariants.{NoMem}
 use Rattle.ir_picture.specs.Needs.{HasNoCircle, IsCircleAt}
-use Rattle.ir_picture.specs.Places.{ArePlaced}
+use Rattle.ir_picture.specs.Places.{AreBoxesPlaced}
 use Rattle.ir_picture.specs.Shown.{AreShown, shown_stale}
 use Rattle.ir_picture.specs.Numbers.{data_text}
 use Rattle.ir_picture.specs.Chrome.{IsChromeAnswer}
@@ -30,7 +30,7 @@ use Rattle.ir_picture.specs.declared.view_err.ViewErr.TheVariants as view
 -- the picture of a trace, or the part of it that is asked for: its boxes with their places, its stale writes
 pub record IsPicture (r : Recorded) (near : Option Around) (p : Picture) : Type 0 where
   pub all : List PlacedBox
-  pub placed : ArePlaced r all p.ends.items
+  pub placed : AreBoxesPlaced r all p.ends.items
   pub shown : AreShown all near p.boxes.items
   pub rows : List StaleWrite
   pub are : AreStaleWrites r rows
@@ -78,15 +78,15 @@ IsThere r None = ⊤
 IsThere r (Some near) = (near.thread < length r.threads) × (near.event < length (recorded_thread r near.thread).events)
 
 -- the answer about a coherent trace: a circle of its events, or its picture
-abbrev pub IsTraceAnswer : Asked → Recorded → ExitStatus → List ℕ → Type 0
-IsTraceAnswer asked r answered text =
+abbrev pub IsPictureAnswer : Asked → Recorded → ExitStatus → List ℕ → Type 0
+IsPictureAnswer asked r answered text =
     ((t e : ℕ) × IsCircleAt r t e × (answered ≡ status.NotFit) × (text ≡ circle_line t e))
     ⊎ (HasNoCircle r × ((p : Picture) × IsPicture r asked.around p × IsForm asked.form r asked.around p answered text))
 
 -- the answer about bytes
 abbrev pub IsViewAnswer : Asked → Result Recorded TraceErr → ExitStatus → List ℕ → Type 0
 IsViewAnswer asked read answered text =
-    ((r : Recorded) × (read ≡ Ok r) × AreCoherent r × IsThere r asked.around × IsTraceAnswer asked r answered text) ⊎ IsRefusal read answered text
+    ((r : Recorded) × (read ≡ Ok r) × AreCoherent r × IsThere r asked.around × IsPictureAnswer asked r answered text) ⊎ IsRefusal read answered text
 
 -- the trace doesn't have the event that a part is asked for around
 abbrev pub IsAbsent : Option Around → Recorded → Absent → Type 0
@@ -95,9 +95,9 @@ IsAbsent (Some near) r absent.Thread = length r.threads ≤ near.thread
 IsAbsent (Some near) r absent.Event = (near.thread < length r.threads) × (length (recorded_thread r near.thread).events ≤ near.event)
 
 -- why there is no answer about a coherent trace
-abbrev pub IsUnsaid : Asked → Recorded → ViewErr → Type 0
-IsUnsaid asked r (view.Absent what) = IsAbsent asked.around r what
-IsUnsaid asked r (view.Unwritten e) = e ≡ NoMem
+abbrev pub IsViewUnsaid : Asked → Recorded → ViewErr → Type 0
+IsViewUnsaid asked r (view.Absent what) = IsAbsent asked.around r what
+IsViewUnsaid asked r (view.Unwritten e) = e ≡ NoMem
 
 -- a part is asked for around an event that the trace doesn't have, and nothing was written
 pub record IsAroundNothing (asked : Asked) (read : Result Recorded TraceErr) (what : Absent) (w : Writer) : Type 0 where
@@ -109,17 +109,17 @@ pub record IsAroundNothing (asked : Asked) (read : Result Recorded TraceErr) (wh
   pub works : w.failed ≡ false
 
 -- why there is no answer about bytes, and what that leaves
-abbrev pub IsUnanswered : Asked → Result Recorded TraceErr → ViewErr → Writer → Type 0
-IsUnanswered asked read (view.Absent what) w = IsAroundNothing asked read what w
-IsUnanswered asked read (view.Unwritten e) w = NotAnswered (IsViewAnswer asked read) e w
+abbrev pub IsViewUnanswered : Asked → Result Recorded TraceErr → ViewErr → Writer → Type 0
+IsViewUnanswered asked read (view.Absent what) w = IsAroundNothing asked read what w
+IsViewUnanswered asked read (view.Unwritten e) w = NotAnswered (IsViewAnswer asked read) e w
 
 -- the exit status where there is no answer
-abbrev pub status_of : ViewErr → ExitStatus
-status_of (view.Absent what) = status.BadArguments
-status_of (view.Unwritten e) = status.Failed
+abbrev pub view_status : ViewErr → ExitStatus
+view_status (view.Absent what) = status.BadArguments
+view_status (view.Unwritten e) = status.Failed
 
 -- why there is none, in words
-abbrev pub fault_words : ViewErr → List ℕ
-fault_words (view.Absent absent.Thread) = codes "the trace has no thread of this number"
-fault_words (view.Absent absent.Event) = codes "the thread has no event of this number"
-fault_words (view.Unwritten e) = unwritten_words e
+abbrev pub view_fault_words : ViewErr → List ℕ
+view_fault_words (view.Absent absent.Thread) = codes "the trace has no thread of this number"
+view_fault_words (view.Absent absent.Event) = codes "the thread has no event of this number"
+view_fault_words (view.Unwritten e) = unwritten_words e

@@ -10,7 +10,7 @@ use Rattle.ir_files.specs.declared.exit_status.ExitStatus.{ExitStatus}
 use Rattle.ir_files.specs.declared.exit_status.ExitStatus.TheVariants.{Done}
 use Rattle.ir_past.specs.Past.{event_at, entered}
 use Rattle.ir_past.specs.declared.stale_write.StaleWrite.{StaleWrite}
-use Rattle.ir_picture.specs.Needs.{IsEntryAt, IsMakerOf}
+use Rattle.ir_picture.specs.Needs.{IsEntryOf, IsMakerOf}
 use Rattle.ir_coherence.specs.Before.{IsBefore}
 use Rattle.ir_picture.specs.Numbers.{events_in}
 use Rattle.ir_picture.specs.declared.placed_box.PlacedBox.{PlacedBox}
@@ -88,8 +88,8 @@ box_line r stale b = slice_line (events_in r b.events) (read_of stale b.events.t
 
 -- event i of thread t sees version v of object o that the thread's entry of o before didn't find
 pub record SeesNew (r : Recorded) (t i o v : ℕ) : Type 0 where
-  pub entry : IsEntryAt r t i o v
-  pub new : (h : ℕ) → h < i → IsEntryAt r t h o v → (k : ℕ) × (e : Event) × (h < k) × (k < i) × (event_at r t k ≡ Some e) × (entered e ≡ Some o)
+  pub entry : IsEntryOf r t i o v
+  pub new : (h : ℕ) → h < i → IsEntryOf r t h o v → (k : ℕ) × (e : Event) × (h < k) × (k < i) × (event_at r t k ≡ Some e) × (entered e ≡ Some o)
 
 -- a box sees what the write entry of another thread's box made, and both are among these
 pub record IsSight (r : Recorded) (boxes : List PlacedBox) (s : Sight) : Type 0 where

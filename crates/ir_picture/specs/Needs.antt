@@ -4,15 +4,15 @@ use Rattle.ir_trace.specs.Recorded.{Recorded, recorded_thread}
 use Rattle.ir_past.specs.Past.{IsReadAt, IsWriteAt}
 
 -- event i of thread t enters object o at version v
-abbrev pub IsEntryAt : Recorded → ℕ → ℕ → ℕ → ℕ → Type 0
-IsEntryAt r t i o v = IsReadAt r t i o v ⊎ ((l : ℕ) × IsWriteAt r t i o v l)
+abbrev pub IsEntryOf : Recorded → ℕ → ℕ → ℕ → ℕ → Type 0
+IsEntryOf r t i o v = IsReadAt r t i o v ⊎ ((l : ℕ) × IsWriteAt r t i o v l)
 
 -- event j of thread u made the version that event i of thread t enters
 pub record IsMakerOf (r : Recorded) (t i u j : ℕ) : Type 0 where
   pub object : ℕ
   pub version : ℕ
   pub readers : ℕ
-  pub entry : IsEntryAt r t i object (suc version)
+  pub entry : IsEntryOf r t i object (suc version)
   pub made : IsWriteAt r u j object version readers
 
 -- event j of thread u read the version over which event i of thread t writes

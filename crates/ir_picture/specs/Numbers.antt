@@ -28,8 +28,8 @@ rows_from row k [] = []
 rows_from row k (x ∷ xs) = row_start k ++ (row x ++ rows_from row (suc k) xs)
 
 -- a list: its name, and its rows in brackets
-abbrev pub listed : {A : Type 0} → List ℕ → (A → List ℕ) → List A → List ℕ
-listed name row xs = name ++ (rows_from row 0 xs ++ codes "\n]")
+abbrev pub named_list : {A : Type 0} → List ℕ → (A → List ℕ) → List A → List ℕ
+named_list name row xs = name ++ (rows_from row 0 xs ++ codes "\n]")
 
 -- the number of a profile
 abbrev pub profile_number : Profile → ℕ
@@ -142,5 +142,5 @@ thread_list r ends = codes ",\"threads\":[" ++ (thread_rows 0 r.threads ends ++ 
 -- the data of a picture
 abbrev pub data_text : Recorded → Option Around → Picture → List ℕ
 data_text r near p =
-    data_start false r near ++ (thread_list r p.ends.items ++ (listed (codes ",\"boxes\":[") (box_row r) p.boxes.items
-    ++ (listed (codes ",\"stale\":[") stale_row p.stale.items ++ codes "}")))
+    data_start false r near ++ (thread_list r p.ends.items ++ (named_list (codes ",\"boxes\":[") (box_row r) p.boxes.items
+    ++ (named_list (codes ",\"stale\":[") stale_row p.stale.items ++ codes "}")))

@@ -81,7 +81,7 @@ pub record IsThreadEnd (boxes : List PlacedBox) (t : ℕ) (p : Point) : Type 0 w
   pub u : IsLeastAbove 1 (EndsIn boxes (λ q. q.u) t) p.u
 
 -- the boxes of a trace with their places, and the ends of its threads
-pub record ArePlaced (r : Recorded) (boxes : List PlacedBox) (ends : List Point) : Type 0 where
+pub record AreBoxesPlaced (r : Recorded) (boxes : List PlacedBox) (ends : List Point) : Type 0 where
   pub all : AreBoxes r (map (λ b. b.events) boxes)
   pub placed : (k : ℕ) (b : PlacedBox) → slice_get boxes k ≡ Some b → IsPlaced r boxes b
   pub threads : length ends ≡ length r.threads
@@ -94,4 +94,4 @@ NeedsAreLeft r boxes = (k m : ℕ) (a b : PlacedBox) → slice_get boxes k ≡ S
 
 -- the law: it holds wherever boxes are placed
 abbrev pub PlacedNeedsAreLeft : Type 0
-PlacedNeedsAreLeft = (r : Recorded) (boxes : List PlacedBox) (ends : List Point) → ArePlaced r boxes ends → NeedsAreLeft r boxes
+PlacedNeedsAreLeft = (r : Recorded) (boxes : List PlacedBox) (ends : List Point) → AreBoxesPlaced r boxes ends → NeedsAreLeft r boxes

@@ -6,7 +6,7 @@ use Rattle.ir_log.specs.declared.event.Event.TheVariants.{Read, Write}
 use Rattle.ir_trace.specs.Recorded.{Recorded}
 use Rattle.ir_coherence.specs.Before.{IsBefore}
 use Rattle.ir_past.specs.Past.{event_at, entered}
-use Rattle.ir_picture.specs.Needs.{IsEntryAt}
+use Rattle.ir_picture.specs.Needs.{IsEntryOf}
 use Rattle.ir_picture.specs.Chrome.{IsSight}
 use Rattle.ir_picture.specs.declared.placed_box.PlacedBox.{PlacedBox}
 use Rattle.ir_picture.specs.declared.sights.Sight.{Sight}
@@ -18,7 +18,7 @@ Enters e o v = (e ≡ Read o v) ⊎ ((l : ℕ) × (e ≡ Write o v l))
 -- event i of thread t enters object o at version v, and none of the thread's first n events enters o after it
 pub record IsLastEntry (r : Recorded) (t n o i v : ℕ) : Type 0 where
   pub before : i < n
-  pub entry : IsEntryAt r t i o v
+  pub entry : IsEntryOf r t i o v
   pub alone : (k : ℕ) (e : Event) → i < k → k < n → event_at r t k ≡ Some e → entered e ≡ Some o → ⊥
 
 -- the version that is noted of an object

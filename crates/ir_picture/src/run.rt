@@ -7,7 +7,7 @@ ghost use Rattle.ir_files.specs.declared.exit_status.ExitStatus.TheVariants as s
 ghost use Rattle.ir_past.specs.Answers.{AreCoherent, Answered, NotAnswered};
 ghost use Rattle.ir_picture.specs.Needs.{HasNoCircle, IsCircleAt};
 ghost use Rattle.ir_picture.specs.Progress.{IsOf};
-ghost use Rattle.ir_picture.specs.Answers.{IsPicture, IsForm, IsThere, IsViewAnswer, IsUnsaid, IsUnanswered, circle_line, many_line, status_of, fault_words};
+ghost use Rattle.ir_picture.specs.Answers.{IsPicture, IsForm, IsThere, IsViewAnswer, IsViewUnsaid, IsViewUnanswered, circle_line, many_line, view_status, view_fault_words};
 ghost use Rattle.ir_picture.specs.declared.asked.Form.TheVariants as form;
 ghost use Rattle.ir_picture.specs.declared.view_err.ViewErr.{ViewErr};
 
@@ -115,7 +115,7 @@ fn judged(alloc: Global, trace: &Trace, asked: &Asked) -> Result<Result<Picture,
     requires { AreCoherent trace.now }
     ensures ok { IfOk result (λ x. MatchResult x (λ p. HasNoCircle trace.now × IsPicture trace.now (asked.now).around p) (λ c. IsCircleAt trace.now c.thread c.event)) }
     ensures there { OnOk result (IsThere trace.now (asked.now).around) }
-    ensures fails { IfErr result (IsUnsaid asked.now trace.now) }
+    ensures fails { IfErr result (IsViewUnsaid asked.now trace.now) }
 {
     is_there(trace, &asked.around)?;
     Ok(picture_of(alloc, trace, &asked.around)?)
@@ -131,7 +131,7 @@ fn show_trace<O: Sink>(
     requires works { O.broken out.old ≡ false }
     requires coherent { AreCoherent trace.now }
     ensures ok { IfOk result (λ answered. Answered (IsViewAnswer asked.now (Ok trace.now)) answered (writer_of (O.written out.old) (O.written out.new) (O.broken out.new))) }
-    ensures fails { IfErr result (λ e. IsUnanswered asked.now (Ok trace.now) e (writer_of (O.written out.old) (O.written out.new) (O.broken out.new))) }
+    ensures fails { IfErr result (λ e. IsViewUnanswered asked.now (Ok trace.now) e (writer_of (O.written out.old) (O.written out.new) (O.broken out.new))) }
 {
     match judged(alloc, trace, asked)? {
         Err(circle) => Ok(put_answer(&circle_answer(alloc, &circle)?, out)?),
@@ -148,7 +148,7 @@ fn show<O: Sink>(
 ) -> Result<ExitStatus, ViewErr>
     requires { O.broken out.old ≡ false }
     ensures ok { IfOk result (λ answered. Answered (IsViewAnswer asked.now (recorded_at bytes.now)) answered (writer_of (O.written out.old) (O.written out.new) (O.broken out.new))) }
-    ensures fails { IfErr result (λ e. IsUnanswered asked.now (recorded_at bytes.now) e (writer_of (O.written out.old) (O.written out.new) (O.broken out.new))) }
+    ensures fails { IfErr result (λ e. IsViewUnanswered asked.now (recorded_at bytes.now) e (writer_of (O.written out.old) (O.written out.new) (O.broken out.new))) }
 {
     match open_trace(alloc, bytes)? {
         Opened::Coherent(trace) => show_trace(alloc, &trace, asked, out),
@@ -175,9 +175,9 @@ pub fn view_run<O: Sink, E: Sink>(
         → Answered (IsViewAnswer asked.now (recorded_at bytes.now)) result (writer_of (O.written out.old) (O.written out.new) (O.broken out.new)) × (faults.new ≡ faults.old) }
     // Else why there is none, what that leaves, and that it is reported.
     ensures failed { (result ≡ status.Failed) ⊎ (result ≡ status.BadArguments) → (e : ViewErr)
-        × (result ≡ status_of e)
-        × IsUnanswered asked.now (recorded_at bytes.now) e (writer_of (O.written out.old) (O.written out.new) (O.broken out.new))
-        × Reports (writer_of (E.written faults.old) (E.written faults.new) (E.broken faults.new)) (fault_text (fault_words e)) }
+        × (result ≡ view_status e)
+        × IsViewUnanswered asked.now (recorded_at bytes.now) e (writer_of (O.written out.old) (O.written out.new) (O.broken out.new))
+        × Reports (writer_of (E.written faults.old) (E.written faults.new) (E.broken faults.new)) (fault_text (view_fault_words e)) }
 {
     match show(alloc, bytes, asked, out) {
         Ok(answered) => answered,

@@ -28,11 +28,11 @@ pub enum ViewErr {
 }
 
 impl ViewErr {
-    ghost use Rattle.ir_picture.specs.Answers.{fault_words, status_of};
+    ghost use Rattle.ir_picture.specs.Answers.{view_fault_words, view_status};
 
     /// The exit status that it gives.
     pub fn status(self) -> ExitStatus
-        ensures { result ≡ status_of self }
+        ensures { result ≡ view_status self }
     {
         match self {
             ViewErr::Absent(_) => ExitStatus::BadArguments,
@@ -42,7 +42,7 @@ impl ViewErr {
 
     /// The fault in words.
     pub fn words(self) -> &'static str
-        ensures { result.now ≡ fault_words self }
+        ensures { result.now ≡ view_fault_words self }
     {
         match self {
             ViewErr::Absent(Absent::Thread) => "the trace has no thread of this number",

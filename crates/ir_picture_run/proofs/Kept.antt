@@ -10,7 +10,7 @@ use Rattle.ir_past.specs.declared.stale_write.StaleWrite.{StaleWrite}
 use Rattle.ir_rests.specs.declared.rest.Rest.{Rest}
 use Rattle.ir_picture.specs.Shown.{is_shown}
 use Rattle.ir_picture.specs.declared.placed_box.PlacedBox.{PlacedBox}
-use Rattle.ir_picture_run.specs.Resting.{kept_if, first_kept, writes_of}
+use Rattle.ir_picture_run.specs.Resting.{kept_if, first_kept, stale_of_rests}
 use Rattle.ir_picture_run.specs.declared.resting.Resting.{Resting}
 
 -- none is kept before the first row
@@ -63,17 +63,17 @@ are_some_rows_after_row_pushed rows n ws y rises there h = record {
 }
 
 are_some_rows_after_row_choice : (shown : List PlacedBox) (rows : List StaleWrite) (n : ℕ) (ws : List StaleWrite) (x : Option StaleWrite) (r : Option Rest)
-    → IsRising rows → slice_get rows n ≡ x → AreSomeRows rows n ws → AreSomeRows rows (suc n) (ws ++ writes_of (kept_if shown x r))
+    → IsRising rows → slice_get rows n ≡ x → AreSomeRows rows n ws → AreSomeRows rows (suc n) (ws ++ stale_of_rests (kept_if shown x r))
 are_some_rows_after_row_choice shown rows n ws None r rises at h = subst (AreSomeRows rows (suc n)) (sym (append-nil ws)) (are_some_rows_of_one_more_row rows n ws h)
 are_some_rows_after_row_choice shown rows n ws (Some x) None rises at h = subst (AreSomeRows rows (suc n)) (sym (append-nil ws)) (are_some_rows_of_one_more_row rows n ws h)
 are_some_rows_after_row_choice shown rows n ws (Some x) (Some r) rises at h = by (is_shown shown x)
   where
-    by : (b : Bool) → AreSomeRows rows (suc n) (ws ++ writes_of (cond b ((record { write = x; rest = r }) ∷ []) []))
+    by : (b : Bool) → AreSomeRows rows (suc n) (ws ++ stale_of_rests (cond b ((record { write = x; rest = r }) ∷ []) []))
     by true = are_some_rows_after_row_pushed rows n ws x rises at h
     by false = subst (AreSomeRows rows (suc n)) (sym (append-nil ws)) (are_some_rows_of_one_more_row rows n ws h)
 
 kept_writes_are_some_rows : (shown : List PlacedBox) (rows : List StaleWrite) (rests : List (Option Rest)) (n : ℕ) → IsRising rows
-    → AreSomeRows rows n (writes_of (first_kept shown rows rests n))
+    → AreSomeRows rows n (stale_of_rests (first_kept shown rows rests n))
 unfolding first_kept
 kept_writes_are_some_rows shown rows rests zero rises = record {
   among = λ a x e. absurd (none-some x e);
@@ -81,9 +81,9 @@ kept_writes_are_some_rows shown rows rests zero rises = record {
 }
 kept_writes_are_some_rows shown rows rests (suc n) rises =
     subst (AreSomeRows rows (suc n)) (sym (map-append (λ (x : Resting). x.write) (first_kept shown rows rests n) (kept_if shown (slice_get rows n) (slice_index_or rests n None))))
-    (are_some_rows_after_row_choice shown rows n (writes_of (first_kept shown rows rests n)) (slice_get rows n) (slice_index_or rests n None) rises refl
+    (are_some_rows_after_row_choice shown rows n (stale_of_rests (first_kept shown rows rests n)) (slice_get rows n) (slice_index_or rests n None) rises refl
     (kept_writes_are_some_rows shown rows rests n rises))
 
 pub kept_writes_are_rising : (shown : List PlacedBox) (rows : List StaleWrite) (rests : List (Option Rest)) (n : ℕ) → IsRising rows
-    → IsRising (writes_of (first_kept shown rows rests n))
+    → IsRising (stale_of_rests (first_kept shown rows rests n))
 kept_writes_are_rising shown rows rests n rises = (kept_writes_are_some_rows shown rows rests n rises).rising

@@ -21,28 +21,28 @@ use Rattle.ir_picture.specs.declared.placed_box.PlacedBox.{PlacedBox}
 use Rattle.ir_picture.proofs.CallerLemmas.{four_parts_are_framed_text, data_parts_regroup_with_end, data_parts_regroup_before_last_text, shown_of_some_boxes_are_some_boxes, slice_get_of_map, slice_get_of_map_inverse}
 use Rattle.ir_picture_run.specs.Brief.{IsRunBox, AreRunBoxes}
 use Rattle.ir_picture_run.specs.Held.{AreHeld, HaveHeld}
-use Rattle.ir_picture_run.specs.Resting.{resting_writes, writes_of}
+use Rattle.ir_picture_run.specs.Resting.{resting_writes, stale_of_rests}
 use Rattle.ir_picture_run.proofs.Kept.{kept_writes_are_rising}
 use Rattle.ir_picture.specs.Answers.{page_head, page_tail, IsThere, most_boxes}
-use Rattle.ir_picture.specs.Numbers.{rows_from, listed, data_start, thread_list}
+use Rattle.ir_picture.specs.Numbers.{rows_from, named_list, data_start, thread_list}
 use Rattle.ir_picture.specs.declared.asked.Form.TheVariants as form
 use Rattle.ir_files.specs.declared.exit_status.ExitStatus.TheVariants as status
 use Rattle.ir_picture.specs.declared.asked.Asked.{Asked}
 use Rattle.ir_picture.specs.declared.picture.Picture.{Picture}
-use Rattle.ir_picture_run.specs.Numbers.{drawn_row, resting_row, data_rows, data_text}
+use Rattle.ir_picture_run.specs.Numbers.{drawn_row, resting_row, data_rows, run_data_text}
 use Rattle.ir_picture_run.specs.Steps.{AreDrawn}
 use Rattle.ir_picture_run.specs.declared.drawn.Drawn.{Drawn}
-use Rattle.ir_picture_run.specs.Answers.{IsRunPicture, IsForm, IsRunAnswer, IsViewAnswer}
+use Rattle.ir_picture_run.specs.Answers.{IsRunPicture, IsFormOfRun, IsRunAnswer, IsRunViewAnswer}
 use Rattle.ir_picture_run.specs.declared.resting.Resting.{Resting}
 
 -- the answer about a run is one about its bytes
 pub run_answer_is_view_answer : (asked : Asked) (f : FittedTrace) (s : ExitStatus) (text image trace : List ℕ) → IsFit image trace f → IsThere f.recorded asked.around
-    → IsRunAnswer asked f s text → IsViewAnswer asked image trace s text
+    → IsRunAnswer asked f s text → IsRunViewAnswer asked image trace s text
 run_answer_is_view_answer asked f s text image trace fits there answer = inl (record { fitted = f; fits = fits; there = there; answer = answer })
 
 -- a form of its picture is one
 pub picture_form_is_run_answer : (asked : Asked) (f : FittedTrace) (s : ExitStatus) (text : List ℕ) (p : Picture) (kept : List Resting)
-    → IsRunPicture f asked.around p kept → IsForm asked.form f asked.around p kept s text → IsRunAnswer asked f s text
+    → IsRunPicture f asked.around p kept → IsFormOfRun asked.form f asked.around p kept s text → IsRunAnswer asked f s text
 picture_form_is_run_answer asked f s text p kept drawn is = record { picture = p; kept = kept; drawn = drawn; form = is }
 
 -- a box of a run is one of its trace
@@ -86,7 +86,7 @@ start_of_run_event_exists f boxes t i are within =
 -- the boxes of a run with the stale writes that rest on their reads
 pub held_picture_is_run_picture : (f : FittedTrace) (near : Option Around) (all : List PlacedBox) (ends : List Point) (q : Picture) (rows : List StaleWrite)
     (rests : List (Option Rest)) (kept : List Resting) → HaveHeld f all ends → AreShown all near q.boxes.items → q.ends.items ≡ ends → AreStaleWrites f.recorded rows
-    → AreRests f rows rests → kept ≡ resting_writes q.boxes.items rows rests → q.stale.items ≡ writes_of kept → IsRunPicture f near q kept × IsOf f.recorded q
+    → AreRests f rows rests → kept ≡ resting_writes q.boxes.items rows rests → q.stale.items ≡ stale_of_rests kept → IsRunPicture f near q kept × IsOf f.recorded q
 held_picture_is_run_picture f near all ends q rows rests kept have shown last are found same stale =
     let held = have.1 in
     let some = shown_of_some_boxes_are_some_boxes f.recorded all q.boxes.items near (run_boxes_are_some_boxes f (events_of_all all) held.all) shown in (
@@ -106,7 +106,7 @@ held_picture_is_run_picture f near all ends q rows rests kept have shown last ar
         boxes = λ k b at. some.each k b.events (slice_get_of_map (λ (z : PlacedBox). z.events) q.boxes.items k b at);
         some = some;
         ends = ap (λ (es : List Point). length es) last ∙ held.places.threads;
-        stale = subst IsRising (sym (stale ∙ ap writes_of same)) (kept_writes_are_rising q.boxes.items rows rests (length rows) are.rising);
+        stale = subst IsRising (sym (stale ∙ ap stale_of_rests same)) (kept_writes_are_rising q.boxes.items rows rests (length rows) are.rising);
       },
     )
 
@@ -122,21 +122,21 @@ framed_parts_are_data_rows f near p drawn kept first a d before after r ends beg
 
 -- the data with its end, and a text after it
 pub ended_data_rows_are_text : (f : FittedTrace) (near : Option Around) (p : Picture) (drawn : List Drawn) (kept : List Resting) (last : List ℕ)
-    → data_rows f near p drawn kept ++ (codes "\n]}" ++ last) ≡ data_text f near p drawn kept ++ last
+    → data_rows f near p drawn kept ++ (codes "\n]}" ++ last) ≡ run_data_text f near p drawn kept ++ last
 ended_data_rows_are_text f near p drawn kept last =
     data_parts_regroup_with_end (data_start true f.recorded near) (thread_list f.recorded p.ends.items) (codes ",\"boxes\":[") (rows_from (drawn_row f) 0 drawn)
     (codes "\n]") (codes ",\"stale\":[") (rows_from resting_row 0 kept) (codes "}" ++ last)
-    ∙ data_parts_regroup_before_last_text (data_start true f.recorded near) (thread_list f.recorded p.ends.items) (listed (codes ",\"boxes\":[") (drawn_row f) drawn)
-    (listed (codes ",\"stale\":[") resting_row kept) (codes "}") last
+    ∙ data_parts_regroup_before_last_text (data_start true f.recorded near) (thread_list f.recorded p.ends.items) (named_list (codes ",\"boxes\":[") (drawn_row f) drawn)
+    (named_list (codes ",\"stale\":[") resting_row kept) (codes "}") last
 
 -- in a frame of its own it is the data of the picture
 pub framed_rows_are_data_form : (f : FittedTrace) (near : Option Around) (p : Picture) (drawn : List Drawn) (kept : List Resting) (before after : List ℕ)
     → AreDrawn f p.boxes.items drawn → before ≡ [] → after ≡ codes "\n]}\n"
-    → IsForm form.Data f near p kept status.Done (before ++ (data_rows f near p drawn kept ++ after))
+    → IsFormOfRun form.Data f near p kept status.Done (before ++ (data_rows f near p drawn kept ++ after))
 framed_rows_are_data_form f near p drawn kept before after are none ends = (
   refl,
   (
-    data_text f near p drawn kept,
+    run_data_text f near p drawn kept,
     record { drawn = drawn; are = are; lines = refl },
     ap (λ (x : List ℕ). x ++ (data_rows f near p drawn kept ++ after)) none ∙ ap (λ (x : List ℕ). data_rows f near p drawn kept ++ x) ends
         ∙ ended_data_rows_are_text f near p drawn kept (10 ∷ []),
@@ -146,12 +146,12 @@ framed_rows_are_data_form f near p drawn kept before after are none ends = (
 -- in that of a page it is the page of the picture
 pub framed_rows_are_page_form : (f : FittedTrace) (near : Option Around) (p : Picture) (drawn : List Drawn) (kept : List Resting) (before after : List ℕ)
     → AreDrawn f p.boxes.items drawn → length p.boxes.items ≤ most_boxes → before ≡ page_head → after ≡ codes "\n]}" ++ page_tail
-    → IsForm form.Page f near p kept status.Done (before ++ (data_rows f near p drawn kept ++ after))
+    → IsFormOfRun form.Page f near p kept status.Done (before ++ (data_rows f near p drawn kept ++ after))
 framed_rows_are_page_form f near p drawn kept before after are fits begins ends = inl (
   fits,
   refl,
   record {
-    text = data_text f near p drawn kept;
+    text = run_data_text f near p drawn kept;
     is = record { drawn = drawn; are = are; lines = refl };
     lines = ap (λ (x : List ℕ). x ++ (data_rows f near p drawn kept ++ after)) begins
         ∙ ap (λ (x : List ℕ). page_head ++ (data_rows f near p drawn kept ++ x)) ends

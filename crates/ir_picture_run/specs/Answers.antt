@@ -10,7 +10,7 @@ use Rattle.ir_past.specs.Answers.{NotAnswered}
 use Rattle.ir_past.specs.declared.past_err.PastErr.TheVariants.{NoMem}
 use Rattle.ir_past.specs.declared.stale_write.StaleWrite.{StaleWrite}
 use Rattle.ir_fit_run.specs.Opened.{IsFit}
-use Rattle.ir_fit_run.specs.Answers.{IsRefusal}
+use Rattle.ir_fit_run.specs.Answers.{IsUnfitRefusal}
 use Rattle.ir_rests.specs.Rests.{AreRests}
 use Rattle.ir_rests.specs.declared.rest.Rest.{Rest}
 use Rattle.ir_picture.specs.Shown.{AreShown}
@@ -28,8 +28,8 @@ use Rattle.ir_picture_run.specs.declared.run_view_err.RunViewErr.{RunViewErr}
 use Rattle.ir_picture_run.specs.declared.run_view_err.RunViewErr.TheVariants as fault
 use Rattle.ir_picture_run.specs.Held.{AreHeld}
 use Rattle.ir_picture_run.specs.Steps.{AreDrawn}
-use Rattle.ir_picture_run.specs.Resting.{resting_writes, writes_of}
-use Rattle.ir_picture_run.specs.Numbers.{data_text}
+use Rattle.ir_picture_run.specs.Resting.{resting_writes, stale_of_rests}
+use Rattle.ir_picture_run.specs.Numbers.{run_data_text}
 use Rattle.ir_picture_run.specs.declared.drawn.Drawn.{Drawn}
 use Rattle.ir_picture_run.specs.declared.resting.Resting.{Resting}
 
@@ -45,13 +45,13 @@ pub record IsRunPicture (f : FittedTrace) (near : Option Around) (p : Picture) (
   pub rests : List (Option Rest)
   pub found : AreRests f rows rests
   pub are_kept : kept ≡ resting_writes p.boxes.items rows rests
-  pub stale : p.stale.items ≡ writes_of kept
+  pub stale : p.stale.items ≡ stale_of_rests kept
 
 -- the data of a picture, whose boxes have their last steps
 pub record IsData (f : FittedTrace) (near : Option Around) (p : Picture) (kept : List Resting) (text : List ℕ) : Type 0 where
   pub drawn : List Drawn
   pub are : AreDrawn f p.boxes.items drawn
-  pub lines : text ≡ data_text f near p drawn kept
+  pub lines : text ≡ run_data_text f near p drawn kept
 
 -- the page of a picture
 pub record IsPage (f : FittedTrace) (near : Option Around) (p : Picture) (kept : List Resting) (whole : List ℕ) : Type 0 where
@@ -60,40 +60,40 @@ pub record IsPage (f : FittedTrace) (near : Option Around) (p : Picture) (kept :
   pub lines : whole ≡ page_of text
 
 -- a picture in a form
-abbrev pub IsForm : Form → FittedTrace → Option Around → Picture → List Resting → ExitStatus → List ℕ → Type 0
-IsForm form.Page f near p kept answered text =
+abbrev pub IsFormOfRun : Form → FittedTrace → Option Around → Picture → List Resting → ExitStatus → List ℕ → Type 0
+IsFormOfRun form.Page f near p kept answered text =
     ((length p.boxes.items ≤ most_boxes) × (answered ≡ status.Done) × IsPage f near p kept text)
     ⊎ ((most_boxes < length p.boxes.items) × (answered ≡ status.NotFit) × (text ≡ many_line (length p.boxes.items)))
-IsForm form.Data f near p kept answered text =
+IsFormOfRun form.Data f near p kept answered text =
     (answered ≡ status.Done) × ((lines : List ℕ) × IsData f near p kept lines × (text ≡ lines ++ 10 ∷ []))
-IsForm form.Chrome f near p kept answered text = IsChromeAnswer f.recorded p answered text
+IsFormOfRun form.Chrome f near p kept answered text = IsChromeAnswer f.recorded p answered text
 
 -- the answer about a run: its picture
 pub record IsRunAnswer (asked : Asked) (f : FittedTrace) (answered : ExitStatus) (text : List ℕ) : Type 0 where
   pub picture : Picture
   pub kept : List Resting
   pub drawn : IsRunPicture f asked.around picture kept
-  pub form : IsForm asked.form f asked.around picture kept answered text
+  pub form : IsFormOfRun asked.form f asked.around picture kept answered text
 
 -- the answer to a guest and a trace of one of its runs
-pub record IsFitAnswer (asked : Asked) (image trace : List ℕ) (answered : ExitStatus) (text : List ℕ) : Type 0 where
+pub record IsPictureOfFit (asked : Asked) (image trace : List ℕ) (answered : ExitStatus) (text : List ℕ) : Type 0 where
   pub fitted : FittedTrace
   pub fits : IsFit image trace fitted
   pub there : IsThere fitted.recorded asked.around
   pub answer : IsRunAnswer asked fitted answered text
 
 -- the answer about the bytes of an image and of a trace
-abbrev pub IsViewAnswer : Asked → List ℕ → List ℕ → ExitStatus → List ℕ → Type 0
-IsViewAnswer asked image trace answered text = IsFitAnswer asked image trace answered text ⊎ IsRefusal image trace answered text
+abbrev pub IsRunViewAnswer : Asked → List ℕ → List ℕ → ExitStatus → List ℕ → Type 0
+IsRunViewAnswer asked image trace answered text = IsPictureOfFit asked image trace answered text ⊎ IsUnfitRefusal image trace answered text
 
 -- why there is no answer about a run. That places are always found isn't said here
-abbrev pub IsUnsaid : Asked → FittedTrace → RunViewErr → Type 0
-IsUnsaid asked f (fault.Absent what) = IsAbsent asked.around f.recorded what
-IsUnsaid asked f fault.Unplaced = ⊤
-IsUnsaid asked f (fault.Unwritten e) = e ≡ NoMem
+abbrev pub IsRunViewUnsaid : Asked → FittedTrace → RunViewErr → Type 0
+IsRunViewUnsaid asked f (fault.Absent what) = IsAbsent asked.around f.recorded what
+IsRunViewUnsaid asked f fault.Unplaced = ⊤
+IsRunViewUnsaid asked f (fault.Unwritten e) = e ≡ NoMem
 
 -- a part is asked for around an event that the run doesn't have, and nothing was written
-pub record IsAroundNothing (asked : Asked) (image trace : List ℕ) (what : Absent) (w : Writer) : Type 0 where
+pub record IsAroundNoEvent (asked : Asked) (image trace : List ℕ) (what : Absent) (w : Writer) : Type 0 where
   pub fitted : FittedTrace
   pub fits : IsFit image trace fitted
   pub lacks : IsAbsent asked.around fitted.recorded what
@@ -108,7 +108,7 @@ pub record IsUnplaced (image trace : List ℕ) (w : Writer) : Type 0 where
   pub works : w.failed ≡ false
 
 -- why there is no answer about bytes, and what that leaves
-abbrev pub IsUnanswered : Asked → List ℕ → List ℕ → RunViewErr → Writer → Type 0
-IsUnanswered asked image trace (fault.Absent what) w = IsAroundNothing asked image trace what w
-IsUnanswered asked image trace fault.Unplaced w = IsUnplaced image trace w
-IsUnanswered asked image trace (fault.Unwritten e) w = NotAnswered (IsViewAnswer asked image trace) e w
+abbrev pub IsRunViewUnanswered : Asked → List ℕ → List ℕ → RunViewErr → Writer → Type 0
+IsRunViewUnanswered asked image trace (fault.Absent what) w = IsAroundNoEvent asked image trace what w
+IsRunViewUnanswered asked image trace fault.Unplaced w = IsUnplaced image trace w
+IsRunViewUnanswered asked image trace (fault.Unwritten e) w = NotAnswered (IsRunViewAnswer asked image trace) e w

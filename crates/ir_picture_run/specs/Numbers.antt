@@ -6,7 +6,7 @@ use Rattle.ir_events.specs.Events.{entry_of}
 use Rattle.ir_rests.specs.declared.reason.Reason.{Reason}
 use Rattle.ir_rests.specs.declared.reason.Reason.TheVariants.{Value, Way}
 use Rattle.ir_rests.specs.declared.rest.Rest.{Rest}
-use Rattle.ir_picture.specs.Numbers.{comma, events_in, fold_numbers, row_with, rows_from, listed, data_start, thread_list}
+use Rattle.ir_picture.specs.Numbers.{comma, events_in, fold_numbers, row_with, rows_from, named_list, data_start, thread_list}
 use Rattle.ir_picture.specs.Progress.{data_head, stale_head}
 use Rattle.ir_picture.specs.declared.asked.Around.{Around}
 use Rattle.ir_picture.specs.declared.picture.Picture.{Picture}
@@ -45,10 +45,10 @@ abbrev pub resting_row : Resting → List ℕ
 resting_row x = codes "[" ++ (decimal x.write.thread ++ (comma x.write.read ++ (comma x.write.event ++ rest_part x.rest)))
 
 -- the data of a picture of a run
-abbrev pub data_text : FittedTrace → Option Around → Picture → List Drawn → List Resting → List ℕ
-data_text f near p drawn kept =
-    data_start true f.recorded near ++ (thread_list f.recorded p.ends.items ++ (listed (codes ",\"boxes\":[") (drawn_row f) drawn
-    ++ (listed (codes ",\"stale\":[") resting_row kept ++ codes "}")))
+abbrev pub run_data_text : FittedTrace → Option Around → Picture → List Drawn → List Resting → List ℕ
+run_data_text f near p drawn kept =
+    data_start true f.recorded near ++ (thread_list f.recorded p.ends.items ++ (named_list (codes ",\"boxes\":[") (drawn_row f) drawn
+    ++ (named_list (codes ",\"stale\":[") resting_row kept ++ codes "}")))
 
 -- the data up to its end, after the rows of the stale writes
 abbrev pub data_rows : FittedTrace → Option Around → Picture → List Drawn → List Resting → List ℕ

@@ -23,5 +23,5 @@ abbrev pub resting_writes : List PlacedBox → List StaleWrite → List (Option 
 resting_writes shown rows rests = first_kept shown rows rests (length rows)
 
 -- the stale writes alone
-abbrev pub writes_of : List Resting → List StaleWrite
-writes_of kept = map (λ (x : Resting). x.write) kept
+abbrev pub stale_of_rests : List Resting → List StaleWrite
+stale_of_rests kept = map (λ (x : Resting). x.write) kept

@@ -3,7 +3,7 @@
 ghost use Rattle.std.specs.Prelude.{◌≡◌, ◌++◌, Some, length, IfOk, OnOk};
 ghost use Rattle.ir_picture.specs.Boxing.{AreApart};
 ghost use Rattle.ir_picture.specs.Placing.{events_of_all};
-ghost use Rattle.ir_picture_run.specs.Resting.{kept_if, first_kept, resting_writes, writes_of};
+ghost use Rattle.ir_picture_run.specs.Resting.{kept_if, first_kept, resting_writes, stale_of_rests};
 
 use crate::resting::Resting;
 use ir_past::StaleWrite;
@@ -59,7 +59,7 @@ pub fn resting_writes(
 /// # Errors
 /// Out of memory.
 pub fn writes_of(alloc: Global, kept: &[Resting]) -> Result<Vec<StaleWrite>, AllocError>
-    ensures { IfOk result (λ v. v.items ≡ writes_of kept.now) }
+    ensures { IfOk result (λ v. v.items ≡ stale_of_rests kept.now) }
 {
     let mut writes = Vec::new(alloc);
     for own in kept {

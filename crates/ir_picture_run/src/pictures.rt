@@ -5,7 +5,7 @@ ghost use Rattle.ir_past.specs.Answers.{AreCoherent};
 ghost use Rattle.ir_fit_run.specs.Paired.{ArePaired};
 ghost use Rattle.ir_picture.specs.Progress.{IsOf};
 ghost use Rattle.ir_picture.specs.Answers.{IsThere};
-ghost use Rattle.ir_picture_run.specs.Answers.{IsRunPicture, IsUnsaid};
+ghost use Rattle.ir_picture_run.specs.Answers.{IsRunPicture, IsRunViewUnsaid};
 ghost use Rattle.ir_picture_run.specs.Brief.{AreRunBoxes};
 ghost use Rattle.ir_picture_run.specs.Spans.{IsSpan};
 ghost use Rattle.ir_picture_run.specs.Held.{HaveHeld};
@@ -97,7 +97,7 @@ pub fn run_picture_of(
     ensures drawn { IfOk result (λ x. IsRunPicture fitted.now (asked.now).around x.picture x.kept.items) }
     ensures of_trace { IfOk result (λ x. IsOf fitted.now.recorded x.picture) }
     ensures there { OnOk result (IsThere fitted.now.recorded (asked.now).around) }
-    ensures fails { IfErr result (IsUnsaid asked.now fitted.now) }
+    ensures fails { IfErr result (IsRunViewUnsaid asked.now fitted.now) }
 {
     fitted.known();
     is_there(fitted.trace(), &asked.around)?;

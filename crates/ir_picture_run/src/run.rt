@@ -7,9 +7,9 @@ ghost use Rattle.ir_past.specs.Answers.{AreCoherent, Answered, NotAnswered};
 ghost use Rattle.ir_fit_run.specs.Opened.{IsFit};
 ghost use Rattle.ir_picture.specs.Progress.{IsOf};
 ghost use Rattle.ir_picture.specs.declared.asked.Form.TheVariants as form;
-ghost use Rattle.ir_picture_run.specs.Faults.{status_of, fault_words};
+ghost use Rattle.ir_picture_run.specs.Faults.{run_view_status, run_view_fault_words};
 ghost use Rattle.ir_picture_run.specs.declared.run_view_err.RunViewErr.{RunViewErr};
-ghost use Rattle.ir_picture_run.specs.Answers.{IsForm, IsViewAnswer, IsUnanswered};
+ghost use Rattle.ir_picture_run.specs.Answers.{IsFormOfRun, IsRunViewAnswer, IsRunViewUnanswered};
 
 use crate::data::write_data;
 use crate::drawing::all_drawn;
@@ -37,8 +37,8 @@ fn write_page<O: Sink>(
 ) -> Result<ExitStatus, PastErr>
     requires works { O.broken out.old ≡ false }
     requires of_trace { IsOf fitted.now.recorded (shown.now).picture }
-    ensures ok { IfOk result (λ s. Answered (IsForm form.Page fitted.now near.now (shown.now).picture (shown.now).kept.items) s (writer_of (O.written out.old) (O.written out.new) (O.broken out.new))) }
-    ensures fails { IfErr result (λ e. NotAnswered (IsForm form.Page fitted.now near.now (shown.now).picture (shown.now).kept.items) e (writer_of (O.written out.old) (O.written out.new) (O.broken out.new))) }
+    ensures ok { IfOk result (λ s. Answered (IsFormOfRun form.Page fitted.now near.now (shown.now).picture (shown.now).kept.items) s (writer_of (O.written out.old) (O.written out.new) (O.broken out.new))) }
+    ensures fails { IfErr result (λ e. NotAnswered (IsFormOfRun form.Page fitted.now near.now (shown.now).picture (shown.now).kept.items) e (writer_of (O.written out.old) (O.written out.new) (O.broken out.new))) }
 {
     let RunPicture { picture, kept } = shown;
     if picture.boxes.len() > MOST_BOXES {
@@ -67,8 +67,8 @@ fn write_plain<O: Sink>(
 ) -> Result<ExitStatus, PastErr>
     requires works { O.broken out.old ≡ false }
     requires of_trace { IsOf fitted.now.recorded (shown.now).picture }
-    ensures ok { IfOk result (λ s. Answered (IsForm form.Data fitted.now near.now (shown.now).picture (shown.now).kept.items) s (writer_of (O.written out.old) (O.written out.new) (O.broken out.new))) }
-    ensures fails { IfErr result (λ e. NotAnswered (IsForm form.Data fitted.now near.now (shown.now).picture (shown.now).kept.items) e (writer_of (O.written out.old) (O.written out.new) (O.broken out.new))) }
+    ensures ok { IfOk result (λ s. Answered (IsFormOfRun form.Data fitted.now near.now (shown.now).picture (shown.now).kept.items) s (writer_of (O.written out.old) (O.written out.new) (O.broken out.new))) }
+    ensures fails { IfErr result (λ e. NotAnswered (IsFormOfRun form.Data fitted.now near.now (shown.now).picture (shown.now).kept.items) e (writer_of (O.written out.old) (O.written out.new) (O.broken out.new))) }
 {
     let RunPicture { picture, kept } = shown;
     let drawn = all_drawn(alloc, fitted, &picture.boxes)?;
@@ -95,8 +95,8 @@ fn show_picture<O: Sink>(
     requires works { O.broken out.old ≡ false }
     requires coherent { AreCoherent fitted.now.recorded }
     requires of_trace { IsOf fitted.now.recorded (shown.now).picture }
-    ensures ok { IfOk result (λ s. Answered (IsForm (asked.now).form fitted.now (asked.now).around (shown.now).picture (shown.now).kept.items) s (writer_of (O.written out.old) (O.written out.new) (O.broken out.new))) }
-    ensures fails { IfErr result (λ e. NotAnswered (IsForm (asked.now).form fitted.now (asked.now).around (shown.now).picture (shown.now).kept.items) e (writer_of (O.written out.old) (O.written out.new) (O.broken out.new))) }
+    ensures ok { IfOk result (λ s. Answered (IsFormOfRun (asked.now).form fitted.now (asked.now).around (shown.now).picture (shown.now).kept.items) s (writer_of (O.written out.old) (O.written out.new) (O.broken out.new))) }
+    ensures fails { IfErr result (λ e. NotAnswered (IsFormOfRun (asked.now).form fitted.now (asked.now).around (shown.now).picture (shown.now).kept.items) e (writer_of (O.written out.old) (O.written out.new) (O.broken out.new))) }
 {
     match asked.form {
         Form::Page => write_page(alloc, fitted, &asked.around, shown, out),
@@ -113,8 +113,8 @@ fn show_run<O: Sink>(
     out: &mut O,
 ) -> Result<ExitStatus, RunViewErr>
     requires { O.broken out.old ≡ false }
-    ensures ok { IfOk result (λ s. (i t : List ℕ) → IsFit i t fitted.now → Answered (IsViewAnswer asked.now i t) s (writer_of (O.written out.old) (O.written out.new) (O.broken out.new))) }
-    ensures fails { IfErr result (λ e. (i t : List ℕ) → IsFit i t fitted.now → IsUnanswered asked.now i t e (writer_of (O.written out.old) (O.written out.new) (O.broken out.new))) }
+    ensures ok { IfOk result (λ s. (i t : List ℕ) → IsFit i t fitted.now → Answered (IsRunViewAnswer asked.now i t) s (writer_of (O.written out.old) (O.written out.new) (O.broken out.new))) }
+    ensures fails { IfErr result (λ e. (i t : List ℕ) → IsFit i t fitted.now → IsRunViewUnanswered asked.now i t e (writer_of (O.written out.old) (O.written out.new) (O.broken out.new))) }
 {
     fitted.known();
     let shown = run_picture_of(alloc, fitted, asked)?;
@@ -130,8 +130,8 @@ fn show<O: Sink>(
     out: &mut O,
 ) -> Result<ExitStatus, RunViewErr>
     requires { O.broken out.old ≡ false }
-    ensures ok { IfOk result (λ s. Answered (IsViewAnswer asked.now image.now trace.now) s (writer_of (O.written out.old) (O.written out.new) (O.broken out.new))) }
-    ensures fails { IfErr result (λ e. IsUnanswered asked.now image.now trace.now e (writer_of (O.written out.old) (O.written out.new) (O.broken out.new))) }
+    ensures ok { IfOk result (λ s. Answered (IsRunViewAnswer asked.now image.now trace.now) s (writer_of (O.written out.old) (O.written out.new) (O.broken out.new))) }
+    ensures fails { IfErr result (λ e. IsRunViewUnanswered asked.now image.now trace.now e (writer_of (O.written out.old) (O.written out.new) (O.broken out.new))) }
 {
     match open_fit(alloc, image, trace)? {
         Opened::Fits(fitted) => show_run(alloc, &fitted, asked, out),
@@ -157,12 +157,12 @@ pub fn view_fit_run<O: Sink, E: Sink>(
     requires reports { E.broken faults.old ≡ false }
     // The answer was written, and no fault reported.
     ensures done { result ≢ status.Failed → result ≢ status.BadArguments
-        → Answered (IsViewAnswer asked.now image.now trace.now) result (writer_of (O.written out.old) (O.written out.new) (O.broken out.new)) × (faults.new ≡ faults.old) }
+        → Answered (IsRunViewAnswer asked.now image.now trace.now) result (writer_of (O.written out.old) (O.written out.new) (O.broken out.new)) × (faults.new ≡ faults.old) }
     // Else why there is none, what that leaves, and that it is reported.
     ensures failed { (result ≡ status.Failed) ⊎ (result ≡ status.BadArguments) → (e : RunViewErr)
-        × (result ≡ status_of e)
-        × IsUnanswered asked.now image.now trace.now e (writer_of (O.written out.old) (O.written out.new) (O.broken out.new))
-        × Reports (writer_of (E.written faults.old) (E.written faults.new) (E.broken faults.new)) (fault_text (fault_words e)) }
+        × (result ≡ run_view_status e)
+        × IsRunViewUnanswered asked.now image.now trace.now e (writer_of (O.written out.old) (O.written out.new) (O.broken out.new))
+        × Reports (writer_of (E.written faults.old) (E.written faults.new) (E.broken faults.new)) (fault_text (run_view_fault_words e)) }
 {
     match show(alloc, image, trace, asked, out) {
         Ok(answered) => answered,

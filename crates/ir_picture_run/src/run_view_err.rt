@@ -24,11 +24,11 @@ pub enum RunViewErr {
 }
 
 impl RunViewErr {
-    ghost use Rattle.ir_picture_run.specs.Faults.{fault_words, status_of};
+    ghost use Rattle.ir_picture_run.specs.Faults.{run_view_fault_words, run_view_status};
 
     /// The exit status that it gives.
     pub fn status(self) -> ExitStatus
-        ensures { result ≡ status_of self }
+        ensures { result ≡ run_view_status self }
     {
         match self {
             RunViewErr::Absent(_) => ExitStatus::BadArguments,
@@ -39,7 +39,7 @@ impl RunViewErr {
 
     /// The fault in words.
     pub fn words(self) -> &'static str
-        ensures { result.now ≡ fault_words self }
+        ensures { result.now ≡ run_view_fault_words self }
     {
         match self {
             RunViewErr::Absent(what) => ViewErr::Absent(what).words(),

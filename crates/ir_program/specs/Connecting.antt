@@ -6,7 +6,7 @@ use Rattle.ir_debug.specs.Session.{most_input, IfRefused}
 use Rattle.ir_debug.specs.declared.ended.Ended.{Ended}
 use Rattle.ir_debug.specs.declared.ended.SessionErr.{SessionErr}
 use Rattle.ir_debug.specs.declared.ended.SessionErr.TheVariants as session
-use Rattle.ir_gdb.specs.Session.{Connected, Announced, AnsweredWhole, AnsweredInPart, IfNotRefused}
+use Rattle.ir_gdb.specs.Session.{Connected, Announced, RepliedWhole, RepliedInPart, IfNotRefused}
 use Rattle.ir_program.specs.Taking.{Reader}
 use Rattle.ir_files.specs.Writers.{Writer}
 
@@ -34,7 +34,7 @@ pub record Closed (image trace : List ℕ) (ended : Ended) (reader : Reader) (wr
 abbrev pub Stopped : List ℕ → List ℕ → SessionErr → Reader → Writer → Type 0 → Type 0
 Stopped image trace session.NoMem reader writer untouched = untouched
 Stopped image trace session.Read reader writer untouched = (reader.failed ≡ true) × (writer.failed ≡ false)
-    × ReadsUpTo most_input reader.before reader.after (AnsweredWhole image trace writer.before writer.after)
+    × ReadsUpTo most_input reader.before reader.after (RepliedWhole image trace writer.before writer.after)
 Stopped image trace session.Write reader writer untouched = (reader.failed ≡ false) × (writer.failed ≡ true)
-    × ReadsUpTo most_input reader.before reader.after (AnsweredInPart image trace writer.before writer.after)
+    × ReadsUpTo most_input reader.before reader.after (RepliedInPart image trace writer.before writer.after)
 Stopped image trace session.TooLong reader writer untouched = Led image trace (Err session.TooLong) reader writer

@@ -8,7 +8,7 @@ use Rattle.ir_trace.specs.Recorded.{RecordedThread, Recorded}
 use Rattle.ir_trace.specs.declared.trace_err.TraceErr.{TraceErr}
 use Rattle.ir_text.specs.Texts.{log_text}
 use Rattle.ir_debug.specs.Machine.{TraceRefused, opening_text}
-use Rattle.ir_record_run.specs.Recording.{thread_line}
+use Rattle.ir_record_run.specs.Recording.{recorded_thread_line}
 use Rattle.ir_files.specs.Writers.{Writer, Failed}
 use Rattle.ir_files.specs.declared.exit_status.ExitStatus.{ExitStatus}
 use Rattle.ir_files.specs.declared.exit_status.ExitStatus.TheVariants as status
@@ -30,7 +30,7 @@ header_line threads objects budget profile =
 
 -- the line of thread t as its recording prints it, and all of its events as the debugger shows a log
 abbrev pub thread_listing : ℕ → RecordedThread → List ℕ
-thread_listing t r = thread_line t r ++ log_text (map label_of r.events) (length r.events)
+thread_listing t r = recorded_thread_line t r ++ log_text (map label_of r.events) (length r.events)
 
 -- the same of the threads from number t on
 unfoldable pub threads_listing : ℕ → List RecordedThread → List ℕ

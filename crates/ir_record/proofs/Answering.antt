@@ -12,7 +12,7 @@ use Rattle.ir_flat.proofs.CallerLemmas.{events_added_by}
 use Rattle.ir_log.specs.Logged.{Logged}
 use Rattle.ir_log.specs.declared.event.Event.TheVariants as event
 use Rattle.ir_record.specs.Progress.{TookIf, HasLogs, log_at, labels_at}
-use Rattle.ir_record.specs.Worlds.{answers_at, Answered}
+use Rattle.ir_record.specs.Worlds.{answers_at, AnsweredCall}
 use Rattle.ir_record.proofs.Steps.{turn_taken_by_step, enters_if_free_unless_ask_is_try}
 use Rattle.ir_record.proofs.Running.{hold_few_objects_if_flat}
 use Rattle.ir_record.proofs.Logs.{has_logs_after_event_pushed, labels_after_event_pushed_end_with_its_label, labels_are_unchanged_by_set_of_other_log}
@@ -48,7 +48,7 @@ has_logs_after_answer f g logs more t value kind a =
     (ap events_added_by a.asked) a.fits a.pushed)
 
 pub turn_taken_by_answer : (f g : Flat) (logs more : List Logged) (t value : ℕ) (kind : EnvKind) → AnswerLogged f g logs more t value kind
-    → (answers given : List (List Answered)) → t < length answers → given ≡ set answers t (answers_at answers t ++ (kind, value) ∷ [])
+    → (answers given : List (List AnsweredCall)) → t < length answers → given ≡ set answers t (answers_at answers t ++ (kind, value) ∷ [])
     → TookIf true (t ∷ []) (record { flat = f; logs = logs; answers = answers }) (record { flat = g; logs = more; answers = given })
 turn_taken_by_answer f g logs more t value kind a answers given l e =
     turn_taken_by_step t value (Answer kind value) (record { flat = f; logs = logs; answers = answers })

@@ -2,14 +2,14 @@
 use Rattle.std.proofs.Common.{◌≡◌, ℕ, ◌<◌, true, false, Bool, List, [], ◌∷◌, ◌++◌, length, map, set, get_or, refl, sym, ap, ◌∙◌, subst, arith, inl, inr, get_or-set_same, get_or-set_other, length-append, ◌+◌, zero, suc}
 use Rattle.std.proofs.lemmas.Bool.{cases_eq}
 use Rattle.std.proofs.lemmas.List.{get_or-map, map-set, length-map}
-use Rattle.ir_record.specs.Worlds.{Answered, NoneFailed, IsFirstFailed, answers_at}
+use Rattle.ir_record.specs.Worlds.{AnsweredCall, NoneFailed, IsFirstFailed, answers_at}
 
 -- a world that is asked has not failed
 pub asked_world_has_not_failed : {W : Type 0} (broken : W → Bool) (worlds : List W) (t : ℕ) (w : W) → NoneFailed (map broken worlds) → t < length worlds
     → w ≡ get_or worlds t w → broken w ≡ false
 asked_world_has_not_failed broken worlds t w works l e = ap broken e ∙ sym (get_or-map broken worlds t w false l) ∙ works t
 
-pub map_answers_of_set_world_is_set_with_answer_appended : {W : Type 0} (answers : W → List Answered) (worlds : List W) (t : ℕ) (w new : W) (given : Answered) → t < length worlds
+pub map_answers_of_set_world_is_set_with_answer_appended : {W : Type 0} (answers : W → List AnsweredCall) (worlds : List W) (t : ℕ) (w new : W) (given : AnsweredCall) → t < length worlds
     → w ≡ get_or worlds t w → answers new ≡ answers w ++ given ∷ []
     → map answers (set worlds t new) ≡ set (map answers worlds) t (answers_at (map answers worlds) t ++ given ∷ [])
 map_answers_of_set_world_is_set_with_answer_appended answers worlds t w new given l e h =

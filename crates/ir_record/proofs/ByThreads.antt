@@ -35,7 +35,7 @@ use Rattle.ir_trace.specs.Recorded.{Recorded}
 use Rattle.ir_trace.specs.Absent.{absent}
 use Rattle.ir_record.specs.Gathered.{IsThreadTrace}
 use Rattle.ir_record.specs.Progress.{no_log}
-use Rattle.ir_record.specs.Worlds.{answers_at, Answered, answers_in}
+use Rattle.ir_record.specs.Worlds.{answers_at, AnsweredCall, answers_in}
 use Rattle.ir_record.specs.Recordings.{IsRecordingOfSome}
 use Rattle.ir_record.specs.Working.{Work, IsWorking}
 use Rattle.ir_record.proofs.Telling.{StandAtEnd, emitted_there, printed_there, answered_there}
@@ -115,7 +115,7 @@ worker_view_has_tracks_if_all_have g es (w ∷ ws) zero l h = left_part_of_joine
 worker_view_has_tracks_if_all_have g es (w ∷ ws) (suc t) l h = worker_view_has_tracks_if_all_have g es ws t (omega (arith, l)) (right_part_of_joined_views_has_tracks g es w.me.0 (tracks_of ws) h)
 
 -- what the workers of all threads have done
-pub record AllWorkDone (g : Guest) (budget : ℕ) (profile : Profile) (before : List (List Answered)) (ws : List Work) : Type 0 where
+pub record AllWorkDone (g : Guest) (budget : ℕ) (profile : Profile) (before : List (List AnsweredCall)) (ws : List Work) : Type 0 where
   pub guest : IsGuest g
   pub size : length ws ≡ length g.entries
   pub working : (t : ℕ) → t < length g.entries → IsWorking g budget profile t (answers_at before t) (work_at ws t)
@@ -133,7 +133,7 @@ record ThreadPart (g : Guest) (budget : ℕ) (profile : Profile) (ws : List Work
   logged : t < length g.entries → events (alone_trail (thread_machine g.code) (thread_of (start_flat g budget profile) t) replies
       (of_thread t (order_labels (start_objects g) es))) ≡ map logging.label_of (work_at ws t).log.events
 
-module _ {g : Guest} {budget : ℕ} {profile : Profile} {before : List (List Answered)} {ws : List Work} {v : View} {objects : List Cell}
+module _ {g : Guest} {budget : ℕ} {profile : Profile} {before : List (List AnsweredCall)} {ws : List Work} {v : View} {objects : List Cell}
     (over : AllWorkDone g budget profile before ws) (e : IsEnd g v objects) (view : v ≡ tracks_of ws) where
   part : (t : ℕ) → ThreadPart g budget profile ws e.steps t
   part t = elim (cases_lt t (length g.entries)) [
@@ -173,7 +173,7 @@ module _ {g : Guest} {budget : ℕ} {profile : Profile} {before : List (List Ans
   pub recorded_of : (trace : Recorded) → trace.objects ≡ object_count g → trace.budget ≡ budget → trace.profile ≡ profile
       → length trace.threads ≡ length g.entries
       → ((t : ℕ) → t < length g.entries → IsThreadTrace (work_at ws t).thread (work_at ws t).log (get_or trace.threads t absent))
-      → (outputs : List (List ℕ)) → outputs ≡ map (λ w. w.thread.output) ws → (answers : List (List Answered))
+      → (outputs : List (List ℕ)) → outputs ≡ map (λ w. w.thread.output) ws → (answers : List (List AnsweredCall))
       → answers ≡ map (λ w. w.answers) ws → IsRecordingOfSome g budget profile before trace outputs answers
   recorded_of trace counted limit same_profile all traces outputs printed answers given =
       let m : Machine thread.ThreadState = thread_machine g.code in
@@ -187,7 +187,7 @@ module _ {g : Guest} {budget : ℕ} {profile : Profile} {before : List (List Ans
       (legal_order_is_allowed m (length g.entries) (object_count g) (start_objects g) e.steps e.legal)) in
       let now : ℕ → thread.ThreadState = λ t. (work_at ws t).thread in
       let logs : ℕ → Logged = λ t. (work_at ws t).log in
-      let emitted : ℕ → List Answered = λ t. (work_at ws t).answers in
+      let emitted : ℕ → List AnsweredCall = λ t. (work_at ws t).answers in
       let own_log : (t : ℕ) → t < length g.entries → map logging.label_of (logs t).events ≡ log m s run t = λ t l.
       sym (ap events (k.trails t) ∙ ap (λ z. events (alone_trail m (s.now t) (rs t) (of_thread t (order_labels z e.steps)))) same
       ∙ (part t).logged l) in

@@ -17,7 +17,7 @@ use Rattle.ir_log.specs.Logged.{Logged}
 use Rattle.ir_trace.specs.Recorded.{RecordedThread}
 use Rattle.ir_trace.specs.Absent.{absent}
 use Rattle.ir_record.specs.Gathered.{IsThreadTrace}
-use Rattle.ir_record.specs.Worlds.{answers_at, Answered, answers_in, NoneFailed, AreSameWorlds}
+use Rattle.ir_record.specs.Worlds.{answers_at, AnsweredCall, answers_in, NoneFailed, AreSameWorlds}
 use Rattle.ir_record.specs.Recording.{WentOn, EachWentOn}
 use Rattle.ir_record.specs.Threads.{IsNew, AreNew, IsOver, AreTraces, HasRoom, IsSeatOf, views_of}
 use Rattle.ir_record.specs.Working.{Work, work_of, IsWorking, IsReadyWorker, RanToEnd}
@@ -28,7 +28,7 @@ use Rattle.ir_record.proofs.Working.{worked_by_no_replies, logged_answers_are_al
 
 -- ---- before the first step
 
-new_worker_is_working : {W : Type 0} (answers : W → List Answered) (g : Guest) (budget : ℕ) (profile : Profile) (t : ℕ) (id : TableId) (w : Worker W) → IsNew g budget profile id t w
+new_worker_is_working : {W : Type 0} (answers : W → List AnsweredCall) (g : Guest) (budget : ℕ) (profile : Profile) (t : ℕ) (id : TableId) (w : Worker W) → IsNew g budget profile id t w
     → IsWorking g budget profile t (answers w.world) (work_of answers w)
 new_worker_is_working answers g budget profile t id w new = record {
   track = [];
@@ -55,7 +55,7 @@ new_worker_is_working answers g budget profile t id w new = record {
         go (suc n) zero = refl
         go (suc n) (suc o) = go n o
 
-pub new_workers_are_ready : {W : Type 0} (answers : W → List Answered) (broken : W → Bool) (g : Guest) (budget : ℕ) (profile : Profile) (t : ℕ) (id : TableId) (ws : List (Worker W))
+pub new_workers_are_ready : {W : Type 0} (answers : W → List AnsweredCall) (broken : W → Bool) (g : Guest) (budget : ℕ) (profile : Profile) (t : ℕ) (id : TableId) (ws : List (Worker W))
     (worlds : List W) → AreNew g budget profile id t ws → map (λ w. w.world) ws ≡ worlds → NoneFailed (map broken worlds)
     → (k : ℕ) (d : Worker W) → k < length ws → IsReadyWorker answers broken g id g.code (get_or ws k d)
 new_workers_are_ready answers broken g budget profile t id [] worlds new e works k d l = absurd (omega arith)
@@ -88,7 +88,7 @@ lists_related_in_pairs_have_equal_length P (x ∷ xs) (y ∷ ys) p = ap suc (lis
 abbrev pub NoneBroken : {W : Type 0} → (W → Bool) → List (Worker W) → Type 0
 NoneBroken broken ws = (t : ℕ) → get_or (map (λ w. broken w.world) ws) t false ≡ false
 
-module _ {W O : Type 0} (answers : W → List Answered) (broken : W → Bool) (origin : W → O) (g : Guest) (budget : ℕ) (profile : Profile) (id : TableId) where
+module _ {W O : Type 0} (answers : W → List AnsweredCall) (broken : W → Bool) (origin : W → O) (g : Guest) (budget : ℕ) (profile : Profile) (id : TableId) where
   abbrev R : Worker W → Worker W → Type 0
   R = RanToEnd answers broken origin g
 
@@ -168,21 +168,21 @@ module _ {W O : Type 0} (answers : W → List Answered) (broken : W → Bool) (o
   origins_end (v ∷ vs) [] p = absurd p
   origins_end (v ∷ vs) (w ∷ ws) p = λ i. p.0.same_origin i ∷ origins_end vs ws p.1 i
 
-answers_at_are_answers_of_work : {W : Type 0} (answers : W → List Answered) (ws : List (Worker W)) (t : ℕ)
+answers_at_are_answers_of_work : {W : Type 0} (answers : W → List AnsweredCall) (ws : List (Worker W)) (t : ℕ)
     → answers_at (map answers (map (λ w. w.world) ws)) t ≡ (work_at (map (work_of answers) ws) t).answers
 answers_at_are_answers_of_work answers [] t = refl
 answers_at_are_answers_of_work answers (w ∷ ws) zero = refl
 answers_at_are_answers_of_work answers (w ∷ ws) (suc t) = answers_at_are_answers_of_work answers ws t
 
 -- the workers of a guest with these worlds, before their first step and after their last
-pub record HaveRun {W O : Type 0} (answers : W → List Answered) (broken : W → Bool) (origin : W → O) (g : Guest) (budget : ℕ)
+pub record HaveRun {W O : Type 0} (answers : W → List AnsweredCall) (broken : W → Bool) (origin : W → O) (g : Guest) (budget : ℕ)
     (profile : Profile) (id : TableId) (worlds : List W) (vs ws : List (Worker W)) : Type 0 where
   pub new : AreNew g budget profile id 0 vs
   pub pairs : AllZip (RanToEnd answers broken origin g) vs ws
   pub same : map (λ w. w.world) vs ≡ worlds
   pub each : length worlds ≡ length g.entries
 
-module _ {W O : Type 0} {answers : W → List Answered} {broken : W → Bool} {origin : W → O} {g : Guest} {budget : ℕ}
+module _ {W O : Type 0} {answers : W → List AnsweredCall} {broken : W → Bool} {origin : W → O} {g : Guest} {budget : ℕ}
     {profile : Profile} {id : TableId} {worlds : List W} {vs ws : List (Worker W)}
     (ran : HaveRun answers broken origin g budget profile id worlds vs ws) where
   same_count : length ws ≡ length vs
@@ -241,7 +241,7 @@ module _ {W O : Type 0} {answers : W → List Answered} {broken : W → Bool} {o
       )
 
   -- what a worker's thread did alone
-  went_on : (t : ℕ) (last : Work) (failed : Bool) (after : List Answered)
+  went_on : (t : ℕ) (last : Work) (failed : Bool) (after : List AnsweredCall)
       → IsWorking g budget profile t (answers_at (map answers worlds) t) last → (failed ≡ false → ask_of g.code last.thread ≡ ask.Done)
       → (failed ≡ true → (kind : EnvKind) × (ask_of g.code last.thread ≡ ask.Env kind)) → after ≡ last.answers
       → WentOn g budget profile t failed (answers_at (map answers worlds) t) after
@@ -270,12 +270,12 @@ module _ {W O : Type 0} {answers : W → List Answered} {broken : W → Bool} {o
           let r = stop_of t l (ap (λ z. get_or z t false) (sym (map_map broken (λ w. w.world) ws)) ∙ e) in
           went_on t r.0 _ _ r.1 (λ f. absurd (cc (e, f))) (λ f. r.2) r.3
 
-pub views_of_seats_are_tracks_of_works : {W : Type 0} (answers : W → List Answered) (ws : List (Worker W))
+pub views_of_seats_are_tracks_of_works : {W : Type 0} (answers : W → List AnsweredCall) (ws : List (Worker W))
     → views_of (map (λ w. w.seat) ws) ≡ tracks_of (map (work_of answers) ws)
 views_of_seats_are_tracks_of_works answers [] = refl
 views_of_seats_are_tracks_of_works answers (w ∷ ws) = ap (λ z. w.seat.me.0 ++ z) (views_of_seats_are_tracks_of_works answers ws)
 
-pub trace_at_place_is_of_its_worker : {W : Type 0} (answers : W → List Answered) (ws : List (Worker W)) (rs : List RecordedThread) → AreTraces ws rs → (t : ℕ)
+pub trace_at_place_is_of_its_worker : {W : Type 0} (answers : W → List AnsweredCall) (ws : List (Worker W)) (rs : List RecordedThread) → AreTraces ws rs → (t : ℕ)
     → t < length ws → IsThreadTrace (work_at (map (work_of answers) ws) t).thread (work_at (map (work_of answers) ws) t).log
     (get_or rs t absent)
 trace_at_place_is_of_its_worker answers [] rs h t l = absurd (omega arith)

@@ -24,7 +24,7 @@ use Rattle.ir_trace.specs.Bounds.{IsEvent}
 use Rattle.ir_record.specs.Gathered.{AreThreadTraces}
 use Rattle.ir_record.specs.Progress.{Progress, TookTurns, IsReady, log_at, no_log}
 use Rattle.ir_record.specs.Refusing.{Turn, plain_turns}
-use Rattle.ir_record.specs.Worlds.{answers_at, Answered, NoneFailed}
+use Rattle.ir_record.specs.Worlds.{answers_at, AnsweredCall, NoneFailed}
 use Rattle.ir_record.specs.Recordings.{IsRecordingByTurns}
 use Rattle.ir_record.proofs.Profiles.{profile_is_unchanged_by_run, profile_of_start_thread}
 use Rattle.ir_record.proofs.Refusing.{is_run_if_in_turns}
@@ -37,10 +37,10 @@ abbrev pub new_log : Logged
 new_log = record { events = []; room = most_events }
 
 -- a recording before the first step
-abbrev pub start : Guest → ℕ → Profile → List (List Answered) → Progress
+abbrev pub start : Guest → ℕ → Profile → List (List AnsweredCall) → Progress
 start guest budget profile answers = record { flat = start_flat guest budget profile; logs = replicate (length guest.entries) new_log; answers = answers }
 
-pub recording_start_is_ready : (guest : Guest) (budget : ℕ) (profile : Profile) (answers : List (List Answered)) (failed : List Bool) → length answers ≡ length guest.entries
+pub recording_start_is_ready : (guest : Guest) (budget : ℕ) (profile : Profile) (answers : List (List AnsweredCall)) (failed : List Bool) → length answers ≡ length guest.entries
     → NoneFailed failed → IsReady (start guest budget profile answers) failed
 recording_start_is_ready guest budget profile answers failed size works =
     let n : length (start_threads guest budget profile 0 (length guest.entries)) ≡ length guest.entries =
@@ -100,12 +100,12 @@ thread_has_ended_if_its_ask_is_done code x e = (subst (Permits x) (ask_is_done_i
 -- ---- the whole recording
 
 -- a recording at its end: these turns, and rounds, until no thread has a step
-pub record RecordingOver (guest : Guest) (budget : ℕ) (profile : Profile) (turns : List Turn) (before : List (List Answered)) (b : Progress) : Type 0 where
+pub record RecordingOver (guest : Guest) (budget : ℕ) (profile : Profile) (turns : List Turn) (before : List (List AnsweredCall)) (b : Progress) : Type 0 where
   pub count : ℕ
   pub took : TookTurns (turns ++ plain_turns (rounds (length guest.entries) count)) (start guest budget profile before) b
   pub none : (t : ℕ) → t < length b.flat.threads → HasNone (machine b.flat) (tables b.flat) t
 
-module _ {guest : Guest} {budget : ℕ} {profile : Profile} {turns : List Turn} {before : List (List Answered)} {b : Progress}
+module _ {guest : Guest} {budget : ℕ} {profile : Profile} {turns : List Turn} {before : List (List AnsweredCall)} {b : Progress}
     (o : RecordingOver guest budget profile turns before b) where
   pub threads_there : length b.flat.threads ≡ length guest.entries
   threads_there = o.took.moved.threads ∙ length_of_start_threads guest budget profile 0 (length guest.entries)
@@ -150,7 +150,7 @@ module _ {guest : Guest} {budget : ℕ} {profile : Profile} {turns : List Turn} 
       → (trace : Recorded) → trace.objects ≡ length b.flat.objects → trace.budget ≡ budget → trace.profile ≡ profile
       → AreThreadTraces b.flat b.logs trace.threads
       → (outputs : List (List ℕ)) → outputs ≡ map (λ x. x.output) b.flat.threads
-      → (answers : List (List Answered)) → answers ≡ b.answers → IsRecordingByTurns guest budget profile turns before trace outputs answers
+      → (answers : List (List AnsweredCall)) → answers ≡ b.answers → IsRecordingByTurns guest budget profile turns before trace outputs answers
   recorded_there failed ready trace objects limit same traces outputs printed answers given =
       let n : length b.flat.threads ≡ length guest.entries = threads_there in
       let logs : length b.logs ≡ length guest.entries = ready.has_logs.one_each ∙ n in
@@ -169,12 +169,12 @@ module _ {guest : Guest} {budget : ℕ} {profile : Profile} {turns : List Turn} 
       )
 
 -- the recording that was made is one before the first step
-pub progress_is_start_if_flat_and_logs_are_new : (guest : Guest) (budget : ℕ) (profile : Profile) (answers : List (List Answered)) {f : Flat} {logs : List Logged}
+pub progress_is_start_if_flat_and_logs_are_new : (guest : Guest) (budget : ℕ) (profile : Profile) (answers : List (List AnsweredCall)) {f : Flat} {logs : List Logged}
     → f ≡ start_flat guest budget profile → logs ≡ replicate (length guest.entries) new_log
     → ◌≡◌ {A = Progress} (record { flat = f; logs = logs; answers = answers }) (start guest budget profile answers)
 progress_is_start_if_flat_and_logs_are_new guest budget profile answers p q = λ i. record { flat = p i; logs = q i; answers = answers }
 
-pub recording_is_over_if_rounds_leave_no_step : {guest : Guest} {budget : ℕ} {profile : Profile} {turns : List Turn} {before : List (List Answered)}
+pub recording_is_over_if_rounds_leave_no_step : {guest : Guest} {budget : ℕ} {profile : Profile} {turns : List Turn} {before : List (List AnsweredCall)}
     {f : Flat} {logs : List Logged} {b : Progress} → f ≡ start_flat guest budget profile → logs ≡ replicate (length guest.entries) new_log
     → ((count : ℕ) × TookTurns (turns ++ plain_turns (rounds (length f.threads) count)) (record { flat = f; logs = logs; answers = before }) b)
     → ((t : ℕ) → t < length b.flat.threads → HasNone (machine b.flat) (tables b.flat) t) → RecordingOver guest budget profile turns before b

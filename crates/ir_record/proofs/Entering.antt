@@ -17,7 +17,7 @@ use Rattle.ir_log.specs.Logging.{label_of}
 use Rattle.ir_log.specs.declared.event.Event.{Event}
 use Rattle.ir_trace.specs.Bounds.{IsEvent}
 use Rattle.ir_record.specs.Progress.{TookIf, HasLogs, IsQuiet, log_at, labels_at}
-use Rattle.ir_record.specs.Worlds.{answers_at, Answered, answers_in}
+use Rattle.ir_record.specs.Worlds.{answers_at, AnsweredCall, answers_in}
 use Rattle.ir_record.proofs.Steps.{OneStep, turn_taken_by_step, turn_took_no_step_if_none_and_progress_same, enters_if_free_unless_ask_is_try}
 use Rattle.ir_record.proofs.Logs.{has_logs_after_unlogged_step, has_logs_after_event_pushed, labels_after_event_pushed_end_with_its_label, labels_are_unchanged_by_set_of_other_log}
 use Rattle.ir_record.proofs.Running.{hold_few_objects_if_flat}
@@ -98,7 +98,7 @@ has_logs_after_logged_event f g logs more t r k e x =
 
 -- the step that it is of
 pub one_step_if_one_event_logged : (f g : Flat) (logs more : List Logged) (t r : ℕ) (k : Label) (e : Event) → OneEventLogged f g logs more t r k e
-    → (answers : List (List Answered))
+    → (answers : List (List AnsweredCall))
     → OneStep t r k (record { flat = f; logs = logs; answers = answers }) (record { flat = g; logs = more; answers = answers })
 one_step_if_one_event_logged f g logs more t r k e x answers = record {
   below = x.below;
@@ -118,7 +118,7 @@ one_step_if_one_event_logged f g logs more t r k e x answers = record {
 }
 
 pub turn_taken_by_logged_event : (f g : Flat) (logs more : List Logged) (t r : ℕ) (k : Label) (e : Event) → OneEventLogged f g logs more t r k e
-    → EntersIfFree (machine f) (tables f) (t, r) → (answers : List (List Answered))
+    → EntersIfFree (machine f) (tables f) (t, r) → (answers : List (List AnsweredCall))
     → TookIf true (t ∷ []) (record { flat = f; logs = logs; answers = answers }) (record { flat = g; logs = more; answers = answers })
 turn_taken_by_logged_event f g logs more t r k e x enters answers =
     turn_taken_by_step t r k (record { flat = f; logs = logs; answers = answers }) (record { flat = g; logs = more; answers = answers })
@@ -190,7 +190,7 @@ quiet_ask_is_no_try Done k o e = cc e
 pub has_logs_after_quiet_step : (f g : Flat) (logs : List Logged) (t : ℕ) → QuietStep f g logs t → HasLogs g logs
 has_logs_after_quiet_step f g logs t x = has_logs_after_unlogged_step f g logs t 0 x.has_logs x.taken x.threads x.objects (quiet_ask_adds_no_events (ask_of f.code (thread_of f t)) x.quiet)
 
-pub turn_taken_by_quiet_step : (f g : Flat) (logs : List Logged) (t : ℕ) → QuietStep f g logs t → (answers : List (List Answered))
+pub turn_taken_by_quiet_step : (f g : Flat) (logs : List Logged) (t : ℕ) → QuietStep f g logs t → (answers : List (List AnsweredCall))
     → TookIf true (t ∷ []) (record { flat = f; logs = logs; answers = answers }) (record { flat = g; logs = logs; answers = answers })
 turn_taken_by_quiet_step f g logs t x answers =
     let k : Label = label (machine f) (tables f) (t, 0) in
@@ -211,7 +211,7 @@ turn_taken_by_quiet_step f g logs t x answers =
     }) (enters_if_free_unless_ask_is_try f t 0 (ask_of f.code (thread_of f t)) refl (quiet_ask_is_no_try (ask_of f.code (thread_of f t)) x.quiet))
 
 -- where the thread waits, or is done, nothing changes
-pub turn_took_no_step_if_thread_has_none : (f g : Flat) (logs : List Logged) (t : ℕ) → HasNone (machine f) (tables f) t → g ≡ f → (answers : List (List Answered))
+pub turn_took_no_step_if_thread_has_none : (f g : Flat) (logs : List Logged) (t : ℕ) → HasNone (machine f) (tables f) t → g ≡ f → (answers : List (List AnsweredCall))
     → TookIf false (t ∷ []) (record { flat = f; logs = logs; answers = answers }) (record { flat = g; logs = logs; answers = answers })
 turn_took_no_step_if_thread_has_none f g logs t none same answers = turn_took_no_step_if_none_and_progress_same t (record { flat = f; logs = logs; answers = answers })
     (record { flat = g; logs = logs; answers = answers }) none (ap (λ z. record { flat = z; logs = logs; answers = answers }) same)
@@ -221,7 +221,7 @@ has_logs_of_equal_flat f g logs has_logs same = subst (λ z. HasLogs z logs) (sy
 
 -- a step that nothing is logged of, if there is one
 pub record QuietTurn (f g : Flat) (logs : List Logged) (t : ℕ) (moved : Bool) : Type 0 where
-  pub took : (answers : List (List Answered)) → TookIf moved (t ∷ []) (record { flat = f; logs = logs; answers = answers })
+  pub took : (answers : List (List AnsweredCall)) → TookIf moved (t ∷ []) (record { flat = f; logs = logs; answers = answers })
       (record { flat = g; logs = logs; answers = answers })
   pub has_logs : HasLogs g logs
 

@@ -10,7 +10,7 @@ use Rattle.ir_runs.specs.Orders.{InTurn}
 use Rattle.ir_record.specs.Failures.{StoppedAt, StoppedTurns}
 use Rattle.ir_record.specs.Progress.{Progress, Took, TookIf, TookTurns}
 use Rattle.ir_record.specs.Refusing.{Turn, plain_turns}
-use Rattle.ir_record.specs.Worlds.{Answered}
+use Rattle.ir_record.specs.Worlds.{AnsweredCall}
 use Rattle.ir_record.specs.Recording.{order_of_turns, turns_of_items}
 use Rattle.ir_record.specs.declared.item.Item.{Item}
 use Rattle.ir_record.specs.declared.in_order.turn.Failed.{Failed}
@@ -139,7 +139,7 @@ took_turns_of_replicate_if_took_and_not_refused : (n t : ℕ) (refused : Bool) (
 took_turns_of_replicate_if_took_and_not_refused n t refused a b e k = subst (λ f. TookTurns (replicate n (t, f)) a b) (sym e)
     (subst (λ z. TookTurns z a b) (plain_turns_of_replicate n t) (took_plain_turns_if_took_order (replicate n t) a b k))
 
-stopped_turns_of_replicate_if_stopped_and_not_refused : (n t : ℕ) (refused : Bool) (p : Progress) (named : ℕ) (answers : List (List Answered)) → refused ≡ false
+stopped_turns_of_replicate_if_stopped_and_not_refused : (n t : ℕ) (refused : Bool) (p : Progress) (named : ℕ) (answers : List (List AnsweredCall)) → refused ≡ false
     → StoppedAt (replicate n t) (tables p.flat) p named answers → StoppedTurns (replicate n (t, refused)) p named answers
 stopped_turns_of_replicate_if_stopped_and_not_refused n t refused p named answers e k = subst (λ f. StoppedTurns (replicate n (t, f)) p named answers) (sym e)
     (subst (λ z. StoppedTurns z p named answers) (plain_turns_of_replicate n t) (stopped_in_plain_turns_if_in_order (replicate n t) p named answers k))
@@ -193,7 +193,7 @@ pub on_ok_took_turns_of_replicate_if_on_ok_took : {A E : Type 0} (r : Result A E
 on_ok_took_turns_of_replicate_if_on_ok_took (Ok x) n t refused a b e h = took_turns_of_replicate_if_took_and_not_refused n t refused a b e h
 on_ok_took_turns_of_replicate_if_on_ok_took (Err x) n t refused a b e h = tt
 
-pub if_err_stopped_turns_of_replicate_if_if_err_stopped : {A : Type 0} (r : Result A Failed) (n t : ℕ) (refused : Bool) (p : Progress) (answers : List (List Answered)) → refused ≡ false
+pub if_err_stopped_turns_of_replicate_if_if_err_stopped : {A : Type 0} (r : Result A Failed) (n t : ℕ) (refused : Bool) (p : Progress) (answers : List (List AnsweredCall)) → refused ≡ false
     → IfErr r (λ f. StoppedAt (replicate n t) (tables p.flat) p f.thread answers)
     → IfErr r (λ f. StoppedTurns (replicate n (t, refused)) p f.thread answers)
 if_err_stopped_turns_of_replicate_if_if_err_stopped (Ok x) n t refused p answers e h = tt

@@ -2,7 +2,7 @@
 use Rattle.std.proofs.Common.{◌≡◌, ℕ, Bool, List, [], ◌∷◌, length, Result, Ok, Err, IsErrAnd, sym, ◌∙◌, subst}
 use Rattle.ir_record.specs.Progress.{Progress, TookIf, IsReady, HasLogs}
 use Rattle.ir_record.specs.Recorders.{NamesFirst, StaysReady}
-use Rattle.ir_record.specs.Worlds.{Answered, AreSameWorlds, NoneFailed}
+use Rattle.ir_record.specs.Worlds.{AnsweredCall, AreSameWorlds, NoneFailed}
 use Rattle.ir_record.specs.declared.in_order.recorder.Recorder.{Recorder}
 use Rattle.ir_record.specs.declared.in_order.turn.Failed.{Failed}
 
@@ -12,7 +12,7 @@ ready_after_turn t moved a b was failed ready took has_logs same works =
     record { has_logs = has_logs; worlds = same ∙ ready.worlds ∙ sym took.took.threads; works = works }
 
 -- an error that a `?` hands on, after calls that kept the worlds
-pub stays_ready_if_error_names_first_failed_world : {W O A : Type 0} (answers : W → List Answered) (broken : W → Bool) (origin : W → O) (old new : Recorder W)
+pub stays_ready_if_error_names_first_failed_world : {W O A : Type 0} (answers : W → List AnsweredCall) (broken : W → Bool) (origin : W → O) (old new : Recorder W)
     (r : Result A Failed) (e : Failed) → IsErrAnd r (λ x. x ≡ e) → NamesFirst broken new.worlds.items e
     → AreSameWorlds origin old.worlds.items new.worlds.items → StaysReady answers broken origin old new r
 stays_ready_if_error_names_first_failed_world answers broken origin old new (Ok x) e is names same = absurd is
@@ -23,7 +23,7 @@ stays_ready_if_error_names_first_failed_world answers broken origin old new (Err
 }
 
 -- what a last call keeps, after calls that kept the worlds
-pub stays_ready_from_old_if_from_mid_with_same_worlds : {W O A : Type 0} (answers : W → List Answered) (broken : W → Bool) (origin : W → O) (old mid new : Recorder W)
+pub stays_ready_from_old_if_from_mid_with_same_worlds : {W O A : Type 0} (answers : W → List AnsweredCall) (broken : W → Bool) (origin : W → O) (old mid new : Recorder W)
     (r : Result A Failed) → AreSameWorlds origin old.worlds.items mid.worlds.items → StaysReady answers broken origin mid new r
     → StaysReady answers broken origin old new r
 stays_ready_from_old_if_from_mid_with_same_worlds answers broken origin old mid new r same stays = record {

@@ -10,7 +10,7 @@ use Rattle.ir_runs.specs.Run.{State, Step, after, IsRun, end}
 use Rattle.ir_runs.specs.Orders.{InTurn}
 use Rattle.ir_log.specs.Logged.{Logged}
 use Rattle.ir_record.specs.Progress.{Took, HasLogs, log_at, labels_at, all_left}
-use Rattle.ir_record.specs.Worlds.{answers_at, Answered, answers_in}
+use Rattle.ir_record.specs.Worlds.{answers_at, AnsweredCall, answers_in}
 use Rattle.ir_flat.proofs.CallerLemmas.{tallies_along_run}
 use Rattle.ir_record.proofs.Profiles.{are_events_of_equal_profile_and_object_count, profile_is_unchanged_by_run}
 use Rattle.ir_record.proofs.Tally.{HoldFewObjects, all_left_falls_after_steps_of_thread}
@@ -36,7 +36,7 @@ hold_few_objects_if_flat f flat t = elim (cases_lt t (length f.threads)) [
 ]
 
 pub turns_taken_by_private_steps : (f g : Flat) (logs : List Logged) (t k : ℕ) → IsFlat f → t < length f.threads → WentAlone f g t k
-    → (answers : List (List Answered))
+    → (answers : List (List AnsweredCall))
     → Took (replicate k t) (record { flat = f; logs = logs; answers = answers }) (record { flat = g; logs = logs; answers = answers })
 turns_taken_by_private_steps f g logs t k flat l w answers = record {
   run = replicate k (t, 0);

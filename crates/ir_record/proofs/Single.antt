@@ -5,7 +5,7 @@ use Rattle.ir_thread.specs.State as thread
 use Rattle.ir_flat.specs.Flat.{tables}
 use Rattle.ir_runs.specs.Run.{State, rounds}
 use Rattle.ir_record.specs.Failures.{StoppedAt}
-use Rattle.ir_record.specs.Worlds.{Answered}
+use Rattle.ir_record.specs.Worlds.{AnsweredCall}
 use Rattle.ir_record.specs.declared.in_order.turn.Failed.{Failed}
 use Rattle.ir_record.specs.Progress.{Progress, Took, TookIf, all_left}
 use Rattle.ir_record.proofs.Following.{turns_of_thread_add_up}
@@ -46,7 +46,7 @@ rounds_taken_if_turns_of_only_thread_taken (Ok x) n a b one p = (
 rounds_taken_if_turns_of_only_thread_taken (Err e) n a b one p = tt
 
 -- turns that end because a world failed are of rounds that do
-pub rounds_stopped_if_turns_of_only_thread_stopped : {A : Type 0} (r : Result A Failed) (n : ℕ) (s : State thread.ThreadState) (p : Progress) (answers : List (List Answered))
+pub rounds_stopped_if_turns_of_only_thread_stopped : {A : Type 0} (r : Result A Failed) (n : ℕ) (s : State thread.ThreadState) (p : Progress) (answers : List (List AnsweredCall))
     → n ≡ 1 → IfErr r (λ f. (count : ℕ) × StoppedAt (replicate count 0) s p f.thread answers)
     → IfErr r (λ f. (count : ℕ) × StoppedAt (rounds n count) s p f.thread answers)
 rounds_stopped_if_turns_of_only_thread_stopped (Ok x) n s p answers one h = tt

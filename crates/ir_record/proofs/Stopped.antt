@@ -18,7 +18,7 @@ use Rattle.ir_record.specs.Ahead.{Went}
 use Rattle.ir_record.specs.Failures.{IsUnanswered, StoppedAt, StoppedTurns}
 use Rattle.ir_record.specs.Progress.{Progress, Took, TookTurns, IsReady}
 use Rattle.ir_record.specs.Refusing.{Turn, plain_turns, InTurns}
-use Rattle.ir_record.specs.Worlds.{answers_at, Answered, answers_in}
+use Rattle.ir_record.specs.Worlds.{answers_at, AnsweredCall, answers_in}
 use Rattle.ir_record.specs.Recording.{StoppedInTurns}
 use Rattle.ir_record.proofs.Ended.{start, progress_is_start_if_flat_and_logs_are_new, new_log}
 use Rattle.ir_record.proofs.Going.{reached, range_from_zero_with_last}
@@ -31,7 +31,7 @@ if_err_holds_if_holds_of_its_error P (Ok x) e h p = tt
 if_err_holds_if_holds_of_its_error P (Err x) e h p = subst P (sym h) p
 
 -- a turn in which the thread asks its world, in any state in which it is the same
-pub stopped_at_turn_of_unanswered_thread : (t : ℕ) (s : State thread.ThreadState) (p : Progress) (named : ℕ) (answers : List (List Answered)) (failed : List Bool)
+pub stopped_at_turn_of_unanswered_thread : (t : ℕ) (s : State thread.ThreadState) (p : Progress) (named : ℕ) (answers : List (List AnsweredCall)) (failed : List Bool)
     → IsReady p failed → s.now t ≡ thread_of p.flat t → IsUnanswered t p named answers → StoppedAt (t ∷ []) s p named answers
 stopped_at_turn_of_unanswered_thread t s p named answers failed ready same h = record {
   taken = [];
@@ -47,7 +47,7 @@ stopped_at_turn_of_unanswered_thread t s p named answers failed ready same h = r
 }
 
 -- the turns of a longer order
-pub stopped_in_longer_order : (order more whole : List ℕ) (s : State thread.ThreadState) (p : Progress) (named : ℕ) (answers : List (List Answered))
+pub stopped_in_longer_order : (order more whole : List ℕ) (s : State thread.ThreadState) (p : Progress) (named : ℕ) (answers : List (List AnsweredCall))
     → order ++ more ≡ whole → StoppedAt order s p named answers → StoppedAt whole s p named answers
 stopped_in_longer_order order more whole s p named answers e h = record {
   taken = h.taken;
@@ -62,7 +62,7 @@ stopped_in_longer_order order more whole s p named answers e h = record {
 }
 
 -- turns by a first order, and those of a next one
-stopped_after_run_of_order : (order more : List ℕ) (s : State thread.ThreadState) (a b : Progress) (run : List Step) (named : ℕ) (answers : List (List Answered))
+stopped_after_run_of_order : (order more : List ℕ) (s : State thread.ThreadState) (a b : Progress) (run : List Step) (named : ℕ) (answers : List (List AnsweredCall))
     → InTurn (machine a.flat) s order run → b.flat.code ≡ a.flat.code → length b.flat.threads ≡ length a.flat.threads
     → ((t : ℕ) → t < length a.flat.threads → answers_at b.answers t ≡ answers_at a.answers t ++ answers_in (log (machine a.flat) s run t))
     → StoppedAt more (end (machine a.flat) s run) b named answers → StoppedAt (order ++ more) s a named answers
@@ -89,14 +89,14 @@ stopped_after_run_of_order order more s a b run named answers turns code threads
           (sym (answers_in_append (log (machine a.flat) s run t) (log (machine b.flat) mid h.run t)) ∙ ap answers_in (sym (logs_of t)));
     }
 
-pub stopped_after_turns : (order more : List ℕ) (a b : Progress) (named : ℕ) (answers : List (List Answered)) → Took order a b
+pub stopped_after_turns : (order more : List ℕ) (a b : Progress) (named : ℕ) (answers : List (List AnsweredCall)) → Took order a b
     → StoppedAt more (tables b.flat) b named answers → StoppedAt (order ++ more) (tables a.flat) a named answers
 stopped_after_turns order more a b named answers p h = stopped_after_run_of_order order more (tables a.flat) a b p.run named answers p.turns p.code p.threads
     p.answers (subst (λ s. StoppedAt more s b named answers) p.ends h)
 
 -- the same where threads are ahead
 pub stopped_after_turns_ahead : (order more : List ℕ) (s : State thread.ThreadState) (a b : Progress) (c d : List ℕ) (named : ℕ)
-    (answers : List (List Answered)) (p : Went order s a c b d) → StoppedAt more (reached p) b named answers
+    (answers : List (List AnsweredCall)) (p : Went order s a c b d) → StoppedAt more (reached p) b named answers
     → StoppedAt (order ++ more) s a named answers
 stopped_after_turns_ahead order more s a b c d named answers p h =
     stopped_after_run_of_order order more s a b p.run named answers p.turns p.code p.threads p.answers h
@@ -126,7 +126,7 @@ replicate_splits_around_later_element t count left ran l some few = ap (λ z. z 
 -- ---- turns in which tries may be refused
 
 -- turns in which no try is refused that may enter
-pub stopped_in_plain_turns_if_in_order : (order : List ℕ) (p : Progress) (named : ℕ) (answers : List (List Answered)) → StoppedAt order (tables p.flat) p named answers
+pub stopped_in_plain_turns_if_in_order : (order : List ℕ) (p : Progress) (named : ℕ) (answers : List (List AnsweredCall)) → StoppedAt order (tables p.flat) p named answers
     → StoppedTurns (plain_turns order) p named answers
 stopped_in_plain_turns_if_in_order order p named answers h = record {
   taken = plain_turns h.taken;
@@ -142,7 +142,7 @@ stopped_in_plain_turns_if_in_order order p named answers h = record {
 }
 
 -- a turn in which the thread asks its world
-pub stopped_turns_at_turn_of_unanswered_thread : (t : ℕ) (refused : Bool) (p : Progress) (named : ℕ) (answers : List (List Answered)) (failed : List Bool) → IsReady p failed
+pub stopped_turns_at_turn_of_unanswered_thread : (t : ℕ) (refused : Bool) (p : Progress) (named : ℕ) (answers : List (List AnsweredCall)) (failed : List Bool) → IsReady p failed
     → IsUnanswered t p named answers → StoppedTurns ((t, refused) ∷ []) p named answers
 stopped_turns_at_turn_of_unanswered_thread t refused p named answers failed ready h =
     let s : StoppedAt (t ∷ []) (tables p.flat) p named answers = stopped_at_turn_of_unanswered_thread t (tables p.flat) p named answers failed ready refl h in
@@ -160,7 +160,7 @@ stopped_turns_at_turn_of_unanswered_thread t refused p named answers failed read
     }
 
 -- more turns
-pub stopped_in_longer_turns : (turns more whole : List Turn) (p : Progress) (named : ℕ) (answers : List (List Answered)) → turns ++ more ≡ whole
+pub stopped_in_longer_turns : (turns more whole : List Turn) (p : Progress) (named : ℕ) (answers : List (List AnsweredCall)) → turns ++ more ≡ whole
     → StoppedTurns turns p named answers → StoppedTurns whole p named answers
 stopped_in_longer_turns turns more whole p named answers e h = record {
   taken = h.taken;
@@ -176,7 +176,7 @@ stopped_in_longer_turns turns more whole p named answers e h = record {
 }
 
 -- turns, and then others
-pub stopped_turns_after_turns : (turns more : List Turn) (a b : Progress) (named : ℕ) (answers : List (List Answered)) → TookTurns turns a b
+pub stopped_turns_after_turns : (turns more : List Turn) (a b : Progress) (named : ℕ) (answers : List (List AnsweredCall)) → TookTurns turns a b
     → StoppedTurns more b named answers → StoppedTurns (turns ++ more) a named answers
 stopped_turns_after_turns turns more a b named answers p h =
     let both : (t : ℕ) → log (machine a.flat) (tables a.flat) (p.run ++ h.run) t ≡ log (machine a.flat) (tables a.flat) p.run t
@@ -207,7 +207,7 @@ stopped_turns_after_turns turns more a b named answers p h =
     }
 
 -- the turns from the guest's start
-pub recording_stopped_in_turns_if_stopped_from_start : {guest : Guest} {budget : ℕ} {profile : Profile} {turns : List Turn} {before answers : List (List Answered)}
+pub recording_stopped_in_turns_if_stopped_from_start : {guest : Guest} {budget : ℕ} {profile : Profile} {turns : List Turn} {before answers : List (List AnsweredCall)}
     {f : Flat} {logs : List Logged} {named : ℕ} → f ≡ start_flat guest budget profile → logs ≡ replicate (length guest.entries) new_log
     → ((count : ℕ) × StoppedTurns (turns ++ plain_turns (rounds (length f.threads) count)) (record { flat = f; logs = logs; answers = before })
     named answers) → StoppedInTurns guest budget profile turns named before answers

@@ -15,12 +15,12 @@ use Rattle.ir_log.specs.Logging.{label_of}
 use Rattle.ir_trace.specs.Recorded.{Recorded, RecordedThread}
 use Rattle.ir_trace.specs.Absent.{absent}
 use Rattle.ir_record.specs.Gathered.{IsThreadTrace}
-use Rattle.ir_record.specs.Worlds.{answers_at, Answered, answers_in}
+use Rattle.ir_record.specs.Worlds.{answers_at, AnsweredCall, answers_in}
 use Rattle.ir_record.specs.Recording.{IsTraceOf, AreOutputs, AreAnswers}
 
 -- the threads at the end of the run, the logs of what they did in it, and their worlds' answers
-pub record StandAtEnd (guest : Guest) (budget : ℕ) (profile : Profile) (run : List Step) (before : List (List Answered)) (now : ℕ → thread.ThreadState)
-    (logs : ℕ → Logged) (answers : ℕ → List Answered) : Type 0 where
+pub record StandAtEnd (guest : Guest) (budget : ℕ) (profile : Profile) (run : List Step) (before : List (List AnsweredCall)) (now : ℕ → thread.ThreadState)
+    (logs : ℕ → Logged) (answers : ℕ → List AnsweredCall) : Type 0 where
   pub runs : IsRun (thread_machine guest.code) (tables (start_flat guest budget profile)) run
   pub threads : (t : ℕ) → t < length guest.entries → now t ≡ (end (thread_machine guest.code) (tables (start_flat guest budget profile)) run).now t
   pub logged : (t : ℕ) → t < length guest.entries
@@ -33,8 +33,8 @@ recorded_end_as_numbers : (r : RecordedThread) (x : Option end.End) → x ≡ So
     → ◌≡◌ {A = Option (ℕ × ℕ)} (Some (end_number r.end, end_code r.end)) (option_map (λ e. (end_number e, end_code e)) x)
 recorded_end_as_numbers r x e = ap (option_map (λ k. (end_number k, end_code k))) (sym e)
 
-module _ {guest : Guest} {budget : ℕ} {profile : Profile} {run : List Step} {before : List (List Answered)}
-    {now : ℕ → thread.ThreadState} {logs : ℕ → Logged} {given : ℕ → List Answered}
+module _ {guest : Guest} {budget : ℕ} {profile : Profile} {run : List Step} {before : List (List AnsweredCall)}
+    {now : ℕ → thread.ThreadState} {logs : ℕ → Logged} {given : ℕ → List AnsweredCall}
     (s : StandAtEnd guest budget profile run before now logs given) where
   pub emitted_there : IsDone (thread_machine guest.code) (end (thread_machine guest.code) (tables (start_flat guest budget profile)) run)
       → (trace : Recorded)
@@ -65,6 +65,6 @@ module _ {guest : Guest} {budget : ℕ} {profile : Profile} {run : List Step} {b
       → ((t : ℕ) → t < length guest.entries → slice_get outputs t ≡ Some (now t).output) → AreOutputs guest budget profile run outputs
   printed_there outputs all each = record { threads = all; each = λ t l. each t l ∙ ap (λ x. Some x.output) (s.threads t l) }
 
-  pub answered_there : (answers : List (List Answered)) → length answers ≡ length guest.entries
+  pub answered_there : (answers : List (List AnsweredCall)) → length answers ≡ length guest.entries
       → ((t : ℕ) → t < length guest.entries → slice_get answers t ≡ Some (given t)) → AreAnswers guest budget profile run before answers
   answered_there answers all each = record { threads = all; each = λ t l. each t l ∙ ap Some (s.answered t l) }

@@ -42,7 +42,7 @@ use Rattle.ir_crew.specs.declared.deed.Deed.TheVariants.{Leave}
 use Rattle.ir_crew.specs.declared.deed.ObjectStep.{ObjectStep}
 use Rattle.ir_crew.proofs.CallerLemmas.{entries_with_step_added, track, step_of_deed, target_of_deed}
 use Rattle.ir_record.specs.Progress.{steps_left_within}
-use Rattle.ir_record.specs.Worlds.{Answered, answers_in}
+use Rattle.ir_record.specs.Worlds.{AnsweredCall, answers_in}
 use Rattle.ir_record.specs.declared.by_threads.worker.Worker.{Worker}
 use Rattle.ir_record.specs.Working.{Work, IsWorking, StillWorks, TouchesNothing, IsInside, IsSeated, Stays, own_steps_left}
 use Rattle.ir_record.proofs.Left.{steps_left_fall_after_permitted_ask_unless_done}
@@ -107,7 +107,7 @@ record IsStep (g : Guest) (w w' : Work) (q : Ask) (v : ℕ) (es : List ObjectSte
   log : w'.log ≡ record w.log { events = w.log.events ++ evs }
   answers : w'.answers ≡ w.answers ++ answers_in (map logging.label_of evs)
 
-working_after_step : (g : Guest) (budget : ℕ) (profile : Profile) (t : ℕ) (before : List Answered) (w w' : Work) (q : Ask) (v : ℕ)
+working_after_step : (g : Guest) (budget : ℕ) (profile : Profile) (t : ℕ) (before : List AnsweredCall) (w w' : Work) (q : Ask) (v : ℕ)
     (es : List ObjectStep) (evs : List Event) → (i : IsWorking g budget profile t before w) → IsStep g w w' q v es evs
     → w'.me ≡ (track t (i.track ++ es) ∷ [], []) → IsWorking g budget profile t before w'
 unfolding after_reply
@@ -195,11 +195,11 @@ log_after_event_is_append None log = λ i. record log { events = sym (append-nil
 log_after_event_is_append (Some e) log = refl
 
 -- and of the world's answers
-abbrev pub answers_after_event : Option Event → List Answered → List Answered
+abbrev pub answers_after_event : Option Event → List AnsweredCall → List AnsweredCall
 answers_after_event (Some (event.Answer kind value)) answers = answers ++ (kind, value) ∷ []
 answers_after_event e answers = answers
 
-answers_after_event_is_append : (e : Option Event) (answers : List Answered) → answers_after_event e answers ≡ answers ++ answers_in (map logging.label_of (list_of_option e))
+answers_after_event_is_append : (e : Option Event) (answers : List AnsweredCall) → answers_after_event e answers ≡ answers ++ answers_in (map logging.label_of (list_of_option e))
 answers_after_event_is_append None answers = sym (append-nil answers)
 answers_after_event_is_append (Some (event.Answer kind value)) answers = refl
 answers_after_event_is_append (Some (event.Read o version)) answers = sym (append-nil answers)
@@ -292,7 +292,7 @@ own_steps_left_do_not_rise_after_private_steps code (suc count) x y p =
 
 -- ---- what is known of a worker where its thread asks for a step
 
-module _ {W : Type 0} {answers : W → List Answered} {g : Guest} {id : TableId} {code : List ℕ} {w : Worker W}
+module _ {W : Type 0} {answers : W → List AnsweredCall} {g : Guest} {id : TableId} {code : List ℕ} {w : Worker W}
     (s : IsSeated answers g id code w) where
   permits : {q : Ask} → ask_of code w.thread ≡ q → Permits w.thread q
   permits asked = subst (Permits w.thread) asked (ask_of_permitted code w.thread)

@@ -16,7 +16,7 @@ use Rattle.ir_crew.specs.declared.deed.Deed.TheVariants.{Enter, Try, Leave, Get,
 use Rattle.ir_crew.specs.declared.deed.ObjectStep.{ObjectStep}
 use Rattle.ir_record.specs.Working.{Worked}
 use Rattle.ir_record.specs.Recording.{answer_if, alone_answers}
-use Rattle.ir_record.specs.Worlds.{Answered, answers_in}
+use Rattle.ir_record.specs.Worlds.{AnsweredCall, answers_in}
 
 may_run_with_reply_added : {T : Type 0} (m : Machine T) (x : T) (vs : List ℕ) (v : ℕ) → MayRun m x vs → MayReply m (act_of (m.ask (alone_after m x vs)) v) v
     → MayRun m x (vs ++ v ∷ [])
@@ -148,7 +148,7 @@ deed_logs_no_answer o (Get i w) es = refl
 deed_logs_no_answer o (Put i w) es = refl
 
 -- f labels is what is logged of the steps after this one when object steps report these labels
-logged_answers_are_alone_answers_step : (q : Act) (f : List Label → List Label) (track : List ObjectStep) (others : List Answered)
+logged_answers_are_alone_answers_step : (q : Act) (f : List Label → List Label) (track : List ObjectStep) (others : List AnsweredCall)
     → ((later : List ObjectStep) → answers_in (f (map label_of later)) ≡ others)
     → answers_in (logged (alone_label q (map label_of track)) (f (labels_left (is_shared q) (map label_of track)))) ≡ answer_if q others
 logged_answers_are_alone_answers_step Silent f track others rest = rest track

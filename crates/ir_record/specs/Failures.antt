@@ -10,10 +10,10 @@ use Rattle.ir_runs.specs.Run.{State, Step, asked, end, log}
 use Rattle.ir_runs.specs.Orders.{InTurn}
 use Rattle.ir_record.specs.Progress.{Progress}
 use Rattle.ir_record.specs.Refusing.{Turn, InTurns}
-use Rattle.ir_record.specs.Worlds.{answers_at, Answered, answers_in}
+use Rattle.ir_record.specs.Worlds.{answers_at, AnsweredCall, answers_in}
 
 -- thread t asks its world, which fails: the thread that is named is t, and no world has answered more
-pub record IsUnanswered (t : ℕ) (p : Progress) (named : ℕ) (answers : List (List Answered)) : Type 0 where
+pub record IsUnanswered (t : ℕ) (p : Progress) (named : ℕ) (answers : List (List AnsweredCall)) : Type 0 where
   pub named_is : named ≡ t
   pub kind : EnvKind
   pub asks : ask_of p.flat.code (thread_of p.flat t) ≡ ask.Env kind
@@ -21,7 +21,7 @@ pub record IsUnanswered (t : ℕ) (p : Progress) (named : ℕ) (answers : List (
 
 -- from s on the turns of the order were taken until the one of the thread that is named, which asks its world there. Each world
 -- answered what it had answered in p, and then what the steps of these turns logged of it
-pub record StoppedAt (order : List ℕ) (s : State thread.ThreadState) (p : Progress) (named : ℕ) (answers : List (List Answered)) : Type 0 where
+pub record StoppedAt (order : List ℕ) (s : State thread.ThreadState) (p : Progress) (named : ℕ) (answers : List (List AnsweredCall)) : Type 0 where
   pub taken : List ℕ
   pub left : List ℕ
   pub so_far : order ≡ taken ++ named ∷ left
@@ -34,7 +34,7 @@ pub record StoppedAt (order : List ℕ) (s : State thread.ThreadState) (p : Prog
       → answers_at answers t ≡ answers_at p.answers t ++ answers_in (log (machine p.flat) s run t)
 
 -- the same of turns, in which tries may be refused, from p on
-pub record StoppedTurns (turns : List Turn) (p : Progress) (named : ℕ) (answers : List (List Answered)) : Type 0 where
+pub record StoppedTurns (turns : List Turn) (p : Progress) (named : ℕ) (answers : List (List AnsweredCall)) : Type 0 where
   pub taken : List Turn
   pub refused : Bool
   pub left : List Turn

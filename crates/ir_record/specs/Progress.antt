@@ -16,17 +16,17 @@ use Rattle.ir_log.specs.Logged.{Logged}
 use Rattle.ir_log.specs.Logging.{label_of}
 use Rattle.ir_trace.specs.Bounds.{IsEvent}
 use Rattle.ir_record.specs.Refusing.{Turn, InTurns}
-use Rattle.ir_record.specs.Worlds.{Answered, answers_in, NoneFailed, answers_at}
+use Rattle.ir_record.specs.Worlds.{AnsweredCall, answers_in, NoneFailed, answers_at}
 use Rattle.ir_record.specs.declared.in_order.logged_guest.LoggedGuest.{LoggedGuest}
 
 -- a guest that is recorded: its threads and objects, the threads' logs, and the answers of their worlds
 pub record Progress : Type 0 where
   pub flat : Flat
   pub logs : List Logged
-  pub answers : List (List Answered)
+  pub answers : List (List AnsweredCall)
 
 -- the same of a guest with its logs, and the answers of the worlds
-abbrev pub progress : LoggedGuest → List (List Answered) → Progress
+abbrev pub progress : LoggedGuest → List (List AnsweredCall) → Progress
 progress guest answers = record { flat = guest.flat; logs = guest.logs.items; answers = answers }
 
 -- the log of no thread

@@ -7,15 +7,15 @@ use Rattle.ir_runs.specs.Run.{Step}
 use Rattle.ir_trace.specs.Recorded.{Recorded}
 use Rattle.ir_record.specs.Recording.{IsRecordingOf}
 use Rattle.ir_record.specs.Refusing.{Turn, IsByTurns}
-use Rattle.ir_record.specs.Worlds.{Answered}
+use Rattle.ir_record.specs.Worlds.{AnsweredCall}
 
 -- of some run
-abbrev pub IsRecordingOfSome : Guest → ℕ → Profile → List (List Answered) → Recorded → List (List ℕ) → List (List Answered) → Type 0
+abbrev pub IsRecordingOfSome : Guest → ℕ → Profile → List (List AnsweredCall) → Recorded → List (List ℕ) → List (List AnsweredCall) → Type 0
 IsRecordingOfSome guest budget profile before trace outputs answers = (run : List Step)
     × IsRecordingOf guest budget profile run before trace outputs answers
 
 -- of the run by turns, in which tries may be refused
-abbrev pub IsRecordingByTurns : Guest → ℕ → Profile → List Turn → List (List Answered) → Recorded → List (List ℕ) → List (List Answered) → Type 0
+abbrev pub IsRecordingByTurns : Guest → ℕ → Profile → List Turn → List (List AnsweredCall) → Recorded → List (List ℕ) → List (List AnsweredCall) → Type 0
 IsRecordingByTurns guest budget profile turns before trace outputs answers = (run : List Step)
     × IsByTurns (machine (start_flat guest budget profile)) (tables (start_flat guest budget profile)) (length guest.entries) turns run
     × IsRecordingOf guest budget profile run before trace outputs answers

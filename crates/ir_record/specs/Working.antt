@@ -25,7 +25,7 @@ use Rattle.ir_log.specs.Logged.{Logged}
 use Rattle.ir_log.specs.Logging.{label_of}
 use Rattle.ir_trace.specs.Bounds.{IsEvent}
 use Rattle.ir_record.specs.Progress.{steps_left_within}
-use Rattle.ir_record.specs.Worlds.{Answered, answers_in}
+use Rattle.ir_record.specs.Worlds.{AnsweredCall, answers_in}
 use Rattle.ir_record.specs.declared.by_threads.worker.Worker.{Worker}
 
 -- x alone, after some replies, is y; these are its object steps with what they emitted, and this is logged of its steps
@@ -41,13 +41,13 @@ pub record Work : Type 0 where
   pub me : M
   pub thread : thread.ThreadState
   pub log : Logged
-  pub answers : List Answered
+  pub answers : List AnsweredCall
 
-abbrev pub work_of : {W : Type 0} → (W → List Answered) → Worker W → Work
+abbrev pub work_of : {W : Type 0} → (W → List AnsweredCall) → Worker W → Work
 work_of answers w = record { me = w.seat.me; thread = w.thread; log = w.log; answers = answers w.world }
 
 -- the worker of thread t, whose world had answered so when it began
-pub record IsWorking (g : Guest) (budget : ℕ) (profile : Profile) (t : ℕ) (before : List Answered) (w : Work) : Type 0 where
+pub record IsWorking (g : Guest) (budget : ℕ) (profile : Profile) (t : ℕ) (before : List AnsweredCall) (w : Work) : Type 0 where
   -- the object steps of the thread
   pub track : List ObjectStep
   pub view : w.me ≡ (record { thread = t; steps = track } ∷ [], [])
@@ -66,11 +66,11 @@ pub record IsWorking (g : Guest) (budget : ℕ) (profile : Profile) (t : ℕ) (b
 
 -- the worker of some thread
 abbrev pub IsWorker : Guest → Work → Type 0
-IsWorker g w = (budget : ℕ) × (profile : Profile) × (t : ℕ) × (before : List Answered) × IsWorking g budget profile t before w
+IsWorker g w = (budget : ℕ) × (profile : Profile) × (t : ℕ) × (before : List AnsweredCall) × IsWorking g budget profile t before w
 
 -- whichever thread's worker v is, w is that thread's
 abbrev pub StillWorks : Guest → Work → Work → Type 0
-StillWorks g v w = (budget : ℕ) (profile : Profile) (t : ℕ) (before : List Answered) → IsWorking g budget profile t before v → IsWorking g budget profile t before w
+StillWorks g v w = (budget : ℕ) (profile : Profile) (t : ℕ) (before : List AnsweredCall) → IsWorking g budget profile t before v → IsWorking g budget profile t before w
 
 -- the step touches no object, and nothing is logged of it
 abbrev pub TouchesNothing : Ask → Type 0
@@ -102,26 +102,26 @@ pub record IsOutside (id : TableId) (s : Seat (Unit {0}) View) : Type 0 where
   pub outside : (o : ℕ) → inside_by o (history s.me.0) ≡ None
 
 -- the worker of a thread of this guest, whose code this is, with a seat at this table
-pub record IsSeated {W : Type 0} (answers : W → List Answered) (g : Guest) (id : TableId) (code : List ℕ) (w : Worker W) : Type 0 where
+pub record IsSeated {W : Type 0} (answers : W → List AnsweredCall) (g : Guest) (id : TableId) (code : List ℕ) (w : Worker W) : Type 0 where
   pub seat : w.seat.table_id ≡ id
   pub same_code : code ≡ g.code
   pub worker : IsWorker g (work_of answers w)
 
 -- the same of the guest and the table that the objects are at
-abbrev pub IsAtWork : {W : Type 0} → (W → List Answered) → Crew → List ℕ → Worker W → Type 0
+abbrev pub IsAtWork : {W : Type 0} → (W → List AnsweredCall) → Crew → List ℕ → Worker W → Type 0
 IsAtWork answers crew code w = IsSeated answers crew.table.shared.key crew.table.shared.table_id code w
 
 -- it keeps its seat, and is still the worker of its thread
-pub record Stays {W : Type 0} (answers : W → List Answered) (g : Guest) (v w : Worker W) : Type 0 where
+pub record Stays {W : Type 0} (answers : W → List AnsweredCall) (g : Guest) (v w : Worker W) : Type 0 where
   pub seat : w.seat.table_id ≡ v.seat.table_id
   pub still : StillWorks g (work_of answers v) (work_of answers w)
 
 -- the same of the guest at the table
-abbrev pub StaysAtWork : {W : Type 0} → (W → List Answered) → Crew → Worker W → Worker W → Type 0
+abbrev pub StaysAtWork : {W : Type 0} → (W → List AnsweredCall) → Crew → Worker W → Worker W → Type 0
 StaysAtWork answers crew v w = Stays answers crew.table.shared.key v w
 
 -- its thread asks its world, which failed and answered no more; the thread took no step
-pub record IsStopped {W : Type 0} (answers : W → List Answered) (broken : W → Bool) (code : List ℕ) (v w : Worker W) : Type 0 where
+pub record IsStopped {W : Type 0} (answers : W → List AnsweredCall) (broken : W → Bool) (code : List ℕ) (v w : Worker W) : Type 0 where
   pub failed : broken w.world ≡ true
   pub seat : w.seat ≡ v.seat
   pub thread : w.thread ≡ v.thread
@@ -129,24 +129,24 @@ pub record IsStopped {W : Type 0} (answers : W → List Answered) (broken : W �
   pub no_more : answers w.world ≡ answers v.world
 
 -- its world failed: it worked until its thread asked its world, which answered no more
-pub record WorkedUntil {W : Type 0} (answers : W → List Answered) (g : Guest) (v w : Worker W) : Type 0 where
+pub record WorkedUntil {W : Type 0} (answers : W → List AnsweredCall) (g : Guest) (v w : Worker W) : Type 0 where
   pub last : Work
   pub still : StillWorks g (work_of answers v) last
   pub asks : (kind : EnvKind) × (ask_of g.code last.thread ≡ ask.Env kind)
   pub no_more : answers w.world ≡ last.answers
 
 -- a worker whose world has not failed, before it runs
-pub record IsReadyWorker {W : Type 0} (answers : W → List Answered) (broken : W → Bool) (g : Guest) (id : TableId) (code : List ℕ)
+pub record IsReadyWorker {W : Type 0} (answers : W → List AnsweredCall) (broken : W → Bool) (g : Guest) (id : TableId) (code : List ℕ)
     (w : Worker W) : Type 0 where
   pub seated : IsSeated answers g id code w
   pub works : broken w.world ≡ false
 
 -- each of these workers may run at the table
-abbrev pub AreReady : {W : Type 0} → (W → List Answered) → (W → Bool) → Crew → List ℕ → List (Worker W) → Type 0
+abbrev pub AreReady : {W : Type 0} → (W → List AnsweredCall) → (W → Bool) → Crew → List ℕ → List (Worker W) → Type 0
 AreReady answers broken crew code ws = All (IsReadyWorker answers broken crew.table.shared.key crew.table.shared.table_id code) ws
 
 -- a worker that ran until its thread was done, or until its world failed, and then left all that its thread held
-pub record RanToEnd {W O : Type 0} (answers : W → List Answered) (broken : W → Bool) (origin : W → O) (g : Guest) (v w : Worker W) : Type
+pub record RanToEnd {W O : Type 0} (answers : W → List AnsweredCall) (broken : W → Bool) (origin : W → O) (g : Guest) (v w : Worker W) : Type
     0 where
   pub stays : broken w.world ≡ false → Stays answers g v w
   pub done : broken w.world ≡ false → ask_of g.code w.thread ≡ ask.Done

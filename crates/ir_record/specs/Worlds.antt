@@ -5,11 +5,11 @@ use Rattle.ir_runs.specs.Machine.{Label, Answer}
 use Rattle.ir_runs.specs.declared.env_kind.EnvKind.{EnvKind}
 
 -- a call of the environment, and what it was answered
-abbrev pub Answered : Type 0
-Answered = EnvKind × ℕ
+abbrev pub AnsweredCall : Type 0
+AnsweredCall = EnvKind × ℕ
 
 -- the calls of the environment in a log, with their answers
-abbrev pub answers_in : List Label → List Answered
+abbrev pub answers_in : List Label → List AnsweredCall
 answers_in [] = []
 answers_in (Answer kind value ∷ log) = (kind, value) ∷ answers_in log
 answers_in (event ∷ log) = answers_in log
@@ -27,5 +27,5 @@ abbrev pub AreSameWorlds : {W O : Type 0} → (W → O) → List W → List W �
 AreSameWorlds origin old new = map origin new ≡ map origin old
 
 -- what the world of thread t has answered
-abbrev pub answers_at : List (List Answered) → ℕ → List Answered
+abbrev pub answers_at : List (List AnsweredCall) → ℕ → List AnsweredCall
 answers_at answers t = slice_index_or answers t []

@@ -1,6 +1,6 @@
 //! The world outside, which answers a thread's calls of the environment.
 
-ghost use Rattle.ir_record.specs.Worlds.{Answered};
+ghost use Rattle.ir_record.specs.Worlds.{AnsweredCall};
 ghost use Rattle.ir_thread.specs.State.{is_result};
 ghost use Rattle.std.specs.Prelude.{◌≡◌, ◌++◌, [], ◌∷◌, List, Bool, true, false, IfOk, OnOk, OnErr};
 
@@ -13,7 +13,7 @@ pub struct WorldErr;
 /// Answers a thread's calls of the environment. In clauses the list of its answers so far, whether it has failed, and what
 /// tells it apart from other worlds.
 pub trait World {
-    ghost answers: { Self → List Answered };
+    ghost answers: { Self → List AnsweredCall };
 
     /// What tells worlds apart, which no answer changes. Which world is handed back to whom is said by this alone.
     ghost Origin: { Type 0 };

@@ -10,7 +10,7 @@ use Rattle.std.proofs.lemmas.List.Splits.{join_with_byte-slice_split, length-sli
 use Rattle.std.proofs.lemmas.Str.Parse.{not_in_digits}
 use Rattle.ir_record_run.specs.Numerals.{number_within}
 use Rattle.ir_record.specs.Refusing.{Turn}
-use Rattle.ir_record_run.specs.Order.{most_turns, turn, turn_by, turn_of, turns, item_by, item_of, joined, items_of, order_of, first_bad, is_digits, is_turn_by, is_item_by}
+use Rattle.ir_record_run.specs.Order.{most_turns, turn, turn_by, turn_of, turns, item_by, item_of, items_joined, items_of, order_of, first_bad, is_digits, is_turn_by, is_item_by}
 use Rattle.ir_record_run.proofs.Numerals.{all_digits_and_digits_value_are_numeral_model, number_within_none_unless_digits}
 use Rattle.ir_record_run.proofs.Parts.{split_without_mark_is_one_part}
 
@@ -148,7 +148,7 @@ is_item_of_counted_parts item one count e = ap is_item_by e ∙ elim (cases_Bool
 some_is_not_none : {A : Type 0} (a : A) → ◌≡◌ {A = Option A} (Some a) None → ⊥
 some_is_not_none a e = absurd (false≢true (sym (ap is_some e)))
 
-joined_of_spelled_is_spelled : (threads : ℕ) (first : Option (List Turn)) (rest : Option (List Turn)) → is_none first ≡ false → joined first rest ≡ None → rest ≡ None
+joined_of_spelled_is_spelled : (threads : ℕ) (first : Option (List Turn)) (rest : Option (List Turn)) → is_none first ≡ false → items_joined first rest ≡ None → rest ≡ None
 joined_of_spelled_is_spelled threads None rest is e = absurd (false≢true (sym is))
 joined_of_spelled_is_spelled threads (Some first) None is e = refl
 joined_of_spelled_is_spelled threads (Some first) (Some rest) is e = absurd (some_is_not_none _ e)

@@ -9,7 +9,7 @@ use Rattle.ir_trace.specs.Recorded.{Recorded}
 use Rattle.ir_trace.specs.Encoding.{encoding}
 use Rattle.ir_record_run.specs.Order.{order_of, first_bad, item_why}
 use Rattle.ir_record_run.specs.Plan.{Plan}
-use Rattle.ir_record_run.specs.Recording.{IsRecordedOf, lines_of}
+use Rattle.ir_record_run.specs.Recording.{IsRecordedOf, recording_lines}
 use Rattle.ir_files.specs.Outputs.{OutputWriter, TookEach, FailedAtOne}
 use Rattle.ir_files.specs.Writers.{Writer, Took, Failed, Reports, fault_text, named_fault}
 use Rattle.ir_files.specs.declared.exit_status.ExitStatus.{ExitStatus}
@@ -44,15 +44,15 @@ image_words image.Trailing = codes "the image is refused, 5: bytes stand after t
 image_words image.NoMem = codes "memory ran out"
 
 -- a fault in words, where it names nothing that a user wrote
-abbrev pub fault_words : RecordFault → List ℕ
-fault_words (Image e) = image_words e
-fault_words TooLarge = codes "the first profile takes at most 8 threads and 16 objects, and --profile 2 takes more"
-fault_words (Order threads) = codes "LIST is no order of this image's threads"
-fault_words NoMem = codes "memory ran out"
-fault_words Clock = codes "the clock can't be read"
-fault_words Trace = codes "the trace can't be written"
-fault_words Output = codes "an output can't be written"
-fault_words Lines = codes "standard output can't be written"
+abbrev pub record_fault_words : RecordFault → List ℕ
+record_fault_words (Image e) = image_words e
+record_fault_words TooLarge = codes "the first profile takes at most 8 threads and 16 objects, and --profile 2 takes more"
+record_fault_words (Order threads) = codes "LIST is no order of this image's threads"
+record_fault_words NoMem = codes "memory ran out"
+record_fault_words Clock = codes "the clock can't be read"
+record_fault_words Trace = codes "the trace can't be written"
+record_fault_words Output = codes "an output can't be written"
+record_fault_words Lines = codes "standard output can't be written"
 
 -- what can't be written, as messages call it, and why
 pub record Unwritten : Type 0 where
@@ -78,10 +78,10 @@ IsOrderReported image plan faults = (guest : Guest) × (list : List ℕ) × (gue
 -- a fault is reported by one line, which says what can't be written, which item of the list spells no steps, or else the fault's own words
 abbrev pub IsReported : RecordFault → List ℕ → Plan → Unwritten → Unwritten → Writer → Type 0
 IsReported (Image e) image plan trace output faults = Reports faults (fault_text (image_words e))
-IsReported TooLarge image plan trace output faults = Reports faults (fault_text (fault_words TooLarge))
-IsReported NoMem image plan trace output faults = Reports faults (fault_text (fault_words NoMem))
-IsReported Clock image plan trace output faults = Reports faults (fault_text (fault_words Clock))
-IsReported Lines image plan trace output faults = Reports faults (fault_text (fault_words Lines))
+IsReported TooLarge image plan trace output faults = Reports faults (fault_text (record_fault_words TooLarge))
+IsReported NoMem image plan trace output faults = Reports faults (fault_text (record_fault_words NoMem))
+IsReported Clock image plan trace output faults = Reports faults (fault_text (record_fault_words Clock))
+IsReported Lines image plan trace output faults = Reports faults (fault_text (record_fault_words Lines))
 IsReported (Order threads) image plan trace output faults = IsOrderReported image plan faults
 IsReported Trace image plan trace output faults = Reports faults (fault_text (unwritten_words trace))
 IsReported Output image plan trace output faults = Reports faults (fault_text (unwritten_words output))
@@ -102,16 +102,16 @@ of_order threads order_err.NoMem = NoMem
 
 -- why nothing is recorded: the image's first fault; more threads or objects than the profile allows; of a guest that it allows, a list
 -- that spells no order, or without a list a clock that can't be read. That memory ran out says nothing of them
-abbrev pub Refuses : RecordFault → List ℕ → Plan → Type 0
-Refuses (Image e) image plan = guest_at image ≡ Err e
-Refuses TooLarge image plan = (guest : Guest) × (guest_at image ≡ Ok guest) × (IsAllowed plan.profile guest → ⊥)
-Refuses (Order threads) image plan = (guest : Guest) × (list : List ℕ) × (guest_at image ≡ Ok guest) × IsAllowed plan.profile guest
+abbrev pub RefusesRecord : RecordFault → List ℕ → Plan → Type 0
+RefusesRecord (Image e) image plan = guest_at image ≡ Err e
+RefusesRecord TooLarge image plan = (guest : Guest) × (guest_at image ≡ Ok guest) × (IsAllowed plan.profile guest → ⊥)
+RefusesRecord (Order threads) image plan = (guest : Guest) × (list : List ℕ) × (guest_at image ≡ Ok guest) × IsAllowed plan.profile guest
     × (threads ≡ length guest.entries) × (1 ≤ threads) × (threads ≤ most_threads) × (plan.order ≡ Some list) × (order_of threads list ≡ None)
-Refuses Clock image plan = (guest : Guest) × (guest_at image ≡ Ok guest) × IsAllowed plan.profile guest × (plan.order ≡ None)
-Refuses NoMem image plan = ⊤
-Refuses Trace image plan = ⊥
-Refuses Output image plan = ⊥
-Refuses Lines image plan = ⊥
+RefusesRecord Clock image plan = (guest : Guest) × (guest_at image ≡ Ok guest) × IsAllowed plan.profile guest × (plan.order ≡ None)
+RefusesRecord NoMem image plan = ⊤
+RefusesRecord Trace image plan = ⊥
+RefusesRecord Output image plan = ⊥
+RefusesRecord Lines image plan = ⊥
 
 -- which of the writers failed, of the trace, of the outputs and of the lines: the outputs come after the whole trace, and the
 -- lines after all outputs. The last two say that those of the outputs and of the lines are as before, and that of the lines
@@ -127,7 +127,7 @@ WriteFails NoMem bytes printed lines trace outputs out later last = ⊥
 
 -- a fault: nothing was written (all writers are as before), or there is a recording, the trace and the outputs of one run, and
 -- a writer failed (those after it are as before)
-abbrev pub Stops : RecordFault → List ℕ → Plan → Writer → OutputWriter → Writer → Type 0 → Type 0 → Type 0 → Type 0
-Stops e image plan trace outputs out all later last = (Refuses e image plan × all)
+abbrev pub StopsRecord : RecordFault → List ℕ → Plan → Writer → OutputWriter → Writer → Type 0 → Type 0 → Type 0 → Type 0
+StopsRecord e image plan trace outputs out all later last = (RefusesRecord e image plan × all)
     ⊎ ((recorded : Recorded) × (printed : List (List ℕ)) × IsRecordedOf image plan recorded printed
-    × WriteFails e (encoding recorded) printed (lines_of recorded) trace outputs out later last)
+    × WriteFails e (encoding recorded) printed (recording_lines recorded) trace outputs out later last)

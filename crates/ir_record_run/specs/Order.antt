@@ -41,13 +41,13 @@ abbrev pub item_of : ℕ → List ℕ → Option (List Turn)
 item_of threads item = item_by threads (slice_split (λ b. b == 120) item)
 
 -- what the first item spells and then the others, if each spells something
-abbrev pub joined : Option (List Turn) → Option (List Turn) → Option (List Turn)
-joined (Some first) (Some rest) = Some (first ++ rest)
-joined first rest = None
+abbrev pub items_joined : Option (List Turn) → Option (List Turn) → Option (List Turn)
+items_joined (Some first) (Some rest) = Some (first ++ rest)
+items_joined first rest = None
 
 abbrev pub items_of : ℕ → List (List ℕ) → Option (List Turn)
 items_of threads [] = Some []
-items_of threads (item ∷ items) = joined (item_of threads item) (items_of threads items)
+items_of threads (item ∷ items) = items_joined (item_of threads item) (items_of threads items)
 
 -- the turns in the order that a list spells, which is items with commas between them; the first argument is how many threads the guest has
 abbrev pub order_of : ℕ → List ℕ → Option (List Turn)

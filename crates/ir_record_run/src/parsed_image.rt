@@ -4,7 +4,7 @@ ghost use Rattle.std.specs.Prelude.{◌≡◌, ◌≢◌, ℕ, List, Ok, IfOk, I
 ghost use Rattle.ir_image.specs.Guest.{guest_at};
 ghost use Rattle.ir_image.specs.Results.{Gives};
 ghost use Rattle.ir_thread.specs.State.{IsAllowed};
-ghost use Rattle.ir_record_run.specs.Faults.{Allows, Refuses};
+ghost use Rattle.ir_record_run.specs.Faults.{Allows, RefusesRecord};
 ghost use Rattle.ir_record_run.specs.Images.{thread_count};
 ghost use Rattle.ir_record_run.specs.declared.record_fault.RecordFault.TheVariants.{Clock, Order};
 
@@ -72,7 +72,7 @@ impl<'a> ParsedImage<'a> {
         ensures exact { IfOk result (λ guest. guest_at self.now ≡ Ok guest.now) }
         ensures allowed { IfOk result (λ guest. IsAllowed plan.now.profile guest.now) }
         ensures allows { OnOk result (Allows self.now plan.now) }
-        ensures refused { IfErr result (λ e. Refuses e self.now plan.now) }
+        ensures refused { IfErr result (λ e. RefusesRecord e self.now plan.now) }
         ensures only { IfErr result (λ e. ((n : ℕ) → e ≢ Order n) × (e ≢ Clock)) }
     {
         match &self.guest {

@@ -30,7 +30,7 @@ pub enum RecordFault {
 }
 
 impl RecordFault {
-    ghost use Rattle.ir_record_run.specs.Faults.{fault_status, fault_words, of_image, of_order};
+    ghost use Rattle.ir_record_run.specs.Faults.{fault_status, record_fault_words, of_image, of_order};
 
     /// The fault that a refusal of the image is.
     pub fn of_image(why: &ImageErr) -> RecordFault
@@ -71,7 +71,7 @@ impl RecordFault {
 
     /// The fault in words.
     pub fn words(&self) -> &'static str
-        ensures { result.now ≡ fault_words self.now }
+        ensures { result.now ≡ record_fault_words self.now }
     {
         match self {
             RecordFault::Image(why) => image_words(why),

@@ -8,10 +8,10 @@ ghost use Rattle.ir_record_run.specs.Order.{order_of};
 ghost use Rattle.ir_trace.specs.Recorded.{Recorded};
 ghost use Rattle.ir_trace.specs.Encoding.{encoding};
 ghost use Rattle.ir_record.specs.Recording.{printed_by};
-ghost use Rattle.ir_record_run.specs.Recording.{IsRecordedOf, line_by, thread_line, lines_of};
+ghost use Rattle.ir_record_run.specs.Recording.{IsRecordedOf, line_by, recorded_thread_line, recording_lines};
 ghost use Rattle.ir_files.specs.Outputs.{output_writer_of, TookEach, FailedAtOne};
 ghost use Rattle.ir_files.specs.Writers.{writer_of};
-ghost use Rattle.ir_record_run.specs.Faults.{Allows, fault_status, Refuses, WriteFails, Stops, IsItemReported, IsReported, unwritten_of};
+ghost use Rattle.ir_record_run.specs.Faults.{Allows, fault_status, RefusesRecord, WriteFails, StopsRecord, IsItemReported, IsReported, unwritten_of};
 ghost use Rattle.ir_record_run.specs.declared.record_fault.RecordFault.{RecordFault};
 ghost use Rattle.ir_record_run.specs.declared.record_fault.RecordFault.TheVariants.{NoMem, Clock, Order};
 
@@ -68,7 +68,7 @@ fn recorded_in_order<C: Clock>(
     requires { plan.now.order ≡ Some list.now }
     ensures recorded { IfOk result (λ r. IsRecordedOf image.now plan.now r.0 (map (λ b. b.items) r.1.items)) }
     ensures allowed { OnOk result (Allows image.now plan.now) }
-    ensures refused { IfErr result (λ e. Refuses e image.now plan.now) }
+    ensures refused { IfErr result (λ e. RefusesRecord e image.now plan.now) }
 {
     let guest = image.allowed(plan)?;
     let threads = guest.entries().len();
@@ -109,7 +109,7 @@ fn recorded_by_threads<R: Threads + Wait + Sync + Clock, G: Gate + Sync>(
     requires { plan.now.order ≡ None }
     ensures recorded { IfOk result (λ r. IsRecordedOf image.now plan.now r.0 (map (λ b. b.items) r.1.items)) }
     ensures allowed { OnOk result (Allows image.now plan.now) }
-    ensures refused { IfErr result (λ e. Refuses e image.now plan.now) }
+    ensures refused { IfErr result (λ e. RefusesRecord e image.now plan.now) }
 {
     let guest = image.allowed(plan)?;
     let threads = guest.entries().len();
@@ -145,7 +145,7 @@ fn line_by(
 
 /// The line of a thread.
 pub fn thread_line(alloc: Global, number: usize, thread: &ThreadTrace) -> Result<String, AllocError>
-    ensures { IfOk result (λ s. string_bytes s ≡ thread_line number thread.now) }
+    ensures { IfOk result (λ s. string_bytes s ≡ recorded_thread_line number thread.now) }
 {
     let end = thread.end();
     let events = thread.log().events().len();
@@ -161,7 +161,7 @@ pub fn thread_line(alloc: Global, number: usize, thread: &ThreadTrace) -> Result
 
 // A line for each thread.
 fn lines(alloc: Global, trace: &Trace) -> Result<String, AllocError>
-    ensures { IfOk result (λ s. string_bytes s ≡ lines_of trace.now) }
+    ensures { IfOk result (λ s. string_bytes s ≡ recording_lines trace.now) }
 {
     let mut lines = String::new(alloc);
     for (number, thread) in trace.threads().iter().enumerate() {
@@ -223,14 +223,14 @@ fn kept<W: WholeSink, P: OutputSink, O: Sink>(
 ) -> Result<Trace, RecordFault>
     requires recorded { IfOk recorded (λ r. IsRecordedOf recording.now.image.now recording.now.plan.now r.0 (map (λ b. b.items) r.1.items)) }
     requires allowed { OnOk recorded (Allows recording.now.image.now recording.now.plan.now) }
-    requires refused { IfErr recorded (λ e. Refuses e recording.now.image.now recording.now.plan.now) }
+    requires refused { IfErr recorded (λ e. RefusesRecord e recording.now.image.now recording.now.plan.now) }
     ensures done { IfOk result (λ recorded. (printed : List (List ℕ)) × IsRecordedOf recording.now.image.now recording.now.plan.now recorded printed
         × Appends (W.written files.old.trace) (W.written files.new.trace) (encoding recorded)
         × TookEach (output_writer_of (P.taken files.old.outputs) (P.taken files.new.outputs) (P.broken files.new.outputs)) printed
-        × Appends (O.written out.old) (O.written out.new) (lines_of recorded)) }
+        × Appends (O.written out.old) (O.written out.new) (recording_lines recorded)) }
     ensures whole { OnOk result (W.whole files.new.trace ≡ true) }
     ensures allowed { OnOk result (Allows recording.now.image.now recording.now.plan.now) }
-    ensures stopped { IfErr result (λ e. Stops e recording.now.image.now recording.now.plan.now
+    ensures stopped { IfErr result (λ e. StopsRecord e recording.now.image.now recording.now.plan.now
         (writer_of (W.written files.old.trace) (W.written files.new.trace) (W.broken files.new.trace))
         (output_writer_of (P.taken files.old.outputs) (P.taken files.new.outputs) (P.broken files.new.outputs))
         (writer_of (O.written out.old) (O.written out.new) (O.broken out.new))
@@ -276,7 +276,7 @@ fn tell_fault<W: WholeSink, P: OutputSink, E: Sink>(
     outputs: &P,
 )
     requires works { E.broken faults.old ≡ false }
-    requires listed { (threads : ℕ) → why.now ≡ Order threads → Refuses (Order threads) image.now plan.now }
+    requires listed { (threads : ℕ) → why.now ≡ Order threads → RefusesRecord (Order threads) image.now plan.now }
     ensures { IsReported why.now image.now plan.now (unwritten_of (W.called trace.now) (W.cause trace.now)) (unwritten_of (P.called outputs.now) (P.cause outputs.now))
         (writer_of (E.written faults.old) (E.written faults.new) (E.broken faults.new)) }
 {
@@ -307,7 +307,7 @@ fn told<W: WholeSink, P: OutputSink, O: Sink, E: Sink>(
 ) -> Result<Trace, ExitStatus>
     requires recorded { IfOk recorded (λ r. IsRecordedOf recording.now.image.now recording.now.plan.now r.0 (map (λ b. b.items) r.1.items)) }
     requires allowed { OnOk recorded (Allows recording.now.image.now recording.now.plan.now) }
-    requires refused { IfErr recorded (λ e. Refuses e recording.now.image.now recording.now.plan.now) }
+    requires refused { IfErr recorded (λ e. RefusesRecord e recording.now.image.now recording.now.plan.now) }
     requires writes { W.broken files.old.trace ≡ false }
     requires puts { P.broken files.old.outputs ≡ false }
     requires prints { O.broken out.old ≡ false }
@@ -315,13 +315,13 @@ fn told<W: WholeSink, P: OutputSink, O: Sink, E: Sink>(
     ensures done { IfOk result (λ recorded. (printed : List (List ℕ)) × IsRecordedOf recording.now.image.now recording.now.plan.now recorded printed
         × Appends (W.written files.old.trace) (W.written files.new.trace) (encoding recorded)
         × TookEach (output_writer_of (P.taken files.old.outputs) (P.taken files.new.outputs) (P.broken files.new.outputs)) printed
-        × Appends (O.written out.old) (O.written out.new) (lines_of recorded)) }
+        × Appends (O.written out.old) (O.written out.new) (recording_lines recorded)) }
     ensures whole { OnOk result (W.whole files.new.trace ≡ true) }
     ensures allowed { OnOk result (Allows recording.now.image.now recording.now.plan.now) }
     ensures quiet { OnOk result (faults.new ≡ faults.old) }
     ensures stopped { IfErr result (λ status. (e : RecordFault) × (status ≡ fault_status e)
         × IsReported e recording.now.image.now recording.now.plan.now (unwritten_of (W.called files.new.trace) (W.cause files.new.trace)) (unwritten_of (P.called files.new.outputs) (P.cause files.new.outputs))
-        (writer_of (E.written faults.old) (E.written faults.new) (E.broken faults.new)) × Stops e recording.now.image.now recording.now.plan.now
+        (writer_of (E.written faults.old) (E.written faults.new) (E.broken faults.new)) × StopsRecord e recording.now.image.now recording.now.plan.now
         (writer_of (W.written files.old.trace) (W.written files.new.trace) (W.broken files.new.trace))
         (output_writer_of (P.taken files.old.outputs) (P.taken files.new.outputs) (P.broken files.new.outputs))
         (writer_of (O.written out.old) (O.written out.new) (O.broken out.new))
@@ -360,7 +360,7 @@ pub fn record_by_list<R: Clock + AllocGlobal, W: WholeSink, P: OutputSink, O: Si
     ensures done { IfOk result (λ recorded. (printed : List (List ℕ)) × IsRecordedOf recording.now.image.now recording.now.plan.now recorded printed
         × Appends (W.written files.old.trace) (W.written files.new.trace) (encoding recorded)
         × TookEach (output_writer_of (P.taken files.old.outputs) (P.taken files.new.outputs) (P.broken files.new.outputs)) printed
-        × Appends (O.written out.old) (O.written out.new) (lines_of recorded)) }
+        × Appends (O.written out.old) (O.written out.new) (recording_lines recorded)) }
     ensures whole { OnOk result (W.whole files.new.trace ≡ true) }
     // The profile allows its threads and objects.
     ensures allowed { OnOk result (Allows recording.now.image.now recording.now.plan.now) }
@@ -368,7 +368,7 @@ pub fn record_by_list<R: Clock + AllocGlobal, W: WholeSink, P: OutputSink, O: Si
     // Else what stopped it, what that left, and that it is reported.
     ensures stopped { IfErr result (λ status. (e : RecordFault) × (status ≡ fault_status e)
         × IsReported e recording.now.image.now recording.now.plan.now (unwritten_of (W.called files.new.trace) (W.cause files.new.trace)) (unwritten_of (P.called files.new.outputs) (P.cause files.new.outputs))
-        (writer_of (E.written faults.old) (E.written faults.new) (E.broken faults.new)) × Stops e recording.now.image.now recording.now.plan.now
+        (writer_of (E.written faults.old) (E.written faults.new) (E.broken faults.new)) × StopsRecord e recording.now.image.now recording.now.plan.now
         (writer_of (W.written files.old.trace) (W.written files.new.trace) (W.broken files.new.trace))
         (output_writer_of (P.taken files.old.outputs) (P.taken files.new.outputs) (P.broken files.new.outputs))
         (writer_of (O.written out.old) (O.written out.new) (O.broken out.new))
@@ -417,7 +417,7 @@ pub fn record_run<
     ensures done { IfOk result (λ recorded. (printed : List (List ℕ)) × IsRecordedOf recording.now.image.now recording.now.plan.now recorded printed
         × Appends (W.written files.old.trace) (W.written files.new.trace) (encoding recorded)
         × TookEach (output_writer_of (P.taken files.old.outputs) (P.taken files.new.outputs) (P.broken files.new.outputs)) printed
-        × Appends (O.written out.old) (O.written out.new) (lines_of recorded)) }
+        × Appends (O.written out.old) (O.written out.new) (recording_lines recorded)) }
     ensures whole { OnOk result (W.whole files.new.trace ≡ true) }
     // The profile allows its threads and objects.
     ensures allowed { OnOk result (Allows recording.now.image.now recording.now.plan.now) }
@@ -425,7 +425,7 @@ pub fn record_run<
     // Else what stopped it, what that left, and that it is reported.
     ensures stopped { IfErr result (λ status. (e : RecordFault) × (status ≡ fault_status e)
         × IsReported e recording.now.image.now recording.now.plan.now (unwritten_of (W.called files.new.trace) (W.cause files.new.trace)) (unwritten_of (P.called files.new.outputs) (P.cause files.new.outputs))
-        (writer_of (E.written faults.old) (E.written faults.new) (E.broken faults.new)) × Stops e recording.now.image.now recording.now.plan.now
+        (writer_of (E.written faults.old) (E.written faults.new) (E.broken faults.new)) × StopsRecord e recording.now.image.now recording.now.plan.now
         (writer_of (W.written files.old.trace) (W.written files.new.trace) (W.broken files.new.trace))
         (output_writer_of (P.taken files.old.outputs) (P.taken files.new.outputs) (P.broken files.new.outputs))
         (writer_of (O.written out.old) (O.written out.new) (O.broken out.new))

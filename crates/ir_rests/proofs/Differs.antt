@@ -3,7 +3,7 @@ use Rattle.std.proofs.Common.{◌≡◌, ◌<◌, ◌≤◌, ◌+◌, ◌-◌, �
 use Rattle.std.specs.Prelude.{◌&&◌, ◌==◌, if◌then◌else◌, slice_index, Option, Some, None}
 use Rattle.std.proofs.lemmas.List.{drop_more, drop_all}
 use Rattle.ir_thread.specs.State.{ThreadState, ask_of, after_reply}
-use Rattle.ir_thread.specs.Permitted.{step_of, run_of, Suits, IsValue}
+use Rattle.ir_thread.specs.Permitted.{step_of, run_of, ReplySuits, IsValue}
 use Rattle.ir_thread.specs.Private.{PrivateSteps}
 use Rattle.ir_thread.specs.declared.ask.Ask.{Ask}
 use Rattle.ir_thread.specs.declared.ask.Ask.TheVariants as ask
@@ -11,7 +11,7 @@ use Rattle.ir_thread.specs.declared.ask.Reply.{Reply}
 use Rattle.ir_thread.specs.declared.ask.Reply.TheVariants.{Value}
 use Rattle.ir_walk.specs.Calls.{AllSuit}
 use Rattle.ir_rests.proofs.Same.{reply_suits_same_call}
-use Rattle.ir_rests.specs.WhatIf.{hold_after, answer, answer_by, same_call, difference, is_other_value, is_writing, is_private, or_later, what_if}
+use Rattle.ir_rests.specs.WhatIf.{hold_after, answer, answer_by, same_call, difference, is_other_value, is_writing_hold, is_private, or_later, what_if}
 use Rattle.ir_walk.specs.declared.exchange.Exchange.{Exchange}
 use Rattle.ir_rests.specs.declared.hold.Hold.{Hold}
 use Rattle.ir_rests.specs.declared.hold.Hold.TheVariants.{Reading, Between, Writing}
@@ -140,8 +140,8 @@ test_true_if_choice_is_none true x e = refl
 test_true_if_choice_is_none false x e = absurd (cc e)
 
 -- a GET of the object in the read's hold is answered by a word, as it was
-answer_by_suits_if_reply_suits : (h : Hold) (o : ℕ) (fresh : List ℕ) (asked : Ask) (reply : Reply) → Suits asked reply
-    → Suits asked (answer_by h o fresh asked reply)
+answer_by_suits_if_reply_suits : (h : Hold) (o : ℕ) (fresh : List ℕ) (asked : Ask) (reply : Reply) → ReplySuits asked reply
+    → ReplySuits asked (answer_by h o fresh asked reply)
 answer_by_suits_if_reply_suits Between o fresh asked reply s = s
 answer_by_suits_if_reply_suits Writing o fresh asked reply s = s
 answer_by_suits_if_reply_suits Reading o fresh (ask.Get object index) reply s = by (object == o)
@@ -161,12 +161,12 @@ answer_by_suits_if_reply_suits Reading o fresh ask.Done reply s = s
 
 -- the answer fits what the thread asks, where that is no other call
 pub answer_suits_ask_if_no_difference : (h : Hold) (o : ℕ) (fresh : List ℕ) (n : ℕ) (cs : List Exchange) (c : Exchange) (asked : Ask) (reply : Reply) → n < length cs
-    → AllSuit (drop n cs) → difference h o asked (get_or cs n c).asked ≡ None → reply ≡ answer h o fresh (get_or cs n c) → Suits asked reply
+    → AllSuit (drop n cs) → difference h o asked (get_or cs n c).asked ≡ None → reply ≡ answer h o fresh (get_or cs n c) → ReplySuits asked reply
 answer_suits_ask_if_no_difference h o fresh n cs c asked reply l all same answered =
     let first : AllSuit (get_or cs n c ∷ drop (n + 1) cs) = subst AllSuit (drop_more cs n c l) all in
     reply_suits_same_call asked (get_or cs n c).asked reply
-    (test_true_if_choice_is_none (same_call asked (get_or cs n c).asked) (if is_writing h && is_other_value o asked (get_or cs n c).asked then Some reason.Value else None) same)
-    (subst (Suits (get_or cs n c).asked) (sym answered) (answer_by_suits_if_reply_suits h o fresh (get_or cs n c).asked (get_or cs n c).reply first.0))
+    (test_true_if_choice_is_none (same_call asked (get_or cs n c).asked) (if is_writing_hold h && is_other_value o asked (get_or cs n c).asked then Some reason.Value else None) same)
+    (subst (ReplySuits (get_or cs n c).asked) (sym answered) (answer_by_suits_if_reply_suits h o fresh (get_or cs n c).asked (get_or cs n c).reply first.0))
 
 -- so do the others
 pub remaining_calls_suit : (n : ℕ) (cs : List Exchange) (c : Exchange) → n < length cs → AllSuit (drop n cs) → AllSuit (drop (n + 1) cs)

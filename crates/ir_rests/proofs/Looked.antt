@@ -2,7 +2,7 @@
 use Rattle.std.proofs.Common.{◌≡◌, ◌<◌, ◌≤◌, ◌+◌, ◌-◌, ℕ, suc, zero, Bool, true, false, List, length, drop, get_or, refl, sym, ap, ◌∙◌, arith}
 use Rattle.std.specs.Prelude.{◌&&◌, ◌||◌, Option, Some, None}
 use Rattle.std.proofs.lemmas.List.{at_drop_more, at_drop_all}
-use Rattle.ir_rests.specs.WhatIf.{hold_after, is_reading, is_get, gets, is_writing, is_put, puts, least_below, found_or}
+use Rattle.ir_rests.specs.WhatIf.{hold_after, is_reading, is_get, gets, is_writing_hold, is_put, puts, least_below, found_or}
 use Rattle.ir_walk.specs.declared.exchange.Exchange.{Exchange}
 use Rattle.ir_rests.specs.declared.hold.Hold.{Hold}
 
@@ -36,18 +36,18 @@ unfolding gets
 gets_false_at_end o i h n cs whole e l = sym (e ∙ at_drop_all (gets o i h) cs n l)
 
 puts_of_drop_step : (o : ℕ) (h : Hold) (n : ℕ) (cs : List Exchange) (c : Exchange) → n < length cs → puts o h (drop n cs) ≡
-    ((is_writing h && is_put o (get_or cs n c).asked) || puts o (hold_after o (get_or cs n c) h) (drop (n + 1) cs))
+    ((is_writing_hold h && is_put o (get_or cs n c).asked) || puts o (hold_after o (get_or cs n c) h) (drop (n + 1) cs))
 unfolding puts
 puts_of_drop_step o h n cs c l = at_drop_more (puts o h) cs n c l
 
 -- the next call puts a word
 pub puts_true_at_call : (o : ℕ) (h : Hold) (n : ℕ) (cs : List Exchange) (c : Exchange) (whole : Bool) → whole ≡ puts o h (drop n cs)
-    → n < length cs → (is_writing h && is_put o (get_or cs n c).asked) ≡ true → true ≡ whole
+    → n < length cs → (is_writing_hold h && is_put o (get_or cs n c).asked) ≡ true → true ≡ whole
 puts_true_at_call o h n cs c whole e l is = disjunction_true_if_left_true _ _ whole (e ∙ puts_of_drop_step o h n cs c l) is
 
 -- it doesn't
 pub puts_step_unless_call_puts : (o : ℕ) (h g : Hold) (n : ℕ) (cs : List Exchange) (c : Exchange) (whole : Bool) → whole ≡ puts o h (drop n cs)
-    → n < length cs → (is_writing h && is_put o (get_or cs n c).asked) ≡ false → g ≡ hold_after o (get_or cs n c) h
+    → n < length cs → (is_writing_hold h && is_put o (get_or cs n c).asked) ≡ false → g ≡ hold_after o (get_or cs n c) h
     → whole ≡ puts o g (drop (n + 1) cs)
 puts_step_unless_call_puts o h g n cs c whole e l missed same = disjunction_is_right_if_left_false _ _ whole (e ∙ puts_of_drop_step o h n cs c l) missed
     ∙ ap (λ (x : Hold). puts o x (drop (n + 1) cs)) (sym same)

@@ -1,12 +1,12 @@
 -- Where two calls are the same, what fits one fits the other.
 use Rattle.std.proofs.Common.{◌≡◌, true}
-use Rattle.ir_thread.specs.Permitted.{Suits}
+use Rattle.ir_thread.specs.Permitted.{ReplySuits}
 use Rattle.ir_thread.specs.declared.ask.Ask.{Ask}
 use Rattle.ir_thread.specs.declared.ask.Ask.TheVariants as ask
 use Rattle.ir_thread.specs.declared.ask.Reply.{Reply}
 use Rattle.ir_rests.specs.WhatIf.{same_call}
 
-pub reply_suits_same_call : (asked was : Ask) (reply : Reply) → same_call asked was ≡ true → Suits was reply → Suits asked reply
+pub reply_suits_same_call : (asked was : Ask) (reply : Reply) → same_call asked was ≡ true → ReplySuits was reply → ReplySuits asked reply
 reply_suits_same_call ask.Private ask.Private reply same s = s
 reply_suits_same_call ask.Private (ask.Env kind2) reply same s = absurd (cc same)
 reply_suits_same_call ask.Private (ask.Enter object2 access2) reply same s = absurd (cc same)

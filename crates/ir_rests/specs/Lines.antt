@@ -14,32 +14,32 @@ use Rattle.ir_rests.specs.declared.reason.Reason.TheVariants.{Value, Way}
 use Rattle.ir_rests.specs.declared.rest.Rest.{Rest}
 
 -- the write of a row, with the position of its step
-abbrev pub write_part : FittedTrace → StaleWrite → List ℕ
-write_part f x = codes "thread " ++ decimal x.thread ++ codes " event " ++ decimal x.event ++ codes " step " ++ decimal (entry_of f x.thread x.event)
+abbrev pub rest_write_part : FittedTrace → StaleWrite → List ℕ
+rest_write_part f x = codes "thread " ++ decimal x.thread ++ codes " event " ++ decimal x.event ++ codes " step " ++ decimal (entry_of f x.thread x.event)
     ++ codes " write " ++ decimal x.object ++ codes " version " ++ decimal x.written
 
 -- its read
-abbrev pub read_part : FittedTrace → StaleWrite → List ℕ
-read_part f x = codes " read event " ++ decimal x.read ++ codes " step " ++ decimal (entry_of f x.thread x.read) ++ codes " version " ++ decimal x.version
+abbrev pub rest_read_part : FittedTrace → StaleWrite → List ℕ
+rest_read_part f x = codes " read event " ++ decimal x.read ++ codes " step " ++ decimal (entry_of f x.thread x.read) ++ codes " version " ++ decimal x.version
 
 -- what wrote over it
-abbrev pub over_part : FittedTrace → Place → List ℕ
-over_part f p = codes " overwritten by thread " ++ decimal p.thread ++ codes " event " ++ decimal p.event ++ codes " step "
+abbrev pub rest_over_part : FittedTrace → Place → List ℕ
+rest_over_part f p = codes " overwritten by thread " ++ decimal p.thread ++ codes " event " ++ decimal p.event ++ codes " step "
     ++ decimal (entry_of f p.thread p.event)
 
 -- how the thread would have acted otherwise
-abbrev pub reason_text : Reason → List ℕ
-reason_text Value = codes "value"
-reason_text Way = codes "way"
+abbrev pub rest_reason_text : Reason → List ℕ
+rest_reason_text Value = codes "value"
+rest_reason_text Way = codes "way"
 
 -- a word that was read and is another, and the line's end
 abbrev pub word_part : Rest → List ℕ
-word_part r = codes " word " ++ decimal r.word ++ codes " was " ++ hex_word r.was ++ codes " is " ++ hex_word r.is ++ codes " " ++ reason_text r.reason
+word_part r = codes " word " ++ decimal r.word ++ codes " was " ++ hex_word r.was ++ codes " is " ++ hex_word r.is ++ codes " " ++ rest_reason_text r.reason
     ++ codes "\n"
 
 -- the line of a row that rests so on its read
 abbrev pub rest_line : FittedTrace → StaleWrite → Rest → List ℕ
-rest_line f x r = write_part f x ++ read_part f x ++ over_part f x.overwritten_by ++ word_part r
+rest_line f x r = rest_write_part f x ++ rest_read_part f x ++ rest_over_part f x.overwritten_by ++ word_part r
 
 -- the line of a row, if it rests on its read
 abbrev pub line_if : FittedTrace → Option StaleWrite → Option Rest → List ℕ

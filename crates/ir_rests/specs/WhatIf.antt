@@ -28,14 +28,14 @@ leaves o (ask.Leave object access) = object == o
 leaves o _ = false
 
 -- whether a reply is 1
-abbrev pub is_one : Reply → Bool
-is_one Go = false
-is_one (Value value) = value == 1
+abbrev pub is_reply_one : Reply → Bool
+is_reply_one Go = false
+is_reply_one (Value value) = value == 1
 
 -- whether a call enters object o, by an entry or a try that gets in
 abbrev pub enters : ℕ → Ask → Reply → Bool
 enters o (ask.Enter object access) reply = object == o
-enters o (ask.Try object) reply = (object == o) && is_one reply
+enters o (ask.Try object) reply = (object == o) && is_reply_one reply
 enters o _ reply = false
 
 -- where the thread is with object o after a call
@@ -85,9 +85,9 @@ same_call ask.Done ask.Done = true
 same_call _ _ = false
 
 -- whether the thread is in the write's hold
-abbrev pub is_writing : Hold → Bool
-is_writing Writing = true
-is_writing _ = false
+abbrev pub is_writing_hold : Hold → Bool
+is_writing_hold Writing = true
+is_writing_hold _ = false
 
 -- whether both are a PUT into object o, of another value
 abbrev pub is_other_value : ℕ → Ask → Ask → Bool
@@ -99,7 +99,7 @@ is_other_value o _ _ = false
 abbrev pub difference : Hold → ℕ → Ask → Ask → Option Reason
 difference h o asked was =
     if same_call asked was
-    then (if is_writing h && is_other_value o asked was then Some reason.Value else None)
+    then (if is_writing_hold h && is_other_value o asked was then Some reason.Value else None)
     else Some reason.Way
 
 -- a reason, or else the next
@@ -148,7 +148,7 @@ is_put o _ = false
 -- whether the calls put a word into object o in the write's hold
 unfoldable pub puts : ℕ → Hold → List Exchange → Bool
 puts o h [] = false
-puts o h (c ∷ cs) = (is_writing h && is_put o c.asked) || puts o (hold_after o c h) cs
+puts o h (c ∷ cs) = (is_writing_hold h && is_put o c.asked) || puts o (hold_after o c h) cs
 
 -- whether the calls get a word of object o in the read's hold that was this and is another
 abbrev pub is_changed : ℕ → List ℕ → List ℕ → List Exchange → ℕ → Bool

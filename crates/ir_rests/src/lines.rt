@@ -7,7 +7,7 @@ ghost use Rattle.arrayvec.specs.ArrayVec.{array_vec_len};
 ghost use Rattle.ir_past.specs.Past.{IsRow, AreStaleWrites};
 ghost use Rattle.ir_past.specs.Lines.{count_line};
 ghost use Rattle.ir_fit_run.specs.Positions.{IsInside};
-ghost use Rattle.ir_rests.specs.Lines.{write_part, read_part, over_part, reason_text, word_part, rest_line, one_if, kept_of, line_if, first_lines, rests_text};
+ghost use Rattle.ir_rests.specs.Lines.{rest_write_part, rest_read_part, rest_over_part, rest_reason_text, word_part, rest_line, one_if, kept_of, line_if, first_lines, rests_text};
 ghost use Rattle.ir_rests.specs.declared.rest.Rest.{Rest};
 
 use crate::reason::Reason;
@@ -23,7 +23,7 @@ use std::alloc::{AllocError, Global};
 fn put_write(text: &mut Text, fitted: &Fitted, row: &StaleWrite)
     requires empty { array_vec_len text.old ≡ 0 }
     requires row { IsRow fitted.now.recorded row.now }
-    ensures { text.new.items ≡ text.old.items ++ write_part fitted.now row.now }
+    ensures { text.new.items ≡ text.old.items ++ rest_write_part fitted.now row.now }
 {
     fitted.known();
     put_number(text, b"thread ", row.thread as u64);
@@ -47,7 +47,7 @@ fn put_write(text: &mut Text, fitted: &Fitted, row: &StaleWrite)
 fn put_read(text: &mut Text, fitted: &Fitted, row: &StaleWrite)
     requires empty { array_vec_len text.old ≡ 0 }
     requires row { IsRow fitted.now.recorded row.now }
-    ensures { text.new.items ≡ text.old.items ++ read_part fitted.now row.now }
+    ensures { text.new.items ≡ text.old.items ++ rest_read_part fitted.now row.now }
 {
     fitted.known();
     put_number(text, b" read event ", row.read as u64);
@@ -69,7 +69,7 @@ fn put_read(text: &mut Text, fitted: &Fitted, row: &StaleWrite)
 fn put_over(text: &mut Text, fitted: &Fitted, place: &Place)
     requires empty { array_vec_len text.old ≡ 0 }
     requires placed { IsInside fitted.now place.now.thread place.now.event }
-    ensures { text.new.items ≡ text.old.items ++ over_part fitted.now place.now }
+    ensures { text.new.items ≡ text.old.items ++ rest_over_part fitted.now place.now }
 {
     put_number(text, b" overwritten by thread ", place.thread as u64);
     put_number(text, b" event ", place.event as u64);
@@ -78,7 +78,7 @@ fn put_over(text: &mut Text, fitted: &Fitted, place: &Place)
 
 // How the thread would have acted otherwise.
 fn reason_text(reason: Reason) -> &'static [u8]
-    ensures value { result.now ≡ reason_text reason }
+    ensures value { result.now ≡ rest_reason_text reason }
     ensures short { length result.now ≤ 8 }
 {
     match reason {

@@ -6,7 +6,7 @@ ghost use Rattle.ir_files.specs.declared.exit_status.ExitStatus.TheVariants as s
 ghost use Rattle.ir_past.specs.Answers.{Answered, NotAnswered, fault_words};
 ghost use Rattle.ir_past.specs.declared.past_err.PastErr.{PastErr};
 ghost use Rattle.ir_fit_run.specs.Opened.{IsFit};
-ghost use Rattle.ir_fit_run.specs.Answers.{IsAnswerOf};
+ghost use Rattle.ir_fit_run.specs.Answers.{IsFitAnswerOf};
 ghost use Rattle.ir_rests.specs.Lines.{IsRestsAnswer};
 
 use crate::lines::rests_text;
@@ -31,8 +31,8 @@ fn fitted_lines(alloc: Global, fitted: &Fitted) -> Result<Vec<u8>, AllocError>
 // Writes the lines of a fitted trace's writes that rest on stale reads.
 fn show_fitted<O: Sink>(alloc: Global, fitted: &Fitted, out: &mut O) -> Result<ExitStatus, PastErr>
     requires { O.broken out.old ≡ false }
-    ensures ok { IfOk result (λ status. (i t : List ℕ) → IsFit i t fitted.now → Answered (IsAnswerOf IsRestsAnswer i t) status (writer_of (O.written out.old) (O.written out.new) (O.broken out.new))) }
-    ensures fails { IfErr result (λ e. (i t : List ℕ) → IsFit i t fitted.now → NotAnswered (IsAnswerOf IsRestsAnswer i t) e (writer_of (O.written out.old) (O.written out.new) (O.broken out.new))) }
+    ensures ok { IfOk result (λ status. (i t : List ℕ) → IsFit i t fitted.now → Answered (IsFitAnswerOf IsRestsAnswer i t) status (writer_of (O.written out.old) (O.written out.new) (O.broken out.new))) }
+    ensures fails { IfErr result (λ e. (i t : List ℕ) → IsFit i t fitted.now → NotAnswered (IsFitAnswerOf IsRestsAnswer i t) e (writer_of (O.written out.old) (O.written out.new) (O.broken out.new))) }
 {
     let text = fitted_lines(alloc, fitted)?;
     write_all(out, text.as_slice())?;
@@ -47,8 +47,8 @@ fn show<O: Sink>(
     out: &mut O,
 ) -> Result<ExitStatus, PastErr>
     requires { O.broken out.old ≡ false }
-    ensures ok { IfOk result (λ status. Answered (IsAnswerOf IsRestsAnswer image.now trace.now) status (writer_of (O.written out.old) (O.written out.new) (O.broken out.new))) }
-    ensures fails { IfErr result (λ e. NotAnswered (IsAnswerOf IsRestsAnswer image.now trace.now) e (writer_of (O.written out.old) (O.written out.new) (O.broken out.new))) }
+    ensures ok { IfOk result (λ status. Answered (IsFitAnswerOf IsRestsAnswer image.now trace.now) status (writer_of (O.written out.old) (O.written out.new) (O.broken out.new))) }
+    ensures fails { IfErr result (λ e. NotAnswered (IsFitAnswerOf IsRestsAnswer image.now trace.now) e (writer_of (O.written out.old) (O.written out.new) (O.broken out.new))) }
 {
     match open_fit(alloc, image, trace)? {
         Opened::Fits(fitted) => show_fitted(alloc, &fitted, out),
@@ -70,10 +70,10 @@ pub fn rests_run<O: Sink, E: Sink>(
     requires writes { O.broken out.old ≡ false }
     requires reports { E.broken faults.old ≡ false }
     // The answer was written, and no fault reported.
-    ensures done { result ≢ status.Failed → Answered (IsAnswerOf IsRestsAnswer image.now trace.now) result (writer_of (O.written out.old) (O.written out.new) (O.broken out.new)) × (faults.new ≡ faults.old) }
+    ensures done { result ≢ status.Failed → Answered (IsFitAnswerOf IsRestsAnswer image.now trace.now) result (writer_of (O.written out.old) (O.written out.new) (O.broken out.new)) × (faults.new ≡ faults.old) }
     // Else what stopped it, what that leaves, and that it is reported.
     ensures stopped { result ≡ status.Failed → (e : PastErr)
-        × NotAnswered (IsAnswerOf IsRestsAnswer image.now trace.now) e (writer_of (O.written out.old) (O.written out.new) (O.broken out.new))
+        × NotAnswered (IsFitAnswerOf IsRestsAnswer image.now trace.now) e (writer_of (O.written out.old) (O.written out.new) (O.broken out.new))
         × Reports (writer_of (E.written faults.old) (E.written faults.new) (E.broken faults.new)) (fault_text (fault_words e)) }
 {
     match show(alloc, image, trace, out) {

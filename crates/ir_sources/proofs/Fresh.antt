@@ -5,8 +5,8 @@ use Rattle.std.specs.List.{range_with_len}
 use Rattle.std.proofs.lemmas.List.{length-map}
 use Rattle.std.proofs.lemmas.List.FromFn.{map-range_with_len_more, length-map-range_with_len}
 use Rattle.ir_lemmas.proofs.CallerLemmas.{map_of_append_item, replicate_append_one}
-use Rattle.ir_record.specs.Worlds.{Answered}
-use Rattle.ir_sources.specs.Sources.{MadeWith, made_with, is_counted, seed_of, origin_of, origins, IsAnswered}
+use Rattle.ir_record.specs.Worlds.{AnsweredCall}
+use Rattle.ir_sources.specs.Sources.{MadeWith, made_with, is_counted, seed_of, origin_of, origins, IsAnsweredFrom}
 use Rattle.ir_sources.specs.declared.time.Time.{Time}
 
 -- one world more
@@ -23,11 +23,11 @@ pub made_with_is_origin : (time before : Time) (seed random : ℕ) (of file : Li
     → made_with time seed of ≡ origin_of (is_counted before) random file n
 made_with_is_origin time before seed random of file n e s f = λ i. made_with (e i) (s i) (f i)
 
-pub map_answers_is_replicate_empty_step : {W : Type 0} (answers : W → List Answered) (old new : List W) (w : W) (n : ℕ) → map answers old ≡ replicate n []
+pub map_answers_is_replicate_empty_step : {W : Type 0} (answers : W → List AnsweredCall) (old new : List W) (w : W) (n : ℕ) → map answers old ≡ replicate n []
     → answers w ≡ [] → new ≡ old ++ w ∷ [] → map answers new ≡ replicate (n + 1) []
 map_answers_is_replicate_empty_step answers old new w n before s e =
-    ap (map answers) e ∙ map_of_append_item answers old w ∙ ap (λ (z : List (List Answered)). z ++ answers w ∷ []) before
-    ∙ ap (λ (z : List Answered). replicate n [] ++ z ∷ []) s ∙ replicate_append_one n []
+    ap (map answers) e ∙ map_of_append_item answers old w ∙ ap (λ (z : List (List AnsweredCall)). z ++ answers w ∷ []) before
+    ∙ ap (λ (z : List AnsweredCall). replicate n [] ++ z ∷ []) s ∙ replicate_append_one n []
     ∙ ap (λ (k : ℕ). replicate k []) (sym (add-one n))
 
 -- there is a world for each thread
@@ -36,27 +36,27 @@ pub world_count_is_thread_count : {W : Type 0} (made : W → MadeWith) (worlds :
 world_count_is_thread_count made worlds counted random file n e = sym (length-map worlds made) ∙ ap (λ (z : List MadeWith). length z) e
     ∙ length-map-range_with_len (origin_of counted random file) 0 n
 
-worlds_answered_by_origins_from : {O : Type 0} (made : O → MadeWith) (answers : O → List Answered) → ((o : O) → IsAnswered (made o) (answers o))
+worlds_answered_by_origins_from : {O : Type 0} (made : O → MadeWith) (answers : O → List AnsweredCall) → ((o : O) → IsAnsweredFrom (made o) (answers o))
     → (counted : Bool) (random : ℕ) (file : List ℕ) (os : List O) (a n : ℕ)
     → map made os ≡ map (origin_of counted random file) (range_with_len a n)
-    → (t : ℕ) → t < n → IsAnswered (origin_of counted random file (a + t)) (get_or (map answers os) t [])
+    → (t : ℕ) → t < n → IsAnsweredFrom (origin_of counted random file (a + t)) (get_or (map answers os) t [])
 worlds_answered_by_origins_from made answers gave counted random file os a zero e t l = absurd (omega (arith, l))
 worlds_answered_by_origins_from made answers gave counted random file [] a (suc n) e t l = absurd (cc)
 worlds_answered_by_origins_from made answers gave counted random file (o ∷ os) a (suc n) e zero l =
     let here : made o ≡ origin_of counted random file a = cc in
     let first : a ≡ a + zero = omega arith in
-    subst (λ (m : MadeWith). IsAnswered m (answers o)) (here ∙ ap (origin_of counted random file) first) (gave o)
+    subst (λ (m : MadeWith). IsAnsweredFrom m (answers o)) (here ∙ ap (origin_of counted random file) first) (gave o)
 worlds_answered_by_origins_from made answers gave counted random file (o ∷ os) a (suc n) e (suc t) l =
     let rest : map made os ≡ map (origin_of counted random file) (range_with_len (a + 1) n) = cc in
     let place : a + 1 + t ≡ a + suc t = omega arith in
-    subst (λ (k : ℕ). IsAnswered (origin_of counted random file k) (get_or (map answers os) t [])) place
+    subst (λ (k : ℕ). IsAnsweredFrom (origin_of counted random file k) (get_or (map answers os) t [])) place
     (worlds_answered_by_origins_from made answers gave counted random file os (a + 1) n rest t (omega (arith, l)))
 
 -- each of the worlds was answered by its own sources
-pub worlds_answered_by_own_origins : {O : Type 0} (made : O → MadeWith) (answers : O → List Answered) → ((o : O) → IsAnswered (made o) (answers o))
+pub worlds_answered_by_own_origins : {O : Type 0} (made : O → MadeWith) (answers : O → List AnsweredCall) → ((o : O) → IsAnsweredFrom (made o) (answers o))
     → (counted : Bool) (random : ℕ) (file : List ℕ) (os : List O) (n : ℕ) → map made os ≡ origins counted random file n
-    → (t : ℕ) → t < n → IsAnswered (origin_of counted random file t) (get_or (map answers os) t [])
+    → (t : ℕ) → t < n → IsAnsweredFrom (origin_of counted random file t) (get_or (map answers os) t [])
 worlds_answered_by_own_origins made answers gave counted random file os n e t l =
     let place : 0 + t ≡ t = omega arith in
-    subst (λ (k : ℕ). IsAnswered (origin_of counted random file k) (get_or (map answers os) t [])) place
+    subst (λ (k : ℕ). IsAnsweredFrom (origin_of counted random file k) (get_or (map answers os) t [])) place
     (worlds_answered_by_origins_from made answers gave counted random file os 0 n e t l)

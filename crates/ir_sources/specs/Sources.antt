@@ -8,7 +8,7 @@ use Rattle.rand_pcg.specs.Lcg.{Lcg}
 use Rattle.rand_pcg.specs.Pcg.{pcg32, pcg32_of_seed}
 use Rattle.ir_runs.specs.declared.env_kind.EnvKind.{EnvKind}
 use Rattle.ir_runs.specs.declared.env_kind.EnvKind.TheVariants.{Clock, Random, Input}
-use Rattle.ir_record.specs.Worlds.{Answered}
+use Rattle.ir_record.specs.Worlds.{AnsweredCall}
 use Rattle.ir_sources.specs.declared.time.Time.{Time}
 use Rattle.ir_sources.specs.declared.time.Time.TheVariants.{Counted, Since}
 
@@ -45,30 +45,30 @@ given Random s = ((pcg32 s.random).0, record s { random = (pcg32 s.random).1 })
 given Input s = (slice_index_or s.input 0 0xFFFFFFFF, record s { input = drop 1 s.input })
 
 -- these answers were given in turn, and t is left of s
-abbrev pub Gave : Source → List Answered → Source → Type 0
+abbrev pub Gave : Source → List AnsweredCall → Source → Type 0
 Gave s [] t = t ≡ s
 Gave s (answer ∷ answers) t = (answer.1 ≡ (given answer.0 s).0) × Gave (given answer.0 s).1 answers t
 
 -- that they were given so holds in one way
-pub Gave-prop : (s : Source) (answers : List Answered) (t : Source) → IsProp (Gave s answers t)
+pub Gave-prop : (s : Source) (answers : List AnsweredCall) (t : Source) → IsProp (Gave s answers t)
 Gave-prop s [] t = hlevel props
 Gave-prop s (answer ∷ answers) t = ×_prop (hlevel props) (Gave-prop (given answer.0 s).1 answers t)
 
 -- the answers to calls for random words and input
-abbrev pub untimed : List Answered → List Answered
+abbrev pub untimed : List AnsweredCall → List AnsweredCall
 untimed [] = []
 untimed ((Clock, value) ∷ answers) = untimed answers
 untimed ((Random, value) ∷ answers) = (Random, value) ∷ untimed answers
 untimed ((Input, value) ∷ answers) = (Input, value) ∷ untimed answers
 
 -- the answers that come from the sources: all where calls for the time are counted, else those that are no clock's
-abbrev pub from_sources : Bool → List Answered → List Answered
+abbrev pub from_sources : Bool → List AnsweredCall → List AnsweredCall
 from_sources true answers = answers
 from_sources false answers = untimed answers
 
 -- a world that was made so has given these answers, in turn those that come from its sources
-abbrev pub IsAnswered : MadeWith → List Answered → Type 0
-IsAnswered made answers = (left : Source) × Gave (source made.seed made.file) (from_sources made.counted answers) left
+abbrev pub IsAnsweredFrom : MadeWith → List AnsweredCall → Type 0
+IsAnsweredFrom made answers = (left : Source) × Gave (source made.seed made.file) (from_sources made.counted answers) left
 
 -- the seed of the random words of thread t
 abbrev pub seed_of : ℕ → ℕ → ℕ

@@ -4,7 +4,7 @@ use Rattle.ir_runs.specs.Machine.{Ask, Private, Env, Enter, Try, Leave, Get, Put
 use Rattle.ir_runs.specs.Lawful.{IsLawful}
 use Rattle.ir_runs.specs.Run.{State, Step, asked, Can, after, end}
 use Rattle.ir_runs.proofs.CallerLemmas.{StateInvariant, state_invariant_after_step, end_append}
-use Rattle.ir_states.specs.Counting.{Answers, IsAnswered, Counts, is_own, IsAtRest, GoesAhead, entering, Brought}
+use Rattle.ir_states.specs.Counting.{Answers, IsAnswered, RunCounts, is_own, IsAtRest, GoesAhead, entering, Brought}
 use Rattle.ir_states.specs.Nodes.{TellsNothing, LeadsTo, Noted, Path, IsClosed, Chain, Arrives}
 use Rattle.ir_states.specs.Outcomes.{Begins}
 use Rattle.ir_states.proofs.Rest.{run_that_goes_ahead_counts, goes_ahead_append, run_that_goes_ahead_enters_nothing, counts_append, entering_append, state_invariant_after_counting_run, steps_ahead_may_come_first}
@@ -40,7 +40,7 @@ pub counting_run_arrives_along_chain : {T I K : Type 0} (m : Machine T) → IsLa
     → (Moves : I → ℕ → I → Type 0) (state_of : K → State T) (Node : I → K → Type 0) (Next : Noted K)
     → IsClosed m answers Alike Moves state_of Node Next → (ts : List ℕ) (i j : I)
     → Chain Moves i ts j → (s : State T) (v : K) → StateInvariant m s → Alike s (state_of v) → Node i v
-    → (run : List Step) → Counts m answers s run → entering m s run ≡ ts → Arrives m answers Alike state_of Node Next s v run j
+    → (run : List Step) → RunCounts m answers s run → entering m s run ≡ ts → Arrives m answers Alike state_of Node Next s v run j
 counting_run_arrives_along_chain m law answers Alike tells Moves state_of Node Next closed [] i j chain s v good alike is [] ok order = record {
   left = [];
   goes = tt;
@@ -82,7 +82,7 @@ counting_run_arrives_along_chain {T} {I} {K} m law answers Alike tells Moves sta
 pub record RunByEntries {T : Type 0} (m : Machine T) (answers : Answers T) (Alike : State T → State T → Type 0) (s : State T) (ts : List ℕ)
     (w : State T) : Type 0 where
   pub run : List Step
-  pub counts : Counts m answers s run
+  pub counts : RunCounts m answers s run
   pub order : entering m s run ≡ ts
   pub alike : Alike (end m s run) w
 

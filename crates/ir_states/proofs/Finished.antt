@@ -4,7 +4,7 @@ use Rattle.ir_runs.specs.Machine.{Machine}
 use Rattle.ir_runs.specs.Lawful.{IsLawful}
 use Rattle.ir_runs.specs.Run.{State, Step, end, IsDone}
 use Rattle.ir_runs.proofs.CallerLemmas.{StateInvariant, end_append}
-use Rattle.ir_states.specs.Counting.{Answers, Counts, GoesAhead, entering, Brought}
+use Rattle.ir_states.specs.Counting.{Answers, RunCounts, GoesAhead, entering, Brought}
 use Rattle.ir_states.specs.Nodes.{TellsNothing, Noted, Path, IsClosed, Chain, Arrives}
 use Rattle.ir_states.specs.Outcomes.{IsOutcome, Begins, IsFinished}
 use Rattle.ir_states.proofs.Rest.{run_that_goes_ahead_counts, goes_ahead_append, state_invariant_after_counting_run, steps_ahead_may_come_first, nothing_goes_ahead_if_done}
@@ -19,7 +19,7 @@ pub counting_run_arrives_along_chain_of_its_entries : {T I K : Type 0} (m : Mach
     → TellsNothing m answers Alike
     → (Moves : I → ℕ → I → Type 0) (state_of : K → State T) (Node : I → K → Type 0) (Next : Noted K)
     → IsClosed m answers Alike Moves state_of Node Next → (s : State T) (first : K) → StateInvariant m s
-    → Begins m answers Alike s (state_of first) → (i j : I) → Node i first → (run : List Step) → Counts m answers s run
+    → Begins m answers Alike s (state_of first) → (i j : I) → Node i first → (run : List Step) → RunCounts m answers s run
     → Chain Moves i (entering m s run) j → Arrives m answers Alike state_of Node Next s first run j
 counting_run_arrives_along_chain_of_its_entries m law answers Alike tells Moves state_of Node Next closed s first good begins i j is run ok chain =
     let b : Brought m answers s begins.ahead run = steps_ahead_may_come_first m law answers s good begins.ahead begins.goes run ok in
@@ -65,7 +65,7 @@ module _ {T K : Type 0} (m : Machine T) (law : IsLawful m) (answers : Answers T)
   }
 
   -- a run that counts leads to a node
-  pub finds : (run : List Step) → Counts m answers s run → Arrives m answers Alike state_of (AtOnePlace Node) Next s first run tt
+  pub finds : (run : List Step) → RunCounts m answers s run → Arrives m answers Alike state_of (AtOnePlace Node) Next s first run tt
   finds run ok =
       counting_run_arrives_along_chain_of_its_entries m law answers Alike tells MovesFreely state_of (AtOnePlace Node) Next finished_closed s first good f.begins tt tt f.is run ok
       (chain_of_free_moves (entering m s run))

@@ -4,7 +4,7 @@ use Rattle.ir_runs.specs.Machine.{Machine}
 use Rattle.ir_runs.specs.Lawful.{IsLawful}
 use Rattle.ir_runs.specs.Run.{State, Step, end, IsDone}
 use Rattle.ir_runs.proofs.CallerLemmas.{StateInvariant, end_append}
-use Rattle.ir_states.specs.Counting.{Answers, Counts, GoesAhead, entering, Brought}
+use Rattle.ir_states.specs.Counting.{Answers, RunCounts, GoesAhead, entering, Brought}
 use Rattle.ir_states.specs.Nodes.{TellsNothing, Noted, Path, Arrives}
 use Rattle.ir_states.specs.Outcomes.{IsHang, IsFinished, HasWay}
 use Rattle.ir_states.proofs.Rest.{run_that_goes_ahead_counts, counts_append, state_invariant_after_counting_run, steps_ahead_may_come_first, nothing_goes_ahead_if_done}
@@ -13,7 +13,7 @@ use Rattle.ir_states.proofs.Finished.{done_end_is_alike_to_arrived_node, is_done
 
 -- some run that counts leads from here to the end of all threads
 abbrev pub Completes : {T : Type 0} → Machine T → Answers T → State T → Type 0
-Completes m answers s = (more : List Step) × Counts m answers s more × IsDone m (end m s more)
+Completes m answers s = (more : List Step) × RunCounts m answers s more × IsDone m (end m s more)
 
 module _ {T K : Type 0} (m : Machine T) (law : IsLawful m) (answers : Answers T) (Alike : State T → State T → Type 0)
     (tells : TellsNothing m answers Alike) (s : State T) (good : StateInvariant m s) (state_of : K → State T) (Node : K → Type 0) (Next : Noted K)
@@ -42,7 +42,7 @@ module _ {T K : Type 0} (m : Machine T) (law : IsLawful m) (answers : Answers T)
       )
 
   -- a run that counts can be completed exactly where the node to which it leads has a way
-  pub back : (run : List Step) → Counts m answers s run → (left : List Step) → GoesAhead m answers (end m s run) left → (v : K) → Node v
+  pub back : (run : List Step) → RunCounts m answers s run → (left : List Step) → GoesAhead m answers (end m s run) left → (v : K) → Node v
       → Alike (end m (end m s run) left) (state_of v) → Completes m answers (end m s run) ↔ HasWay m state_of Next v
   back run ok left goes v is alike = (
     λ c.

@@ -5,22 +5,22 @@ use Rattle.ir_runs.specs.Machine.{Ask, Private, Env, Enter, Try, Leave, Get, Put
 use Rattle.ir_runs.specs.Run.{State, Step, asked, act, after, IsRun, end, IsDone}
 use Rattle.ir_runs.specs.Orders.{InTurn, IsByOrder}
 use Rattle.ir_runs.proofs.CallerLemmas.{after_same_if_act_same, thread_after_step_of_other}
-use Rattle.ir_states.specs.Counting.{Answers, IsAnswered, Counts, is_own, IsAtRest, GoesAhead}
+use Rattle.ir_states.specs.Counting.{Answers, IsAnswered, RunCounts, is_own, IsAtRest, GoesAhead}
 use Rattle.ir_states.specs.Nodes.{LeadsTo}
-use Rattle.ir_states.specs.Orders.{threads_of, EachEnters, IsAlone}
+use Rattle.ir_states.specs.Orders.{stepping_threads, EachEnters, IsAlone}
 
 -- a run goes by its threads' turns
 pub run_is_in_turn_of_its_threads : {T : Type 0} (m : Machine T) (s : State T) (run : List Step) → IsRun m s run → EachEnters m s run
-    → InTurn m s (threads_of run) run
+    → InTurn m s (stepping_threads run) run
 run_is_in_turn_of_its_threads m s [] ok enters = refl
 run_is_in_turn_of_its_threads m s (e ∷ run) ok enters = inr (e.1, run, refl, ok.0, enters.0, run_is_in_turn_of_its_threads m (after m s e) run ok.1 enters.1)
 
 -- a complete run is the run by the order of its threads
 pub complete_run_is_by_order : {T : Type 0} (m : Machine T) (s : State T) (n : ℕ) (run : List Step) → IsRun m s run → EachEnters m s run
-    → IsDone m (end m s run) → IsByOrder m s n (threads_of run) run
+    → IsDone m (end m s run) → IsByOrder m s n (stepping_threads run) run
 complete_run_is_by_order m s n run ok enters done = record {
   count = 0;
-  turns = subst (λ z. InTurn m s z run) (sym (append-nil (threads_of run))) (run_is_in_turn_of_its_threads m s run ok enters);
+  turns = subst (λ z. InTurn m s z run) (sym (append-nil (stepping_threads run))) (run_is_in_turn_of_its_threads m s run ok enters);
   done = done;
 }
 
@@ -52,19 +52,19 @@ run_in_turn_is_empty_if_done m s done (t ∷ order) run (inr some) =
     absurd (subst (λ q. Admits m (act_of q some.0) (s.objects (target (act_of q some.0)))) (done t) some.3)
 
 -- the runs by the order of a complete run's threads, whatever turns come after, end as it does
-pub end_of_run_by_longer_order_equals_done_end : {T : Type 0} (m : Machine T) (answers : Answers T) (s : State T) (run : List Step) → Counts m answers s run
-    → EachEnters m s run → IsDone m (end m s run) → (more : List ℕ) (run' : List Step) → InTurn m s (threads_of run ++ more) run'
-    → Counts m answers s run' → end m s run' ≡ end m s run
+pub end_of_run_by_longer_order_equals_done_end : {T : Type 0} (m : Machine T) (answers : Answers T) (s : State T) (run : List Step) → RunCounts m answers s run
+    → EachEnters m s run → IsDone m (end m s run) → (more : List ℕ) (run' : List Step) → InTurn m s (stepping_threads run ++ more) run'
+    → RunCounts m answers s run' → end m s run' ≡ end m s run
 end_of_run_by_longer_order_equals_done_end m answers s [] ok enters done more run' turns ok' = ap (end m s) (run_in_turn_is_empty_if_done m s done more run' turns)
 end_of_run_by_longer_order_equals_done_end m answers s (e ∷ run) ok enters done more run' (inl none) ok' = absurd (none.0 e.1 ok.0.0)
 end_of_run_by_longer_order_equals_done_end m answers s (e ∷ run) ok enters done more run' (inr (r, rest, is, can, free, turns)) ok' =
-    let counted : Counts m answers s ((e.0, r) ∷ rest) = subst (Counts m answers s) is ok' in
+    let counted : RunCounts m answers s ((e.0, r) ∷ rest) = subst (RunCounts m answers s) is ok' in
     let same : after m s (e.0, r) ≡ after m s e = after_same_if_act_same m s e.0 r e.1
     (admitted_acts_of_one_ask_are_equal_if_tries_win_when_they_can m s.objects (asked m s e.0) (answers e.0 (s.now e.0)) r e.1 counted.0.1 ok.0.1 can ok.0.0 free enters.0) in
     ap (end m s) is
     ∙ ap (λ z. end m z rest) same
     ∙ end_of_run_by_longer_order_equals_done_end m answers (after m s e) run ok.1 enters.1 done more rest
-    (subst (λ z. InTurn m z (threads_of run ++ more) rest) same turns) (subst (λ z. Counts m answers z rest) same counted.1)
+    (subst (λ z. InTurn m z (stepping_threads run ++ more) rest) same turns) (subst (λ z. RunCounts m answers z rest) same counted.1)
 
 -- results with which a thread does the same lead to the same node
 pub leads_to_by_equal_act : {T : Type 0} (m : Machine T) (answers : Answers T) (Alike : State T → State T → Type 0) (v : State T) (t r r' : ℕ)

@@ -7,23 +7,23 @@ use Rattle.ir_runs.specs.declared.env_kind.EnvKind.{EnvKind}
 use Rattle.ir_runs.specs.Run.{State, Step, asked, after, label, IsRun, end, join_if, trail, IsDone}
 use Rattle.ir_runs.specs.Bounds.{IsIdle}
 use Rattle.ir_runs.proofs.CallerLemmas.{StateInvariant, state_invariant_after_step, threads_from_number_on_stay_done_after_step, end_append, trail_append}
-use Rattle.ir_states.specs.Counting.{Answers, IsAnswered, Takes, Counts, is_own, IsAtRest, GoesAhead, entering, Brought}
+use Rattle.ir_states.specs.Counting.{Answers, IsAnswered, Takes, RunCounts, is_own, IsAtRest, GoesAhead, entering, Brought}
 use Rattle.ir_states.proofs.First.{own_step_may_come_first}
 
 -- a run that counts is a run
-pub counting_run_is_run : {T : Type 0} (m : Machine T) (answers : Answers T) (s : State T) (run : List Step) → Counts m answers s run → IsRun m s run
+pub counting_run_is_run : {T : Type 0} (m : Machine T) (answers : Answers T) (s : State T) (run : List Step) → RunCounts m answers s run → IsRun m s run
 counting_run_is_run m answers s [] ok = tt
 counting_run_is_run m answers s (e ∷ run) ok = (ok.0.0, counting_run_is_run m answers (after m s e) run ok.1)
 
 -- steps that no other can refuse count
 pub run_that_goes_ahead_counts : {T : Type 0} (m : Machine T) (answers : Answers T) (s : State T) (run : List Step) → GoesAhead m answers s run
-    → Counts m answers s run
+    → RunCounts m answers s run
 run_that_goes_ahead_counts m answers s [] ok = tt
 run_that_goes_ahead_counts m answers s (e ∷ run) ok = (ok.1, run_that_goes_ahead_counts m answers (after m s e) run ok.2)
 
 -- runs one after the other
-pub counts_append : {T : Type 0} (m : Machine T) (answers : Answers T) (s : State T) (run more : List Step) → Counts m answers s run
-    → Counts m answers (end m s run) more → Counts m answers s (run ++ more)
+pub counts_append : {T : Type 0} (m : Machine T) (answers : Answers T) (s : State T) (run more : List Step) → RunCounts m answers s run
+    → RunCounts m answers (end m s run) more → RunCounts m answers s (run ++ more)
 counts_append m answers s [] more ok ok' = ok'
 counts_append m answers s (e ∷ run) more ok ok' = (ok.0, counts_append m answers (after m s e) run more ok.1 ok')
 
@@ -54,14 +54,14 @@ run_that_goes_ahead_enters_nothing m answers s (e ∷ run) ok =
     ∙ run_that_goes_ahead_enters_nothing m answers (after m s e) run ok.2
 
 pub state_invariant_after_counting_run : {T : Type 0} (m : Machine T) → IsLawful m → (answers : Answers T) (s : State T) → StateInvariant m s → (run : List Step)
-    → Counts m answers s run → StateInvariant m (end m s run)
+    → RunCounts m answers s run → StateInvariant m (end m s run)
 state_invariant_after_counting_run m law answers s good [] ok = good
 state_invariant_after_counting_run m law answers s good (e ∷ run) ok =
     state_invariant_after_counting_run m law answers (after m s e) (state_invariant_after_step m law s good e ok.0.0) run ok.1
 
 -- In a run that counts, what the threads do up to their next entries may come first.
 pub steps_ahead_may_come_first : {T : Type 0} (m : Machine T) → IsLawful m → (answers : Answers T) (s : State T) → StateInvariant m s → (ahead : List Step)
-    → GoesAhead m answers s ahead → (run : List Step) → Counts m answers s run → Brought m answers s ahead run
+    → GoesAhead m answers s ahead → (run : List Step) → RunCounts m answers s run → Brought m answers s ahead run
 steps_ahead_may_come_first m law answers s good [] goes run ok = record {
   left = [];
   goes = tt;
@@ -109,7 +109,7 @@ nothing_goes_ahead_if_at_rest m answers s rest (e ∷ left) goes = absurd (let h
 -- the run with the steps `ahead` first, of a complete run
 pub record BroughtWhole {T : Type 0} (m : Machine T) (answers : Answers T) (s : State T) (ahead run : List Step) : Type 0 where
   pub rest : List Step
-  pub counts : Counts m answers (end m s ahead) rest
+  pub counts : RunCounts m answers (end m s ahead) rest
   pub same_end : end m (end m s ahead) rest ≡ end m s run
   pub same_entering : entering m (end m s ahead) rest ≡ entering m s run
   pub same_trail : (u : ℕ) → trail m s (ahead ++ rest) u ≡ trail m s run u
@@ -117,7 +117,7 @@ pub record BroughtWhole {T : Type 0} (m : Machine T) (answers : Answers T) (s : 
 
 -- In a complete run that counts, what the threads do up to their next entries may come first: each of its steps is among the run's.
 pub steps_ahead_may_come_first_in_complete_run : {T : Type 0} (m : Machine T) → IsLawful m → (answers : Answers T) (s : State T) → StateInvariant m s → (ahead : List Step)
-    → GoesAhead m answers s ahead → (run : List Step) → Counts m answers s run → IsDone m (end m s run) → BroughtWhole m answers s ahead run
+    → GoesAhead m answers s ahead → (run : List Step) → RunCounts m answers s run → IsDone m (end m s run) → BroughtWhole m answers s ahead run
 steps_ahead_may_come_first_in_complete_run m law answers s good ahead goes run ok done =
     let b : Brought m answers s ahead run = steps_ahead_may_come_first m law answers s good ahead goes run ok in
     let none : b.left ≡ [] = nothing_goes_ahead_if_done m answers (end m s run) done b.left b.goes in
@@ -179,7 +179,7 @@ done_state_is_at_rest m s done t = ap is_own (done t)
 
 -- where a complete run counts, they can
 pub state_comes_to_rest_if_a_run_completes : {T : Type 0} (m : Machine T) → IsLawful m → (answers : Answers T) → AnswersFit m answers → (n count : ℕ) (s : State T) → StateInvariant m s
-    → IsIdle m s n → (run : List Step) → Counts m answers s run → IsDone m (end m s run) → length run ≤ count → ComesToRest m answers s
+    → IsIdle m s n → (run : List Step) → RunCounts m answers s run → IsDone m (end m s run) → length run ≤ count → ComesToRest m answers s
 state_comes_to_rest_if_a_run_completes m law answers fit n zero s good idle [] ok done few =
     record { ahead = []; goes = tt; at_rest = done_state_is_at_rest m s done }
 state_comes_to_rest_if_a_run_completes m law answers fit n zero s good idle (e ∷ run) ok done few = absurd (omega (arith, few))

@@ -4,7 +4,7 @@ use Rattle.ir_runs.specs.Machine.{Ask, Private, Env, Enter, Try, Leave, Get, Put
 use Rattle.ir_runs.specs.Lawful.{IsLawful}
 use Rattle.ir_runs.specs.Run.{State, Step, asked, end}
 use Rattle.ir_runs.proofs.CallerLemmas.{StateInvariant}
-use Rattle.ir_states.specs.Counting.{Answers, Counts, is_own, IsAtRest, entering}
+use Rattle.ir_states.specs.Counting.{Answers, RunCounts, is_own, IsAtRest, entering}
 use Rattle.ir_states.specs.Nodes.{TellsNothing, LeadsTo, Noted, Path, IsClosed, Chain, Arrives}
 use Rattle.ir_states.specs.Outcomes.{Begins}
 use Rattle.ir_states.proofs.Finished.{counting_run_arrives_along_chain_of_its_entries}
@@ -54,7 +54,7 @@ module _ {T K : Type 0} (m : Machine T) (law : IsLawful m) (answers : Answers T)
 
   -- a run that counts and ends at rest, by the entries of a path from the first node, ends alike to the path's last
   pub told : (s : State T) (first : K) → StateInvariant m s → Begins m answers Alike s (state_of first) → Node first → (run : List Step)
-      → Counts m answers s run → IsAtRest m (end m s run) → (v : K) → Path Next first (entering m s run) v
+      → RunCounts m answers s run → IsAtRest m (end m s run) → (v : K) → Path Next first (entering m s run) v
       → Alike (end m s run) (state_of v)
   told s first good begins is run ok rest v path =
       let a : Arrives m answers Alike state_of (Before v) (Leading m answers Alike state_of) s first run [] =

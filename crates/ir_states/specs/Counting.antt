@@ -17,9 +17,9 @@ abbrev pub Takes : {T : Type 0} → Machine T → Answers T → State T → Step
 Takes m answers s e = Can m s e × IsAnswered (asked m s e.0) (answers e.0 (s.now e.0)) e.1
 
 -- a run that counts
-abbrev pub Counts : {T : Type 0} → Machine T → Answers T → State T → List Step → Type 0
-Counts m answers s [] = Unit {0}
-Counts m answers s (e ∷ run) = Takes m answers s e × Counts m answers (after m s e) run
+abbrev pub RunCounts : {T : Type 0} → Machine T → Answers T → State T → List Step → Type 0
+RunCounts m answers s [] = Unit {0}
+RunCounts m answers s (e ∷ run) = Takes m answers s e × RunCounts m answers (after m s e) run
 
 -- what a thread asks that no other can refuse it, nor see: all but an entry, a try and the end
 abbrev pub is_own : Ask → Bool
@@ -53,7 +53,7 @@ pub record Brought {T : Type 0} (m : Machine T) (answers : Answers T) (s : State
   pub goes : GoesAhead m answers (end m s run) left
   -- the rest of the run, once `ahead` came first
   pub rest : List Step
-  pub counts : Counts m answers (end m s ahead) rest
+  pub counts : RunCounts m answers (end m s ahead) rest
   pub same_end : end m (end m s ahead) rest ≡ end m (end m s run) left
   pub same_entering : entering m (end m s ahead) rest ≡ entering m s run
   pub same_trail : (u : ℕ) → trail m s (ahead ++ rest) u ≡ trail m s (run ++ left) u

@@ -2,12 +2,12 @@
 use Rattle.std.specs.Prelude.{◌≡◌, ℕ, suc, ◌≤◌, ◌<◌, cond, eqb, List, [], ◌∷◌}
 use Rattle.ir_runs.specs.Machine.{Machine}
 use Rattle.ir_runs.specs.Run.{State, Step, Can, end, IsDone}
-use Rattle.ir_states.specs.Counting.{Answers, IsAtRest, Counts, GoesAhead, entering}
+use Rattle.ir_states.specs.Counting.{Answers, IsAtRest, RunCounts, GoesAhead, entering}
 use Rattle.ir_states.specs.Nodes.{LeadsTo, Noted, Path}
 
 -- some complete run that counts comes to x
 abbrev pub IsOutcome : {T X : Type 0} → Machine T → Answers T → State T → (State T → X) → X → Type 0
-IsOutcome m answers s outcome x = (run : List Step) × Counts m answers s run × IsDone m (end m s run) × (outcome (end m s run) ≡ x)
+IsOutcome m answers s outcome x = (run : List Step) × RunCounts m answers s run × IsDone m (end m s run) × (outcome (end m s run) ≡ x)
 
 -- how often the thread changes in an order that goes on after t
 abbrev pub changes : ℕ → List ℕ → ℕ
@@ -21,12 +21,12 @@ switches (t ∷ ts) = changes t ts
 
 -- some complete run that counts comes to x with at most c switches
 abbrev pub IsOutcomeWithin : {T X : Type 0} → ℕ → Machine T → Answers T → State T → (State T → X) → X → Type 0
-IsOutcomeWithin c m answers s outcome x = (run : List Step) × Counts m answers s run × IsDone m (end m s run)
+IsOutcomeWithin c m answers s outcome x = (run : List Step) × RunCounts m answers s run × IsDone m (end m s run)
     × (outcome (end m s run) ≡ x) × (switches (entering m s run) ≤ c)
 
 -- a run that counts, and that no run which counts continues to a complete one
 abbrev pub IsHang : {T : Type 0} → Machine T → Answers T → State T → List Step → Type 0
-IsHang m answers s run = Counts m answers s run × ((more : List Step) → Counts m answers (end m s run) more
+IsHang m answers s run = RunCounts m answers s run × ((more : List Step) → RunCounts m answers (end m s run) more
     → IsDone m (end m (end m s run) more) → ⊥)
 
 -- the threads go on from s, by steps that no other can refuse, up to what is alike to v

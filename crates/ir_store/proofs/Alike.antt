@@ -6,13 +6,13 @@ use Rattle.std.proofs.lemmas.Option.{same_Some, slice_get_within, slice_get-get_
 use Rattle.ir_lemmas.proofs.CallerLemmas.{slice_get_after_push_cases}
 use Rattle.ir_freeze.specs.Basis.{Basis, IsBasis}
 use Rattle.ir_freeze.specs.Frozen.{frozen, is_over}
-use Rattle.ir_freeze.specs.Twins.{AreTwins, TellsApart, IsBounded}
+use Rattle.ir_freeze.specs.Twins.{AreTwins, TellsApart, KeepsBounds}
 use Rattle.ir_freeze.proofs.CallerLemmas.{over_if_shared_ask_done, over_together_if_frozen_bytes_equal}
 use Rattle.ir_seen.specs.Seen.{view}
 use Rattle.ir_sources.specs.Sources.{Source}
 use Rattle.ir_thread.specs.State.{ThreadState}
 use Rattle.ir_store.specs.Hashes.{empty_hash, after_numbers, IsFoundBy, KeepsFound, PassesOver, place_of, number_at, most_steps}
-use Rattle.ir_store.specs.Nodes.{LookSame}
+use Rattle.ir_store.specs.Nodes.{MomentsLookSame}
 use Rattle.ir_store.specs.Table.{Table, LooksLike, AreLooks, AreLike, AreOnce, HaveOneLook, StandsFor, mark_of, seen_hash, whole_hash}
 use Rattle.ir_store.proofs.Found.{each_element_once_after_push, each_element_found_after_push, nothing_found_if_all_passed_over}
 
@@ -148,7 +148,7 @@ module _ (t : Table) (seen : List (ℕ × ℕ)) (x : ThreadState × Source) (m k
 
 -- what looks the same to two threads of one guest has the same bytes, and the same source unless they are over
 pub like_if_look_same : TellsApart → (basis : Basis) → IsBasis basis → (x y : ThreadState × Source) → AreTwins x.0 y.0
-    → IsBounded x.0 → IsBounded y.0 → LookSame basis.code x y → AreLike basis x y
+    → KeepsBounds x.0 → KeepsBounds y.0 → MomentsLookSame basis.code x y → AreLike basis x y
 like_if_look_same tells basis whole x y twins bx by same = elim (same twins) [
   | inl e ↦ record {
     bytes = (tells basis whole x.0 y.0 twins bx by [] [] refl).1 (inl (ap (λ (p : ThreadState × Source). (p.0, [])) e));

@@ -5,7 +5,7 @@ use Rattle.std.specs.List.{AllByRecursion}
 use Rattle.std.proofs.lemmas.List.{take_more, take_all, map_push, ext_get_or}
 use Rattle.std.proofs.lemmas.Option.{slice_get-get_or, get_or_from_slice_get, slice_get_within}
 use Rattle.ir_lemmas.proofs.CallerLemmas.{all_by_recursion_after_push}
-use Rattle.ir_store.specs.Table.{Keeps}
+use Rattle.ir_store.specs.Table.{KeepsNumbers}
 
 -- what is equal so far, and one element more
 pub equal_prefix_step : {X : Type 0} (xs ys : List X) (n : ℕ) (d : X) → n < length xs → n < length ys → take n xs ≡ take n ys
@@ -28,16 +28,16 @@ all_by_recursion_if_unchanged_or_pushed P xs new y all is either = elim either [
 ]
 
 -- one element more
-pub push_keeps_old_elements : {X : Type 0} (old : List X) (s : X) → Keeps old (old ++ s ∷ [])
+pub push_keeps_old_elements : {X : Type 0} (old : List X) (s : X) → KeepsNumbers old (old ++ s ∷ [])
 push_keeps_old_elements [] s n x e = absurd (cc e)
 push_keeps_old_elements (y ∷ old) s zero x e = e
 push_keeps_old_elements (y ∷ old) s (suc n) x e = push_keeps_old_elements old s n x e
 
 -- what was kept stays
-pub kept_element_is_equal : {X : Type 0} (old new : List X) (d : X) → Keeps old new → (n : ℕ) → n < length old → get_or new n d ≡ get_or old n d
+pub kept_element_is_equal : {X : Type 0} (old new : List X) (d : X) → KeepsNumbers old new → (n : ℕ) → n < length old → get_or new n d ≡ get_or old n d
 kept_element_is_equal old new d keeps n lt = get_or_from_slice_get new n (get_or old n d) d (keeps n (get_or old n d) (slice_get-get_or old n d lt))
 
-pub index_below_length_kept_if_elements_kept : {X : Type 0} (old new : List X) (d : X) → Keeps old new → (n : ℕ) → n < length old → n < length new
+pub index_below_length_kept_if_elements_kept : {X : Type 0} (old new : List X) (d : X) → KeepsNumbers old new → (n : ℕ) → n < length old → n < length new
 index_below_length_kept_if_elements_kept old new d keeps n lt = slice_get_within new n (get_or old n d) (keeps n (get_or old n d) (slice_get-get_or old n d lt))
 
 -- elements found one by one

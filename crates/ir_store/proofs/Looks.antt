@@ -6,14 +6,14 @@ use Rattle.std.proofs.lemmas.Option.{same_Some}
 use Rattle.ir_lemmas.proofs.CallerLemmas.{slice_get_element_satisfies_all_by_recursion}
 use Rattle.ir_freeze.specs.Basis.{Basis, IsBasis}
 use Rattle.ir_freeze.specs.Frozen.{end_bytes, going_bytes, frozen, is_over}
-use Rattle.ir_freeze.specs.Twins.{AreTwins, TellsApart, IsBounded}
+use Rattle.ir_freeze.specs.Twins.{AreTwins, TellsApart, KeepsBounds}
 use Rattle.ir_freeze.proofs.CallerLemmas.{over_together_if_frozen_bytes_equal}
 use Rattle.ir_seen.specs.Seen.{Same, view}
 use Rattle.ir_sources.specs.Sources.{Source}
 use Rattle.ir_thread.specs.State.{ThreadState}
 use Rattle.ir_object.specs.Empty.{empty}
 use Rattle.ir_store.specs.declared.spot.Spot.{Spot}
-use Rattle.ir_store.specs.Nodes.{LookSame, cell_in}
+use Rattle.ir_store.specs.Nodes.{MomentsLookSame, cell_in}
 use Rattle.ir_store.specs.Table.{idle_beside, AreLooks, all_over, threads_at}
 use Rattle.ir_store.proofs.Lists.{drop_begins_with_element}
 
@@ -24,8 +24,8 @@ frozen_bytes_of_over_thread_ignore_mark basis x m n over =
     ∙ sym (ap (λ b. end_bytes x.ended ++ cond b (1 ∷ x.output) (0 ∷ going_bytes basis x n)) over)
 
 -- threads with equal bytes, one of which is over or whose sources are the same, look the same beside these
-same_beside_sources_if_bytes_equal : TellsApart → (basis : Basis) → IsBasis basis → (x y : ThreadState × Source) → AreTwins x.0 y.0 → IsBounded x.0
-    → IsBounded y.0 → frozen basis x.0 [] ≡ frozen basis y.0 [] → (b : Bool) → is_over x.0 ≡ b → (is_over x.0 ≡ false → x.1 ≡ y.1)
+same_beside_sources_if_bytes_equal : TellsApart → (basis : Basis) → IsBasis basis → (x y : ThreadState × Source) → AreTwins x.0 y.0 → KeepsBounds x.0
+    → KeepsBounds y.0 → frozen basis x.0 [] ≡ frozen basis y.0 [] → (b : Bool) → is_over x.0 ≡ b → (is_over x.0 ≡ false → x.1 ≡ y.1)
     → Same {S = List ℕ} basis.code (view x.0, []) (view y.0, []) → Same {S = Source} basis.code (view x.0, x.1) (view y.0, y.1)
 same_beside_sources_if_bytes_equal tells basis whole x y twins bx by bytes b over sources (inr (inr done)) = inr (inr done)
 same_beside_sources_if_bytes_equal tells basis whole x y twins bx by bytes false over sources (inl e) =
@@ -45,15 +45,15 @@ same_beside_sources_if_bytes_equal tells basis whole x y twins bx by bytes true 
 
 -- threads that one number stands for look the same
 pub look_same_if_look_numbers_equal : TellsApart → (basis : Basis) (items : List (ThreadState × Source)) (looks : List ℕ) → IsBasis basis
-    → AllByRecursion (λ (x : ThreadState × Source). IsBounded x.0) items
+    → AllByRecursion (λ (x : ThreadState × Source). KeepsBounds x.0) items
     → AreLooks basis items looks → (m n k : ℕ) → slice_get looks m ≡ Some k → slice_get looks n ≡ Some k → (x y : ThreadState × Source)
-    → slice_get items m ≡ Some x → slice_get items n ≡ Some y → LookSame basis.code x y
+    → slice_get items m ≡ Some x → slice_get items n ≡ Some y → MomentsLookSame basis.code x y
 look_same_if_look_numbers_equal tells basis items looks whole bounded all m n k one other x y here there twins =
     let a = all m k x one here in
     let b = all n k y other there in
     let same : a.kept ≡ b.kept = same_Some a.kept b.kept (sym a.at ∙ b.at) in
-    let bx : IsBounded x.0 = slice_get_element_satisfies_all_by_recursion (λ (z : ThreadState × Source). IsBounded z.0) items m x bounded here in
-    let by : IsBounded y.0 = slice_get_element_satisfies_all_by_recursion (λ (z : ThreadState × Source). IsBounded z.0) items n y bounded there in
+    let bx : KeepsBounds x.0 = slice_get_element_satisfies_all_by_recursion (λ (z : ThreadState × Source). KeepsBounds z.0) items m x bounded here in
+    let by : KeepsBounds y.0 = slice_get_element_satisfies_all_by_recursion (λ (z : ThreadState × Source). KeepsBounds z.0) items n y bounded there in
     let bytes : frozen basis x.0 [] ≡ frozen basis y.0 [] = sym a.bytes ∙ ap (λ (z : ThreadState × Source). frozen basis z.0 []) same ∙ b.bytes in
     let over : is_over x.0 ≡ is_over y.0 = over_together_if_frozen_bytes_equal basis x.0 y.0 [] [] bytes in
     same_beside_sources_if_bytes_equal tells basis whole x y twins bx by bytes (is_over x.0) refl

@@ -5,16 +5,16 @@ use Rattle.std.specs.List.{AllByRecursion}
 use Rattle.std.proofs.lemmas.Option.{slice_get-get_or, get_or_from_slice_get}
 use Rattle.ir_lemmas.proofs.CallerLemmas.{slice_get_element_satisfies_all_by_recursion, get_or_element_satisfies_all_by_recursion, length_of_map}
 use Rattle.ir_freeze.specs.Basis.{IsBasis}
-use Rattle.ir_freeze.specs.Twins.{AreTwins, TellsApart, IsBounded}
+use Rattle.ir_freeze.specs.Twins.{AreTwins, TellsApart, KeepsBounds}
 use Rattle.ir_sources.specs.Sources.{Source}
 use Rattle.ir_thread.specs.State.{ThreadState}
 use Rattle.ir_store.specs.declared.spot.Spot.{Spot}
 use Rattle.ir_object.specs.Cell.{Cell}
 use Rattle.ir_object.specs.Empty.{empty}
 use Rattle.ir_store.specs.Hashes.{empty_hash, after_number, after_numbers, IsFoundBy, PassesOver, place_of, number_at, most_steps}
-use Rattle.ir_store.specs.Nodes.{Shared, Node, LookSame, cell_in, sourced_in, IsWithin, IsNode, AreKept, AreSameLooks, AreSameNumbers, AreMoments, looks_in, words_in, node_hash, AreNodesFound}
+use Rattle.ir_store.specs.Nodes.{Shared, Node, MomentsLookSame, cell_in, sourced_in, IsWithin, IsNode, AreKept, AreSameLooks, AreSameNumbers, AreMoments, looks_in, words_in, node_hash, AreNodesFound}
 use Rattle.ir_store.specs.Places.{no_node}
-use Rattle.ir_store.specs.Table.{Table, idle_beside, beside_at, AreLike, HaveOneLook, Keeps}
+use Rattle.ir_store.specs.Table.{Table, idle_beside, beside_at, AreLike, HaveOneLook, KeepsNumbers}
 use Rattle.ir_store.specs.Words.{EachOnce}
 use Rattle.ir_store.proofs.Alike.{like_if_look_same}
 use Rattle.ir_store.proofs.Found.{nothing_found_if_all_passed_over}
@@ -42,7 +42,7 @@ maps_equal_if_elements_equal f (x ∷ xs) (y ∷ ys) d size each = λ i.
 
 -- states that look the same, of one guest, have the same numbers
 module _ (tells : TellsApart) (seen : List (ℕ × ℕ)) (t : Table) (words : List (List ℕ)) (whole : IsBasis t.basis)
-    (bounded : AllByRecursion (λ (x : ThreadState × Source). IsBounded x.0) t.items) (have : HaveOneLook seen t) (once : EachOnce words)
+    (bounded : AllByRecursion (λ (x : ThreadState × Source). KeepsBounds x.0) t.items) (have : HaveOneLook seen t) (once : EachOnce words)
     (a b : Node) (in_a : IsWithin (record { threads = t.items; words = words }) a) (in_b : IsWithin (record { threads = t.items; words = words }) b)
     (moments : AreMoments (sourced_in (record { threads = t.items; words = words }) a) (sourced_in (record { threads = t.items; words = words }) b))
     (same : AreSameLooks t.basis.code (sourced_in (record { threads = t.items; words = words }) a) (sourced_in (record { threads = t.items; words = words }) b)) where
@@ -68,12 +68,12 @@ module _ (tells : TellsApart) (seen : List (ℕ × ℕ)) (t : Table) (words : Li
       let also : beside_at t.items b.threads i ≡ y = beside_at_is_element t.items b.threads i 0 lt' in
       let twins : AreTwins x.0 y.0 = subst (λ (z : ThreadState × Source). AreTwins x.0 z.0) also
       (subst (λ (z : ThreadState × Source). AreTwins z.0 (beside_at t.items b.threads i).0) is (moments.twins i)) in
-      let looks : LookSame t.basis.code x y = subst (LookSame t.basis.code x) also
-      (subst (λ z. LookSame t.basis.code z (beside_at t.items b.threads i)) is
+      let looks : MomentsLookSame t.basis.code x y = subst (MomentsLookSame t.basis.code x) also
+      (subst (λ z. MomentsLookSame t.basis.code z (beside_at t.items b.threads i)) is
       (same.threads i (let e = length_of_map (λ n. (get_or t.items n idle_beside).0) a.threads in omega (arith, lt, e)))) in
       let like : AreLike t.basis x y = like_if_look_same tells t.basis whole x y twins
-      (slice_get_element_satisfies_all_by_recursion (λ (z : ThreadState × Source). IsBounded z.0) t.items m x bounded at)
-      (slice_get_element_satisfies_all_by_recursion (λ (z : ThreadState × Source). IsBounded z.0) t.items n y bounded there) looks in
+      (slice_get_element_satisfies_all_by_recursion (λ (z : ThreadState × Source). KeepsBounds z.0) t.items m x bounded at)
+      (slice_get_element_satisfies_all_by_recursion (λ (z : ThreadState × Source). KeepsBounds z.0) t.items n y bounded there) looks in
       have.one m n (get_or t.looks m 0) (get_or t.looks n 0) x y at there
       (slice_get-get_or t.looks m 0 (let e = have.each in omega (arith, m_in, e)))
       (slice_get-get_or t.looks n 0 (let e = have.each in omega (arith, n_in, e))) like
@@ -100,14 +100,14 @@ module _ (tells : TellsApart) (seen : List (ℕ × ℕ)) (t : Table) (words : Li
   same_numbers_if_same_looks = record { threads = looks_in_equal; objects = words_in_equal (record { words = 0; low = 0; high = 0 }) }
 
 -- while tables grow, the hash of a state stays
-pub node_hash_kept : (items : List (ThreadState × Source)) (looks new : List ℕ) (node : Node) → length looks ≡ length items → Keeps looks new
+pub node_hash_kept : (items : List (ThreadState × Source)) (looks new : List ℕ) (node : Node) → length looks ≡ length items → KeepsNumbers looks new
     → AllByRecursion (λ n. n < length items) node.threads → node_hash new node ≡ node_hash looks node
 node_hash_kept items looks new node each keeps within = ap (λ l. after_numbers (after_numbers empty_hash l) (words_in node.objects))
     (map_equal_if_functions_equal_on_property_of_all (λ n. get_or new n 0) (λ n. get_or looks n 0) (λ n. n < length items) node.threads
     (λ n lt. kept_element_is_equal looks new 0 keeps n (omega (arith, lt, each))) within)
 
 pub nodes_found_kept : (places : List (ℕ × ℕ)) (shared : Shared) (looks new : List ℕ) (nodes : List Node) → length looks ≡ length shared.threads
-    → Keeps looks new → AreKept shared nodes → AreNodesFound places looks nodes → AreNodesFound places new nodes
+    → KeepsNumbers looks new → AreKept shared nodes → AreNodesFound places looks nodes → AreNodesFound places new nodes
 nodes_found_kept places shared looks new nodes each keeps all found v node at =
     let is : IsNode shared node = slice_get_element_satisfies_all_by_recursion (IsNode shared) nodes v node all at in
     subst (λ h. IsFoundBy places h v) (sym (node_hash_kept shared.threads looks new node each keeps is.within.threads)) (found v node at)

@@ -4,7 +4,7 @@ use Rattle.std.proofs.lemmas.List.{drop_at, take_at}
 use Rattle.ir_freeze.specs.Basis.{Basis, IsBasis}
 use Rattle.ir_freeze.specs.Frozen.{changes, frozen, is_over}
 use Rattle.ir_freeze.specs.Thawed.{before_changes, changed, thawed}
-use Rattle.ir_freeze.specs.Twins.{ComesBack, IsBounded}
+use Rattle.ir_freeze.specs.Twins.{ComesBack, KeepsBounds}
 use Rattle.ir_freeze.proofs.CallerLemmas.{thawed_of_changes_is_thread}
 use Rattle.ir_mach.specs.Pages.{pages_of}
 use Rattle.ir_thread.specs.Frames.{frame_of, thread_of}
@@ -21,7 +21,7 @@ seen_of_own_bytes_is_frozen basis s =
     seen_is_first (is_over s) (frozen basis s []) (changes 0 basis.memory s.core.memory) (before_changes s 0)
 
 -- a thread comes back from its frame and its bytes, with the changes behind them where it is over
-comes_back_by_over : ComesBack → (basis : Basis) → IsBasis basis → (s : ThreadState) → IsBounded s → (over : Bool) → is_over s ≡ over
+comes_back_by_over : ComesBack → (basis : Basis) → IsBasis basis → (s : ThreadState) → KeepsBounds s → (over : Bool) → is_over s ≡ over
     → thawed basis.memory (frame_of s) (cond over (length (frozen basis s [])) (before_changes s 0))
     (cond over (frozen basis s [] ++ changes 0 basis.memory s.core.memory) (frozen basis s [])) ≡ s
 comes_back_by_over back basis whole s bounded true is =
@@ -31,7 +31,7 @@ comes_back_by_over back basis whole s bounded true is =
 comes_back_by_over back basis whole s bounded false is = back basis whole s bounded [] is
 
 -- so the thread of a row with its frame and its bytes is that thread
-pub thread_in_row_with_its_bytes : ComesBack → (basis : Basis) → IsBasis basis → (s : ThreadState) → IsBounded s → (row : Row) → row.frame ≡ frame_of s
+pub thread_in_row_with_its_bytes : ComesBack → (basis : Basis) → IsBasis basis → (s : ThreadState) → KeepsBounds s → (row : Row) → row.frame ≡ frame_of s
     → row.packed ≡ packed_of basis s → thread_in basis.memory row ≡ s
 thread_in_row_with_its_bytes back basis whole s bounded row frame packed =
     (λ i. thawed basis.memory (frame i) (packed i).at (packed i).bytes) ∙ comes_back_by_over back basis whole s bounded (is_over s) refl

@@ -9,7 +9,7 @@ use Rattle.ir_lemmas.proofs.CallerLemmas.{all_by_recursion_after_push, slice_get
 use Rattle.ir_freeze.specs.Basis.{Basis}
 use Rattle.ir_sources.specs.Sources.{Source}
 use Rattle.ir_thread.specs.State.{ThreadState}
-use Rattle.ir_store.specs.Table.{Keeps, LooksLike, AreLooks}
+use Rattle.ir_store.specs.Table.{KeepsNumbers, LooksLike, AreLooks}
 use Rattle.ir_store.proofs.Lists.{push_keeps_old_elements}
 
 pub looked_up_row_is_element_of_mapped_rows : {R X : Type 0} (f : R → X) (rows : List R) (row : R) (n : ℕ) (x : X) → n < length (map f rows) → row ≡ get_or rows n row
@@ -28,7 +28,7 @@ all_by_recursion_of_map_if_rows_unchanged_or_pushed f P rows new row all is eith
       (subst (AllByRecursion P) (sym (map_push f rows row)) (all_by_recursion_after_push P (map f rows) (f row) all is))
 ]
 
-looks_like_if_kept : (basis : Basis) (old new : List (ThreadState × Source)) (n : ℕ) (x : ThreadState × Source) → Keeps old new → LooksLike basis old n x
+looks_like_if_kept : (basis : Basis) (old new : List (ThreadState × Source)) (n : ℕ) (x : ThreadState × Source) → KeepsNumbers old new → LooksLike basis old n x
     → LooksLike basis new n x
 looks_like_if_kept basis old new n x keeps like = record { kept = like.kept; at = keeps n like.kept like.at; bytes = like.bytes; source = like.source }
 

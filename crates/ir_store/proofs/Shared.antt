@@ -8,7 +8,7 @@ use Rattle.ir_sources.specs.Sources.{Source}
 use Rattle.ir_thread.specs.State.{ThreadState}
 use Rattle.ir_store.specs.declared.spot.Spot.{Spot}
 use Rattle.ir_store.specs.Nodes.{Shared, Node, cell_in, sourced_in, IsSourced, IsWithin, IsNode, AreKept, Grows}
-use Rattle.ir_store.specs.Table.{idle_beside, AreIn, Keeps}
+use Rattle.ir_store.specs.Table.{idle_beside, AreIn, KeepsNumbers}
 use Rattle.ir_store.proofs.Lists.{kept_element_is_equal, index_below_length_kept_if_elements_kept, all_by_recursion_weaker, map_equal_if_functions_equal_on_property_of_all}
 
 pub numbers_below_length_after_growth : {X : Type 0} (old new : List X) (d : X) → ((n : ℕ) → n < length old → n < length new) → (numbers : List ℕ)
@@ -52,7 +52,7 @@ grows_transitive old new mid a b = record {
 
 -- these numbers in a grown table, with another one at place t, which is that of x
 pub map_after_growth_and_set : {Y : Type 0} (f : ThreadState × Source → Y) (old new : List (ThreadState × Source)) (numbers : List ℕ) (t n : ℕ)
-    (x : ThreadState × Source) → Keeps old new → AreIn old numbers → slice_get new n ≡ Some x
+    (x : ThreadState × Source) → KeepsNumbers old new → AreIn old numbers → slice_get new n ≡ Some x
     → map (λ k. f (get_or new k idle_beside)) (set numbers t n) ≡ set (map (λ k. f (get_or old k idle_beside)) numbers) t (f x)
 map_after_growth_and_set f old new numbers t n x keeps within at =
     map-set (λ k. f (get_or new k idle_beside)) numbers t n

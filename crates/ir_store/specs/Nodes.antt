@@ -12,7 +12,7 @@ use Rattle.ir_freeze.specs.Twins.{AreTwins}
 use Rattle.ir_seen.specs.Seen.{Same, view}
 use Rattle.ir_store.specs.declared.spot.Spot.{Spot}
 use Rattle.ir_store.specs.Hashes.{empty_hash, after_numbers, IsFoundBy}
-use Rattle.ir_store.specs.Table.{no_source, threads_at, sources_at, AreIn, Keeps}
+use Rattle.ir_store.specs.Table.{no_source, threads_at, sources_at, AreIn, KeepsNumbers}
 
 -- a guest's state, and what answers each of its threads
 pub record SourcedFlat : Type 0 where
@@ -87,8 +87,8 @@ AreKept shared nodes = AllByRecursion (IsNode shared) nodes
 
 -- what is there keeps its number
 pub record Grows (old new : Shared) : Type 0 where
-  pub threads : Keeps old.threads new.threads
-  pub words : Keeps old.words new.words
+  pub threads : KeepsNumbers old.threads new.threads
+  pub words : KeepsNumbers old.words new.words
 
 -- states of a guest, the form of its image, and its code; beside them what they are made of
 pub record Stored : Type 0 where
@@ -99,12 +99,12 @@ pub record Stored : Type 0 where
   pub nodes : List Node
 
 -- two moments of a thread that runs this code look the same to it, beside what answers it
-abbrev pub LookSame : List ℕ → ThreadState × Source → ThreadState × Source → Type 0
-LookSame code x y = AreTwins x.0 y.0 → Same {S = Source} code (view x.0, x.1) (view y.0, y.1)
+abbrev pub MomentsLookSame : List ℕ → ThreadState × Source → ThreadState × Source → Type 0
+MomentsLookSame code x y = AreTwins x.0 y.0 → Same {S = Source} code (view x.0, x.1) (view y.0, y.1)
 
 -- two moments of a guest with this code look the same to its threads
 pub record AreSameLooks (code : List ℕ) (s u : SourcedFlat) : Type 0 where
-  pub threads : (t : ℕ) → t < length s.flat.threads → LookSame code (sourced_thread s t) (sourced_thread u t)
+  pub threads : (t : ℕ) → t < length s.flat.threads → MomentsLookSame code (sourced_thread s t) (sourced_thread u t)
   pub words : (o : ℕ) → (cell_of s.flat o).words ≡ (cell_of u.flat o).words
 
 -- two moments of one guest: the same threads and objects

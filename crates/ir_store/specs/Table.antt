@@ -59,8 +59,8 @@ abbrev pub AreIn : {X : Type 0} → List X → List ℕ → Type 0
 AreIn table numbers = AllByRecursion (λ n. n < length table) numbers
 
 -- each element keeps its number
-abbrev pub Keeps : {X : Type 0} → List X → List X → Type 0
-Keeps {X} old new = (n : ℕ) (s : X) → slice_get old n ≡ Some s → slice_get new n ≡ Some s
+abbrev pub KeepsNumbers : {X : Type 0} → List X → List X → Type 0
+KeepsNumbers {X} old new = (n : ℕ) (s : X) → slice_get old n ≡ Some s → slice_get new n ≡ Some s
 
 -- the thread of number n has the bytes of this one, and is answered by the same source, unless this one is over
 pub record LooksLike (basis : Basis) (items : List (ThreadState × Source)) (n : ℕ) (x : ThreadState × Source) : Type 0 where

@@ -1,12 +1,12 @@
 //! What each thread keeps.
 
-ghost use Rattle.ir_freeze.specs.Twins.{IsBounded};
+ghost use Rattle.ir_freeze.specs.Twins.{KeepsBounds};
 
 use ir_thread::Thread;
 
 /// A thread is within its bounds.
 pub fn bounded(thread: &Thread)
-    ensures { IsBounded thread.now }
+    ensures { KeepsBounds thread.now }
 {
     thread.mach().pc();
     thread.output();

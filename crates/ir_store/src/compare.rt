@@ -3,7 +3,7 @@
 ghost use Rattle.std.specs.Prelude.{◌≡◌, ◌≢◌, ℕ, ◌<◌, List, true, false, length};
 ghost use Rattle.std.specs.List.{slice_index_or};
 ghost use Rattle.ir_object.specs.Empty.{empty};
-ghost use Rattle.ir_store.specs.Nodes.{LookSame, cells_at, AreSameLooks, sourced_in, looks_in, words_in};
+ghost use Rattle.ir_store.specs.Nodes.{MomentsLookSame, cells_at, AreSameLooks, sourced_in, looks_in, words_in};
 ghost use Rattle.ir_store.specs.Hashes as hashes;
 ghost use Rattle.ir_store.specs.Nodes as nodes;
 ghost use Rattle.ir_store.specs.Table.{AreIn, beside_at};
@@ -49,7 +49,7 @@ pub fn hash_of(table: &Table<'_>, node: &Node<'_>) -> u64
 fn same_threads(table: &Table<'_>, first: &[u32], second: &[u32]) -> bool
     requires first { AreIn table.now.items first.now }
     requires second { AreIn table.now.items second.now }
-    ensures same { result ≡ true → (t : ℕ) → t < length first.now → LookSame table.now.basis.code (beside_at table.now.items first.now t) (beside_at table.now.items second.now t) }
+    ensures same { result ≡ true → (t : ℕ) → t < length first.now → MomentsLookSame table.now.basis.code (beside_at table.now.items first.now t) (beside_at table.now.items second.now t) }
     ensures other { result ≡ false → looks_in table.now.looks first.now ≢ looks_in table.now.looks second.now }
 {
     if first.len() != second.len() {

@@ -2,7 +2,7 @@
 
 ghost use Rattle.std.specs.Prelude.{◌≡◌, ◌<◌, length, IfOk};
 ghost use Rattle.ir_store.specs.Nodes.{cell_in, cells_at, HaveWords};
-ghost use Rattle.ir_store.specs.Table.{Keeps};
+ghost use Rattle.ir_store.specs.Table.{KeepsNumbers};
 
 use crate::spot::Spot;
 use crate::words::Words;
@@ -14,7 +14,7 @@ use std::alloc::{AllocError, Global};
 /// # Errors
 /// Out of memory.
 pub fn spot_of(words: &mut Words, object: &Object) -> Result<Spot, AllocError>
-    ensures keeps { Keeps words.old words.new }
+    ensures keeps { KeepsNumbers words.old words.new }
     ensures within { IfOk result (λ spot. spot.words < length words.new) }
     ensures found { IfOk result (λ spot. cell_in words.new spot ≡ object.now) }
 {
@@ -40,7 +40,7 @@ pub fn spots_of(
     words: &mut Words,
     objects: &[Object],
 ) -> Result<Vec<Spot>, AllocError>
-    ensures keeps { Keeps words.old words.new }
+    ensures keeps { KeepsNumbers words.old words.new }
     ensures within { IfOk result (λ spots. HaveWords words.new spots.items) }
     ensures found { IfOk result (λ spots. cells_at words.new spots.items ≡ objects.now) }
 {

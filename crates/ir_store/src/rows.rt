@@ -4,7 +4,7 @@ ghost use Rattle.std.specs.Prelude.{◌≡◌, ◌⊎◌, ◌<◌, ◌++◌, [],
 ghost use Rattle.std.specs.List.{slice_index_or, AllByRecursion};
 ghost use Rattle.ir_freeze.specs.Basis.{IsBasis};
 ghost use Rattle.ir_freeze.specs.Frozen.{frozen, is_over};
-ghost use Rattle.ir_freeze.specs.Twins.{IsBounded};
+ghost use Rattle.ir_freeze.specs.Twins.{KeepsBounds};
 ghost use Rattle.ir_store.specs.Rows.{beside_in, look_of, packed_of, HasOwnBytes};
 ghost use Rattle.ir_store.specs.Table.{idle_beside, LooksLike, AreLooks};
 ghost use Rattle.ir_store.specs.Table as table;
@@ -42,7 +42,7 @@ impl<'a> Model for Rows<'a> {
     } };
 
     ghost invariant = { λ t. AllByRecursion (λ (x : ThreadState × Source). x.0.form ≡ t.form) (map (beside_in t.basis.memory) t.rows.items)
-        × AllByRecursion (λ (x : ThreadState × Source). IsBounded x.0) (map (beside_in t.basis.memory) t.rows.items)
+        × AllByRecursion (λ (x : ThreadState × Source). KeepsBounds x.0) (map (beside_in t.basis.memory) t.rows.items)
         × AllByRecursion (HasOwnBytes t.basis) t.rows.items
         × AreLooks t.basis (map (beside_in t.basis.memory) t.rows.items) (map look_of t.rows.items) };
 }
@@ -169,7 +169,7 @@ impl<'a> Rows<'a> {
     pub fn each(&self)
         ensures looks { AreLooks self.now.basis self.now.items self.now.looks }
         ensures basis { IsBasis self.now.basis }
-        ensures bounded { AllByRecursion (λ (x : ThreadState × Source). IsBounded x.0) self.now.items }
+        ensures bounded { AllByRecursion (λ (x : ThreadState × Source). KeepsBounds x.0) self.now.items }
     {
         let _ = &self.rows;
         self.basis.is_whole();

@@ -4,12 +4,12 @@ ghost use Rattle.std.specs.Prelude.{◌≡◌, ◌≢◌, ◌⊎◌, ◌<◌, �
 ghost use Rattle.std.specs.List.{slice_index_or, AllByRecursion};
 ghost use Rattle.ir_freeze.specs.Basis.{Basis, IsBasis};
 ghost use Rattle.ir_freeze.specs.Frozen.{frozen, is_over};
-ghost use Rattle.ir_freeze.specs.Twins.{IsBounded};
-ghost use Rattle.ir_store.specs.Nodes.{LookSame};
+ghost use Rattle.ir_freeze.specs.Twins.{KeepsBounds};
+ghost use Rattle.ir_store.specs.Nodes.{MomentsLookSame};
 ghost use Rattle.ir_store.specs.Hashes.{IsFoundBy, KeepsFound};
 ghost use Rattle.ir_store.specs.Hashes as hashes;
 ghost use Rattle.ir_store.specs.Rows.{packed_of};
-ghost use Rattle.ir_store.specs.Table.{HaveForm, idle_beside, threads_at, sources_at, all_over, AreIn, HaveTicks, HaveNoTicks, Keeps, LooksLike, AreLike, AreOnce, HaveOneLook, StandsFor};
+ghost use Rattle.ir_store.specs.Table.{HaveForm, idle_beside, threads_at, sources_at, all_over, AreIn, HaveTicks, HaveNoTicks, KeepsNumbers, LooksLike, AreLike, AreOnce, HaveOneLook, StandsFor};
 ghost use Rattle.ir_store.specs.Table as table;
 ghost use Rattle.ir_sources.specs.Sources.{Source};
 ghost use Rattle.ir_thread.specs.State.{ThreadState};
@@ -184,8 +184,8 @@ impl<'a> Table<'a> {
         requires whole { whole ≡ table.whole_hash self.old.basis (thread.now, source.now) }
         requires seen { seen ≡ table.seen_hash self.old.basis (thread.now, source.now) }
         requires new { (n : ℕ) → slice_get self.old.items n ≡ Some (thread.now, source.now) → ⊥ }
-        ensures keeps { Keeps self.old.items self.new.items }
-        ensures looks { Keeps self.old.looks self.new.looks }
+        ensures keeps { KeepsNumbers self.old.items self.new.items }
+        ensures looks { KeepsNumbers self.old.looks self.new.looks }
         ensures form { self.new.form ≡ self.old.form }
         ensures basis { self.new.basis ≡ self.old.basis }
         ensures found { IfOk result (λ n. slice_get self.new.items n ≡ Some (thread.now, source.now)) }
@@ -211,8 +211,8 @@ impl<'a> Table<'a> {
     /// Out of memory.
     pub fn add(&mut self, thread: &Thread, source: &Sources<'a>) -> Result<usize, AllocError>
         requires { thread.now.form ≡ self.old.form }
-        ensures keeps { Keeps self.old.items self.new.items }
-        ensures looks { Keeps self.old.looks self.new.looks }
+        ensures keeps { KeepsNumbers self.old.items self.new.items }
+        ensures looks { KeepsNumbers self.old.looks self.new.looks }
         ensures form { self.new.form ≡ self.old.form }
         ensures basis { self.new.basis ≡ self.old.basis }
         ensures found { IfOk result (λ n. slice_get self.new.items n ≡ Some (thread.now, source.now)) }
@@ -238,8 +238,8 @@ impl<'a> Table<'a> {
     ) -> Result<Vec<u32>, AllocError>
         requires form { HaveForm self.old.form threads.now }
         requires each { length sources.now ≡ length threads.now }
-        ensures keeps { Keeps self.old.items self.new.items }
-        ensures looks { Keeps self.old.looks self.new.looks }
+        ensures keeps { KeepsNumbers self.old.items self.new.items }
+        ensures looks { KeepsNumbers self.old.looks self.new.looks }
         ensures form { self.new.form ≡ self.old.form }
         ensures basis { self.new.basis ≡ self.old.basis }
         ensures within { IfOk result (λ numbers. AreIn self.new.items numbers.items) }
@@ -269,8 +269,8 @@ impl<'a> Table<'a> {
         requires form { thread.now.form ≡ self.old.form }
         requires numbers { AreIn self.old.items numbers.now }
         requires place { t < length numbers.now }
-        ensures keeps { Keeps self.old.items self.new.items }
-        ensures looks { Keeps self.old.looks self.new.looks }
+        ensures keeps { KeepsNumbers self.old.items self.new.items }
+        ensures looks { KeepsNumbers self.old.looks self.new.looks }
         ensures form { self.new.form ≡ self.old.form }
         ensures basis { self.new.basis ≡ self.old.basis }
         ensures within { IfOk result (λ changed. AreIn self.new.items changed.items) }
@@ -352,7 +352,7 @@ impl<'a> Table<'a> {
     pub fn each(&self)
         ensures one { (seen : List (ℕ × ℕ)) × HaveOneLook seen self.now }
         ensures basis { IsBasis self.now.basis }
-        ensures bounded { AllByRecursion (λ (x : ThreadState × Source). IsBounded x.0) self.now.items }
+        ensures bounded { AllByRecursion (λ (x : ThreadState × Source). KeepsBounds x.0) self.now.items }
     {
         self.rows.each();
     }
@@ -361,7 +361,7 @@ impl<'a> Table<'a> {
     pub fn same_look(&self, m: usize, n: usize) -> bool
         requires first { m < length self.now.items }
         requires second { n < length self.now.items }
-        ensures same { result ≡ true → (x y : ThreadState × Source) → slice_get self.now.items m ≡ Some x → slice_get self.now.items n ≡ Some y → LookSame self.now.basis.code x y }
+        ensures same { result ≡ true → (x y : ThreadState × Source) → slice_get self.now.items m ≡ Some x → slice_get self.now.items n ≡ Some y → MomentsLookSame self.now.basis.code x y }
         ensures other { result ≡ false → slice_index_or self.now.looks m 0 ≢ slice_index_or self.now.looks n 0 }
     {
         tells_apart();

@@ -3,7 +3,7 @@
 ghost use Rattle.std.specs.Prelude.{◌≡◌, ◌<◌, ℕ, List, [], length, true, false, Some, None, slice_get, IfOk, IfSome};
 ghost use Rattle.ir_image.specs.Guest.{most_object_words};
 ghost use Rattle.ir_store.specs.Hashes as hashes;
-ghost use Rattle.ir_store.specs.Table.{Keeps};
+ghost use Rattle.ir_store.specs.Table.{KeepsNumbers};
 ghost use Rattle.ir_store.specs.Words.{EachOnce, EachFound};
 
 use crate::hash::{after_words, empty_hash};
@@ -108,7 +108,7 @@ impl Words {
     /// Out of memory.
     pub fn number(&mut self, words: &[u32]) -> Result<usize, AllocError>
         requires { length words.now ≡ most_object_words }
-        ensures keeps { Keeps self.old self.new }
+        ensures keeps { KeepsNumbers self.old self.new }
         ensures found { IfOk result (λ n. slice_get self.new n ≡ Some words.now) }
         ensures one { IfOk result (λ n. (m : ℕ) → slice_get self.new m ≡ Some words.now → m ≡ n) }
     {

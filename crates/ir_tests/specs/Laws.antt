@@ -6,7 +6,7 @@ use Rattle.ir_runs.specs.Run.{Step}
 use Rattle.ir_trace.specs.Recorded.{Recorded}
 use Rattle.ir_record.specs.Recordings.{IsRecordingOfSome, IsRecordingByTurns}
 use Rattle.ir_record.specs.Refusing.{Turn}
-use Rattle.ir_record.specs.Worlds.{Answered}
+use Rattle.ir_record.specs.Worlds.{AnsweredCall}
 use Rattle.ir_fit.specs.Fit.{IsRunOf, IsRefused}
 use Rattle.ir_fit.specs.declared.fit_err.FitErr.{FitErr}
 use Rattle.ir_fit.specs.declared.fit_err.FitErr.TheVariants.{NoMem}
@@ -17,14 +17,14 @@ HasTrace guest trace = (run : List Step) × IsRunOf guest trace run
 
 -- what is recorded of some run is a run's trace
 abbrev pub RecordingsFit : Type 0
-RecordingsFit = (guest : Guest) (budget : ℕ) (profile : Profile) (before : List (List Answered)) (trace : Recorded) (outputs : List (List ℕ))
-    (answers : List (List Answered))
+RecordingsFit = (guest : Guest) (budget : ℕ) (profile : Profile) (before : List (List AnsweredCall)) (trace : Recorded) (outputs : List (List ℕ))
+    (answers : List (List AnsweredCall))
     → IsRecordingOfSome guest budget profile before trace outputs answers → HasTrace guest trace
 
 -- so is what is recorded of the run by turns
 abbrev pub TurnsFit : Type 0
-TurnsFit = (guest : Guest) (budget : ℕ) (profile : Profile) (turns : List Turn) (before : List (List Answered)) (trace : Recorded) (outputs : List (List ℕ))
-    (answers : List (List Answered))
+TurnsFit = (guest : Guest) (budget : ℕ) (profile : Profile) (turns : List Turn) (before : List (List AnsweredCall)) (trace : Recorded) (outputs : List (List ℕ))
+    (answers : List (List AnsweredCall))
     → IsRecordingByTurns guest budget profile turns before trace outputs answers → HasTrace guest trace
 
 -- where a run has the trace, judging it gives up only where memory runs out

@@ -2,7 +2,7 @@
 use Rattle.std.proofs.Common.{◌≡◌, ℕ, List, [], ◌∷◌, length, Option, Some, refl, inl, inr, ap, ◌∙◌}
 use Rattle.std.specs.Prelude.{option_and_then}
 use Rattle.ir_thread.specs.Alone.{lone_reply, lone_after, lone_run, AllSuit, after_replies, value_before, values_of}
-use Rattle.ir_thread.specs.Permitted.{Suits}
+use Rattle.ir_thread.specs.Permitted.{ReplySuits}
 use Rattle.ir_thread.specs.State.{ThreadState, ask_of, after_reply}
 use Rattle.ir_thread.specs.declared.ask.Ask.{Ask}
 use Rattle.ir_thread.specs.declared.ask.Ask.TheVariants.{Private, Env, Enter, Try, Leave, Get, Put, Print, End, Done}
@@ -13,7 +13,7 @@ go_reply_takes_no_value : (r : Reply) (vs : List ℕ) → r ≡ Go → ◌≡◌
 go_reply_takes_no_value Go vs e = refl
 go_reply_takes_no_value (Value v) vs e = absurd (cc e)
 
-lone_reply_of_suiting_reply : (q : Ask) (r : Reply) (vs : List ℕ) → Suits q r → lone_reply q (value_before r vs) ≡ Some (r, vs)
+lone_reply_of_suiting_reply : (q : Ask) (r : Reply) (vs : List ℕ) → ReplySuits q r → lone_reply q (value_before r vs) ≡ Some (r, vs)
 lone_reply_of_suiting_reply Private r vs e = go_reply_takes_no_value r vs e
 lone_reply_of_suiting_reply (Env kind) Go vs e = absurd e
 lone_reply_of_suiting_reply (Env kind) (Value v) vs e = refl

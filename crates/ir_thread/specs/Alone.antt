@@ -1,6 +1,6 @@
 -- A thread run alone: its environment and its objects are a list of values.
 use Rattle.std.specs.Prelude.{◌≡◌, ℕ, zero, suc, List, [], ◌∷◌, length, Option, Some, None, option_and_then, ⊤}
-use Rattle.ir_thread.specs.Permitted.{Suits}
+use Rattle.ir_thread.specs.Permitted.{ReplySuits}
 use Rattle.ir_thread.specs.State.{ThreadState, ask_of, after_reply}
 use Rattle.ir_thread.specs.declared.ask.Ask.{Ask}
 use Rattle.ir_thread.specs.declared.ask.Ask.TheVariants as ask
@@ -42,7 +42,7 @@ lone_run code (suc steps) l = option_and_then (lone_run code steps) (lone_step c
 -- each reply fits what the thread asks when it comes
 abbrev pub AllSuit : List ℕ → ThreadState → List Reply → Type 0
 AllSuit code s [] = ⊤
-AllSuit code s (reply ∷ replies) = Suits (ask_of code s) reply × AllSuit code (after_reply code s reply) replies
+AllSuit code s (reply ∷ replies) = ReplySuits (ask_of code s) reply × AllSuit code (after_reply code s reply) replies
 
 -- the thread after these replies
 abbrev pub after_replies : List ℕ → ThreadState → List Reply → ThreadState

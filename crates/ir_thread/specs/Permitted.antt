@@ -62,12 +62,12 @@ IsValue Go = ⊥
 IsValue (Value value) = ⊤
 
 -- the reply fits what is asked: a value where one is wanted, 1 or 0 to a try, leave to go elsewhere, and nothing where there is no step
-abbrev pub Suits : Ask → Reply → Type 0
-Suits (ask.Env kind) reply = IsValue reply
-Suits (ask.Try object) reply = (reply ≡ Value 1) ⊎ (reply ≡ Value 0)
-Suits (ask.Get object index) reply = IsValue reply
-Suits ask.Done reply = ⊥
-Suits _ reply = reply ≡ Go
+abbrev pub ReplySuits : Ask → Reply → Type 0
+ReplySuits (ask.Env kind) reply = IsValue reply
+ReplySuits (ask.Try object) reply = (reply ≡ Value 1) ⊎ (reply ≡ Value 0)
+ReplySuits (ask.Get object index) reply = IsValue reply
+ReplySuits ask.Done reply = ⊥
+ReplySuits _ reply = reply ≡ Go
 
 -- the thread after a step that is answered no value
 unfoldable pub step_of : List ℕ → ThreadState → ThreadState

@@ -269,9 +269,9 @@ abbrev pub ask_of : List ℕ → ThreadState → Ask
 ask_of code s = ask_by code s.ended s
 
 -- what goes into a0
-abbrev pub answer_of : Reply → Option ℕ
-answer_of Go = None
-answer_of (Value value) = Some value
+abbrev pub value_of_reply : Reply → Option ℕ
+value_of_reply Go = None
+value_of_reply (Value value) = Some value
 
 -- a core after a private step; SELF, the one private call, answers the thread's number
 abbrev pub core_after : ℕ → Outcome → Core → Core
@@ -292,14 +292,14 @@ held_after_try (Value value) object held = if value == 1 then slice_set held obj
 -- the thread after what it asked; an end changes no register, no memory and no pc
 abbrev pub after_ask : List ℕ → ThreadState → Ask → Reply → ThreadState
 after_ask code s ask.Private reply = record s { core = core_after s.number (outcome_of code s.core) s.core; steps = s.steps + 1 }
-after_ask code s (ask.Env kind) reply = record s { core = past_call s.core (answer_of reply); steps = s.steps + 1; events = s.events + 1 }
+after_ask code s (ask.Env kind) reply = record s { core = past_call s.core (value_of_reply reply); steps = s.steps + 1; events = s.events + 1 }
 after_ask code s (ask.Enter object access) reply =
     record s { core = past_call s.core None; steps = s.steps + 1; events = s.events + 1; held = slice_set s.held object (Some access) }
 after_ask code s (ask.Try object) reply =
-    record s { core = past_call s.core (answer_of reply); steps = s.steps + 1; events = s.events + 1; held = held_after_try reply object s.held }
+    record s { core = past_call s.core (value_of_reply reply); steps = s.steps + 1; events = s.events + 1; held = held_after_try reply object s.held }
 after_ask code s (ask.Leave object access) reply =
     record s { core = core_left s.ended s.core; steps = s.steps + 1; held = slice_set s.held object None }
-after_ask code s (ask.Get object index) reply = record s { core = past_call s.core (answer_of reply); steps = s.steps + 1 }
+after_ask code s (ask.Get object index) reply = record s { core = past_call s.core (value_of_reply reply); steps = s.steps + 1 }
 after_ask code s (ask.Put object index value) reply = record s { core = past_call s.core None; steps = s.steps + 1 }
 after_ask code s ask.Print reply = record s { core = past_call s.core None; steps = s.steps + 1; output = s.output ++ call_output (call_at s) s }
 after_ask code s (ask.End e) reply = record s { steps = s.steps + 1; ended = Some e }

@@ -15,7 +15,7 @@ use Rattle.ir_log.specs.declared.event.Event.{Event}
 use Rattle.ir_log.specs.declared.event.Event.TheVariants.{Answer, Read, Write, Try}
 use Rattle.ir_trace.specs.declared.trace_err.TraceErr.{TraceErr}
 use Rattle.ir_trace.specs.declared.trace_err.TraceErr.TheVariants.{Short, Count, Tag, Range}
-use Rattle.ir_trace.specs.Recorded.{answer_at, input_at, read_at, write_at, try_at, try_by, event_by, event_at}
+use Rattle.ir_trace.specs.Recorded.{answer_at, input_at, read_at, write_at, try_at, try_by, event_by, event_reading}
 use Rattle.ir_trace.specs.Bounds.{IsWord, IsEvent}
 use Rattle.ir_trace.specs.Fields.{input_field, object_field}
 use Rattle.ir_trace.specs.Encoding.{kind_tag, event_encoding}
@@ -125,9 +125,9 @@ event_by_takes_event profile objects all rest tag x prefix e =
     conditional_cases (eqb tag 6) (try_by profile objects rest) none (Ok x) e6 (λ t h. try_by_takes_event profile objects all rest x (takes_equal_tag all rest tag 6 prefix t) h)
     (λ _ h. absurd cc))))))
 
-pub event_at_takes_event : (profile : Profile) (objects : ℕ) (bytes : List ℕ) (x : Event × List ℕ) → IsBytes bytes → event_at profile objects bytes ≡ Ok x
+pub event_at_takes_event : (profile : Profile) (objects : ℕ) (bytes : List ℕ) (x : Event × List ℕ) → IsBytes bytes → event_reading profile objects bytes ≡ Ok x
     → TakesEvent profile objects bytes x
-unfolding event_at
+unfolding event_reading
 event_at_takes_event profile objects bytes x fits e =
     each_of_two_is_ok_if_bind_is_ok (number_at Short 1 bytes) (λ n. event_by profile n.0 objects n.1) x e
     (λ n e0 e1. event_by_takes_event profile objects bytes n.1 n.0 x (number_at_takes_byte Short bytes n fits e0) e1)
@@ -171,12 +171,12 @@ try_by_of_encoding One objects o rest is lt = absurd cc
 try_by_of_encoding Two objects o rest is lt = rw (object_field_of_encoding objects o rest lt) refl
 
 -- the tag, and then its fields
-event_at_of_tag : (profile : Profile) (objects tag : ℕ) (bytes : List ℕ) → event_at profile objects (tag ∷ bytes) ≡ event_by profile tag objects bytes
-unfolding event_at
+event_at_of_tag : (profile : Profile) (objects tag : ℕ) (bytes : List ℕ) → event_reading profile objects (tag ∷ bytes) ≡ event_by profile tag objects bytes
+unfolding event_reading
 event_at_of_tag profile objects tag bytes = rw (number_at_of_byte Short tag bytes) refl
 
 pub event_at_of_encoding : (profile : Profile) (objects : ℕ) (e : Event) (rest : List ℕ) → IsEvent profile objects e
-    → event_at profile objects (event_encoding e ++ rest) ≡ Ok (e, rest)
+    → event_reading profile objects (event_encoding e ++ rest) ≡ Ok (e, rest)
 unfolding event_by event_encoding
 event_at_of_encoding profile objects (Answer Clock v) rest fits = event_at_of_tag profile objects 1 _ ∙ answer_at_of_encoding Clock v rest (result_is_word Clock v fits)
 event_at_of_encoding profile objects (Answer Random v) rest fits = event_at_of_tag profile objects 2 _ ∙ answer_at_of_encoding Random v rest (result_is_word Random v fits)

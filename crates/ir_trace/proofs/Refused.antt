@@ -16,7 +16,7 @@ use Rattle.ir_log.specs.declared.event.Event.TheVariants.{Answer, Read, Write, T
 use Rattle.ir_trace.specs.declared.header.Header.{Header}
 use Rattle.ir_trace.specs.declared.trace_err.TraceErr.{TraceErr}
 use Rattle.ir_trace.specs.declared.trace_err.TraceErr.TheVariants.{Short, Range, Trailing}
-use Rattle.ir_trace.specs.Recorded.{RecordedThread, Recorded, profile_at, header_at, end_by, end_at, answer_at, input_at, read_at, write_at, try_at, try_by, event_by, event_at, thread_part_at, recorded_at}
+use Rattle.ir_trace.specs.Recorded.{RecordedThread, Recorded, profile_at, header_at, end_by, end_at, answer_at, input_at, read_at, write_at, try_at, try_by, event_by, event_reading, thread_part_at, recorded_at}
 use Rattle.ir_trace.specs.Results.{code_field, tag_field, last_tag}
 use Rattle.ir_trace.specs.Fields.{tagged_fields, event_fields, thread_fields, trace_fault, trace_magic_field, trace_threads_field, trace_objects_field, reserved_field, budget_field, end_field, events_field, input_field, profile_of, object_field}
 
@@ -194,8 +194,8 @@ fault_after_read_tag : (profile : Profile) (objects : ℕ) (r : Result (ℕ × L
 fault_after_read_tag profile objects (Ok n) rest = fault_after_tag profile objects n.0 n.1 rest
 fault_after_read_tag profile objects (Err e) rest = refl
 
-event_at_begins_with_event_fields : (profile : Profile) (objects : ℕ) → Begins Short Trailing (event_at profile objects) (event_fields profile objects)
-unfolding event_at field_at
+event_at_begins_with_event_fields : (profile : Profile) (objects : ℕ) → Begins Short Trailing (event_reading profile objects) (event_fields profile objects)
+unfolding event_reading field_at
 event_at_begins_with_event_fields profile objects rest bytes = field_at_follows_field Short Trailing (tag_field profile) (λ tag. tagged_fields objects tag rest) bytes ∙ fault_after_read_tag profile objects
     (number_at Short 1 bytes) rest
 
@@ -208,21 +208,21 @@ thread_at_begins_with_thread_fields : (profile : Profile) (objects : ℕ) → Be
 unfolding thread_part_at
 thread_at_begins_with_thread_fields profile objects =
     independent_sequence_begins_with_fields Short Trailing (number_at Short 8) (before (plain 8))
-    (λ steps b0. end_at b0 >>= λ ended. field_at Short events_field ended.1 >>= λ count. fields_at (event_at profile objects) count.0 count.1 >>=
+    (λ steps b0. end_at b0 >>= λ ended. field_at Short events_field ended.1 >>= λ count. fields_at (event_reading profile objects) count.0 count.1 >>=
     λ events. Ok (recorded_thread_by steps ended.0 events.0, events.1))
     (λ rest. next end_field λ n. before (code_field n) (next events_field λ count. repeated count (event_fields profile objects) rest))
     (number_at_begins_with_plain_field Short Trailing 8) (λ steps.
     independent_sequence_begins_with_fields Short Trailing end_at (λ rest. next end_field λ n. before (code_field n) rest)
-    (λ ended b1. field_at Short events_field b1 >>= λ count. fields_at (event_at profile objects) count.0 count.1 >>= λ events. Ok
+    (λ ended b1. field_at Short events_field b1 >>= λ count. fields_at (event_reading profile objects) count.0 count.1 >>= λ events. Ok
     (recorded_thread_by steps ended events.0, events.1))
     (λ rest. next events_field λ count. repeated count (event_fields profile objects) rest)
     end_at_begins_with_end_fields (λ ended.
     sequence_begins_with_fields Short Trailing (field_at Short events_field) (next events_field)
-    (λ count b2. fields_at (event_at profile objects) count b2 >>= λ events. Ok (recorded_thread_by steps ended events.0, events.1))
+    (λ count b2. fields_at (event_reading profile objects) count b2 >>= λ events. Ok (recorded_thread_by steps ended events.0, events.1))
     (λ count. repeated count (event_fields profile objects))
     (field_at_follows_field Short Trailing events_field) (λ count.
-    begins_with_field_of_mapped_reader (fields_at (event_at profile objects) count) (repeated count (event_fields profile objects)) (recorded_thread_by steps ended)
-    (fields_at_begins_with_repeated Short Trailing (event_at profile objects) (event_fields profile objects) count (event_at_begins_with_event_fields profile objects)))))
+    begins_with_field_of_mapped_reader (fields_at (event_reading profile objects) count) (repeated count (event_fields profile objects)) (recorded_thread_by steps ended)
+    (fields_at_begins_with_repeated Short Trailing (event_reading profile objects) (event_fields profile objects) count (event_at_begins_with_event_fields profile objects)))))
 
 -- ---- the whole trace
 

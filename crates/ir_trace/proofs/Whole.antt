@@ -14,7 +14,7 @@ use Rattle.ir_log.specs.declared.event.Event.{Event}
 use Rattle.ir_trace.specs.declared.header.Header.{Header}
 use Rattle.ir_trace.specs.declared.trace_err.TraceErr.{TraceErr}
 use Rattle.ir_trace.specs.declared.trace_err.TraceErr.TheVariants.{Short, Count, Trailing}
-use Rattle.ir_trace.specs.Recorded.{RecordedThread, Recorded, trace_magic, profile_at, header_at, end_at, event_at, thread_part_at, recorded_at}
+use Rattle.ir_trace.specs.Recorded.{RecordedThread, Recorded, trace_magic, profile_at, header_at, end_at, event_reading, thread_part_at, recorded_at}
 use Rattle.ir_trace.specs.Bounds.{IsEvent, IsRecordedThread, IsRecorded}
 use Rattle.ir_trace.specs.Fields.{trace_threads_field, trace_objects_field, reserved_field, budget_field, events_field}
 use Rattle.ir_trace.specs.Encoding.{event_encoding, end_encoding, thread_encoding, header_of, header_encoding, encoding}
@@ -101,7 +101,7 @@ TakesThread profile objects bytes x = Takes bytes (thread_encoding x.0) x.1 × I
 thread_fields_take_thread : (profile : Profile) (objects : ℕ) (all : List ℕ) (steps : ℕ × List ℕ) (ended : End × List ℕ) (count : ℕ × List ℕ)
     (events : List Event × List ℕ) → IsBytes all
     → number_at Short 8 all ≡ Ok steps → end_at steps.1 ≡ Ok ended → field_at Short events_field ended.1 ≡ Ok count
-    → fields_at (event_at profile objects) count.0 count.1 ≡ Ok events
+    → fields_at (event_reading profile objects) count.0 count.1 ≡ Ok events
     → TakesThread profile objects all (record { steps = steps.0; end = ended.0; events = events.0 }, events.1)
 unfolding thread_encoding
 thread_fields_take_thread profile objects all steps ended count events fits e0 e1 e2 e3 =
@@ -109,7 +109,7 @@ thread_fields_take_thread profile objects all steps ended count events fits e0 e
     let t1 = end_at_takes_end steps.1 ended t0.0.rest_fits e1 in
     let t2 = field_at_takes_field Short events_field ended.1 count t1.0.rest_fits e2 in
     let n = number_within_if_no_fault 0 most_events count.0 Count t2.passes in
-    let t3 = fields_at_takes_fields (IsEvent profile objects) event_encoding (event_at profile objects) (event_at_takes_event profile objects) count.0 count.1 events
+    let t3 = fields_at_takes_fields (IsEvent profile objects) event_encoding (event_reading profile objects) (event_at_takes_event profile objects) count.0 count.1 events
     t2.takes.rest_fits e3 in
     let counted : Takes ended.1 (little_bytes 4 (length events.0)) count.1 = subst (λ (k : ℕ). Takes ended.1 (little_bytes 4 k) count.1)
     (sym t3.count) t2.takes in
@@ -132,7 +132,7 @@ thread_at_takes_thread : (profile : Profile) (objects : ℕ) (bytes : List ℕ) 
 unfolding thread_part_at
 thread_at_takes_thread profile objects bytes x fits e =
     each_of_five_is_ok_if_binds_are_ok (number_at Short 8 bytes) (λ steps. end_at steps.1) (λ steps ended. field_at Short events_field ended.1)
-    (λ steps ended count. fields_at (event_at profile objects) count.0 count.1)
+    (λ steps ended count. fields_at (event_reading profile objects) count.0 count.1)
     (λ steps ended count events. Ok (record { steps = steps.0; end = ended.0; events = events.0 }, events.1)) x e
     (λ steps ended count events e0 e1 e2 e3 e4.
     subst (TakesThread profile objects bytes) (ok_is_injective TraceErr (record { steps = steps.0; end = ended.0; events = events.0 }, events.1) x e4)
@@ -149,7 +149,7 @@ thread_at_of_encoding profile objects t rest fits =
     let e1 = end_at_of_encoding t.end r2 fits.code_fits in
     let e2 = field_at_of_little_bytes Short events_field (length t.events) r3 (omega (arith, fits.few_events))
     (no_fault_if_number_within 0 most_events (length t.events) Count (omega arith) fits.few_events) in
-    let e3 = fields_at_of_encodings (IsEvent profile objects) event_encoding (event_at profile objects) (event_at_of_encoding profile objects) t.events rest fits.events_fit in
+    let e3 = fields_at_of_encodings (IsEvent profile objects) event_encoding (event_reading profile objects) (event_at_of_encoding profile objects) t.events rest fits.events_fit in
     ap (thread_part_at profile objects) (append_of_four_parts_associative (little_bytes 8 t.steps) (end_encoding t.end) (little_bytes 4 (length t.events))
     (flat_map event_encoding t.events) rest) ∙ rw (e0, e1, e2, e3) refl
 

@@ -127,8 +127,8 @@ event_by profile tag objects bytes =
     if tag == 6 then try_by profile objects bytes else Err Tag
 
 -- an event of a guest with `objects` objects
-unfoldable pub event_at : Profile → ℕ → Reader Event TraceErr
-event_at profile objects bytes = number_at Short 1 bytes >>= λ n. event_by profile n.0 objects n.1
+unfoldable pub event_reading : Profile → ℕ → Reader Event TraceErr
+event_reading profile objects bytes = number_at Short 1 bytes >>= λ n. event_by profile n.0 objects n.1
 
 -- a thread of a guest with `objects` objects
 unfoldable pub thread_part_at : Profile → ℕ → Reader RecordedThread TraceErr
@@ -136,7 +136,7 @@ thread_part_at profile objects bytes = do
   steps ← number_at Short 8 bytes
   end ← end_at steps.1
   count ← field_at Short (within 4 0 most_events Count) end.1
-  events ← fields_at (event_at profile objects) count.0 count.1
+  events ← fields_at (event_reading profile objects) count.0 count.1
   Ok (record { steps = steps.0; end = end.0; events = events.0 }, events.1)
 
 -- the whole trace

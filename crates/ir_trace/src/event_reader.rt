@@ -3,7 +3,7 @@
 ghost use Rattle.std.specs.Prelude.{◌≡◌, ◌≤◌, ◌+◌, length, IfOk};
 ghost use Rattle.ir_bytes.specs.Reading.{field_at, fields_at};
 ghost use Rattle.ir_trace.specs.declared.trace_err.TraceErr.TheVariants.{Short};
-ghost use Rattle.ir_trace.specs.Recorded.{answer_at, input_at, read_at, write_at, try_at, try_by, event_by, event_at};
+ghost use Rattle.ir_trace.specs.Recorded.{answer_at, input_at, read_at, write_at, try_at, try_by, event_by, event_reading};
 ghost use Rattle.ir_trace.specs.Fields.{object_field};
 ghost use Rattle.ir_trace.specs.Results.{Gives, shortest};
 ghost use Rattle.ir_thread.specs.State.{most_events};
@@ -111,7 +111,7 @@ fn tagged(profile: Profile, tag: u8, objects: u8, bytes: &[u8]) -> Result<(Event
 
 #[tactic(auto, unfolding(crate::specs::Recorded::event_at))]
 fn event(profile: Profile, objects: u8, bytes: &[u8]) -> Result<(Event, &[u8]), TraceErr>
-    ensures exact { Gives (λ x. (x.0, x.1.now)) result (event_at profile objects bytes.now) }
+    ensures exact { Gives (λ x. (x.0, x.1.now)) result (event_reading profile objects bytes.now) }
     ensures taken { IfOk result (λ x. length x.1.now + shortest profile ≤ length bytes.now) }
 {
     let (tag, rest) = byte(bytes, TraceErr::Short)?;
@@ -142,7 +142,7 @@ pub fn events(
     bytes: &[u8],
 ) -> Result<(Log, &[u8]), TraceErr>
     requires { count ≤ most_events }
-    ensures exact { Gives (λ x. (x.0.events, x.1.now)) result (fields_at (event_at profile objects) count bytes.now) }
+    ensures exact { Gives (λ x. (x.0.events, x.1.now)) result (fields_at (event_reading profile objects) count bytes.now) }
     ensures room { IfOk result (λ x. x.0.room ≡ length x.0.events) }
 {
     let room = (count as usize).min(bytes.len() / shortest_event(profile));

@@ -9,7 +9,7 @@ use Rattle.ir_thread.specs.declared.ask.Reply.{Reply}
 use Rattle.ir_fit.specs.Fit.{FittedTrace}
 use Rattle.ir_cut.specs.Positions.{EachRun, thread_at}
 use Rattle.ir_weave.specs.Ahead.{ask_at}
-use Rattle.ir_walk.specs.Calls.{reply_between, call_by, call_at, calls_in, AreCalls}
+use Rattle.ir_walk.specs.Calls.{reply_between, call_by, exchange_at, calls_in, AreCalls}
 use Rattle.ir_walk.specs.declared.exchange.Exchange.{Exchange}
 use Rattle.ir_walk.proofs.Taken.{calls_in_one_step}
 
@@ -55,12 +55,12 @@ asks_private_if_no_calls : (code : List ℕ) (at : ℕ → thread.ThreadState) (
 unfolding calls_in
 asks_private_if_no_calls code at k zero e j from to = absurd (omega (arith, from, to))
 asks_private_if_no_calls code at k (suc n) e j from to = elim (cases_lt j (k + n)) [
-  | inl before ↦ asks_private_if_no_calls code at k n (parts_of_empty_append_are_empty (calls_in code at k n) (call_at code at (k + n)) e).0 j from before
+  | inl before ↦ asks_private_if_no_calls code at k n (parts_of_empty_append_are_empty (calls_in code at k n) (exchange_at code at (k + n)) e).0 j from before
   | inr past ↦
       let last : k + n ≡ j = omega (arith, past, to) in
       subst (λ i. ask_of code (at i) ≡ ask.Private) last
       (ask_without_call_is_private (ask_of code (at (k + n))) (reply_between code (at (k + n)) (at (suc (k + n))))
-      (parts_of_empty_append_are_empty (calls_in code at k n) (call_at code at (k + n)) e).1)
+      (parts_of_empty_append_are_empty (calls_in code at k n) (exchange_at code at (k + n)) e).1)
 ]
 
 -- steps of a thread with no call are private

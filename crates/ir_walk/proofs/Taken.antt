@@ -5,7 +5,7 @@ use Rattle.std.proofs.lemmas.Bool.{cases_lt}
 use Rattle.std.proofs.lemmas.List.{get_or_past}
 use Rattle.ir_thread.specs.State as thread
 use Rattle.ir_thread.specs.State.{ask_of, a0, after_ask, after_reply, shared_ask, reply_of}
-use Rattle.ir_thread.specs.Permitted.{step_of, run_of, Suits}
+use Rattle.ir_thread.specs.Permitted.{step_of, run_of, ReplySuits}
 use Rattle.ir_thread.specs.Private.{PrivateSteps}
 use Rattle.ir_thread.specs.declared.ask.Ask.{Ask}
 use Rattle.ir_thread.specs.declared.ask.Ask.TheVariants as ask
@@ -20,7 +20,7 @@ use Rattle.ir_weave.specs.Ahead.{ask_at}
 use Rattle.ir_weave.specs.Standing.{Standing, StandsAt, flat_in, positions}
 use Rattle.ir_weave.specs.Stepping.{HasGone}
 use Rattle.ir_weave.proofs.CallerLemmas.{StepOf, emitting_step_is_step_of, step_below_count_emits}
-use Rattle.ir_walk.specs.Calls.{reply_between, call_by, call_at, calls_in, AllSuit, AreCalls}
+use Rattle.ir_walk.specs.Calls.{reply_between, call_by, exchange_at, calls_in, AllSuit, AreCalls}
 use Rattle.ir_walk.specs.declared.exchange.Exchange.{Exchange}
 
 -- ---- a step
@@ -45,7 +45,7 @@ try_reply_in_register_is_one_or_zero xs v a (inr zeroed) e = elim (slice_index_a
 
 -- what is read of an answer fits what was asked
 reply_in_register_suits_ask : (f : FittedTrace) (code : List ℕ) (x y : thread.ThreadState) (q : Ask) (r : ℕ) (b : Object) → Admits (machine_of f) (act_of (shared_ask q) r) b
-    → y ≡ after_ask code x q (reply_of q (reply (act_of (shared_ask q) r) b)) → Suits q (reply_of q (a0 y))
+    → y ≡ after_ask code x q (reply_of q (reply (act_of (shared_ask q) r) b)) → ReplySuits q (reply_of q (a0 y))
 reply_in_register_suits_ask f code x y ask.Private r b can e = refl
 reply_in_register_suits_ask f code x y (ask.Env kind) r b can e = tt
 reply_in_register_suits_ask f code x y (ask.Enter o a) r b can e = refl
@@ -61,7 +61,7 @@ reply_in_register_suits_ask f code x y ask.Done r b can e = absurd can
 
 next_thread_of_run_is_after_ask : (f : FittedTrace) (run : List Step) → IsRunOf f.guest f.recorded run → (t k : ℕ) → k < count (machine_of f) (start_of f) run t
     → (v : ℕ) × (thread_at f run t (suc k) ≡ after_ask f.guest.code (thread_at f run t k) (ask_at f run t k) (reply_of (ask_at f run t k) v))
-    × Suits (ask_at f run t k) (reply_between f.guest.code (thread_at f run t k) (thread_at f run t (suc k)))
+    × ReplySuits (ask_at f run t k) (reply_between f.guest.code (thread_at f run t k) (thread_at f run t (suc k)))
 unfolding after_reply
 next_thread_of_run_is_after_ask f run of t k l =
     let at = step_below_count_emits f run t k l in
@@ -124,9 +124,9 @@ standing_calls_nothing_over_private_steps f code old new t n is stands stands' g
 
 -- ---- a step, by what is asked before and is answered behind it
 
-pub calls_in_one_step : (code : List ℕ) (at : ℕ → thread.ThreadState) (k : ℕ) → calls_in code at k 1 ≡ call_at code at k
+pub calls_in_one_step : (code : List ℕ) (at : ℕ → thread.ThreadState) (k : ℕ) → calls_in code at k 1 ≡ exchange_at code at k
 unfolding calls_in
-calls_in_one_step code at k = let on : k + zero ≡ k = omega arith in ap (call_at code at) on
+calls_in_one_step code at k = let on : k + zero ≡ k = omega arith in ap (exchange_at code at) on
 
 calls_in_no_step : (code : List ℕ) (at : ℕ → thread.ThreadState) (k : ℕ) → [] ≡ calls_in code at k 0
 unfolding calls_in
@@ -139,7 +139,7 @@ no_calls_taken_in_no_step f t k n e = record {
   suit = tt;
 }
 
-call_by_suiting_reply_suits : (q : Ask) (r : Reply) → Suits q r → AllSuit (call_by q r)
+call_by_suiting_reply_suits : (q : Ask) (r : Reply) → ReplySuits q r → AllSuit (call_by q r)
 call_by_suiting_reply_suits ask.Private r s = tt
 call_by_suiting_reply_suits (ask.Env kind) r s = (s, tt)
 call_by_suiting_reply_suits (ask.Enter o a) r s = (s, tt)
@@ -169,7 +169,7 @@ calls_taken_in_one_step f code run0 old new t n asked x y calls of0 is stands st
         let up : positions (flat_in f new) t ≡ suc k = (let a = gone.own in omega (arith, a, one)) in
         let y' : y ≡ thread_at f run t (suc k) = behind ∙ (stands'.at.each run of).threads t ∙ ap (thread_at f run t) up in
         let asks' : asked ≡ ask_at f run t k = asks ∙ (λ i. ask_of (is i) (x' i)) in
-        let call : calls ≡ call_at f.guest.code (thread_at f run t) k =
+        let call : calls ≡ exchange_at f.guest.code (thread_at f run t) k =
         made ∙ (λ i. call_by (asks' i) (reply_of (asks' i) (a0 (y' i)))) in
         let less : k < count (machine_of f) (start_of f) run t = (let a = (stands'.at.each run of).cut t in omega (arith, a, up)) in (
           call ∙ sym (calls_in_one_step f.guest.code (thread_at f run t) k) ∙ ap (calls_in f.guest.code (thread_at f run t) k) (sym one),
@@ -187,9 +187,9 @@ calls_in_sum_of_steps code at k n zero =
 calls_in_sum_of_steps code at k n (suc more) =
     let on : n + suc more ≡ suc (n + more) = omega arith in
     let there : k + (n + more) ≡ k + n + more = omega arith in
-    ap (calls_in code at k) on ∙ ap (λ (z : List Exchange). z ++ call_at code at (k + (n + more))) (calls_in_sum_of_steps code at k n more)
-    ∙ append_assoc (calls_in code at k n) (calls_in code at (k + n) more) (call_at code at (k + (n + more)))
-    ∙ ap (λ j. calls_in code at k n ++ (calls_in code at (k + n) more ++ call_at code at j)) there
+    ap (calls_in code at k) on ∙ ap (λ (z : List Exchange). z ++ exchange_at code at (k + (n + more))) (calls_in_sum_of_steps code at k n more)
+    ∙ append_assoc (calls_in code at k n) (calls_in code at (k + n) more) (exchange_at code at (k + (n + more)))
+    ∙ ap (λ j. calls_in code at k n ++ (calls_in code at (k + n) more ++ exchange_at code at j)) there
 
 -- those of the steps to `mid`, and of the steps from there to `to`
 pub calls_in_split_at_middle : (code : List ℕ) (at : ℕ → thread.ThreadState) (from mid to : ℕ) → from ≤ mid → mid ≤ to

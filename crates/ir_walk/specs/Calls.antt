@@ -2,7 +2,7 @@
 use Rattle.std.specs.Prelude.{◌≡◌, ℕ, zero, suc, ◌+◌, List, [], ◌∷◌, ◌++◌}
 use Rattle.std.specs.List.{AllByRecursion}
 use Rattle.ir_thread.specs.State.{ThreadState, ask_of, a0, reply_of}
-use Rattle.ir_thread.specs.Permitted.{Suits}
+use Rattle.ir_thread.specs.Permitted.{ReplySuits}
 use Rattle.ir_thread.specs.declared.ask.Ask.{Ask}
 use Rattle.ir_thread.specs.declared.ask.Ask.TheVariants as ask
 use Rattle.ir_thread.specs.declared.ask.Reply.{Reply}
@@ -20,17 +20,17 @@ call_by ask.Private reply = []
 call_by asked reply = record { asked = asked; reply = reply } ∷ []
 
 -- the call of step k of a thread that is `at` k after k of its steps
-abbrev pub call_at : List ℕ → (ℕ → ThreadState) → ℕ → List Exchange
-call_at code at k = call_by (ask_of code (at k)) (reply_between code (at k) (at (suc k)))
+abbrev pub exchange_at : List ℕ → (ℕ → ThreadState) → ℕ → List Exchange
+exchange_at code at k = call_by (ask_of code (at k)) (reply_between code (at k) (at (suc k)))
 
 -- the calls of its n steps from step k on
 unfoldable pub calls_in : List ℕ → (ℕ → ThreadState) → ℕ → ℕ → List Exchange
 calls_in code at k zero = []
-calls_in code at k (suc n) = calls_in code at k n ++ call_at code at (k + n)
+calls_in code at k (suc n) = calls_in code at k n ++ exchange_at code at (k + n)
 
 -- each reply fits what was asked
 abbrev pub AllSuit : List Exchange → Type 0
-AllSuit calls = AllByRecursion (λ (c : Exchange). Suits c.asked c.reply) calls
+AllSuit calls = AllByRecursion (λ (c : Exchange). ReplySuits c.asked c.reply) calls
 
 -- the calls of n steps of thread t from position k on
 pub record AreCalls (f : FittedTrace) (t k n : ℕ) (calls : List Exchange) : Type 0 where

@@ -33,7 +33,7 @@ use Rattle.ir_trace.specs.Recorded.{recorded_thread}
 use Rattle.ir_fit.specs.Fit.{FittedTrace, HasRun}
 use Rattle.ir_cut.specs.Positions.{machine_of, start_of, EachRun, thread_at}
 use Rattle.ir_runs.proofs.CallerLemmas.{admitted_persists_at_later_cut}
-use Rattle.ir_weave.specs.Ahead.{IsRefused, IsAlone, GoesAlone, event_of, HasStep, IsAhead, IsEntering, IsNextObject, AreAlone}
+use Rattle.ir_weave.specs.Ahead.{IsRefusedTry, TouchesNoObject, NextTouchesNone, event_of, HasStep, IsAhead, IsEntering, IsNextObject, AreAlone}
 use Rattle.ir_weave.specs.Standing.{IsStateAt, positions}
 use Rattle.ir_object.specs.Layout.{word_place, content_place}
 use Rattle.ir_weave.specs.Table.{IsTable, object_in}
@@ -85,15 +85,15 @@ caught_up_thread_has_step_if_thread_has f s t y cu has run of = subst (λ (z : t
 
 -- where it touches an object, that is its next such step
 pub step_is_next_on_object_if_not_alone : (f : FittedTrace) (t i : ℕ) (y : thread.ThreadState) (q : Ask) → IsAhead f t i y → ask_of f.guest.code y ≡ q
-    → (IsAlone q (event_of f t y) → ⊥) → IsNextObject f t i y.steps
+    → (TouchesNoObject q (event_of f t y) → ⊥) → IsNextObject f t i y.steps
 step_is_next_on_object_if_not_alone f t i y q ahead is touches = record {
   past = ahead.past;
   alone = ahead.alone;
-  touches = λ run of h. touches (subst (λ p. IsAlone p (event_of f t y)) is (subst (GoesAlone f t) (sym (ahead.at run of).1) h));
+  touches = λ run of h. touches (subst (λ p. TouchesNoObject p (event_of f t y)) is (subst (NextTouchesNone f t) (sym (ahead.at run of).1) h));
 }
 
 -- a try that is refused enters nothing
-refused_event_does_not_enter : (o : ℕ) (a : Access) (e : Event) → event_ask e ≡ Enter o a → IsRefused (Some e) → ⊥
+refused_event_does_not_enter : (o : ℕ) (a : Access) (e : Event) → event_ask e ≡ Enter o a → IsRefusedTry (Some e) → ⊥
 refused_event_does_not_enter o a (Answered kind value) enters h = h
 refused_event_does_not_enter o a (Read object version) enters h = h
 refused_event_does_not_enter o a (Write object version readers) enters h = h
@@ -101,10 +101,10 @@ refused_event_does_not_enter o a (Refused object) enters h = cc enters
 
 -- what enters an object touches it
 pub entering_ask_is_not_alone : (q : Ask) (o : ℕ) (a : Access) (e : Event) (x : Option Event) → x ≡ Some e → Suits q e → event_ask e ≡ Enter o a
-    → IsAlone q x → ⊥
+    → TouchesNoObject q x → ⊥
 entering_ask_is_not_alone q o a e x is suits enters h = elim (ask_suited_by_entry_event_is_enter_or_try q o a e suits enters) [
-  | inl same ↦ subst (λ p. IsAlone p x) same h
-  | inr same ↦ refused_event_does_not_enter o a e enters (subst IsRefused is (subst (λ p. IsAlone p x) same.0 h))
+  | inl same ↦ subst (λ p. TouchesNoObject p x) same h
+  | inr same ↦ refused_event_does_not_enter o a e enters (subst IsRefusedTry is (subst (λ p. TouchesNoObject p x) same.0 h))
 ]
 
 -- ---- words
@@ -249,7 +249,7 @@ number_answers_step_if_cell_word_whenever_ask_is_get f s t y q cu v n l g is fou
 -- the table after it
 woven_after_object_step : (slots id word first second : ℕ) (q : Progress) (c : List (ℕ × Unit {0})) (x : State (Unit {0}) View) (h : Woven q.plan x)
     → get_elem? x.views id ≡ some (q ∷ []) → (y : thread.ThreadState) → IsAhead (trace_in q.plan) q.thread q.position y
-    → (asked : Ask) → (IsAlone asked (event_of (trace_in q.plan) q.thread y) → ⊥) → ask_of (trace_in q.plan).guest.code y ≡ asked
+    → (asked : Ask) → (TouchesNoObject asked (event_of (trace_in q.plan) q.thread y) → ⊥) → ask_of (trace_in q.plan).guest.code y ≡ asked
     → (cu : CaughtUp (trace_in q.plan) h.state q.thread y) → (v : ℕ) → StepGoesOn (trace_in q.plan) cu.state q.thread v asked
     → (n : ℕ) → ((o i : ℕ) → asked ≡ Get o i → (n < 2 ^ 32) × (n ≡ slice_index (cell_of cu.state o).words i)) → (ws : List ℕ)
     → IsTable (next cu.state q.thread v asked).objects ws

@@ -23,7 +23,7 @@ use Rattle.ir_runs.specs.Admitted.{further}
 use Rattle.ir_fit.specs.Fit.{FittedTrace, HasRun, IsRunOf}
 use Rattle.ir_runs.specs.Verdicts.{unlogged}
 use Rattle.ir_cut.specs.Positions.{machine_of, start_of, thread_at}
-use Rattle.ir_weave.specs.Ahead.{IsRefused, IsAlone, GoesAlone, HasStep, ask_at, event_of, IsThreadAt, AreAlone}
+use Rattle.ir_weave.specs.Ahead.{IsRefusedTry, TouchesNoObject, NextTouchesNone, HasStep, ask_at, event_of, IsThreadAt, AreAlone}
 use Rattle.ir_weave.specs.Standing.{IsStateAt, positions}
 use Rattle.ir_weave.specs.Stepping.{LogsNext}
 use Rattle.ir_weave.specs.Woven.{AdmittedAt}
@@ -106,7 +106,7 @@ step_goes_on_if_admitted f s t q h flat at l is ad =
 -- no entry, nor a try that the trace says got in
 abbrev pub IsFree : Ask → Option Event → Type 0
 IsFree (Enter o a) e = ⊥
-IsFree (Try o) e = IsRefused e
+IsFree (Try o) e = IsRefusedTry e
 IsFree _ e = ⊤
 
 free_shared_ask_is_no_entry : (q : Ask) (e : Option Event) → IsFree q e → ((o : ℕ) → q ≢ Try o) → (o : ℕ) (a : Access) → shared_ask q ≢ machine.Enter o a
@@ -156,7 +156,7 @@ refused_label_needs_nothing (machine.Out p Reading v) o h = h
 refused_label_needs_nothing (machine.Out p Writing v) o h = h
 
 -- the event of a refused try
-refused_option_is_refused_event : (x : Option Event) → IsRefused x → (o : ℕ) × (x ≡ Some (Refused o))
+refused_option_is_refused_event : (x : Option Event) → IsRefusedTry x → (o : ℕ) × (x ≡ Some (Refused o))
 refused_option_is_refused_event None h = absurd h
 refused_option_is_refused_event (Some (Answered kind value)) h = absurd h
 refused_option_is_refused_event (Some (Read object version)) h = absurd h
@@ -236,7 +236,7 @@ free_step_is_admitted f s t at has below free run of = (
 
 -- ---- steps that touch no object
 
-alone_step_keeps_objects : (s : Flat) (t v : ℕ) (q : Ask) (e : Option Event) → ((o : ℕ) → q ≢ Try o) → IsAlone q e → (next s t v q).objects ≡ s.objects
+alone_step_keeps_objects : (s : Flat) (t v : ℕ) (q : Ask) (e : Option Event) → ((o : ℕ) → q ≢ Try o) → TouchesNoObject q e → (next s t v q).objects ≡ s.objects
 alone_step_keeps_objects s t v Private e ne h = refl
 alone_step_keeps_objects s t v (Env kind) e ne h = refl
 alone_step_keeps_objects s t v (Enter o a) e ne h = absurd h
@@ -248,7 +248,7 @@ alone_step_keeps_objects s t v Print e ne h = refl
 alone_step_keeps_objects s t v (End x) e ne h = refl
 alone_step_keeps_objects s t v Done e ne h = refl
 
-alone_ask_is_free : (q : Ask) (e : Option Event) → IsAlone q e → IsFree q e
+alone_ask_is_free : (q : Ask) (e : Option Event) → TouchesNoObject q e → IsFree q e
 alone_ask_is_free Private e h = tt
 alone_ask_is_free (Env kind) e h = tt
 alone_ask_is_free (Enter o a) e h = h
@@ -281,7 +281,7 @@ value_of_logging_try_is_try_result r s t v o e is event logs =
 
 -- a step that touches no object
 alone_step_goes_on_and_keeps_objects : (f : FittedTrace) (s : Flat) (t : ℕ) → HasRun f → IsFlat s → IsStateAt f (positions s) s → t < length s.threads
-    → HasStep f t (positions s t) → IsAlone (ask_of s.code (thread_of s t)) (event_of f t (thread_of s t))
+    → HasStep f t (positions s t) → TouchesNoObject (ask_of s.code (thread_of s t)) (event_of f t (thread_of s t))
     → (v : ℕ) × StepGoesOn f s t v (ask_of s.code (thread_of s t)) × ((next s t v (ask_of s.code (thread_of s t))).objects ≡ s.objects)
 alone_step_goes_on_and_keeps_objects f s t h flat at l has alone =
     let x : thread.ThreadState = thread_of s t in
@@ -290,7 +290,7 @@ alone_step_goes_on_and_keeps_objects f s t h flat at l has alone =
     let ad : AdmittedAt f (positions s) t = free_step_is_admitted f s t at has below (alone_ask_is_free q (event_of f t x) alone) in
     elim (ask_is_try_or_not q) [
       | inl is ↦
-          let refused = refused_option_is_refused_event (event_of f t x) (subst (λ p. IsAlone p (event_of f t x)) is.1 alone) in
+          let refused = refused_option_is_refused_event (event_of f t x) (subst (λ p. TouchesNoObject p (event_of f t x)) is.1 alone) in
           let some = admitted_thread_logs_next f s at h.run h.whole t below (ad h.run h.whole) in
           let none : some.0 ≡ 0 = value_of_logging_try_is_try_result f.recorded s t some.0 is.0 (Refused refused.0) is.1 refused.1 some.1 in
           let goes : StepGoesOn f s t 0 q = step_goes_on_if_logs_next f s t 0 q flat at l refl has (subst (LogsNext f.recorded s t) none some.1) in
@@ -325,8 +325,8 @@ state_catches_up_by_number_of_alone_steps zero f s t i x h flat at l there alone
     }
 state_catches_up_by_number_of_alone_steps (suc n) f s t i x h flat at l there alone past sum =
     let q : Ask = ask_of s.code (thread_of s t) in
-    let own : IsAlone q (event_of f t (thread_of s t)) = subst (λ c. IsAlone (ask_of c (thread_of s t)) (event_of f t (thread_of s t)))
-    (sym at.code) (subst (GoesAlone f t) (sym ((at.each h.run h.whole).threads t))
+    let own : TouchesNoObject q (event_of f t (thread_of s t)) = subst (λ c. TouchesNoObject (ask_of c (thread_of s t)) (event_of f t (thread_of s t)))
+    (sym at.code) (subst (NextTouchesNone f t) (sym ((at.each h.run h.whole).threads t))
     (alone h.run h.whole (positions s t) past (omega (arith, sum)))) in
     let has : HasStep f t (positions s t) = λ run of. (let within = (there run of).0 in omega (arith, within, sum)) in
     let goes = alone_step_goes_on_and_keeps_objects f s t h flat at l has own in

@@ -23,7 +23,7 @@ use Rattle.ir_log.specs.declared.event.Event.TheVariants.{Answer as Answered, Re
 use Rattle.ir_trace.specs.Recorded.{recorded_thread}
 use Rattle.ir_fit.specs.Fit.{FittedTrace, IsRunOf}
 use Rattle.ir_cut.specs.Positions.{machine_of, start_of, EachRun, thread_at}
-use Rattle.ir_weave.specs.Ahead.{IsAlone, GoesAlone, HasStep, IsThreadAt, IsAhead, ask_at, event_of}
+use Rattle.ir_weave.specs.Ahead.{TouchesNoObject, NextTouchesNone, HasStep, IsThreadAt, IsAhead, ask_at, event_of}
 use Rattle.ir_weave.proofs.Trails.{StepOf, thread_at_position_zero_is_start_thread, emitting_step_is_step_of}
 
 -- ---- the next event
@@ -294,7 +294,7 @@ is_thread_at_after_taken_step f t x q r at k run of =
 
 -- ahead by one step more that touches no object
 pub ahead_after_alone_step : (f : FittedTrace) (t i : ℕ) (x : thread.ThreadState) (q : Ask) (r : Reply) → IsAhead f t i x → TakesStep f t x q r
-    → IsAlone q (event_of f t x)
+    → TouchesNoObject q (event_of f t x)
     → IsAhead f t i (after_ask f.guest.code x q r)
 ahead_after_alone_step f t i x q r ahead k alone =
     let more = steps_after_ask_are_one_more_if_not_done f.guest.code x q r k.step in record {
@@ -306,8 +306,8 @@ ahead_after_alone_step f t i x q r ahead k alone =
       at = is_thread_at_after_taken_step f t x q r ahead.at k;
       alone = λ run of j past less. elim (cases_lt j x.steps) [
         | inl before ↦ ahead.alone run of j past before
-        | inr last ↦ subst (λ z. GoesAlone f t (thread_at f run t z)) (let e : x.steps ≡ j = omega (arith, last, less, more) in e)
-            (subst (GoesAlone f t) (ahead.at run of).1 (subst (λ p. IsAlone p (event_of f t x)) (sym k.asks) alone))
+        | inr last ↦ subst (λ z. NextTouchesNone f t (thread_at f run t z)) (let e : x.steps ≡ j = omega (arith, last, less, more) in e)
+            (subst (NextTouchesNone f t) (ahead.at run of).1 (subst (λ p. TouchesNoObject p (event_of f t x)) (sym k.asks) alone))
       ];
     }
 

@@ -20,7 +20,7 @@ use Rattle.ir_trace.specs.Recorded.{recorded_thread}
 use Rattle.ir_runs.specs.Run.{Emits}
 use Rattle.ir_fit.specs.Fit.{FittedTrace, HasRun}
 use Rattle.ir_cut.specs.Positions.{machine_of, start_of, EachRun, thread_at}
-use Rattle.ir_weave.specs.Ahead.{IsAlone, event_of, HasStep, IsAhead, IsAsking, IsEntering, IsNextObject, ask_at}
+use Rattle.ir_weave.specs.Ahead.{TouchesNoObject, event_of, HasStep, IsAhead, IsAsking, IsEntering, IsNextObject, ask_at}
 use Rattle.ir_object.specs.Layout.{word_place, content_place, table_length}
 use Rattle.ir_object.specs.Word.{version_unit, reader_leaves}
 use Rattle.ir_weave.specs.Woven.{View, M, trace_in, Met, progress, met_in, met_of, Rises, HasMet, Woven, Opens, Answers, WasStopped, looked, stepped_on, read_version, IsSeated, IsGranted}
@@ -205,7 +205,7 @@ pub record ObjectStepReport (k : Plan) (x : thread.ThreadState) (me w : M) (n : 
   pub answers : Answers (trace_in k) x.number x.steps n
 
 pub stepped_on_gives_object_step_report : (k : Plan) (x : thread.ThreadState) (asked : Ask) (me w : M) (n : ℕ) → IsSeated k me.0 x
-    → ask_of (trace_in k).guest.code x ≡ asked → (IsAlone asked (event_of (trace_in k) x.number x) → ⊥) → stepped_on any_step me n w → ObjectStepReport k x me w n
+    → ask_of (trace_in k).guest.code x ≡ asked → (TouchesNoObject asked (event_of (trace_in k) x.number x) → ⊥) → stepped_on any_step me n w → ObjectStepReport k x me w n
 stepped_on_gives_object_step_report k x asked ([], c) w n seated is touches emitted = absurd seated
 stepped_on_gives_object_step_report k x asked (q ∷ r ∷ qs, c) w n seated is touches emitted = absurd seated
 stepped_on_gives_object_step_report k x asked (q ∷ [], c) w n seated is touches emitted =
@@ -213,7 +213,7 @@ stepped_on_gives_object_step_report k x asked (q ∷ [], c) w n seated is touche
     let ask : ask_of f.guest.code x ≡ asked = property_of_trace_holds_of_trace_of_equal_plan k q (λ f. ask_of f.guest.code x ≡ asked) seated.0 is in
     let here : emitted.0 ≡ x.steps = next_object_is_unique f q.thread q.position emitted.0 x.steps seated.1.run emitted.1
     (step_is_next_on_object_if_not_alone f q.thread q.position x asked seated.1 ask
-    (subst (λ (z : Plan × ℕ). IsAlone asked (event_of (trace_in z.0) z.1 x) → ⊥) (λ i. (sym seated.0 i, seated.1.number i)) touches)) in
+    (subst (λ (z : Plan × ℕ). TouchesNoObject asked (event_of (trace_in z.0) z.1 x) → ⊥) (λ i. (sym seated.0 i, seated.1.number i)) touches)) in
     record {
       view = emitted.2 ∙ (λ i. (progress_view_is_view_at k q x (suc emitted.0) (suc x.steps) false (met_in q) seated.0 seated.1.number (ap suc here) i, c));
       answers = subst (λ (z : Plan × ℕ × ℕ). Answers (trace_in z.0) z.1 z.2 n) (λ i. (seated.0 i, sym seated.1.number i, here i)) emitted.3;
@@ -221,7 +221,7 @@ stepped_on_gives_object_step_report k x asked (q ∷ [], c) w n seated is touche
 
 -- who enters an object touches it
 pub entering_step_is_not_alone : (k : Plan) (x : thread.ThreadState) (o : ℕ) (a : Access) (e : Event) → (entering : IsEntering (trace_in k) x o a e)
-    → IsAlone entering.asked (event_of (trace_in k) x.number x) → ⊥
+    → TouchesNoObject entering.asked (event_of (trace_in k) x.number x) → ⊥
 entering_step_is_not_alone k x o a e entering =
     entering_ask_is_not_alone entering.asked o a e (event_of (trace_in k) x.number x) entering.event entering.suits entering.enters
 

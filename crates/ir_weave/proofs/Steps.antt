@@ -24,7 +24,7 @@ use Rattle.ir_log.specs.declared.event.Event.TheVariants.{Answer as Answered, Re
 use Rattle.ir_trace.specs.Recorded.{recorded_thread}
 use Rattle.ir_fit.specs.Fit.{FittedTrace, IsRunOf}
 use Rattle.ir_cut.specs.Positions.{machine_of, start_of, thread_at}
-use Rattle.ir_weave.specs.Ahead.{IsRefused, IsAlone, event_of, HasStep, IsAhead, IsAsking, IsEntering, ask_at}
+use Rattle.ir_weave.specs.Ahead.{IsRefusedTry, TouchesNoObject, event_of, HasStep, IsAhead, IsAsking, IsEntering, ask_at}
 use Rattle.ir_weave.specs.Woven.{View, M, trace_in, Met, progress, met_of, Rises, HasMet, Answers, IsFor, IsOpened, IsSeated, HasStepped, HasWaited, HasRunOn, WasStopped}
 use Rattle.ir_weave.specs.declared.plan.Plan.{Plan}
 use Rattle.ir_weave.proofs.Lone.{TakesStep, HasNoValue, IsNotDone, ahead_after_alone_step, ahead_by_nothing_after_object_step, ahead_of_own_position, takes_step_with_go_if_ask_has_no_value, takes_step_of_call_with_logged_answer, takes_step_of_try_with_logged_result, try_result, ahead_thread_asks_in_run, logged_step_has_recorded_event, steps_after_ask_are_one_more_if_not_done, number_after_ask_is_unchanged, thread_with_step_is_not_done}
@@ -69,7 +69,7 @@ rises_is_reflexive m = record { cut = λ u. omega arith; looks = omega arith }
 
 -- a step that touches no object
 pub stepped_by_alone_step : (k : Plan) (f : FittedTrace) (code : List ℕ) (me : M) (x y : thread.ThreadState) (q : Ask) (r : Reply) → IsFor k f
-    → code ≡ f.guest.code → IsSeated k me.0 x → IsAlone q (event_of (trace_in k) x.number x) → IsNotDone q → TakesStep (trace_in k) x.number x q r → y ≡ after_reply code x r
+    → code ≡ f.guest.code → IsSeated k me.0 x → TouchesNoObject q (event_of (trace_in k) x.number x) → IsNotDone q → TakesStep (trace_in k) x.number x q r → y ≡ after_reply code x r
     → HasStepped k me me x y
 stepped_by_alone_step k f code me x y q r for same seated alone step takes is =
     let y_is : y ≡ after_ask (trace_in k).guest.code x q r = is
@@ -288,7 +288,7 @@ stepped_by_private_print_or_end_step k f code me x y q for same seated asking ow
   | inr rest ↦ elim rest [ inl a ↦ step Print a tt tt tt | inr a ↦ step (End a.0) a.1 tt tt tt ]
 ]
   where
-    step : (p : Ask) → q ≡ p → IsAlone p (event_of (trace_in k) x.number x) → HasNoValue p → IsNotDone p → HasStepped k me me x y
+    step : (p : Ask) → q ≡ p → TouchesNoObject p (event_of (trace_in k) x.number x) → HasNoValue p → IsNotDone p → HasStepped k me me x y
     step p a alone go real =
         let ask : IsAsking (trace_in k) x p = subst (IsAsking (trace_in k) x) a (asking_in_trace_is_asking_in_plan k f x q for asking) in
         stepped_by_alone_step k f code me x y p Go for same seated alone real (seated_thread_takes_step_with_go_if_no_value k me.0 x p seated ask go real) is
@@ -363,7 +363,7 @@ pub stepped_by_refused_try : (k : Plan) (f : FittedTrace) (code : List ℕ) (me 
     → HasStepped k me me x y
 stepped_by_refused_try k f code me x y o p for same seated asking event is =
     stepped_by_alone_step k f code me x y (Try o) (Value 0) for same seated
-    (subst IsRefused (sym (subst (λ z. slice_get (recorded_thread z.recorded x.number).events x.events ≡ Some (Refused p)) (sym for) event))
+    (subst IsRefusedTry (sym (subst (λ z. slice_get (recorded_thread z.recorded x.number).events x.events ≡ Some (Refused p)) (sym for) event))
     tt) tt (seated_thread_takes_try_with_logged_result k f me.0 x o (Refused p) for seated asking event) is
 
 -- a thread of the guest

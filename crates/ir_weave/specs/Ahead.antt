@@ -15,22 +15,22 @@ use Rattle.ir_fit.specs.Fit.{FittedTrace, HasRun}
 use Rattle.ir_cut.specs.Positions.{machine_of, start_of, thread_at, EachRun}
 
 -- a try that is logged so was refused
-abbrev pub IsRefused : Option Event → Type 0
-IsRefused (Some (event.Try object)) = ⊤
-IsRefused _ = ⊥
+abbrev pub IsRefusedTry : Option Event → Type 0
+IsRefusedTry (Some (event.Try object)) = ⊤
+IsRefusedTry _ = ⊥
 
 -- a step that asks so, of which the trace emits this event next, touches no object
-abbrev pub IsAlone : Ask → Option Event → Type 0
-IsAlone ask.Private e = ⊤
-IsAlone (ask.Env kind) e = ⊤
-IsAlone (ask.Enter object access) e = ⊥
-IsAlone (ask.Try object) e = IsRefused e
-IsAlone (ask.Leave object access) e = ⊥
-IsAlone (ask.Get object index) e = ⊥
-IsAlone (ask.Put object index value) e = ⊥
-IsAlone ask.Print e = ⊤
-IsAlone (ask.End x) e = ⊤
-IsAlone ask.Done e = ⊥
+abbrev pub TouchesNoObject : Ask → Option Event → Type 0
+TouchesNoObject ask.Private e = ⊤
+TouchesNoObject (ask.Env kind) e = ⊤
+TouchesNoObject (ask.Enter object access) e = ⊥
+TouchesNoObject (ask.Try object) e = IsRefusedTry e
+TouchesNoObject (ask.Leave object access) e = ⊥
+TouchesNoObject (ask.Get object index) e = ⊥
+TouchesNoObject (ask.Put object index value) e = ⊥
+TouchesNoObject ask.Print e = ⊤
+TouchesNoObject (ask.End x) e = ⊤
+TouchesNoObject ask.Done e = ⊥
 
 -- what it asks then
 abbrev pub ask_at : FittedTrace → List Step → ℕ → ℕ → Ask
@@ -41,8 +41,8 @@ abbrev pub event_of : FittedTrace → ℕ → thread.ThreadState → Option Even
 event_of f t x = slice_get (recorded_thread f.recorded t).events x.events
 
 -- thread x's next step, as one of thread t's, touches no object
-abbrev pub GoesAlone : FittedTrace → ℕ → thread.ThreadState → Type 0
-GoesAlone f t x = IsAlone (ask_of f.guest.code x) (event_of f t x)
+abbrev pub NextTouchesNone : FittedTrace → ℕ → thread.ThreadState → Type 0
+NextTouchesNone f t x = TouchesNoObject (ask_of f.guest.code x) (event_of f t x)
 
 -- thread t has more than k steps
 abbrev pub HasStep : FittedTrace → ℕ → ℕ → Type 0
@@ -54,13 +54,13 @@ IsThreadAt f t x = EachRun f (λ run. (x.steps ≤ count (machine_of f) (start_o
 
 -- the steps of thread t from i on, before step k, touch no object
 abbrev pub AreAlone : FittedTrace → ℕ → ℕ → ℕ → Type 0
-AreAlone f t i k = EachRun f (λ run. (j : ℕ) → i ≤ j → j < k → GoesAlone f t (thread_at f run t j))
+AreAlone f t i k = EachRun f (λ run. (j : ℕ) → i ≤ j → j < k → NextTouchesNone f t (thread_at f run t j))
 
 -- step k is the first step of thread t from i on that touches an object
 pub record IsNextObject (f : FittedTrace) (t i k : ℕ) : Type 0 where
   pub past : i ≤ k
   pub alone : AreAlone f t i k
-  pub touches : EachRun f (λ run. GoesAlone f t (thread_at f run t k) → ⊥)
+  pub touches : EachRun f (λ run. NextTouchesNone f t (thread_at f run t k) → ⊥)
 
 -- x is thread t, ahead of position i by steps that touch no object
 pub record IsAhead (f : FittedTrace) (t i : ℕ) (x : thread.ThreadState) : Type 0 where

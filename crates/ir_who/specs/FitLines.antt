@@ -9,11 +9,11 @@ use Rattle.ir_past.specs.declared.place.Place.{Place}
 use Rattle.ir_past.specs.Past.{AreReaders, IsOverwriter}
 use Rattle.ir_past.specs.Naming.{place_text, maker_text}
 use Rattle.ir_events.specs.Events.{entry_of}
-use Rattle.ir_fit_run.specs.Answers.{IsAnswerOf}
+use Rattle.ir_fit_run.specs.Answers.{IsFitAnswerOf}
 use Rattle.ir_fit_run.specs.Opened.{IsFit}
 use Rattle.ir_fit_run.specs.Paired.{ArePaired}
 use Rattle.ir_fit_run.specs.Positions.{IsLeft, step_part, step_if}
-use Rattle.ir_who.specs.Lines.{object_line, IsAbsent}
+use Rattle.ir_who.specs.Lines.{object_line, LacksAsked}
 use Rattle.ir_who.specs.Versions.{AreVersions}
 use Rattle.ir_who.specs.declared.version.Version.{Version}
 use Rattle.ir_who.specs.declared.dated.Dated.{Dated}
@@ -103,11 +103,11 @@ pub record IsFitWhoAnswer (asked : Question) (f : FittedTrace) (text : List ℕ)
 pub record IsOfNoRun (asked : Question) (image trace : List ℕ) (what : Absent) (w : Writer) : Type 0 where
   pub fitted : FittedTrace
   pub fits : IsFit image trace fitted
-  pub lacks : IsAbsent asked fitted.recorded what
+  pub lacks : LacksAsked asked fitted.recorded what
   pub none : Appends w.before w.after []
   pub works : w.failed ≡ false
 
 -- why a question about bytes wasn't answered, and what that leaves
 abbrev pub IsFitUnanswered : Question → List ℕ → List ℕ → WhoErr → Writer → Type 0
 IsFitUnanswered asked image trace (who.Absent what) w = IsOfNoRun asked image trace what w
-IsFitUnanswered asked image trace (who.Unwritten e) w = NotAnswered (IsAnswerOf (IsFitWhoAnswer asked) image trace) e w
+IsFitUnanswered asked image trace (who.Unwritten e) w = NotAnswered (IsFitAnswerOf (IsFitWhoAnswer asked) image trace) e w

@@ -35,8 +35,8 @@ abbrev pub object_line : ℕ → ℕ → List ℕ
 object_line o count = codes "object " ++ (decimal o ++ (codes " versions " ++ (decimal count ++ 10 ∷ [])))
 
 -- the lines of an object
-abbrev pub object_text : ℕ → List Version → List ℕ
-object_text o rows = object_line o (length rows) ++ version_lines 0 rows
+abbrev pub versions_text : ℕ → List Version → List ℕ
+versions_text o rows = object_line o (length rows) ++ version_lines 0 rows
 
 -- the line of a read entry
 abbrev pub read_line : Place → List ℕ
@@ -60,7 +60,7 @@ version_text v x readers over = version_line v x ++ (read_lines readers ++ over_
 pub record IsObjectAnswer (r : Recorded) (o : ℕ) (text : List ℕ) : Type 0 where
   pub rows : List Version
   pub all : AreVersions r o rows
-  pub lines : text ≡ object_text o rows
+  pub lines : text ≡ versions_text o rows
 
 -- the answer about version v of an object: what made it, who read it, what wrote over it
 pub record IsVersionAnswer (r : Recorded) (o v : ℕ) (text : List ℕ) : Type 0 where
@@ -94,13 +94,13 @@ IsUnsaidVersion r o v (who.Absent absent.Version) = LacksVersion r o v
 IsUnsaidVersion r o v (who.Unwritten e) = e ≡ NoMem
 
 -- the trace doesn't have what is asked about: no such object, or no such version of it
-abbrev pub IsAbsent : Question → Recorded → Absent → Type 0
-IsAbsent asked r absent.Object = r.objects ≤ asked.object
-IsAbsent asked r absent.Version = (asked.object < r.objects) × ((v : ℕ) × (asked.version ≡ Some v) × LacksVersion r asked.object v)
+abbrev pub LacksAsked : Question → Recorded → Absent → Type 0
+LacksAsked asked r absent.Object = r.objects ≤ asked.object
+LacksAsked asked r absent.Version = (asked.object < r.objects) × ((v : ℕ) × (asked.version ≡ Some v) × LacksVersion r asked.object v)
 
 -- why there is no answer about a coherent trace
 abbrev pub IsUnsaid : Question → Recorded → WhoErr → Type 0
-IsUnsaid asked r (who.Absent what) = IsAbsent asked r what
+IsUnsaid asked r (who.Absent what) = LacksAsked asked r what
 IsUnsaid asked r (who.Unwritten e) = e ≡ NoMem
 
 -- the question is about something that the trace doesn't have, and nothing was written
@@ -108,7 +108,7 @@ pub record IsOfNothing (asked : Question) (read : Result Recorded TraceErr) (wha
   pub trace : Recorded
   pub is_trace : read ≡ Ok trace
   pub coherent : AreCoherent trace
-  pub lacks : IsAbsent asked trace what
+  pub lacks : LacksAsked asked trace what
   pub none : Appends w.before w.after []
   pub works : w.failed ≡ false
 
@@ -123,7 +123,7 @@ status_of (who.Absent what) = status.BadArguments
 status_of (who.Unwritten e) = status.Failed
 
 -- why it wasn't, in words
-abbrev pub fault_words : WhoErr → List ℕ
-fault_words (who.Absent absent.Object) = codes "the trace has no object of this number"
-fault_words (who.Absent absent.Version) = codes "the object has no version of this number"
-fault_words (who.Unwritten e) = unwritten_words e
+abbrev pub who_fault_words : WhoErr → List ℕ
+who_fault_words (who.Absent absent.Object) = codes "the trace has no object of this number"
+who_fault_words (who.Absent absent.Version) = codes "the object has no version of this number"
+who_fault_words (who.Unwritten e) = unwritten_words e

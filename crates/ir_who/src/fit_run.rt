@@ -6,12 +6,12 @@ ghost use Rattle.ir_files.specs.Writers.{writer_of, Reports, fault_text};
 ghost use Rattle.ir_files.specs.declared.exit_status.ExitStatus.TheVariants as status;
 ghost use Rattle.ir_past.specs.Answers.{Answered};
 ghost use Rattle.ir_past.specs.declared.place.Place as place;
-ghost use Rattle.ir_fit_run.specs.Answers.{IsAnswerOf};
+ghost use Rattle.ir_fit_run.specs.Answers.{IsFitAnswerOf};
 ghost use Rattle.ir_fit_run.specs.Opened.{IsFit};
 ghost use Rattle.ir_fit_run.specs.Paired.{ArePaired};
 ghost use Rattle.ir_fit_run.specs.Positions.{IsInside};
 ghost use Rattle.ir_who.specs.FitLines.{IsMadeAt, IsDated, IsFitObjectAnswer, IsFitVersionAnswer, IsFitWhoAnswer, IsFitUnanswered};
-ghost use Rattle.ir_who.specs.Lines.{IsUnsaidVersion, IsUnsaid, status_of, fault_words};
+ghost use Rattle.ir_who.specs.Lines.{IsUnsaidVersion, IsUnsaid, status_of, who_fault_words};
 ghost use Rattle.ir_who.specs.declared.version.Version as version;
 ghost use Rattle.ir_who.specs.declared.who_err.WhoErr.{WhoErr};
 
@@ -118,7 +118,7 @@ fn show_fitted<O: Sink>(
     out: &mut O,
 ) -> Result<ExitStatus, WhoErr>
     requires { O.broken out.old ≡ false }
-    ensures ok { IfOk result (λ answered. (i t : List ℕ) → IsFit i t fitted.now → Answered (IsAnswerOf (IsFitWhoAnswer asked.now) i t) answered (writer_of (O.written out.old) (O.written out.new) (O.broken out.new))) }
+    ensures ok { IfOk result (λ answered. (i t : List ℕ) → IsFit i t fitted.now → Answered (IsFitAnswerOf (IsFitWhoAnswer asked.now) i t) answered (writer_of (O.written out.old) (O.written out.new) (O.broken out.new))) }
     ensures fails { IfErr result (λ e. (i t : List ℕ) → IsFit i t fitted.now → IsFitUnanswered asked.now i t e (writer_of (O.written out.old) (O.written out.new) (O.broken out.new))) }
 {
     let text = answer(alloc, fitted, asked)?;
@@ -135,7 +135,7 @@ fn show<O: Sink>(
     out: &mut O,
 ) -> Result<ExitStatus, WhoErr>
     requires { O.broken out.old ≡ false }
-    ensures ok { IfOk result (λ answered. Answered (IsAnswerOf (IsFitWhoAnswer asked.now) image.now trace.now) answered (writer_of (O.written out.old) (O.written out.new) (O.broken out.new))) }
+    ensures ok { IfOk result (λ answered. Answered (IsFitAnswerOf (IsFitWhoAnswer asked.now) image.now trace.now) answered (writer_of (O.written out.old) (O.written out.new) (O.broken out.new))) }
     ensures fails { IfErr result (λ e. IsFitUnanswered asked.now image.now trace.now e (writer_of (O.written out.old) (O.written out.new) (O.broken out.new))) }
 {
     match open_fit(alloc, image, trace)? {
@@ -161,12 +161,12 @@ pub fn who_fit_run<O: Sink, E: Sink>(
     requires reports { E.broken faults.old ≡ false }
     // The answer was written, and no fault reported.
     ensures done { result ≢ status.Failed → result ≢ status.BadArguments
-        → Answered (IsAnswerOf (IsFitWhoAnswer asked.now) image.now trace.now) result (writer_of (O.written out.old) (O.written out.new) (O.broken out.new)) × (faults.new ≡ faults.old) }
+        → Answered (IsFitAnswerOf (IsFitWhoAnswer asked.now) image.now trace.now) result (writer_of (O.written out.old) (O.written out.new) (O.broken out.new)) × (faults.new ≡ faults.old) }
     // Else why there is none, what that leaves, and that it is reported.
     ensures failed { (result ≡ status.Failed) ⊎ (result ≡ status.BadArguments) → (e : WhoErr)
         × (result ≡ status_of e)
         × IsFitUnanswered asked.now image.now trace.now e (writer_of (O.written out.old) (O.written out.new) (O.broken out.new))
-        × Reports (writer_of (E.written faults.old) (E.written faults.new) (E.broken faults.new)) (fault_text (fault_words e)) }
+        × Reports (writer_of (E.written faults.old) (E.written faults.new) (E.broken faults.new)) (fault_text (who_fault_words e)) }
 {
     match show(alloc, image, trace, asked, out) {
         Ok(answered) => answered,

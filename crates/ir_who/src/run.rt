@@ -6,7 +6,7 @@ ghost use Rattle.ir_trace.specs.Recorded.{recorded_at};
 ghost use Rattle.ir_files.specs.Writers.{writer_of, Reports, fault_text};
 ghost use Rattle.ir_files.specs.declared.exit_status.ExitStatus.TheVariants as status;
 ghost use Rattle.ir_past.specs.Answers.{AreCoherent, IsAnswerOf, Answered};
-ghost use Rattle.ir_who.specs.Lines.{IsObjectAnswer, IsVersionAnswer, IsWhoAnswer, IsUnsaidVersion, IsUnsaid, IsUnanswered, status_of, fault_words};
+ghost use Rattle.ir_who.specs.Lines.{IsObjectAnswer, IsVersionAnswer, IsWhoAnswer, IsUnsaidVersion, IsUnsaid, IsUnanswered, status_of, who_fault_words};
 ghost use Rattle.ir_who.specs.declared.who_err.WhoErr.{WhoErr};
 
 use crate::question::Question;
@@ -114,7 +114,7 @@ pub fn who_run<O: Sink, E: Sink>(
     ensures failed { (result ≡ status.Failed) ⊎ (result ≡ status.BadArguments) → (e : WhoErr)
         × (result ≡ status_of e)
         × IsUnanswered asked.now (recorded_at bytes.now) e (writer_of (O.written out.old) (O.written out.new) (O.broken out.new))
-        × Reports (writer_of (E.written faults.old) (E.written faults.new) (E.broken faults.new)) (fault_text (fault_words e)) }
+        × Reports (writer_of (E.written faults.old) (E.written faults.new) (E.broken faults.new)) (fault_text (who_fault_words e)) }
 {
     match show(alloc, bytes, asked, out) {
         Ok(answered) => answered,

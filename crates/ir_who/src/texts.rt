@@ -2,7 +2,7 @@
 
 ghost use Rattle.std.specs.Prelude.{◌≡◌, ◌++◌, IfOk, OnOk};
 ghost use Rattle.std.specs.String.{string_bytes};
-ghost use Rattle.ir_who.specs.Lines.{object_text, read_lines, version_text};
+ghost use Rattle.ir_who.specs.Lines.{versions_text, read_lines, version_text};
 
 use crate::lines::{object_line, over_line, read_line, version_line};
 use crate::version::Version;
@@ -14,7 +14,7 @@ use std::alloc::{AllocError, Global};
 /// # Errors
 /// Out of memory.
 pub fn object_text(alloc: Global, object: u8, rows: &[Version]) -> Result<String, AllocError>
-    ensures { IfOk result (λ s. string_bytes s ≡ object_text object rows.now) }
+    ensures { IfOk result (λ s. string_bytes s ≡ versions_text object rows.now) }
 {
     let mut text = object_line(alloc, object, rows.len())?;
     for (number, row) in rows.iter().enumerate() {

@@ -29,7 +29,7 @@ pub enum WhoErr {
 }
 
 impl WhoErr {
-    ghost use Rattle.ir_who.specs.Lines.{fault_words, status_of};
+    ghost use Rattle.ir_who.specs.Lines.{who_fault_words, status_of};
 
     /// The exit status that it gives.
     pub fn status(self) -> ExitStatus
@@ -43,7 +43,7 @@ impl WhoErr {
 
     /// The fault in words.
     pub fn words(self) -> &'static str
-        ensures { result.now ≡ fault_words self }
+        ensures { result.now ≡ who_fault_words self }
     {
         match self {
             WhoErr::Absent(Absent::Object) => "the trace has no object of this number",

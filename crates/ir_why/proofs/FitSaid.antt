@@ -5,10 +5,10 @@ use Rattle.ir_files.specs.Writers.{Writer}
 use Rattle.ir_files.specs.declared.exit_status.ExitStatus.{ExitStatus}
 use Rattle.ir_files.specs.declared.exit_status.ExitStatus.TheVariants as status
 use Rattle.ir_past.specs.Answers.{Answered}
-use Rattle.ir_fit_run.specs.Answers.{IsAnswerOf}
+use Rattle.ir_fit_run.specs.Answers.{IsFitAnswerOf}
 use Rattle.ir_fit_run.proofs.CallerLemmas.{refusal_status_is_no_failure}
 
-answer_status_is_no_failure : (P : FittedTrace → List ℕ → Type 0) (image trace : List ℕ) (s : ExitStatus) (text : List ℕ) → IsAnswerOf P image trace s text
+answer_status_is_no_failure : (P : FittedTrace → List ℕ → Type 0) (image trace : List ℕ) (s : ExitStatus) (text : List ℕ) → IsFitAnswerOf P image trace s text
     → (s ≡ status.Failed) ⊎ (s ≡ status.BadArguments) → ⊥
 answer_status_is_no_failure P image trace s text (inl h) (inl failed) = let bad : status.Failed ≡ status.Done = sym failed ∙ h.status in cc
 answer_status_is_no_failure P image trace s text (inl h) (inr bad) = let wrong : status.BadArguments ≡ status.Done = sym bad ∙ h.status in cc
@@ -16,6 +16,6 @@ answer_status_is_no_failure P image trace s text (inr h) (inl failed) = (refusal
 answer_status_is_no_failure P image trace s text (inr h) (inr bad) = (refusal_status_is_no_failure h.why).1 (sym bad ∙ h.status)
 
 -- an answer leaves the status of neither a failure nor bad arguments
-pub answered_status_is_no_failure : (P : FittedTrace → List ℕ → Type 0) (image trace : List ℕ) (s : ExitStatus) (w : Writer) → Answered (IsAnswerOf P image trace) s w
+pub answered_status_is_no_failure : (P : FittedTrace → List ℕ → Type 0) (image trace : List ℕ) (s : ExitStatus) (w : Writer) → Answered (IsFitAnswerOf P image trace) s w
     → (s ≡ status.Failed) ⊎ (s ≡ status.BadArguments) → ⊥
 answered_status_is_no_failure P image trace s w a = answer_status_is_no_failure P image trace s a.text a.is

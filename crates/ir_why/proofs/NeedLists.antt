@@ -13,7 +13,7 @@ use Rattle.ir_past.specs.Answers.{AreCoherent}
 use Rattle.ir_past.specs.Tables.{maker_in, read_in}
 use Rattle.ir_past.specs.declared.place.Place.{Place}
 use Rattle.ir_past.proofs.CallerLemmas.{event_is_of_existing_thread, noted_writer_is_unique}
-use Rattle.ir_picture.specs.Needs.{IsEntryAt, IsMakerOf, IsReaderFor}
+use Rattle.ir_picture.specs.Needs.{IsEntryOf, IsMakerOf, IsReaderFor}
 use Rattle.ir_why.specs.Needed.{NeedsOther, AreNeeds}
 use Rattle.ir_why.specs.declared.tables.Tables.{Tables}
 use Rattle.ir_why.specs.Tables.{HasTables, is_other, others, listed, maker_at, needs_in}
@@ -68,7 +68,7 @@ write_is_noted_maker_of_next_version r tables o v u j l coherent has write = by 
 -- ---- an entry
 
 -- an event that enters an object enters it alone
-entry_at_is_unique : (r : Recorded) (t i o w p v : ℕ) → IsEntryAt r t i o w → IsEntryAt r t i p v → (o ≡ p) × (w ≡ v)
+entry_at_is_unique : (r : Recorded) (t i o w p v : ℕ) → IsEntryOf r t i o w → IsEntryOf r t i p v → (o ≡ p) × (w ≡ v)
 entry_at_is_unique r t i o w p v (inl a) (inl b) =
     let same : variant.Read o w ≡ variant.Read p v = same_Some (variant.Read o w) (variant.Read p v) (sym a ∙ b) in
     let object : o ≡ p = cc in
@@ -90,7 +90,7 @@ read_is_no_write r t i o v p w l a b =
     let same : variant.Read o v ≡ variant.Write p w l = same_Some (variant.Read o v) (variant.Write p w l) (sym a ∙ b) in cc
 
 -- the first part is what made the version, if it is of another thread
-noted_maker_of_other_thread_is_maker : (r : Recorded) (tables : Tables) (t i o w k : ℕ) (p : Place) → HasTables r tables → IsEntryAt r t i o w
+noted_maker_of_other_thread_is_maker : (r : Recorded) (tables : Tables) (t i o w k : ℕ) (p : Place) → HasTables r tables → IsEntryOf r t i o w
     → slice_get (others t (listed (maker_at tables o w))) k ≡ Some p → IsMakerOf r t i p.thread p.event × (p.thread ≢ t)
 noted_maker_of_other_thread_is_maker r tables t i o w k p has entry e =
     let own = filter_sound (is_other t) (listed (maker_at tables o w)) k p e in
@@ -100,13 +100,13 @@ noted_maker_of_other_thread_is_maker r tables t i o w k p has entry e =
         object = o;
         version = made.0;
         readers = made.1;
-        entry = subst (IsEntryAt r t i o) made.2 entry;
+        entry = subst (IsEntryOf r t i o) made.2 entry;
         made = made.3;
       },
       other_thread_if_is_other_is_true t p own.0,
     )
 
-maker_of_other_thread_is_noted : (r : Recorded) (tables : Tables) (t i o w u j : ℕ) → AreCoherent r → HasTables r tables → IsEntryAt r t i o w
+maker_of_other_thread_is_noted : (r : Recorded) (tables : Tables) (t i o w u j : ℕ) → AreCoherent r → HasTables r tables → IsEntryOf r t i o w
     → IsMakerOf r t i u j → u ≢ t → HasPlace (others t (listed (maker_at tables o w))) u j
 maker_of_other_thread_is_noted r tables t i o w u j coherent has entry maker other =
     let same = entry_at_is_unique r t i o w maker.object (suc maker.version) entry maker.entry in
@@ -130,7 +130,7 @@ needs_of_no_entry_are_empty r t i e at read write = record {
   rising = λ a b p q less is. absurd (none-some p is);
 }
   where
-    no_entry : (o v : ℕ) → IsEntryAt r t i o v → ⊥
+    no_entry : (o v : ℕ) → IsEntryOf r t i o v → ⊥
     no_entry o v (inl is) = read o v (same_Some e (variant.Read o v) (sym at ∙ is))
     no_entry o v (inr (l, is)) = write o v l (same_Some e (variant.Write o v l) (sym at ∙ is))
 

@@ -15,7 +15,7 @@ use Rattle.ir_past.specs.declared.place.Place.{Place}
 use Rattle.ir_picture.specs.Needs.{HasNoCircle, IsCircleAt}
 use Rattle.ir_picture.specs.Runs.{RunsHaveNoCircle}
 use Rattle.ir_fit_run.specs.Positions.{IsInside}
-use Rattle.ir_why.specs.FitAnswers.{AreInside, first_cut}
+use Rattle.ir_why.specs.FitAnswers.{AreEventsInside, first_cut}
 use Rattle.ir_why.specs.Tables.{AreThere}
 
 -- ---- what is inside
@@ -27,7 +27,7 @@ trace_event_is_inside f h t i a b =
     let l : t < length f.guest.entries = let n = h.whole.0.threads in omega (arith, a, n) in
     record { thread = l; event = let long = event_positions_are_as_many_as_events f h t l in omega (arith, long, b) }
 
-pub trace_events_are_inside : (f : FittedTrace) → HasRun f → (places : List Place) → AreThere f.recorded places → AreInside f places
+pub trace_events_are_inside : (f : FittedTrace) → HasRun f → (places : List Place) → AreThere f.recorded places → AreEventsInside f places
 trace_events_are_inside f h places there k p is = let own = there k p is in trace_event_is_inside f h p.thread p.event own.0 own.1
 
 -- the other way

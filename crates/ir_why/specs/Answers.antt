@@ -11,7 +11,7 @@ use Rattle.ir_past.specs.declared.past_err.PastErr.TheVariants.{NoMem}
 use Rattle.ir_past.specs.declared.place.Place.{Place}
 use Rattle.ir_picture.specs.Answers.{circle_line}
 use Rattle.ir_picture.specs.Needs.{HasNoCircle, IsCircleAt}
-use Rattle.ir_picture.specs.Places.{ArePlaced}
+use Rattle.ir_picture.specs.Places.{AreBoxesPlaced}
 use Rattle.ir_picture.specs.declared.placed_box.PlacedBox.{PlacedBox}
 use Rattle.ir_picture.specs.declared.placed_box.Point.{Point}
 use Rattle.ir_picture.specs.declared.view_err.Absent.{Absent}
@@ -30,7 +30,7 @@ abbrev pub event_asked : Question → Place
 event_asked asked = record { thread = asked.thread; event = asked.event }
 
 -- the trace has it
-pub record IsThere (r : Recorded) (asked : Question) : Type 0 where
+pub record HasAsked (r : Recorded) (asked : Question) : Type 0 where
   pub thread : asked.thread < length r.threads
   pub event : asked.event < length (recorded_thread r asked.thread).events
 
@@ -43,7 +43,7 @@ pub record IsReason (r : Recorded) (p : Place) (most : ℕ) (text : List ℕ) : 
   pub past : IsPast r p.thread p.event counts
   pub boxes : List PlacedBox
   pub ends : List Point
-  pub placed : ArePlaced r boxes ends
+  pub placed : AreBoxesPlaced r boxes ends
   pub links : List Link
   pub chain : AreLinks r boxes most p.thread p.event links
   pub lines : text ≡ why_text r p needs counts links
@@ -55,34 +55,34 @@ IsEventAnswer r p most answered text =
     ⊎ (HasNoCircle r × (answered ≡ status.Done) × IsReason r p most text)
 
 -- the answer about a coherent trace
-abbrev pub IsTraceAnswer : Question → Recorded → ExitStatus → List ℕ → Type 0
-IsTraceAnswer asked r answered text = IsEventAnswer r (event_asked asked) asked.most answered text
+abbrev pub IsWhyOfTrace : Question → Recorded → ExitStatus → List ℕ → Type 0
+IsWhyOfTrace asked r answered text = IsEventAnswer r (event_asked asked) asked.most answered text
 
 -- the answer about bytes
 abbrev pub IsWhyAnswer : Question → Result Recorded TraceErr → ExitStatus → List ℕ → Type 0
 IsWhyAnswer asked read answered text =
-    ((r : Recorded) × (read ≡ Ok r) × AreCoherent r × IsThere r asked × IsTraceAnswer asked r answered text) ⊎ IsRefusal read answered text
+    ((r : Recorded) × (read ≡ Ok r) × AreCoherent r × HasAsked r asked × IsWhyOfTrace asked r answered text) ⊎ IsRefusal read answered text
 
 -- the trace doesn't have the event
-abbrev pub IsAbsent : Question → Recorded → Absent → Type 0
-IsAbsent asked r absent.Thread = length r.threads ≤ asked.thread
-IsAbsent asked r absent.Event = (asked.thread < length r.threads) × (length (recorded_thread r asked.thread).events ≤ asked.event)
+abbrev pub LacksEvent : Question → Recorded → Absent → Type 0
+LacksEvent asked r absent.Thread = length r.threads ≤ asked.thread
+LacksEvent asked r absent.Event = (asked.thread < length r.threads) × (length (recorded_thread r asked.thread).events ≤ asked.event)
 
 -- why there is no answer about a coherent trace
-abbrev pub IsUnsaid : Question → Recorded → ViewErr → Type 0
-IsUnsaid asked r (view.Absent what) = IsAbsent asked r what
-IsUnsaid asked r (view.Unwritten e) = e ≡ NoMem
+abbrev pub IsWhyUnsaid : Question → Recorded → ViewErr → Type 0
+IsWhyUnsaid asked r (view.Absent what) = LacksEvent asked r what
+IsWhyUnsaid asked r (view.Unwritten e) = e ≡ NoMem
 
 -- the trace doesn't have the event, and nothing was written
-pub record IsOfNothing (asked : Question) (read : Result Recorded TraceErr) (what : Absent) (w : Writer) : Type 0 where
+pub record IsOfNoEvent (asked : Question) (read : Result Recorded TraceErr) (what : Absent) (w : Writer) : Type 0 where
   pub trace : Recorded
   pub is_trace : read ≡ Ok trace
   pub coherent : AreCoherent trace
-  pub lacks : IsAbsent asked trace what
+  pub lacks : LacksEvent asked trace what
   pub none : Appends w.before w.after []
   pub works : w.failed ≡ false
 
 -- why there is no answer about bytes, and what that leaves
-abbrev pub IsUnanswered : Question → Result Recorded TraceErr → ViewErr → Writer → Type 0
-IsUnanswered asked read (view.Absent what) w = IsOfNothing asked read what w
-IsUnanswered asked read (view.Unwritten e) w = NotAnswered (IsWhyAnswer asked read) e w
+abbrev pub IsWhyUnanswered : Question → Result Recorded TraceErr → ViewErr → Writer → Type 0
+IsWhyUnanswered asked read (view.Absent what) w = IsOfNoEvent asked read what w
+IsWhyUnanswered asked read (view.Unwritten e) w = NotAnswered (IsWhyAnswer asked read) e w

@@ -14,15 +14,15 @@ use Rattle.ir_past.specs.Answers.{NotAnswered, fault_words as unwritten_words}
 use Rattle.ir_past.specs.Past.{event_at}
 use Rattle.ir_past.specs.declared.past_err.PastErr.TheVariants.{NoMem}
 use Rattle.ir_past.specs.declared.place.Place.{Place}
-use Rattle.ir_picture.specs.Places.{ArePlaced}
+use Rattle.ir_picture.specs.Places.{AreBoxesPlaced}
 use Rattle.ir_picture.specs.declared.placed_box.PlacedBox.{PlacedBox}
 use Rattle.ir_picture.specs.declared.placed_box.Point.{Point}
 use Rattle.ir_picture.specs.declared.view_err.Absent.TheVariants as absent
 use Rattle.ir_events.specs.Events.{entry_of}
-use Rattle.ir_fit_run.specs.Answers.{IsAnswerOf}
+use Rattle.ir_fit_run.specs.Answers.{IsFitAnswerOf}
 use Rattle.ir_fit_run.specs.Opened.{IsFit}
 use Rattle.ir_fit_run.specs.Positions.{IsInside, IsLeft}
-use Rattle.ir_why.specs.Answers.{event_asked, IsThere, IsAbsent}
+use Rattle.ir_why.specs.Answers.{event_asked, HasAsked, LacksEvent}
 use Rattle.ir_why.specs.FitLines.{here_line, fit_text}
 use Rattle.ir_why.specs.Needed.{AreNeeds}
 use Rattle.ir_why.specs.Waits.{AreWaits, IsPastIn}
@@ -34,8 +34,8 @@ use Rattle.ir_why.specs.declared.why_err.WhyErr.{WhyErr}
 use Rattle.ir_why.specs.declared.why_err.WhyErr.TheVariants as why
 
 -- each of these events is one of a thread of the guest
-abbrev pub AreInside : FittedTrace → List Place → Type 0
-AreInside f places = (k : ℕ) (p : Place) → slice_get places k ≡ Some p → IsInside f p.thread p.event
+abbrev pub AreEventsInside : FittedTrace → List Place → Type 0
+AreEventsInside f places = (k : ℕ) (p : Place) → slice_get places k ≡ Some p → IsInside f p.thread p.event
 
 -- an event that is needed: what it logged, and where its thread leaves what it entered
 pub record IsNeed (f : FittedTrace) (p : Place) (x : Need) : Type 0 where
@@ -76,7 +76,7 @@ pub record IsReasonIn (f : FittedTrace) (p : Place) (most : ℕ) (at : Option (L
   pub past : IsPastIn f p least counts
   pub boxes : List PlacedBox
   pub ends : List Point
-  pub placed : ArePlaced f.recorded boxes ends
+  pub placed : AreBoxesPlaced f.recorded boxes ends
   pub waits : List Wait
   pub chain : AreWaits f boxes most p.thread p.event waits
   pub lines : text ≡ fit_text at here needs counts least waits
@@ -96,14 +96,14 @@ AreCuts f (Some ps) = IsCutOf f ps
 
 -- the answer about a guest and a trace of one of its runs
 pub record IsFitReason (asked : FitQuestion) (f : FittedTrace) (text : List ℕ) : Type 0 where
-  pub there : IsThere f.recorded asked.what
+  pub there : HasAsked f.recorded asked.what
   pub at : AreCuts f (positions_asked asked)
   pub reason : IsReasonIn f (event_asked asked.what) asked.what.most (positions_asked asked) text
 
 -- why there is no answer about a guest and a trace of one of its runs
 abbrev pub IsFitUnsaid : FitQuestion → FittedTrace → WhyErr → Type 0
-IsFitUnsaid asked f (why.Absent what) = IsAbsent asked.what f.recorded what
-IsFitUnsaid asked f why.NoCut = IsThere f.recorded asked.what × (AreCuts f (positions_asked asked) → ⊥)
+IsFitUnsaid asked f (why.Absent what) = LacksEvent asked.what f.recorded what
+IsFitUnsaid asked f why.NoCut = HasAsked f.recorded asked.what × (AreCuts f (positions_asked asked) → ⊥)
 IsFitUnsaid asked f (why.Unwritten e) = e ≡ NoMem
 
 -- the run doesn't have what is asked about, and nothing was written
@@ -115,20 +115,20 @@ pub record IsOfNone (asked : FitQuestion) (image trace : List ℕ) (e : WhyErr) 
   pub works : w.failed ≡ false
 
 -- why there is no answer about bytes, and what that leaves
-abbrev pub IsFitUnanswered : FitQuestion → List ℕ → List ℕ → WhyErr → Writer → Type 0
-IsFitUnanswered asked image trace (why.Absent what) w = IsOfNone asked image trace (why.Absent what) w
-IsFitUnanswered asked image trace why.NoCut w = IsOfNone asked image trace why.NoCut w
-IsFitUnanswered asked image trace (why.Unwritten e) w = NotAnswered (IsAnswerOf (IsFitReason asked) image trace) e w
+abbrev pub IsWhyFitUnanswered : FitQuestion → List ℕ → List ℕ → WhyErr → Writer → Type 0
+IsWhyFitUnanswered asked image trace (why.Absent what) w = IsOfNone asked image trace (why.Absent what) w
+IsWhyFitUnanswered asked image trace why.NoCut w = IsOfNone asked image trace why.NoCut w
+IsWhyFitUnanswered asked image trace (why.Unwritten e) w = NotAnswered (IsFitAnswerOf (IsFitReason asked) image trace) e w
 
 -- the exit status where there is no answer
-abbrev pub status_of : WhyErr → ExitStatus
-status_of (why.Absent what) = status.BadArguments
-status_of why.NoCut = status.BadArguments
-status_of (why.Unwritten e) = status.Failed
+abbrev pub why_status : WhyErr → ExitStatus
+why_status (why.Absent what) = status.BadArguments
+why_status why.NoCut = status.BadArguments
+why_status (why.Unwritten e) = status.Failed
 
 -- why there is none, in words
-abbrev pub fault_words : WhyErr → List ℕ
-fault_words (why.Absent absent.Thread) = codes "the trace has no thread of this number"
-fault_words (why.Absent absent.Event) = codes "the thread has no event of this number"
-fault_words why.NoCut = codes "the positions are no consistent cut of the run"
-fault_words (why.Unwritten e) = unwritten_words e
+abbrev pub why_fault_words : WhyErr → List ℕ
+why_fault_words (why.Absent absent.Thread) = codes "the trace has no thread of this number"
+why_fault_words (why.Absent absent.Event) = codes "the thread has no event of this number"
+why_fault_words why.NoCut = codes "the positions are no consistent cut of the run"
+why_fault_words (why.Unwritten e) = unwritten_words e

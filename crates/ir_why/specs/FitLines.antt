@@ -26,8 +26,8 @@ abbrev pub here_line : Place → Event → ℕ → List ℕ
 here_line p e k = place_text p ++ (step_part k ++ (codes " " ++ (event_text (label_of e) ++ 10 ∷ [])))
 
 -- the line of an event that is needed
-abbrev pub need_line : Option (List ℕ) → Need → List ℕ
-need_line at x = codes "needs " ++ (place_text x.place ++ (codes " " ++ (event_text (label_of x.event)
+abbrev pub fit_need_line : Option (List ℕ) → Need → List ℕ
+fit_need_line at x = codes "needs " ++ (place_text x.place ++ (codes " " ++ (event_text (label_of x.event)
     ++ (left_part at x.place.thread x.left ++ 10 ∷ []))))
 
 -- the line of the least cut
@@ -42,4 +42,4 @@ wait_line w = codes "since " ++ (place_text w.waiting ++ (step_part w.step ++ (c
 -- all lines: the event, what it needs, how much is before it, the least cut, and the waits
 abbrev pub fit_text : Option (List ℕ) → List ℕ → List Need → List ℕ → List ℕ → List Wait → List ℕ
 fit_text at here needs counts least waits =
-    here ++ (flat_map (need_line at) needs ++ (past_line counts ++ (least_line least ++ flat_map wait_line waits)))
+    here ++ (flat_map (fit_need_line at) needs ++ (past_line counts ++ (least_line least ++ flat_map wait_line waits)))

@@ -6,7 +6,7 @@ ghost use Rattle.ir_log.specs.Logging.{label_of};
 ghost use Rattle.ir_text.specs.Texts.{event_text};
 ghost use Rattle.ir_fit_run.specs.Positions.{IsInside};
 ghost use Rattle.ir_why.specs.FitAnswers.{IsHereLine};
-ghost use Rattle.ir_why.specs.FitLines.{met_part, left_part, here_line, need_line, least_line, wait_line};
+ghost use Rattle.ir_why.specs.FitLines.{met_part, left_part, here_line, fit_need_line, least_line, wait_line};
 
 use crate::need::Need;
 use crate::wait::Wait;
@@ -88,7 +88,7 @@ fn push_need(
     at: &Option<Cut>,
     need: &Need,
 ) -> Result<(), AllocError>
-    ensures { OnOk result (text.new.items ≡ text.old.items ++ need_line at.now need.now) }
+    ensures { OnOk result (text.new.items ≡ text.old.items ++ fit_need_line at.now need.now) }
 {
     text.extend_from_slice(b"needs ")?;
     text.extend_from_slice(place_text(alloc, &need.place)?.as_bytes())?;
@@ -109,7 +109,7 @@ pub fn push_needs(
     at: &Option<Cut>,
     needs: &[Need],
 ) -> Result<(), AllocError>
-    ensures { OnOk result (text.new.items ≡ text.old.items ++ flat_map (need_line at.now) needs.now) }
+    ensures { OnOk result (text.new.items ≡ text.old.items ++ flat_map (fit_need_line at.now) needs.now) }
 {
     for need in needs {
         push_need(alloc, text, at, need)?;

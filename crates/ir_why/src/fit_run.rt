@@ -4,10 +4,10 @@ ghost use Rattle.std.specs.Prelude.{◌≡◌, ◌≢◌, ◌⊎◌, ℕ, List, 
 ghost use Rattle.ir_files.specs.Writers.{writer_of, Reports, fault_text};
 ghost use Rattle.ir_files.specs.declared.exit_status.ExitStatus.TheVariants as status;
 ghost use Rattle.ir_past.specs.Answers.{Answered};
-ghost use Rattle.ir_fit_run.specs.Answers.{IsAnswerOf};
+ghost use Rattle.ir_fit_run.specs.Answers.{IsFitAnswerOf};
 ghost use Rattle.ir_fit_run.specs.Opened.{IsFit};
 ghost use Rattle.ir_fit_run.specs.Positions.{IsInside};
-ghost use Rattle.ir_why.specs.FitAnswers.{AreCuts, IsCutOf, IsReasonIn, IsFitReason, IsFitUnsaid, IsFitUnanswered, positions_asked, status_of, fault_words};
+ghost use Rattle.ir_why.specs.FitAnswers.{AreCuts, IsCutOf, IsReasonIn, IsFitReason, IsFitUnsaid, IsWhyFitUnanswered, positions_asked, why_status, why_fault_words};
 ghost use Rattle.ir_past.specs.declared.past_err.PastErr.TheVariants.{NoMem};
 ghost use Rattle.ir_why.specs.declared.why_err.WhyErr.{WhyErr};
 ghost use Rattle.ir_why.specs.declared.why_err.WhyErr.TheVariants as why;
@@ -90,8 +90,8 @@ fn show_fitted<O: Sink>(
     out: &mut O,
 ) -> Result<ExitStatus, WhyErr>
     requires { O.broken out.old ≡ false }
-    ensures ok { IfOk result (λ status. (i t : List ℕ) → IsFit i t fitted.now → Answered (IsAnswerOf (IsFitReason asked.now) i t) status (writer_of (O.written out.old) (O.written out.new) (O.broken out.new))) }
-    ensures fails { IfErr result (λ e. (i t : List ℕ) → IsFit i t fitted.now → IsFitUnanswered asked.now i t e (writer_of (O.written out.old) (O.written out.new) (O.broken out.new))) }
+    ensures ok { IfOk result (λ status. (i t : List ℕ) → IsFit i t fitted.now → Answered (IsFitAnswerOf (IsFitReason asked.now) i t) status (writer_of (O.written out.old) (O.written out.new) (O.broken out.new))) }
+    ensures fails { IfErr result (λ e. (i t : List ℕ) → IsFit i t fitted.now → IsWhyFitUnanswered asked.now i t e (writer_of (O.written out.old) (O.written out.new) (O.broken out.new))) }
 {
     let text = text_asked(alloc, fitted, asked)?;
     let answer = Answer {
@@ -110,8 +110,8 @@ fn show<O: Sink>(
     out: &mut O,
 ) -> Result<ExitStatus, WhyErr>
     requires { O.broken out.old ≡ false }
-    ensures ok { IfOk result (λ status. Answered (IsAnswerOf (IsFitReason asked.now) image.now trace.now) status (writer_of (O.written out.old) (O.written out.new) (O.broken out.new))) }
-    ensures fails { IfErr result (λ e. IsFitUnanswered asked.now image.now trace.now e (writer_of (O.written out.old) (O.written out.new) (O.broken out.new))) }
+    ensures ok { IfOk result (λ status. Answered (IsFitAnswerOf (IsFitReason asked.now) image.now trace.now) status (writer_of (O.written out.old) (O.written out.new) (O.broken out.new))) }
+    ensures fails { IfErr result (λ e. IsWhyFitUnanswered asked.now image.now trace.now e (writer_of (O.written out.old) (O.written out.new) (O.broken out.new))) }
 {
     match open_fit(alloc, image, trace)? {
         Opened::Fits(fitted) => show_fitted(alloc, &fitted, asked, out),
@@ -138,12 +138,12 @@ pub fn why_fit_run<O: Sink, E: Sink>(
     requires reports { E.broken faults.old ≡ false }
     // The answer was written, and no fault reported.
     ensures done { result ≢ status.Failed → result ≢ status.BadArguments
-        → Answered (IsAnswerOf (IsFitReason asked.now) image.now trace.now) result (writer_of (O.written out.old) (O.written out.new) (O.broken out.new)) × (faults.new ≡ faults.old) }
+        → Answered (IsFitAnswerOf (IsFitReason asked.now) image.now trace.now) result (writer_of (O.written out.old) (O.written out.new) (O.broken out.new)) × (faults.new ≡ faults.old) }
     // Else why there is none, what that leaves, and that it is reported.
     ensures failed { (result ≡ status.Failed) ⊎ (result ≡ status.BadArguments) → (e : WhyErr)
-        × (result ≡ status_of e)
-        × IsFitUnanswered asked.now image.now trace.now e (writer_of (O.written out.old) (O.written out.new) (O.broken out.new))
-        × Reports (writer_of (E.written faults.old) (E.written faults.new) (E.broken faults.new)) (fault_text (fault_words e)) }
+        × (result ≡ why_status e)
+        × IsWhyFitUnanswered asked.now image.now trace.now e (writer_of (O.written out.old) (O.written out.new) (O.broken out.new))
+        × Reports (writer_of (E.written faults.old) (E.written faults.new) (E.broken faults.new)) (fault_text (why_fault_words e)) }
 {
     match show(alloc, image, trace, asked, out) {
         Ok(answered) => answered,

@@ -3,7 +3,7 @@
 ghost use Rattle.std.specs.Prelude.{List, IfOk};
 ghost use Rattle.ir_picture.specs.Boxes.{AreBoxes};
 ghost use Rattle.ir_picture.specs.Placing.{events_of_all};
-ghost use Rattle.ir_picture.specs.Places.{ArePlaced};
+ghost use Rattle.ir_picture.specs.Places.{AreBoxesPlaced};
 ghost use Rattle.ir_picture.specs.declared.placed_box.Point.{Point};
 ghost use Rattle.ir_fit_run.specs.Positions.{IsInside};
 ghost use Rattle.ir_why.specs.FitAnswers.{IsReasonIn};
@@ -34,7 +34,7 @@ pub fn reason_in(
 ) -> Result<Vec<u8>, AllocError>
     requires inside { IsInside fitted.now here.thread here.event }
     requires boxes { AreBoxes fitted.now.recorded (events_of_all boxes.now) }
-    ensures { IfOk result (λ text. (ends : List Point) → ArePlaced fitted.now.recorded boxes.now ends → IsReasonIn fitted.now here most at.now text.items) }
+    ensures { IfOk result (λ text. (ends : List Point) → AreBoxesPlaced fitted.now.recorded boxes.now ends → IsReasonIn fitted.now here most at.now text.items) }
 {
     fitted.known();
     let tables = tables_of(alloc, fitted.trace())?;

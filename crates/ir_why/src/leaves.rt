@@ -3,7 +3,7 @@
 ghost use Rattle.std.specs.Prelude.{◌≡◌, IfOk};
 ghost use Rattle.ir_fit_run.specs.Positions.{IsInside, IsLeft};
 ghost use Rattle.ir_cut.specs.Positions.{IsConsistentCut};
-ghost use Rattle.ir_why.specs.FitAnswers.{AreInside, IsNeed, AreNeedsOf, IsLeastFor, first_cut};
+ghost use Rattle.ir_why.specs.FitAnswers.{AreEventsInside, IsNeed, AreNeedsOf, IsLeastFor, first_cut};
 ghost use Rattle.ir_fit_run.specs.Paired.{ArePaired};
 ghost use Rattle.ir_why.specs.Tables.{HasTables};
 
@@ -36,7 +36,7 @@ fn need_of(fitted: &Fitted, place: Place) -> Need
 
 // Events that are needed, each with what it logged and where what it entered is left.
 fn needs_left(alloc: Global, fitted: &Fitted, places: &[Place]) -> Result<Vec<Need>, AllocError>
-    requires { AreInside fitted.now places.now }
+    requires { AreEventsInside fitted.now places.now }
     ensures { IfOk result (λ needs. ArePaired (IsNeed fitted.now) places.now needs.items) }
 {
     let mut needs = Vec::new(alloc);

@@ -5,10 +5,10 @@ ghost use Rattle.ir_trace.specs.Recorded.{recorded_thread, recorded_at};
 ghost use Rattle.ir_files.specs.Writers.{writer_of, Reports, fault_text};
 ghost use Rattle.ir_files.specs.declared.exit_status.ExitStatus.TheVariants as status;
 ghost use Rattle.ir_past.specs.Answers.{AreCoherent, Answered};
-ghost use Rattle.ir_picture.specs.Answers.{status_of, fault_words};
+ghost use Rattle.ir_picture.specs.Answers.{view_status, view_fault_words};
 ghost use Rattle.ir_picture.specs.declared.view_err.Absent.{Absent};
 ghost use Rattle.ir_picture.specs.declared.view_err.ViewErr.{ViewErr};
-ghost use Rattle.ir_why.specs.Answers.{event_asked, IsThere, IsAbsent, IsEventAnswer, IsTraceAnswer, IsWhyAnswer, IsUnsaid, IsUnanswered};
+ghost use Rattle.ir_why.specs.Answers.{event_asked, HasAsked, LacksEvent, IsEventAnswer, IsWhyOfTrace, IsWhyAnswer, IsWhyUnsaid, IsWhyUnanswered};
 
 use crate::question::Question;
 use crate::texts::reason_of;
@@ -26,8 +26,8 @@ use std::alloc::{AllocError, Global};
 #[tactic(auto, using(ir_trace::proofs::CallerLemmas::recorded_threads_at_most_limit))]
 pub fn find(trace: &Trace, asked: &Question) -> Result<Place, Absent>
     ensures place { IfOk result (λ place. place ≡ event_asked asked.now) }
-    ensures there { OnOk result (IsThere trace.now asked.now) }
-    ensures absent { IfErr result (IsAbsent asked.now trace.now) }
+    ensures there { OnOk result (HasAsked trace.now asked.now) }
+    ensures absent { IfErr result (LacksEvent asked.now trace.now) }
 {
     let threads = trace.threads();
     let Some(thread) = threads.get(asked.thread as usize) else {
@@ -61,9 +61,9 @@ fn answer_there(alloc: Global, trace: &Trace, here: Place, most: u32) -> Result<
 // The answer about a coherent trace.
 fn answer_of(alloc: Global, trace: &Trace, asked: &Question) -> Result<Answer, ViewErr>
     requires { AreCoherent trace.now }
-    ensures there { OnOk result (IsThere trace.now asked.now) }
-    ensures ok { IfOk result (λ a. IsTraceAnswer asked.now trace.now a.status a.text.items) }
-    ensures fails { IfErr result (IsUnsaid asked.now trace.now) }
+    ensures there { OnOk result (HasAsked trace.now asked.now) }
+    ensures ok { IfOk result (λ a. IsWhyOfTrace asked.now trace.now a.status a.text.items) }
+    ensures fails { IfErr result (IsWhyUnsaid asked.now trace.now) }
 {
     match find(trace, asked) {
         Ok(here) => Ok(answer_there(alloc, trace, here, asked.most)?),
@@ -81,7 +81,7 @@ fn show_trace<O: Sink>(
     requires works { O.broken out.old ≡ false }
     requires coherent { AreCoherent trace.now }
     ensures ok { IfOk result (λ answered. Answered (IsWhyAnswer asked.now (Ok trace.now)) answered (writer_of (O.written out.old) (O.written out.new) (O.broken out.new))) }
-    ensures fails { IfErr result (λ e. IsUnanswered asked.now (Ok trace.now) e (writer_of (O.written out.old) (O.written out.new) (O.broken out.new))) }
+    ensures fails { IfErr result (λ e. IsWhyUnanswered asked.now (Ok trace.now) e (writer_of (O.written out.old) (O.written out.new) (O.broken out.new))) }
 {
     let answer = answer_of(alloc, trace, asked)?;
     Ok(put_answer(&answer, out)?)
@@ -96,7 +96,7 @@ fn show<O: Sink>(
 ) -> Result<ExitStatus, ViewErr>
     requires { O.broken out.old ≡ false }
     ensures ok { IfOk result (λ answered. Answered (IsWhyAnswer asked.now (recorded_at bytes.now)) answered (writer_of (O.written out.old) (O.written out.new) (O.broken out.new))) }
-    ensures fails { IfErr result (λ e. IsUnanswered asked.now (recorded_at bytes.now) e (writer_of (O.written out.old) (O.written out.new) (O.broken out.new))) }
+    ensures fails { IfErr result (λ e. IsWhyUnanswered asked.now (recorded_at bytes.now) e (writer_of (O.written out.old) (O.written out.new) (O.broken out.new))) }
 {
     match open_trace(alloc, bytes)? {
         Opened::Coherent(trace) => show_trace(alloc, &trace, asked, out),
@@ -123,9 +123,9 @@ pub fn why_run<O: Sink, E: Sink>(
         → Answered (IsWhyAnswer asked.now (recorded_at bytes.now)) result (writer_of (O.written out.old) (O.written out.new) (O.broken out.new)) × (faults.new ≡ faults.old) }
     // Else why there is none, what that leaves, and that it is reported.
     ensures failed { (result ≡ status.Failed) ⊎ (result ≡ status.BadArguments) → (e : ViewErr)
-        × (result ≡ status_of e)
-        × IsUnanswered asked.now (recorded_at bytes.now) e (writer_of (O.written out.old) (O.written out.new) (O.broken out.new))
-        × Reports (writer_of (E.written faults.old) (E.written faults.new) (E.broken faults.new)) (fault_text (fault_words e)) }
+        × (result ≡ view_status e)
+        × IsWhyUnanswered asked.now (recorded_at bytes.now) e (writer_of (O.written out.old) (O.written out.new) (O.broken out.new))
+        × Reports (writer_of (E.written faults.old) (E.written faults.new) (E.broken faults.new)) (fault_text (view_fault_words e)) }
 {
     match show(alloc, bytes, asked, out) {
         Ok(answered) => answered,

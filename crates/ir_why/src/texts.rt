@@ -8,7 +8,7 @@ ghost use Rattle.ir_why.specs.Lines.{need_line, link_line};
 ghost use Rattle.ir_why.specs.Tables.{AreThere};
 ghost use Rattle.ir_picture.specs.Boxes.{AreBoxes};
 ghost use Rattle.ir_picture.specs.Placing.{events_of_all};
-ghost use Rattle.ir_picture.specs.Places.{ArePlaced};
+ghost use Rattle.ir_picture.specs.Places.{AreBoxesPlaced};
 ghost use Rattle.ir_picture.specs.declared.placed_box.Point.{Point};
 
 use crate::before::past_of;
@@ -77,7 +77,7 @@ pub fn reason_of(
     requires thread { here.thread < length trace.now.threads }
     requires event { here.event < length (recorded_thread trace.now here.thread).events }
     requires boxes { AreBoxes trace.now (events_of_all boxes.now) }
-    ensures { IfOk result (λ text. (ends : List Point) → ArePlaced trace.now boxes.now ends → IsReason trace.now here most text.items) }
+    ensures { IfOk result (λ text. (ends : List Point) → AreBoxesPlaced trace.now boxes.now ends → IsReason trace.now here most text.items) }
 {
     let tables = tables_of(alloc, trace)?;
     let needs = tables.needs_of(alloc, trace, here)?;

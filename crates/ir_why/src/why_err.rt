@@ -22,11 +22,11 @@ pub enum WhyErr {
 }
 
 impl WhyErr {
-    ghost use Rattle.ir_why.specs.FitAnswers.{fault_words, status_of};
+    ghost use Rattle.ir_why.specs.FitAnswers.{why_fault_words, why_status};
 
     /// The exit status that it gives.
     pub fn status(self) -> ExitStatus
-        ensures { result ≡ status_of self }
+        ensures { result ≡ why_status self }
     {
         match self {
             WhyErr::Absent(_) => ExitStatus::BadArguments,
@@ -37,7 +37,7 @@ impl WhyErr {
 
     /// The fault in words.
     pub fn words(self) -> &'static str
-        ensures { result.now ≡ fault_words self }
+        ensures { result.now ≡ why_fault_words self }
     {
         match self {
             WhyErr::Absent(what) => ViewErr::Absent(what).words(),

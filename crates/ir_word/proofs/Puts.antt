@@ -11,13 +11,13 @@ use Rattle.ir_weave.specs.Ahead.{ask_at}
 use Rattle.ir_walk.specs.Calls.{AreCalls}
 use Rattle.ir_walk.specs.declared.exchange.Exchange.{Exchange}
 use Rattle.ir_walk.proofs.CallerLemmas.{steps_without_call_are_private, step_with_call_asks_what_call_asked}
-use Rattle.ir_word.specs.Words.{puts, PutsAt, IsLastPut, IsPutIn}
+use Rattle.ir_word.specs.Words.{puts_word, PutsAt, IsLastPut, IsPutIn}
 use Rattle.ir_word.specs.declared.object_word.ObjectWord.{ObjectWord}
 
 -- ---- whether a call puts the word
 
 -- one that does
-ask_is_put_of_word_if_puts_is_true : (w : ObjectWord) (q : Ask) → puts w q ≡ true → (value : ℕ) × (q ≡ ask.Put w.object w.index value)
+ask_is_put_of_word_if_puts_is_true : (w : ObjectWord) (q : Ask) → puts_word w q ≡ true → (value : ℕ) × (q ≡ ask.Put w.object w.index value)
 ask_is_put_of_word_if_puts_is_true w ask.Private e = absurd (cc e)
 ask_is_put_of_word_if_puts_is_true w (ask.Env kind) e = absurd (cc e)
 ask_is_put_of_word_if_puts_is_true w (ask.Enter o a) e = absurd (cc e)
@@ -31,15 +31,15 @@ ask_is_put_of_word_if_puts_is_true w ask.Print e = absurd (cc e)
 ask_is_put_of_word_if_puts_is_true w (ask.End z) e = absurd (cc e)
 ask_is_put_of_word_if_puts_is_true w ask.Done e = absurd (cc e)
 
-puts_is_true_for_put_of_word : (w : ObjectWord) (value : ℕ) → puts w (ask.Put w.object w.index value) ≡ true
+puts_is_true_for_put_of_word : (w : ObjectWord) (value : ℕ) → puts_word w (ask.Put w.object w.index value) ≡ true
 puts_is_true_for_put_of_word w value = ap (λ (z : Bool × Bool). z.0 && z.1) (λ i. (eq-eqb w.object w.object refl i, eq-eqb w.index w.index refl i))
 
 -- a step that puts the word asks to in the run that there is
 puts_is_true_if_step_puts_word : (f : FittedTrace) (w : ObjectWord) (t k : ℕ) (q : Ask) → HasRun f → EachRun f (λ run. ask_at f run t k ≡ q) → PutsAt f w t k
-    → puts w q ≡ true
+    → puts_word w q ≡ true
 puts_is_true_if_step_puts_word f w t k q h asks at =
     let here = at h.run h.whole in
-    sym (ap (puts w) (sym here.1 ∙ asks h.run h.whole)) ∙ puts_is_true_for_put_of_word w here.0
+    sym (ap (puts_word w) (sym here.1 ∙ asks h.run h.whole)) ∙ puts_is_true_for_put_of_word w here.0
 
 -- ---- further on
 
@@ -69,14 +69,14 @@ put_in_empty_range_holds_for_other_empty_range f w t from k to (Some s) before w
 -- n steps more, with a call or with none
 pub put_in_after_steps_with_one_call_at_most : (f : FittedTrace) (w : ObjectWord) (t from k n : ℕ) (put new : Option ℕ) (call : Option Exchange) → HasRun f
     → AreCalls f t k n (option_to_list call) → ((c : Exchange) → call ≡ Some c → n ≡ 1)
-    → ((c : Exchange) → call ≡ Some c → puts w c.asked ≡ true → new ≡ Some k)
-    → (((c : Exchange) → call ≡ Some c → puts w c.asked ≡ false) → new ≡ put)
+    → ((c : Exchange) → call ≡ Some c → puts_word w c.asked ≡ true → new ≡ Some k)
+    → (((c : Exchange) → call ≡ Some c → puts_word w c.asked ≡ false) → new ≡ put)
     → from ≤ k → IsPutIn f w t from k put → IsPutIn f w t from (k + n) new
 put_in_after_steps_with_one_call_at_most f w t from k n put new None h calls one some none within is =
     subst (IsPutIn f w t from (k + n)) (sym (none (λ c e. absurd (cc e))))
     (put_in_more_steps_without_put f w t from k (k + n) put (omega arith)
     (λ j past before at. cc (puts_is_true_if_step_puts_word f w t j ask.Private h (steps_without_call_are_private f t k n calls j past before) at)) is)
-put_in_after_steps_with_one_call_at_most f w t from k n put new (Some c) h calls one some none within is = by (puts w c.asked) refl
+put_in_after_steps_with_one_call_at_most f w t from k n put new (Some c) h calls one some none within is = by (puts_word w c.asked) refl
   where
     n1 : n ≡ 1
     n1 = one c refl
@@ -84,7 +84,7 @@ put_in_after_steps_with_one_call_at_most f w t from k n put new (Some c) h calls
     asks : EachRun f (λ run. ask_at f run t k ≡ c.asked)
     asks = step_with_call_asks_what_call_asked f t k n c calls n1
 
-    by : (b : Bool) → puts w c.asked ≡ b → IsPutIn f w t from (k + n) new
+    by : (b : Bool) → puts_word w c.asked ≡ b → IsPutIn f w t from (k + n) new
     by true e =
         let q = ask_is_put_of_word_if_puts_is_true w c.asked e in
         subst (IsPutIn f w t from (k + n)) (sym (some c refl e)) (record {
@@ -94,8 +94,8 @@ put_in_after_steps_with_one_call_at_most f w t from k n put new (Some c) h calls
           last = λ j past before at. absurd (omega (arith, past, before, n1));
         })
     by false e =
-        subst (IsPutIn f w t from (k + n)) (sym (none (λ d same. subst (λ (z : Exchange). puts w z.asked ≡ false) (same_call c d same) e)))
-        (put_in_more_steps_without_put f w t from k (k + n) put (omega arith) (λ j past before at. true_is_not_false (puts w c.asked)
+        subst (IsPutIn f w t from (k + n)) (sym (none (λ d same. subst (λ (z : Exchange). puts_word w z.asked ≡ false) (same_call c d same) e)))
+        (put_in_more_steps_without_put f w t from k (k + n) put (omega arith) (λ j past before at. true_is_not_false (puts_word w c.asked)
         (puts_is_true_if_step_puts_word f w t j c.asked h (subst (λ i. EachRun f (λ run. ask_at f run t i ≡ c.asked)) (same_step j past before) asks) at) e) is)
       where
         same_call : (c d : Exchange) → Some c ≡ Some d → c ≡ d

@@ -15,7 +15,7 @@ use Rattle.ir_fit_run.specs.Paired.{ArePaired}
 use Rattle.ir_who.specs.declared.version.Version.{Version}
 use Rattle.ir_walk.specs.Calls.{AreCalls}
 use Rattle.ir_walk.specs.declared.exchange.Exchange.{Exchange}
-use Rattle.ir_word.specs.Words.{puts, IsPutIn, IsWorded, unread}
+use Rattle.ir_word.specs.Words.{puts_word, IsPutIn, IsWorded, unread}
 use Rattle.ir_word.specs.Track.{IsHoldOf, IsTrack, IsFound, IsPending, IsLooked, IsBeforeStop, AddsWords, AreTracked}
 use Rattle.ir_word.specs.declared.hold.Hold.{Hold}
 use Rattle.ir_word.specs.declared.object_word.ObjectWord.{ObjectWord}
@@ -51,8 +51,8 @@ pub put_after_looked_at_steps : (f : FittedTrace) (rows : List Version) (w : Obj
     → IsTrack f rows w t k old → IsBeforeStop k stop old → k + n ≤ stop → old.next < length old.holds.items
     → (keeps ≡ true → IsLooked k old) → (keeps ≡ false → IsLooked k old → ⊥) → (keeps ≡ true → AreCalls f t k n (option_to_list call))
     → (keeps ≡ false → call ≡ None) → ((c : Exchange) → call ≡ Some c → n ≡ 1)
-    → ((c : Exchange) → call ≡ Some c → puts w c.asked ≡ true → new.put ≡ Some k)
-    → (((c : Exchange) → call ≡ Some c → puts w c.asked ≡ false) → new.put ≡ old.put) → IsPutIn f w t old.from (k + n) new.put
+    → ((c : Exchange) → call ≡ Some c → puts_word w c.asked ≡ true → new.put ≡ Some k)
+    → (((c : Exchange) → call ≡ Some c → puts_word w c.asked ≡ false) → new.put ≡ old.put) → IsPutIn f w t old.from (k + n) new.put
 put_after_looked_at_steps f rows w t k n stop old new true call h is stops within some seen unseen calls kept one put none =
     put_in_after_steps_with_one_call_at_most f w t old.from k n old.put new.put call h (calls refl) one put none (seen refl).1 (is.put some)
 put_after_looked_at_steps f rows w t k n stop old new false call h is stops within some seen unseen calls kept one put none =

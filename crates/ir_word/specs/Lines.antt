@@ -11,7 +11,7 @@ use Rattle.ir_past.specs.Answers.{NotAnswered, fault_words as unwritten_words}
 use Rattle.ir_past.specs.Naming.{maker_text}
 use Rattle.ir_past.specs.declared.past_err.PastErr.TheVariants.{NoMem}
 use Rattle.ir_text.specs.Texts.{hex_word}
-use Rattle.ir_fit_run.specs.Answers.{IsAnswerOf}
+use Rattle.ir_fit_run.specs.Answers.{IsFitAnswerOf}
 use Rattle.ir_fit_run.specs.Opened.{IsFit}
 use Rattle.ir_fit_run.specs.Paired.{ArePaired}
 use Rattle.ir_fit_run.specs.Positions.{step_if}
@@ -38,17 +38,17 @@ is_other ds zero = true
 is_other ds (suc v) = not ((slice_index_or ds v unread).word == (slice_index_or ds (suc v) unread).word)
 
 -- the line of version v, if it has another word than the version before
-abbrev pub line_if : ℕ → List Worded → ℕ → List ℕ
-line_if i ds v = if is_other ds v then word_line i v (slice_index_or ds v unread) else []
+abbrev pub word_line_if : ℕ → List Worded → ℕ → List ℕ
+word_line_if i ds v = if is_other ds v then word_line i v (slice_index_or ds v unread) else []
 
 -- the lines of the first n versions
-unfoldable pub first_lines : ℕ → List Worded → ℕ → List ℕ
-first_lines i ds zero = []
-first_lines i ds (suc n) = first_lines i ds n ++ line_if i ds n
+unfoldable pub changed_lines : ℕ → List Worded → ℕ → List ℕ
+changed_lines i ds zero = []
+changed_lines i ds (suc n) = changed_lines i ds n ++ word_line_if i ds n
 
 -- the lines of object o with word i
 abbrev pub word_text : ℕ → ℕ → List Worded → List ℕ
-word_text o i ds = object_line o (length ds) ++ first_lines i ds (length ds)
+word_text o i ds = object_line o (length ds) ++ changed_lines i ds (length ds)
 
 -- the answer about a word of an object: a line for each version that has another word than the version before
 pub record IsLinesOf (f : FittedTrace) (w : ObjectWord) (text : List ℕ) : Type 0 where
@@ -65,35 +65,35 @@ pub record IsWordAnswer (asked : Question) (f : FittedTrace) (text : List ℕ) :
   pub answer : IsLinesOf f (record { object = asked.object; index = asked.word }) text
 
 -- the run doesn't have what is asked about: no such object, or no such word of it
-abbrev pub IsAbsent : Question → FittedTrace → Absent → Type 0
-IsAbsent asked f absent.Object = f.recorded.objects ≤ asked.object
-IsAbsent asked f absent.Word = (asked.object < f.recorded.objects) × (object_words f.guest ≤ asked.word)
+abbrev pub LacksWord : Question → FittedTrace → Absent → Type 0
+LacksWord asked f absent.Object = f.recorded.objects ≤ asked.object
+LacksWord asked f absent.Word = (asked.object < f.recorded.objects) × (object_words f.guest ≤ asked.word)
 
 -- why there is no answer about a run
-abbrev pub IsUnsaid : Question → FittedTrace → WordErr → Type 0
-IsUnsaid asked f (err.Absent what) = IsAbsent asked f what
-IsUnsaid asked f (err.Unwritten e) = e ≡ NoMem
+abbrev pub IsWordUnsaid : Question → FittedTrace → WordErr → Type 0
+IsWordUnsaid asked f (err.Absent what) = LacksWord asked f what
+IsWordUnsaid asked f (err.Unwritten e) = e ≡ NoMem
 
 -- the question is about something that the run doesn't have, and nothing was written
-pub record IsOfNothing (asked : Question) (image trace : List ℕ) (what : Absent) (w : Writer) : Type 0 where
+pub record IsOfNoWord (asked : Question) (image trace : List ℕ) (what : Absent) (w : Writer) : Type 0 where
   pub fitted : FittedTrace
   pub fits : IsFit image trace fitted
-  pub lacks : IsAbsent asked fitted what
+  pub lacks : LacksWord asked fitted what
   pub none : Appends w.before w.after []
   pub works : w.failed ≡ false
 
 -- why a question about bytes wasn't answered, and what that leaves
-abbrev pub IsUnanswered : Question → List ℕ → List ℕ → WordErr → Writer → Type 0
-IsUnanswered asked image trace (err.Absent what) w = IsOfNothing asked image trace what w
-IsUnanswered asked image trace (err.Unwritten e) w = NotAnswered (IsAnswerOf (IsWordAnswer asked) image trace) e w
+abbrev pub IsWordUnanswered : Question → List ℕ → List ℕ → WordErr → Writer → Type 0
+IsWordUnanswered asked image trace (err.Absent what) w = IsOfNoWord asked image trace what w
+IsWordUnanswered asked image trace (err.Unwritten e) w = NotAnswered (IsFitAnswerOf (IsWordAnswer asked) image trace) e w
 
 -- the exit status of a question that wasn't answered
-abbrev pub status_of : WordErr → ExitStatus
-status_of (err.Absent what) = status.BadArguments
-status_of (err.Unwritten e) = status.Failed
+abbrev pub word_status : WordErr → ExitStatus
+word_status (err.Absent what) = status.BadArguments
+word_status (err.Unwritten e) = status.Failed
 
 -- why it wasn't, in words
-abbrev pub fault_words : WordErr → List ℕ
-fault_words (err.Absent absent.Object) = codes "the trace has no object of this number"
-fault_words (err.Absent absent.Word) = codes "the object has no word of this number"
-fault_words (err.Unwritten e) = unwritten_words e
+abbrev pub word_fault_words : WordErr → List ℕ
+word_fault_words (err.Absent absent.Object) = codes "the trace has no object of this number"
+word_fault_words (err.Absent absent.Word) = codes "the object has no word of this number"
+word_fault_words (err.Unwritten e) = unwritten_words e

@@ -15,9 +15,9 @@ use Rattle.ir_word.specs.declared.object_word.ObjectWord.{ObjectWord}
 use Rattle.ir_word.specs.declared.worded.Worded.{Worded}
 
 -- whether a call puts the word
-abbrev pub puts : ObjectWord → Ask → Bool
-puts w (ask.Put object index value) = (object == w.object) && (index == w.index)
-puts w _ = false
+abbrev pub puts_word : ObjectWord → Ask → Bool
+puts_word w (ask.Put object index value) = (object == w.object) && (index == w.index)
+puts_word w _ = false
 
 -- step k of thread t puts the word: in each run with the trace it asks to put it
 abbrev pub PutsAt : FittedTrace → ObjectWord → ℕ → ℕ → Type 0

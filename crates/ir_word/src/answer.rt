@@ -3,7 +3,7 @@
 ghost use Rattle.std.specs.Prelude.{◌≡◌, ◌<◌, IfOk, IfErr};
 ghost use Rattle.std.specs.String.{string_bytes};
 ghost use Rattle.ir_image.specs.Guest.{object_words};
-ghost use Rattle.ir_word.specs.Lines.{IsWordAnswer, IsLinesOf, IsUnsaid};
+ghost use Rattle.ir_word.specs.Lines.{IsWordAnswer, IsLinesOf, IsWordUnsaid};
 
 use crate::lines::word_text;
 use crate::object_word::ObjectWord;
@@ -31,7 +31,7 @@ fn word_lines(alloc: Global, fitted: &Fitted, word: ObjectWord) -> Result<String
 /// There is no such object or word, or memory ran out.
 pub fn answer(alloc: Global, fitted: &Fitted, asked: &Question) -> Result<String, WordErr>
     ensures ok { IfOk result (λ s. IsWordAnswer asked.now fitted.now (string_bytes s)) }
-    ensures fails { IfErr result (IsUnsaid asked.now fitted.now) }
+    ensures fails { IfErr result (IsWordUnsaid asked.now fitted.now) }
 {
     fitted.known();
     if asked.object >= fitted.trace().objects() as u32 {

@@ -11,7 +11,7 @@ ghost use Rattle.ir_walk.specs.Calls.{AreCalls};
 ghost use Rattle.ir_walk.specs.declared.exchange.Exchange.{Exchange};
 ghost use Rattle.ir_word.specs.declared.hold.Hold.{Hold};
 ghost use Rattle.ir_word.specs.declared.object_word.ObjectWord as word;
-ghost use Rattle.ir_word.specs.Words.{puts, IsPutIn, IsWorded, unread};
+ghost use Rattle.ir_word.specs.Words.{puts_word, IsPutIn, IsWorded, unread};
 ghost use Rattle.ir_word.specs.Track.{IsGuide, IsHoldOf, IsTrack, IsPending, NoneDue, AddsWords};
 
 use crate::guide::Guide;
@@ -25,7 +25,7 @@ use ir_walk::{Exchange, thread_of, word_at};
 
 // Whether a call puts the word.
 fn puts(word: ObjectWord, asked: Ask) -> bool
-    ensures { result ≡ puts word asked }
+    ensures { result ≡ puts_word word asked }
 {
     match asked {
         Ask::Put(object, index, _) => object == word.object && index == word.index,
@@ -101,8 +101,8 @@ pub fn note_due(
 // Notes that the step from position k put the word, if this call of its did.
 pub fn note_put(word: ObjectWord, track: &mut Track, k: u64, call: Option<Exchange>)
     ensures same { (track.new.holds ≡ track.old.holds) × (track.new.next ≡ track.old.next) × (track.new.from ≡ track.old.from) }
-    ensures put { (c : Exchange) → call ≡ Some c → puts word c.asked ≡ true → track.new.put ≡ Some k }
-    ensures none { ((c : Exchange) → call ≡ Some c → puts word c.asked ≡ false) → track.new.put ≡ track.old.put }
+    ensures put { (c : Exchange) → call ≡ Some c → puts_word word c.asked ≡ true → track.new.put ≡ Some k }
+    ensures none { ((c : Exchange) → call ≡ Some c → puts_word word c.asked ≡ false) → track.new.put ≡ track.old.put }
 {
     match call {
         Some(call) if puts(word, call.asked) => track.put = Some(k),

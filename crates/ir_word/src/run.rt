@@ -4,9 +4,9 @@ ghost use Rattle.std.specs.Prelude.{◌≡◌, ◌≢◌, ◌⊎◌, ℕ, List, 
 ghost use Rattle.ir_files.specs.Writers.{writer_of, Reports, fault_text};
 ghost use Rattle.ir_files.specs.declared.exit_status.ExitStatus.TheVariants as status;
 ghost use Rattle.ir_past.specs.Answers.{Answered};
-ghost use Rattle.ir_fit_run.specs.Answers.{IsAnswerOf};
+ghost use Rattle.ir_fit_run.specs.Answers.{IsFitAnswerOf};
 ghost use Rattle.ir_fit_run.specs.Opened.{IsFit};
-ghost use Rattle.ir_word.specs.Lines.{IsWordAnswer, IsUnanswered, status_of, fault_words};
+ghost use Rattle.ir_word.specs.Lines.{IsWordAnswer, IsWordUnanswered, word_status, word_fault_words};
 ghost use Rattle.ir_word.specs.declared.word_err.WordErr.{WordErr};
 
 use crate::answer::answer;
@@ -27,8 +27,8 @@ fn show_fitted<O: Sink>(
     out: &mut O,
 ) -> Result<ExitStatus, WordErr>
     requires { O.broken out.old ≡ false }
-    ensures ok { IfOk result (λ answered. (i t : List ℕ) → IsFit i t fitted.now → Answered (IsAnswerOf (IsWordAnswer asked.now) i t) answered (writer_of (O.written out.old) (O.written out.new) (O.broken out.new))) }
-    ensures fails { IfErr result (λ e. (i t : List ℕ) → IsFit i t fitted.now → IsUnanswered asked.now i t e (writer_of (O.written out.old) (O.written out.new) (O.broken out.new))) }
+    ensures ok { IfOk result (λ answered. (i t : List ℕ) → IsFit i t fitted.now → Answered (IsFitAnswerOf (IsWordAnswer asked.now) i t) answered (writer_of (O.written out.old) (O.written out.new) (O.broken out.new))) }
+    ensures fails { IfErr result (λ e. (i t : List ℕ) → IsFit i t fitted.now → IsWordUnanswered asked.now i t e (writer_of (O.written out.old) (O.written out.new) (O.broken out.new))) }
 {
     let text = answer(alloc, fitted, asked)?;
     put_bytes(text.as_bytes(), out)?;
@@ -44,8 +44,8 @@ fn show<O: Sink>(
     out: &mut O,
 ) -> Result<ExitStatus, WordErr>
     requires { O.broken out.old ≡ false }
-    ensures ok { IfOk result (λ answered. Answered (IsAnswerOf (IsWordAnswer asked.now) image.now trace.now) answered (writer_of (O.written out.old) (O.written out.new) (O.broken out.new))) }
-    ensures fails { IfErr result (λ e. IsUnanswered asked.now image.now trace.now e (writer_of (O.written out.old) (O.written out.new) (O.broken out.new))) }
+    ensures ok { IfOk result (λ answered. Answered (IsFitAnswerOf (IsWordAnswer asked.now) image.now trace.now) answered (writer_of (O.written out.old) (O.written out.new) (O.broken out.new))) }
+    ensures fails { IfErr result (λ e. IsWordUnanswered asked.now image.now trace.now e (writer_of (O.written out.old) (O.written out.new) (O.broken out.new))) }
 {
     match open_fit(alloc, image, trace)? {
         Opened::Fits(fitted) => show_fitted(alloc, &fitted, asked, out),
@@ -70,12 +70,12 @@ pub fn word_fit_run<O: Sink, E: Sink>(
     requires reports { E.broken faults.old ≡ false }
     // The answer was written, and no fault reported.
     ensures done { result ≢ status.Failed → result ≢ status.BadArguments
-        → Answered (IsAnswerOf (IsWordAnswer asked.now) image.now trace.now) result (writer_of (O.written out.old) (O.written out.new) (O.broken out.new)) × (faults.new ≡ faults.old) }
+        → Answered (IsFitAnswerOf (IsWordAnswer asked.now) image.now trace.now) result (writer_of (O.written out.old) (O.written out.new) (O.broken out.new)) × (faults.new ≡ faults.old) }
     // Else why there is none, what that leaves, and that it is reported.
     ensures failed { (result ≡ status.Failed) ⊎ (result ≡ status.BadArguments) → (e : WordErr)
-        × (result ≡ status_of e)
-        × IsUnanswered asked.now image.now trace.now e (writer_of (O.written out.old) (O.written out.new) (O.broken out.new))
-        × Reports (writer_of (E.written faults.old) (E.written faults.new) (E.broken faults.new)) (fault_text (fault_words e)) }
+        × (result ≡ word_status e)
+        × IsWordUnanswered asked.now image.now trace.now e (writer_of (O.written out.old) (O.written out.new) (O.broken out.new))
+        × Reports (writer_of (E.written faults.old) (E.written faults.new) (E.broken faults.new)) (fault_text (word_fault_words e)) }
 {
     match show(alloc, image, trace, asked, out) {
         Ok(answered) => answered,

@@ -28,11 +28,11 @@ pub enum WordErr {
 }
 
 impl WordErr {
-    ghost use Rattle.ir_word.specs.Lines.{fault_words, status_of};
+    ghost use Rattle.ir_word.specs.Lines.{word_fault_words, word_status};
 
     /// The exit status that it gives.
     pub fn status(self) -> ExitStatus
-        ensures { result ≡ status_of self }
+        ensures { result ≡ word_status self }
     {
         match self {
             WordErr::Absent(_) => ExitStatus::BadArguments,
@@ -42,7 +42,7 @@ impl WordErr {
 
     /// The fault in words.
     pub fn words(self) -> &'static str
-        ensures { result.now ≡ fault_words self }
+        ensures { result.now ≡ word_fault_words self }
     {
         match self {
             WordErr::Absent(Absent::Object) => "the trace has no object of this number",

@@ -8,7 +8,7 @@ ghost use Rattle.ir_packet.specs.Stream.{TooLong};
 ghost use Rattle.ir_packet.specs.declared.request.Request.TheVariants.{Register};
 ghost use Rattle.ir_debug.specs.Machine.{quits};
 ghost use Rattle.ir_gdb.specs.Replies.{has_reply};
-ghost use Rattle.ir_gdb.specs.Connection.{sign, before_new_reply, before_reply, is_copy, is_packet, Consults, AnswersLine, AnswersBy, AnswersRequest, AnswersPacket, AnswersNew, AnswersItem, ends_request, ends_by, ends, SendsOrFails};
+ghost use Rattle.ir_gdb.specs.Connection.{sign, before_new_reply, before_reply, is_copy, is_packet, Consults, AnswersLine, RepliesToItem, AnswersRequest, AnswersPacket, AnswersNew, AnswersItem, ends_request, request_ends, item_ends, SendsOrFails};
 
 use crate::connection::Connection;
 use crate::console::Answered;
@@ -83,7 +83,7 @@ impl Connection {
         requires register { (n : ℕ) → request ≡ Register n → n < 33 }
         requires replies { has_reply request ≡ true }
         ensures reading { self.new.reading ≡ self.old.reading }
-        ensures writes { SendsOrFails W.written W.broken (AnswersBy self.old.link request) [] self.new.link writer.old writer.new result }
+        ensures writes { SendsOrFails W.written W.broken (RepliesToItem self.old.link request) [] self.new.link writer.old writer.new result }
         ensures fault { IfErr result (λ f. f ≡ Fault.Write) }
     {
         self.payload.clear();
@@ -164,7 +164,7 @@ impl Connection {
         requires { found ≡ Found.Packet → length self.old.reading.payload ≤ 4096 }
         ensures reading { self.new.reading ≡ self.old.reading }
         ensures writes { SendsOrFails W.written W.broken (AnswersNew self.old.link (item_found found self.old.reading.payload)) (before_new_reply self.old.link (item_found found self.old.reading.payload)) self.new.link writer.old writer.new result }
-        ensures flow { IfOk result (λ f. f ≡ flow_after (ends_by (item_found found self.old.reading.payload))) }
+        ensures flow { IfOk result (λ f. f ≡ flow_after (request_ends (item_found found self.old.reading.payload))) }
         ensures fault { IfErr result (λ f. f ≡ Fault.Write) }
     {
         match found {
@@ -207,7 +207,7 @@ impl Connection {
         requires { found ≡ Found.Packet → length self.old.reading.payload ≤ 4096 }
         ensures reading { self.new.reading ≡ self.old.reading }
         ensures writes { SendsOrFails W.written W.broken (AnswersItem self.old.link (item_found found self.old.reading.payload)) (before_reply self.old.link (item_found found self.old.reading.payload)) self.new.link writer.old writer.new result }
-        ensures flow { IfOk result (λ f. f ≡ flow_after (ends self.old.link (item_found found self.old.reading.payload))) }
+        ensures flow { IfOk result (λ f. f ≡ flow_after (item_ends self.old.link (item_found found self.old.reading.payload))) }
         ensures fault { IfErr result (λ f. f ≡ Fault.Write) }
     {
         if self.is_copy(found) {

@@ -3,7 +3,7 @@
 ghost use Rattle.std.specs.Prelude.{◌≡◌, ◌≤◌, ℕ, List, length, IfErr};
 ghost use Rattle.ir_stream.specs.Writing.{WritesText};
 ghost use Rattle.ir_packet.specs.Packets.{packet_of};
-ghost use Rattle.ir_packet.specs.Replies.{reply_text, output_text};
+ghost use Rattle.ir_packet.specs.Replies.{reply_text, output_reply};
 ghost use Rattle.ir_gdb.specs.Connection.{sent, resent, sign, answer_text};
 
 use crate::connection::Connection;
@@ -72,9 +72,9 @@ impl Connection {
     // Writes a piece of a session's answer.
     fn send_piece<W: Sink>(&mut self, piece: &[u8], writer: &mut W) -> Result<(), Fault>
         requires { length piece.now ≤ 500 }
-        ensures link { self.new.link ≡ sent self.old.link self.old.link.stub (packet_of (output_text piece.now)) }
+        ensures link { self.new.link ≡ sent self.old.link self.old.link.stub (packet_of (output_reply piece.now)) }
         ensures reading { self.new.reading ≡ self.old.reading }
-        ensures writes { WritesText W.written W.broken writer.old writer.new (packet_of (output_text piece.now)) result }
+        ensures writes { WritesText W.written W.broken writer.old writer.new (packet_of (output_reply piece.now)) result }
         ensures fault { IfErr result (λ f. f ≡ Fault.Write) }
     {
         self.payload.clear();

@@ -3,10 +3,10 @@
 ghost use Rattle.std.specs.Prelude.{◌≡◌, ◌<◌, true, OnOk, OnErr, IfOk, IfSome};
 ghost use Rattle.ir_cut.specs.Positions.{EachRun, threads_of};
 ghost use Rattle.ir_timeline.specs.Hand.{IsCutOf};
-ghost use Rattle.ir_gdb.specs.Stub.{spoken};
-ghost use Rattle.ir_gdb.specs.Stops.{end_of};
+ghost use Rattle.ir_gdb.specs.Stub.{stub_spoken};
+ghost use Rattle.ir_gdb.specs.Stops.{reason_at_end};
 ghost use Rattle.ir_gdb.specs.Together.{Halt, halt, AreWithin, MetBy, StopsAmong, FirstStop, first_met, furthest, StepsAmong, ContinuesAmong, MovesAmong};
-ghost use Rattle.ir_gdb.specs.Moves.{settled};
+ghost use Rattle.ir_gdb.specs.Moves.{all_at_stop};
 
 use crate::remote::Remote;
 use crate::remote::moves::direction_of;
@@ -20,7 +20,7 @@ use std::alloc::{AllocError, Global};
 
 // Why all threads stop that have no hit in a direction.
 fn end_of(direction: Direction) -> Reason
-    ensures { result ≡ end_of direction }
+    ensures { result ≡ reason_at_end direction }
 {
     match direction {
         Direction::Forwards => Reason::End,
@@ -40,8 +40,8 @@ impl Remote {
     ) -> Result<(), AllocError>
         requires cut { IsCutOf self.old.stub.desk.fitted cut }
         requires thread { thread < threads_of self.old.stub.desk.fitted }
-        ensures ok { OnOk result ((h : Halt) × EachRun self.old.stub.desk.fitted (λ run. MetBy true run self.old.stub direction cut (halt thread cut reason) h) × (self.new.stub ≡ settled self.old.stub h)) }
-        ensures err { OnErr result (self.new.stub ≡ spoken self.old.stub) }
+        ensures ok { OnOk result ((h : Halt) × EachRun self.old.stub.desk.fitted (λ run. MetBy true run self.old.stub direction cut (halt thread cut reason) h) × (self.new.stub ≡ all_at_stop self.old.stub h)) }
+        ensures err { OnErr result (self.new.stub ≡ stub_spoken self.old.stub) }
     {
         let each = self.stops(hands, thread, direction)?;
         let each = each.as_slice();
@@ -59,8 +59,8 @@ impl Remote {
         motion: Motion,
     ) -> Result<(), AllocError>
         requires { thread < threads_of self.old.stub.desk.fitted }
-        ensures ok { OnOk result ((h : Halt) × EachRun self.old.stub.desk.fitted (λ run. StepsAmong run self.old.stub thread motion h) × (self.new.stub ≡ settled self.old.stub h)) }
-        ensures err { OnErr result (self.new.stub ≡ spoken self.old.stub) }
+        ensures ok { OnOk result ((h : Halt) × EachRun self.old.stub.desk.fitted (λ run. StepsAmong run self.old.stub thread motion h) × (self.new.stub ≡ all_at_stop self.old.stub h)) }
+        ensures err { OnErr result (self.new.stub ≡ stub_spoken self.old.stub) }
     {
         let to = self.stop_of(hands, thread, motion)?;
         let direction = direction_of(motion);
@@ -145,8 +145,8 @@ impl Remote {
         direction: Direction,
     ) -> Result<(), AllocError>
         requires { thread < threads_of self.old.stub.desk.fitted }
-        ensures ok { OnOk result ((h : Halt) × EachRun self.old.stub.desk.fitted (λ run. ContinuesAmong run self.old.stub thread direction h) × (self.new.stub ≡ settled self.old.stub h)) }
-        ensures err { OnErr result (self.new.stub ≡ spoken self.old.stub) }
+        ensures ok { OnOk result ((h : Halt) × EachRun self.old.stub.desk.fitted (λ run. ContinuesAmong run self.old.stub thread direction h) × (self.new.stub ≡ all_at_stop self.old.stub h)) }
+        ensures err { OnErr result (self.new.stub ≡ stub_spoken self.old.stub) }
     {
         let alloc = hands.alloc();
         let each = self.stops(hands, thread, direction)?;
@@ -168,8 +168,8 @@ impl Remote {
         motion: Motion,
     ) -> Result<(), AllocError>
         requires { thread < threads_of self.old.stub.desk.fitted }
-        ensures ok { OnOk result ((h : Halt) × EachRun self.old.stub.desk.fitted (λ run. MovesAmong run self.old.stub thread motion h) × (self.new.stub ≡ settled self.old.stub h)) }
-        ensures err { OnErr result (self.new.stub ≡ spoken self.old.stub) }
+        ensures ok { OnOk result ((h : Halt) × EachRun self.old.stub.desk.fitted (λ run. MovesAmong run self.old.stub thread motion h) × (self.new.stub ≡ all_at_stop self.old.stub h)) }
+        ensures err { OnErr result (self.new.stub ≡ stub_spoken self.old.stub) }
     {
         match motion {
             Motion::Continue => self.continue_all(hands, thread, Direction::Forwards),

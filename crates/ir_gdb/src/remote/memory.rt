@@ -6,7 +6,7 @@ ghost use Rattle.ir_mach.specs.Core.{memory_size};
 ghost use Rattle.ir_mach.specs.Execution.{byte_at};
 ghost use Rattle.ir_mach.specs.Within.{byte_of};
 ghost use Rattle.ir_cut.specs.Positions.{EachRun};
-ghost use Rattle.ir_gdb.specs.Reads.{word_byte, object_byte, byte_seen, bytes_there, most_bytes};
+ghost use Rattle.ir_gdb.specs.Reads.{word_byte, object_byte, byte_seen, bytes_there, most_read_bytes};
 ghost use Rattle.ir_gdb.specs.Serving.{IsThere};
 
 use crate::remote::Remote;
@@ -98,7 +98,7 @@ impl Remote {
     // The bytes from an address on, as many as there are, at most this number and `MOST_BYTES`.
     pub fn bytes_here(&self, address: u32, size: u32) -> ArrayVec<u8, MOST_BYTES>
         requires { IsThere self.now }
-        ensures { EachRun self.now.stub.desk.fitted (λ run. result.items ≡ bytes_there (byte_seen run self.now.stub) (min size most_bytes) address) }
+        ensures { EachRun self.now.stub.desk.fitted (λ run. result.items ≡ bytes_there (byte_seen run self.now.stub) (min size most_read_bytes) address) }
     {
         let mut bytes = ArrayVec::new();
         let count = (size as usize).min(MOST_BYTES);

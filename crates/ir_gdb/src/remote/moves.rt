@@ -5,10 +5,10 @@ ghost use Rattle.ir_cut.specs.Positions.{EachRun, threads_of};
 ghost use Rattle.ir_timeline.specs.Hand.{IsCutOf};
 ghost use Rattle.ir_gdb.specs.Reads.{thread_of_id};
 ghost use Rattle.ir_gdb.specs.Serving.{IsThere};
-ghost use Rattle.ir_gdb.specs.Stub.{Stub, spoken};
+ghost use Rattle.ir_gdb.specs.Stub.{Stub, stub_spoken};
 ghost use Rattle.ir_gdb.specs.Stops.{direction_of};
 ghost use Rattle.ir_gdb.specs.Together.{Halt, halt, MovesAlone};
-ghost use Rattle.ir_gdb.specs.Moves.{stop_with, told_text, after_told, interrupted_at, settled, arrived, moving, moving_of, Leads, Moves, together_after, with_together};
+ghost use Rattle.ir_gdb.specs.Moves.{stop_with, told_text, after_told, interrupted_at, all_at_stop, arrived, moving, moving_of, MotionLeads, Moves, together_after, with_together};
 ghost use Rattle.ir_gdb.specs.Replies.{RepliesToMove};
 
 use crate::ending::{ended, is_over};
@@ -65,7 +65,7 @@ impl Remote {
     /// Out of memory.
     pub fn reason<H: Hands>(&mut self, hands: &H, out: &mut Vec<u8>) -> Result<(), AllocError>
         requires { vec_len out.old + 96 ≤ vec_capacity out.old }
-        ensures stub { self.new.stub ≡ spoken self.old.stub }
+        ensures stub { self.new.stub ≡ stub_spoken self.old.stub }
         ensures ok { OnOk result (EachRun self.old.stub.desk.fitted (λ run. out.new.items ≡ out.old.items ++ told_text run self.old.stub)) }
         ensures err { OnErr result (out.new.items ≡ out.old.items) }
         ensures lacks { OnErr result (self.old.stub.desk.fresh ≡ false) }
@@ -98,8 +98,8 @@ impl Remote {
     ) -> Result<(), AllocError>
         requires cut { IsCutOf self.old.stub.desk.fitted cut }
         requires thread { thread < threads_of self.old.stub.desk.fitted }
-        ensures ok { OnOk result (self.new.stub ≡ settled self.old.stub (halt thread cut reason)) }
-        ensures err { OnErr result (self.new.stub ≡ spoken self.old.stub) }
+        ensures ok { OnOk result (self.new.stub ≡ all_at_stop self.old.stub (halt thread cut reason)) }
+        ensures err { OnErr result (self.new.stub ≡ stub_spoken self.old.stub) }
     {
         self.debugger.go_to(hands, cut)?;
         let interrupted = false;
@@ -115,7 +115,7 @@ impl Remote {
     pub(crate) fn put_stop_here<H: Hands>(&mut self, hands: &H, out: &mut Vec<u8>)
         requires moved { self.old.stub.desk.fresh ≡ true }
         requires room { vec_len out.old + 96 ≤ vec_capacity out.old }
-        ensures stub { self.new.stub ≡ spoken self.old.stub }
+        ensures stub { self.new.stub ≡ stub_spoken self.old.stub }
         ensures bytes { EachRun self.old.stub.desk.fitted (λ run. out.new.items ≡ out.old.items ++ told_text run self.old.stub) }
         ensures capacity { vec_capacity out.new ≡ vec_capacity out.old }
     {
@@ -133,8 +133,8 @@ impl Remote {
         motion: Motion,
     ) -> Result<(), AllocError>
         requires { thread < threads_of self.old.stub.desk.fitted }
-        ensures ok { OnOk result ((h : Halt) × EachRun self.old.stub.desk.fitted (λ run. MovesAlone run self.old.stub thread motion h) × (self.new.stub ≡ settled self.old.stub h)) }
-        ensures err { OnErr result (self.new.stub ≡ spoken self.old.stub) }
+        ensures ok { OnOk result ((h : Halt) × EachRun self.old.stub.desk.fitted (λ run. MovesAlone run self.old.stub thread motion h) × (self.new.stub ≡ all_at_stop self.old.stub h)) }
+        ensures err { OnErr result (self.new.stub ≡ stub_spoken self.old.stub) }
     {
         let to = self.stop_of(hands, thread, motion)?;
         let direction = direction_of(motion);
@@ -177,9 +177,9 @@ impl Remote {
     // A thread that gdb has interrupted stays where it is.
     fn stay<H: Hands>(&mut self, hands: &H, thread: u32) -> Result<(), AllocError>
         requires { thread < threads_of self.old.stub.desk.fitted }
-        ensures ok { OnOk result (self.new.stub ≡ after_told (spoken self.old.stub) (interrupted_at thread)) }
+        ensures ok { OnOk result (self.new.stub ≡ after_told (stub_spoken self.old.stub) (interrupted_at thread)) }
         ensures there { OnOk result (IsThere self.new) }
-        ensures err { OnErr result (self.new.stub ≡ spoken self.old.stub) }
+        ensures err { OnErr result (self.new.stub ≡ stub_spoken self.old.stub) }
     {
         self.bring_here(hands)?;
         let interrupted = true;
@@ -195,8 +195,8 @@ impl Remote {
     // A thread moves, and the others as far as they must or up to a stop.
     fn travel<H: Hands>(&mut self, hands: &H, who: Moving, motion: Motion) -> Result<(), AllocError>
         requires { who.thread < threads_of self.old.stub.desk.fitted }
-        ensures ok { OnOk result ((h : Halt) × EachRun self.old.stub.desk.fitted (λ run. Leads run self.old.stub who.among who.thread motion h) × (self.new.stub ≡ settled self.old.stub h)) }
-        ensures err { OnErr result (self.new.stub ≡ spoken self.old.stub) }
+        ensures ok { OnOk result ((h : Halt) × EachRun self.old.stub.desk.fitted (λ run. MotionLeads run self.old.stub who.among who.thread motion h) × (self.new.stub ≡ all_at_stop self.old.stub h)) }
+        ensures err { OnErr result (self.new.stub ≡ stub_spoken self.old.stub) }
     {
         if who.among {
             self.move_among(hands, who.thread, motion)
@@ -208,8 +208,8 @@ impl Remote {
     // A thread moves, and gdb is told where it stops, or of the bad end to which the move has come.
     fn arrive<H: Hands>(&mut self, hands: &H, who: Moving, motion: Motion) -> Result<(), AllocError>
         requires { who.thread < threads_of self.old.stub.desk.fitted }
-        ensures ok { OnOk result ((h : Halt) × EachRun self.old.stub.desk.fitted (λ run. Leads run self.old.stub who.among who.thread motion h) × (self.new.stub ≡ arrived self.old.stub who.among h)) }
-        ensures err { OnErr result (self.new.stub ≡ spoken self.old.stub) }
+        ensures ok { OnOk result ((h : Halt) × EachRun self.old.stub.desk.fitted (λ run. MotionLeads run self.old.stub who.among who.thread motion h) × (self.new.stub ≡ arrived self.old.stub who.among h)) }
+        ensures err { OnErr result (self.new.stub ≡ stub_spoken self.old.stub) }
     {
         let Ok(from) = self.here() else {
             self.speak();
@@ -242,8 +242,8 @@ impl Remote {
     ) -> Result<(), AllocError>
         requires room { vec_len out.old + 96 ≤ vec_capacity out.old }
         requires thread { who.thread < threads_of self.old.stub.desk.fitted }
-        ensures ok { OnOk result ((after : Stub) × EachRun self.old.stub.desk.fitted (λ run. Moves run self.old.stub who motion after × (out.new.items ≡ out.old.items ++ told_text run after)) × (self.new.stub ≡ spoken after)) }
-        ensures err { OnErr result ((self.new.stub ≡ spoken self.old.stub) × (out.new.items ≡ out.old.items)) }
+        ensures ok { OnOk result ((after : Stub) × EachRun self.old.stub.desk.fitted (λ run. Moves run self.old.stub who motion after × (out.new.items ≡ out.old.items ++ told_text run after)) × (self.new.stub ≡ stub_spoken after)) }
+        ensures err { OnErr result ((self.new.stub ≡ stub_spoken self.old.stub) × (out.new.items ≡ out.old.items)) }
         ensures capacity { vec_capacity out.new ≡ vec_capacity out.old }
     {
         if self.interrupted {
@@ -271,7 +271,7 @@ impl Remote {
     ) -> Result<(), AllocError>
         requires { vec_len out.old + 96 ≤ vec_capacity out.old }
         ensures ok { OnOk result ((text : List ℕ) × EachRun self.old.stub.desk.fitted (λ run. RepliesToMove (moving_of self.old.stub mover) run self.old.stub motion text self.new.stub) × (out.new.items ≡ out.old.items ++ text)) }
-        ensures err { OnErr result ((self.new.stub ≡ spoken self.old.stub) × (out.new.items ≡ out.old.items)) }
+        ensures err { OnErr result ((self.new.stub ≡ stub_spoken self.old.stub) × (out.new.items ≡ out.old.items)) }
         ensures capacity { vec_capacity out.new ≡ vec_capacity out.old }
     {
         self.has_run();

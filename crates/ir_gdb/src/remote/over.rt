@@ -3,11 +3,11 @@
 ghost use Rattle.std.specs.Prelude.{◌≡◌, ◌<◌, ◌≤◌, OnOk, OnErr, IfOk, length};
 ghost use Rattle.ir_cut.specs.Positions.{EachRun, cut_of, threads_of, last_of};
 ghost use Rattle.ir_timeline.specs.Hand.{IsCutOf};
-ghost use Rattle.ir_gdb.specs.Stub.{spoken};
+ghost use Rattle.ir_gdb.specs.Stub.{stub_spoken};
 ghost use Rattle.ir_gdb.specs.Stops.{position_of};
 ghost use Rattle.ir_gdb.specs.Together.{Halt};
-ghost use Rattle.ir_gdb.specs.Over.{pc_of, HasHit, OtherHasHit, PassesHit, reason_over, StepsOver, is_waiting, is_step, waits, no_more, LeadsAlone, after_motion, after_alone};
-ghost use Rattle.ir_gdb.specs.Moves.{settled};
+ghost use Rattle.ir_gdb.specs.Over.{pc_here, HasHit, OtherHasHit, PassesHit, reason_over, StepsOver, is_waiting, is_step, waits, no_more, LeadsAlone, after_motion, after_alone};
+ghost use Rattle.ir_gdb.specs.Moves.{all_at_stop};
 
 use crate::numbered::points_with;
 use crate::remote::Remote;
@@ -63,7 +63,7 @@ impl Remote {
     ) -> Result<bool, AllocError>
         requires thread { thread < threads_of self.old.stub.desk.fitted }
         requires cut { IsCutOf self.old.stub.desk.fitted cut.now }
-        ensures stub { self.new.stub ≡ spoken self.old.stub }
+        ensures stub { self.new.stub ≡ stub_spoken self.old.stub }
         ensures hit { IfOk result (λ is. EachRun self.old.stub.desk.fitted (λ run. HasHit is run self.old.stub pc cut.now thread)) }
     {
         self.has_run();
@@ -90,8 +90,8 @@ impl Remote {
     ) -> Result<bool, AllocError>
         requires thread { thread < threads_of self.old.stub.desk.fitted }
         requires cut { IsCutOf self.old.stub.desk.fitted cut.now }
-        ensures stub { self.new.stub ≡ spoken self.old.stub }
-        ensures hit { IfOk result (λ is. EachRun self.old.stub.desk.fitted (λ run. OtherHasHit is run self.old.stub (pc_of run self.old.stub thread) cut.now thread)) }
+        ensures stub { self.new.stub ≡ stub_spoken self.old.stub }
+        ensures hit { IfOk result (λ is. EachRun self.old.stub.desk.fitted (λ run. OtherHasHit is run self.old.stub (pc_here run self.old.stub thread) cut.now thread)) }
     {
         let position = self.position(thread);
         let pc = self.pc_at(hands, thread, position)?;
@@ -116,7 +116,7 @@ impl Remote {
     ) -> Result<bool, AllocError>
         requires thread { thread < threads_of self.old.stub.desk.fitted }
         requires cut { IsCutOf self.old.stub.desk.fitted cut.now }
-        ensures stub { self.new.stub ≡ spoken self.old.stub }
+        ensures stub { self.new.stub ≡ stub_spoken self.old.stub }
         ensures hit { IfOk result (λ is. EachRun self.old.stub.desk.fitted (λ run. PassesHit self.old.stub.together is run self.old.stub cut.now thread)) }
     {
         if self.together {
@@ -141,8 +141,8 @@ impl Remote {
     // One step of a thread alone.
     fn step_over<H: Hands>(&mut self, hands: &H, thread: u32) -> Result<(), AllocError>
         requires { thread < threads_of self.old.stub.desk.fitted }
-        ensures ok { OnOk result ((h : Halt) × EachRun self.old.stub.desk.fitted (λ run. StepsOver run self.old.stub thread h) × (self.new.stub ≡ settled self.old.stub h)) }
-        ensures err { OnErr result (self.new.stub ≡ spoken self.old.stub) }
+        ensures ok { OnOk result ((h : Halt) × EachRun self.old.stub.desk.fitted (λ run. StepsOver run self.old.stub thread h) × (self.new.stub ≡ all_at_stop self.old.stub h)) }
+        ensures err { OnErr result (self.new.stub ≡ stub_spoken self.old.stub) }
     {
         let to = self.stop_of(hands, thread, Motion::Step)?;
         let alloc = hands.alloc();
@@ -170,8 +170,8 @@ impl Remote {
         motion: Motion,
     ) -> Result<(), AllocError>
         requires { thread < threads_of self.old.stub.desk.fitted }
-        ensures ok { OnOk result ((h : Halt) × EachRun self.old.stub.desk.fitted (λ run. LeadsAlone run self.old.stub thread motion h) × (self.new.stub ≡ settled self.old.stub h)) }
-        ensures err { OnErr result (self.new.stub ≡ spoken self.old.stub) }
+        ensures ok { OnOk result ((h : Halt) × EachRun self.old.stub.desk.fitted (λ run. LeadsAlone run self.old.stub thread motion h) × (self.new.stub ≡ all_at_stop self.old.stub h)) }
+        ensures err { OnErr result (self.new.stub ≡ stub_spoken self.old.stub) }
     {
         if self.waits(thread) {
             return self.move_alone(hands, thread, no_more(motion));

@@ -2,8 +2,8 @@
 
 ghost use Rattle.std.specs.Prelude.{◌≡◌, ◌<◌, ◌≤◌, ◌+◌, ◌*◌, ◌++◌, false, OnOk, OnErr, length, vec_len, vec_capacity};
 ghost use Rattle.ir_cut.specs.Positions.{EachRun};
-ghost use Rattle.ir_gdb.specs.Stub.{spoken};
-ghost use Rattle.ir_gdb.specs.Reads.{registers_text, register_text, memory_text, bytes_text};
+ghost use Rattle.ir_gdb.specs.Stub.{stub_spoken};
+ghost use Rattle.ir_gdb.specs.Reads.{registers_reply, register_reply, memory_reply, bytes_text};
 
 use crate::registers::{put_registers, word_of};
 use crate::remote::Remote;
@@ -32,8 +32,8 @@ impl Remote {
     /// Out of memory.
     pub fn registers<H: Hands>(&mut self, hands: &H, out: &mut Vec<u8>) -> Result<(), AllocError>
         requires { vec_len out.old + 264 ≤ vec_capacity out.old }
-        ensures stub { self.new.stub ≡ spoken self.old.stub }
-        ensures ok { OnOk result (EachRun self.old.stub.desk.fitted (λ run. out.new.items ≡ out.old.items ++ registers_text run self.old.stub)) }
+        ensures stub { self.new.stub ≡ stub_spoken self.old.stub }
+        ensures ok { OnOk result (EachRun self.old.stub.desk.fitted (λ run. out.new.items ≡ out.old.items ++ registers_reply run self.old.stub)) }
         ensures err { OnErr result (out.new.items ≡ out.old.items) }
         ensures lacks { OnErr result (self.old.stub.desk.fresh ≡ false) }
         ensures capacity { vec_capacity out.new ≡ vec_capacity out.old }
@@ -55,8 +55,8 @@ impl Remote {
     ) -> Result<(), AllocError>
         requires room { vec_len out.old + 8 ≤ vec_capacity out.old }
         requires number { n < 33 }
-        ensures stub { self.new.stub ≡ spoken self.old.stub }
-        ensures ok { OnOk result (EachRun self.old.stub.desk.fitted (λ run. out.new.items ≡ out.old.items ++ register_text run self.old.stub n)) }
+        ensures stub { self.new.stub ≡ stub_spoken self.old.stub }
+        ensures ok { OnOk result (EachRun self.old.stub.desk.fitted (λ run. out.new.items ≡ out.old.items ++ register_reply run self.old.stub n)) }
         ensures err { OnErr result (out.new.items ≡ out.old.items) }
         ensures lacks { OnErr result (self.old.stub.desk.fresh ≡ false) }
         ensures capacity { vec_capacity out.new ≡ vec_capacity out.old }
@@ -79,8 +79,8 @@ impl Remote {
         out: &mut Vec<u8>,
     ) -> Result<(), AllocError>
         requires { vec_len out.old + 4000 ≤ vec_capacity out.old }
-        ensures stub { self.new.stub ≡ spoken self.old.stub }
-        ensures ok { OnOk result (EachRun self.old.stub.desk.fitted (λ run. out.new.items ≡ out.old.items ++ memory_text run self.old.stub address size)) }
+        ensures stub { self.new.stub ≡ stub_spoken self.old.stub }
+        ensures ok { OnOk result (EachRun self.old.stub.desk.fitted (λ run. out.new.items ≡ out.old.items ++ memory_reply run self.old.stub address size)) }
         ensures err { OnErr result (out.new.items ≡ out.old.items) }
         ensures lacks { OnErr result (self.old.stub.desk.fresh ≡ false) }
         ensures capacity { vec_capacity out.new ≡ vec_capacity out.old }

@@ -3,7 +3,7 @@
 ghost use Rattle.std.specs.Prelude.{◌≡◌, ◌<◌, ◌≤◌, ◌+◌, ◌++◌, List, ℕ, true, None, OnOk, OnErr, vec_len, vec_capacity};
 ghost use Rattle.ir_cut.specs.Positions.{EachRun};
 ghost use Rattle.ir_packet.specs.declared.request.Request.TheVariants.{Register};
-ghost use Rattle.ir_gdb.specs.Replies.{CarriesOut, Lacks, plain_reply, after_plain, has_reply};
+ghost use Rattle.ir_gdb.specs.Replies.{RepliesIfMemory, Lacks, plain_reply, after_plain, has_reply};
 
 use crate::fixed::fixed_reply;
 use crate::point::{Breakpoint, Watched};
@@ -50,7 +50,7 @@ impl Remote {
         requires register { (n : ℕ) → request ≡ Register n → n < 33 }
         requires replies { has_reply request ≡ true }
         requires reads { plain_reply self.old.stub request ≡ None }
-        ensures ok { OnOk result ((text : List ℕ) × EachRun self.old.stub.desk.fitted (λ run. CarriesOut run self.old.stub request text self.new.stub) × (out.new.items ≡ out.old.items ++ text)) }
+        ensures ok { OnOk result ((text : List ℕ) × EachRun self.old.stub.desk.fitted (λ run. RepliesIfMemory run self.old.stub request text self.new.stub) × (out.new.items ≡ out.old.items ++ text)) }
         ensures err { OnErr result (Lacks self.old.stub request self.new.stub × (out.new.items ≡ out.old.items)) }
         ensures capacity { vec_capacity out.new ≡ vec_capacity out.old }
     {
@@ -89,7 +89,7 @@ impl Remote {
         requires room { vec_len out.old + 4000 ≤ vec_capacity out.old }
         requires register { (n : ℕ) → request ≡ Register n → n < 33 }
         requires replies { has_reply request ≡ true }
-        ensures ok { OnOk result ((text : List ℕ) × EachRun self.old.stub.desk.fitted (λ run. CarriesOut run self.old.stub request text self.new.stub) × (out.new.items ≡ out.old.items ++ text)) }
+        ensures ok { OnOk result ((text : List ℕ) × EachRun self.old.stub.desk.fitted (λ run. RepliesIfMemory run self.old.stub request text self.new.stub) × (out.new.items ≡ out.old.items ++ text)) }
         ensures err { OnErr result (Lacks self.old.stub request self.new.stub × (out.new.items ≡ out.old.items)) }
         ensures capacity { vec_capacity out.new ≡ vec_capacity out.old }
     {

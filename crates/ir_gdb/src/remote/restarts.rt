@@ -3,7 +3,7 @@
 ghost use Rattle.std.specs.Prelude.{◌≡◌, ◌≤◌, ◌+◌, ◌++◌, List, ℕ, true, OnOk, OnErr, IfOk, IfSome, MatchOption, Some, None, vec_len, vec_capacity};
 ghost use Rattle.ir_cut.specs.Positions.{EachRun};
 ghost use Rattle.ir_timeline.specs.Hand.{IsCutOf};
-ghost use Rattle.ir_gdb.specs.Stub.{spoken};
+ghost use Rattle.ir_gdb.specs.Stub.{stub_spoken};
 ghost use Rattle.ir_gdb.specs.Restarts.{with_extension, end_reply, restart_cut, RepliesToRestart};
 
 use crate::remote::Remote;
@@ -59,7 +59,7 @@ impl Remote {
     ) -> Result<(), AllocError>
         requires { vec_len out.old + 96 ≤ vec_capacity out.old }
         ensures ok { OnOk result ((text : List ℕ) × EachRun self.old.stub.desk.fitted (λ run. RepliesToRestart run self.old.stub number text self.new.stub) × (out.new.items ≡ out.old.items ++ text)) }
-        ensures err { OnErr result ((self.new.stub ≡ spoken self.old.stub) × (out.new.items ≡ out.old.items)) }
+        ensures err { OnErr result ((self.new.stub ≡ stub_spoken self.old.stub) × (out.new.items ≡ out.old.items)) }
         ensures capacity { vec_capacity out.new ≡ vec_capacity out.old }
     {
         self.has_run();

@@ -5,8 +5,8 @@ ghost use Rattle.std.specs.List.{AllByRecursion};
 ghost use Rattle.ir_cut.specs.Positions.{EachRun, cut_of, threads_of, last_of, thread_at};
 ghost use Rattle.ir_hits.specs.Watchable.{AreWatchable};
 ghost use Rattle.ir_timeline.specs.Hand.{IsCutOf};
-ghost use Rattle.ir_gdb.specs.Stub.{IsWatched, most_points, spoken};
-ghost use Rattle.ir_gdb.specs.Stops.{watches_if, Leaves, WatchNext, position_of, StepsTo, RangesTo, ContinuesTo, StepsBackTo, StopsBelow, ContinuesBackTo, GoesTo, MovesTo, upwards_of};
+ghost use Rattle.ir_gdb.specs.Stub.{IsWatched, most_stub_points, stub_spoken};
+ghost use Rattle.ir_gdb.specs.Stops.{watches_if, Leaves, WatchNext, position_of, StepsTo, RangesTo, ContinuesTo, StepsBackTo, StopsBelow, ContinuesBackTo, StopsInDirection, MovesTo, upwards_of};
 
 use crate::numbered::{Halts, points_downwards, points_upwards, watch_points};
 use crate::point::Watched;
@@ -25,7 +25,7 @@ impl Remote {
     fn watches_if(&self, watched: bool) -> &[Watched]
         ensures value { result.now ≡ watches_if self.now.stub watched }
         ensures watched { AllByRecursion IsWatched result.now }
-        ensures few { length self.now.stub.breaks + length result.now ≤ most_points }
+        ensures few { length self.now.stub.breaks + length result.now ≤ most_stub_points }
     {
         if watched {
             return self.watches.as_slice();
@@ -39,7 +39,7 @@ impl Remote {
         ensures breaks { result.breaks.now ≡ self.now.stub.breaks }
         ensures own { result.own.now ≡ self.now.stub.desk.points }
         ensures watched { AllByRecursion IsWatched result.watches.now }
-        ensures few { length result.breaks.now + length result.watches.now ≤ most_points }
+        ensures few { length result.breaks.now + length result.watches.now ≤ most_stub_points }
         ensures watchable { AreWatchable result.own.now }
     {
         self.debugger.fitted().known();
@@ -74,7 +74,7 @@ impl Remote {
         requires cut { IsCutOf self.old.stub.desk.fitted from.now }
         requires thread { thread < threads_of self.old.stub.desk.fitted }
         requires within { cut_of from.now thread < last_of self.old.stub.desk.fitted thread }
-        ensures stub { self.new.stub ≡ spoken self.old.stub }
+        ensures stub { self.new.stub ≡ stub_spoken self.old.stub }
         ensures watch { IfOk result (λ reason. EachRun self.old.stub.desk.fitted (λ run. WatchNext run self.old.stub thread watched (cut_of from.now thread) reason)) }
     {
         self.speak();
@@ -97,7 +97,7 @@ impl Remote {
         watched: bool,
     ) -> Result<Stopped, AllocError>
         requires { thread < threads_of self.old.stub.desk.fitted }
-        ensures stub { self.new.stub ≡ spoken self.old.stub }
+        ensures stub { self.new.stub ≡ stub_spoken self.old.stub }
         ensures stops { IfOk result (λ to. EachRun self.old.stub.desk.fitted (λ run. StepsTo run self.old.stub thread watched to)) }
         ensures within { IfOk result (λ to. to.position ≤ last_of self.old.stub.desk.fitted thread) }
     {
@@ -121,7 +121,7 @@ impl Remote {
     fn pc_in<H: Hands>(&mut self, hands: &H, cut: &Cut, thread: u32) -> Result<u32, AllocError>
         requires thread { thread < threads_of self.old.stub.desk.fitted }
         requires cut { IsCutOf self.old.stub.desk.fitted cut.now }
-        ensures stub { self.new.stub ≡ spoken self.old.stub }
+        ensures stub { self.new.stub ≡ stub_spoken self.old.stub }
         ensures pc { IfOk result (λ pc. EachRun self.old.stub.desk.fitted (λ run. pc ≡ (thread_at self.old.stub.desk.fitted run thread (cut_of cut.now thread)).core.pc)) }
     {
         self.debugger.visit(hands, cut)?;
@@ -138,7 +138,7 @@ impl Remote {
     ) -> Result<u32, AllocError>
         requires thread { thread < threads_of self.old.stub.desk.fitted }
         requires within { (position_of self.old.stub thread ≤ position) × (position ≤ last_of self.old.stub.desk.fitted thread) }
-        ensures stub { self.new.stub ≡ spoken self.old.stub }
+        ensures stub { self.new.stub ≡ stub_spoken self.old.stub }
         ensures pc { IfOk result (λ pc. EachRun self.old.stub.desk.fitted (λ run. pc ≡ (thread_at self.old.stub.desk.fitted run thread position).core.pc)) }
     {
         self.speak();
@@ -157,7 +157,7 @@ impl Remote {
         high: u32,
     ) -> Result<Option<u64>, AllocError>
         requires { thread < threads_of self.old.stub.desk.fitted }
-        ensures stub { self.new.stub ≡ spoken self.old.stub }
+        ensures stub { self.new.stub ≡ stub_spoken self.old.stub }
         ensures leaves { IfOk result (λ left. EachRun self.old.stub.desk.fitted (λ run. Leaves run self.old.stub thread low high left)) }
     {
         self.speak();
@@ -185,7 +185,7 @@ impl Remote {
         watched: bool,
     ) -> Result<Stopped, AllocError>
         requires { thread < threads_of self.old.stub.desk.fitted }
-        ensures stub { self.new.stub ≡ spoken self.old.stub }
+        ensures stub { self.new.stub ≡ stub_spoken self.old.stub }
         ensures stops { IfOk result (λ to. EachRun self.old.stub.desk.fitted (λ run. RangesTo run self.old.stub thread low high watched to)) }
         ensures within { IfOk result (λ to. to.position ≤ last_of self.old.stub.desk.fitted thread) }
     {
@@ -215,7 +215,7 @@ impl Remote {
         watched: bool,
     ) -> Result<Stopped, AllocError>
         requires { thread < threads_of self.old.stub.desk.fitted }
-        ensures stub { self.new.stub ≡ spoken self.old.stub }
+        ensures stub { self.new.stub ≡ stub_spoken self.old.stub }
         ensures stops { IfOk result (λ to. EachRun self.old.stub.desk.fitted (λ run. ContinuesTo run self.old.stub thread watched to)) }
         ensures within { IfOk result (λ to. to.position ≤ last_of self.old.stub.desk.fitted thread) }
     {
@@ -238,7 +238,7 @@ impl Remote {
     ) -> Result<Option<Reason>, AllocError>
         requires thread { thread < threads_of self.old.stub.desk.fitted }
         requires above { 0 < position_of self.old.stub thread }
-        ensures stub { self.new.stub ≡ spoken self.old.stub }
+        ensures stub { self.new.stub ≡ stub_spoken self.old.stub }
         ensures watch { IfOk result (λ reason. EachRun self.old.stub.desk.fitted (λ run. WatchNext run self.old.stub thread watched (position_of self.old.stub thread - 1) reason)) }
     {
         self.speak();
@@ -258,7 +258,7 @@ impl Remote {
         watched: bool,
     ) -> Result<Stopped, AllocError>
         requires { thread < threads_of self.old.stub.desk.fitted }
-        ensures stub { self.new.stub ≡ spoken self.old.stub }
+        ensures stub { self.new.stub ≡ stub_spoken self.old.stub }
         ensures stops { IfOk result (λ to. EachRun self.old.stub.desk.fitted (λ run. StepsBackTo run self.old.stub thread watched to)) }
         ensures within { IfOk result (λ to. to.position ≤ last_of self.old.stub.desk.fitted thread) }
     {
@@ -286,7 +286,7 @@ impl Remote {
         watched: bool,
     ) -> Result<Stopped, AllocError>
         requires { thread < threads_of self.old.stub.desk.fitted }
-        ensures stub { self.new.stub ≡ spoken self.old.stub }
+        ensures stub { self.new.stub ≡ stub_spoken self.old.stub }
         ensures stops { IfOk result (λ to. EachRun self.old.stub.desk.fitted (λ run. StopsBelow run self.old.stub thread watched to)) }
         ensures within { IfOk result (λ to. to.position ≤ last_of self.old.stub.desk.fitted thread) }
     {
@@ -307,7 +307,7 @@ impl Remote {
         watched: bool,
     ) -> Result<Stopped, AllocError>
         requires { thread < threads_of self.old.stub.desk.fitted }
-        ensures stub { self.new.stub ≡ spoken self.old.stub }
+        ensures stub { self.new.stub ≡ stub_spoken self.old.stub }
         ensures stops { IfOk result (λ to. EachRun self.old.stub.desk.fitted (λ run. ContinuesBackTo run self.old.stub thread watched to)) }
         ensures within { IfOk result (λ to. to.position ≤ last_of self.old.stub.desk.fitted thread) }
     {
@@ -332,8 +332,8 @@ impl Remote {
         watched: bool,
     ) -> Result<Stopped, AllocError>
         requires { thread < threads_of self.old.stub.desk.fitted }
-        ensures stub { self.new.stub ≡ spoken self.old.stub }
-        ensures stops { IfOk result (λ to. EachRun self.old.stub.desk.fitted (λ run. GoesTo direction run self.old.stub thread watched to)) }
+        ensures stub { self.new.stub ≡ stub_spoken self.old.stub }
+        ensures stops { IfOk result (λ to. EachRun self.old.stub.desk.fitted (λ run. StopsInDirection direction run self.old.stub thread watched to)) }
         ensures within { IfOk result (λ to. to.position ≤ last_of self.old.stub.desk.fitted thread) }
     {
         match direction {
@@ -350,7 +350,7 @@ impl Remote {
         motion: Motion,
     ) -> Result<Stopped, AllocError>
         requires { thread < threads_of self.old.stub.desk.fitted }
-        ensures stub { self.new.stub ≡ spoken self.old.stub }
+        ensures stub { self.new.stub ≡ stub_spoken self.old.stub }
         ensures stops { IfOk result (λ to. EachRun self.old.stub.desk.fitted (λ run. MovesTo run self.old.stub thread motion to)) }
         ensures within { IfOk result (λ to. to.position ≤ last_of self.old.stub.desk.fitted thread) }
     {

@@ -3,7 +3,7 @@
 ghost use Rattle.std.specs.Prelude.{◌≡◌, ◌≤◌, ◌<◌, ◌+◌, ◌++◌, OnOk, OnErr, IfOk, vec_len, vec_capacity};
 ghost use Rattle.ir_cut.specs.Positions.{threads_of};
 ghost use Rattle.ir_packet.specs.Replies.{piece_text};
-ghost use Rattle.ir_gdb.specs.Texts.{place_text, thread_text, threads_text};
+ghost use Rattle.ir_gdb.specs.Texts.{position_text, thread_text, thread_list_text};
 
 use crate::ending::{end_of_thread, put_end};
 use crate::remote::Remote;
@@ -19,7 +19,7 @@ impl Remote {
     fn put_place(&self, out: &mut Vec<u8>, thread: u32)
         requires thread { thread < threads_of self.now.stub.desk.fitted }
         requires room { vec_len out.old + 117 ≤ vec_capacity out.old }
-        ensures bytes { out.new.items ≡ out.old.items ++ place_text self.now.stub thread }
+        ensures bytes { out.new.items ≡ out.old.items ++ position_text self.now.stub thread }
         ensures len { vec_len out.new ≤ vec_len out.old + 117 }
         ensures capacity { vec_capacity out.new ≡ vec_capacity out.old }
     {
@@ -53,7 +53,7 @@ impl Remote {
     // The list of threads.
     #[tactic(auto, using(ir_image::proofs::CallerLemmas::guest_threads_at_most_limit, crate::proofs::Threads::first_threads_text_put_at_start, crate::proofs::Threads::first_threads_text_put_step, crate::proofs::Threads::append_of_three_put_texts))]
     fn thread_list(&self, alloc: Global) -> Result<Vec<u8>, AllocError>
-        ensures text { IfOk result (λ list. list.items ≡ threads_text self.now.stub) }
+        ensures text { IfOk result (λ list. list.items ≡ thread_list_text self.now.stub) }
         ensures len { IfOk result (λ list. vec_len list ≤ 2400) }
     {
         let mut list = Vec::with_capacity(alloc, MOST_LIST)?;
@@ -78,7 +78,7 @@ impl Remote {
         out: &mut Vec<u8>,
     ) -> Result<(), AllocError>
         requires { vec_len out.old + 2401 ≤ vec_capacity out.old }
-        ensures ok { OnOk result (out.new.items ≡ out.old.items ++ piece_text (threads_text self.now.stub) from most) }
+        ensures ok { OnOk result (out.new.items ≡ out.old.items ++ piece_text (thread_list_text self.now.stub) from most) }
         ensures err { OnErr result (out.new.items ≡ out.old.items) }
         ensures capacity { vec_capacity out.new ≡ vec_capacity out.old }
     {

@@ -3,7 +3,7 @@
 ghost use Rattle.std.specs.Prelude.{◌≡◌, ◌≤◌, ◌<◌, ◌&&◌, ◌||◌, ◌==◌, not, length, IfOk, IfSome};
 ghost use Rattle.ir_cut.specs.Positions.{EachRun, threads_of};
 ghost use Rattle.ir_timeline.specs.Hand.{IsCutOf};
-ghost use Rattle.ir_gdb.specs.Stub.{spoken};
+ghost use Rattle.ir_gdb.specs.Stub.{stub_spoken};
 ghost use Rattle.ir_gdb.specs.Stops.{position_of};
 ghost use Rattle.ir_gdb.specs.Together.{AreStops, AreWithin, meets, passes, is_free, is_all_free, moves, moves_other, MetAt, FirstMet, first_met};
 
@@ -31,7 +31,7 @@ impl Remote {
         mover: u32,
         direction: Direction,
     ) -> Result<Vec<Stopped>, AllocError>
-        ensures stub { self.new.stub ≡ spoken self.old.stub }
+        ensures stub { self.new.stub ≡ stub_spoken self.old.stub }
         ensures stops { IfOk result (λ each. EachRun self.old.stub.desk.fitted (λ run. AreStops run self.old.stub direction mover each.items)) }
         ensures within { IfOk result (λ each. AreWithin self.old.stub each.items) }
     {

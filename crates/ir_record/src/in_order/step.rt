@@ -12,7 +12,7 @@ ghost use Rattle.ir_runs.specs.Machine.{emitted};
 ghost use Rattle.ir_runs.specs.Machine as act;
 ghost use Rattle.ir_trace.specs.Bounds.{IsEvent};
 ghost use Rattle.ir_record.specs.Progress.{progress, Took, TookIf, TookTurns, HasLogs, IsQuiet};
-ghost use Rattle.ir_record.specs.Worlds.{answers_at, Answered};
+ghost use Rattle.ir_record.specs.Worlds.{answers_at, AnsweredCall};
 
 use crate::in_order::logged_guest::LoggedGuest;
 use ir_log::Event;
@@ -37,7 +37,7 @@ impl LoggedGuest<'_> {
         requires thread { t < length self.old.flat.threads }
         requires asked { ask_of self.old.flat.code (thread_of self.old.flat t) ≡ Env kind }
         requires fits { is_result kind value ≡ true }
-        ensures took { (answers more : List (List Answered)) → t < length answers → more ≡ slice_set answers t (answers_at answers t ++ (kind, value) ∷ [])
+        ensures took { (answers more : List (List AnsweredCall)) → t < length answers → more ≡ slice_set answers t (answers_at answers t ++ (kind, value) ∷ [])
             → TookIf true (t ∷ []) (progress self.old answers) (progress self.new more) }
         ensures has_logs { HasLogs self.new.flat self.new.logs.items }
     {
@@ -71,7 +71,7 @@ impl LoggedGuest<'_> {
         requires flat { IsFlat self.old.flat }
         requires thread { t < length self.old.flat.threads }
         requires asked { ask_of self.old.flat.code (thread_of self.old.flat t) ≡ Enter object access }
-        ensures took { (answers : List (List Answered))
+        ensures took { (answers : List (List AnsweredCall))
             → TookIf result (t ∷ []) (progress self.old answers) (progress self.new answers) }
         ensures waits { result ≡ false → self.new.flat ≡ self.old.flat }
         ensures has_logs { HasLogs self.new.flat self.new.logs.items }
@@ -90,7 +90,7 @@ impl LoggedGuest<'_> {
         requires flat { IsFlat self.old.flat }
         requires thread { t < length self.old.flat.threads }
         requires asked { ask_of self.old.flat.code (thread_of self.old.flat t) ≡ Try object }
-        ensures took { (answers : List (List Answered)) → TookIf true (t ∷ []) (progress self.old answers) (progress self.new answers) }
+        ensures took { (answers : List (List AnsweredCall)) → TookIf true (t ∷ []) (progress self.old answers) (progress self.new answers) }
         ensures has_logs { HasLogs self.new.flat self.new.logs.items }
     {
         let event = self.entry(object, Access::Writing);
@@ -109,7 +109,7 @@ impl LoggedGuest<'_> {
         requires flat { IsFlat self.old.flat }
         requires thread { t < length self.old.flat.threads }
         requires asked { ask_of self.old.flat.code (thread_of self.old.flat t) ≡ Try object }
-        ensures took { (answers : List (List Answered)) → TookTurns ((t, true) ∷ []) (progress self.old answers) (progress self.new answers) }
+        ensures took { (answers : List (List AnsweredCall)) → TookTurns ((t, true) ∷ []) (progress self.old answers) (progress self.new answers) }
         ensures has_logs { HasLogs self.new.flat self.new.logs.items }
     {
         let asked = Ask::Try(object);
@@ -125,7 +125,7 @@ impl LoggedGuest<'_> {
         requires thread { t < length self.old.flat.threads }
         requires asked { ask_of self.old.flat.code (thread_of self.old.flat t) ≡ asked }
         requires quiet { IsQuiet asked }
-        ensures took { (answers : List (List Answered))
+        ensures took { (answers : List (List AnsweredCall))
             → TookIf result (t ∷ []) (progress self.old answers) (progress self.new answers) }
         ensures none { result ≡ false → self.new.flat ≡ self.old.flat }
         ensures has_logs { HasLogs self.new.flat self.new.logs.items }
@@ -144,7 +144,7 @@ impl LoggedGuest<'_> {
         ensures still_flat { IsFlat self.new.flat }
         ensures alone { WentAlone self.old.flat self.new.flat t result.0 }
         ensures logs { self.new.logs ≡ self.old.logs }
-        ensures took { (answers : List (List Answered)) → Took (replicate result.0 t) (progress self.old answers) (progress self.new answers) }
+        ensures took { (answers : List (List AnsweredCall)) → Took (replicate result.0 t) (progress self.old answers) (progress self.new answers) }
         ensures has_logs { HasLogs self.new.flat self.new.logs.items }
     {
         self.flat.run_to_ask(t, limit)

@@ -17,11 +17,11 @@ const A0: u8 = 10;
 const LINE_FEED: u8 = 10;
 
 impl Reply {
-    ghost use Rattle.ir_thread.specs.State.{answer_of};
+    ghost use Rattle.ir_thread.specs.State.{value_of_reply};
 
     // What goes into a0.
     fn answer(self) -> Option<u32>
-        ensures { result ≡ answer_of self }
+        ensures { result ≡ value_of_reply self }
     {
         match self {
             Reply::Go => None,
@@ -31,7 +31,7 @@ impl Reply {
 }
 
 impl Thread {
-    ghost use Rattle.ir_thread.specs.Permitted.{Suits, Permits, IsRunning, next_output};
+    ghost use Rattle.ir_thread.specs.Permitted.{ReplySuits, Permits, IsRunning, next_output};
     ghost use Rattle.ir_thread.specs.State.{held_at, ask_of, core_after, core_left, held_after_try, after_ask, after_reply, most_output};
     ghost use Rattle.ir_mach.specs.Execution.{outcome_of, past_call};
 
@@ -132,7 +132,7 @@ impl Thread {
     #[inline(always)]
     fn step(&mut self, code: &Code, asked: Ask, reply: Reply)
         requires permits { Permits self.old asked }
-        requires suits { Suits asked reply }
+        requires suits { ReplySuits asked reply }
         ensures { self.new ≡ after_ask code.now self.old asked reply }
     {
         match asked {
@@ -167,7 +167,7 @@ impl Thread {
     /// environment call or a read wants, 1 or 0 to a try, and leave to go elsewhere.
     #[tactic(auto, unfolding(crate::specs::State::after_reply))]
     pub fn take(&mut self, code: &Code, reply: Reply)
-        requires { Suits (ask_of code.now self.old) reply }
+        requires { ReplySuits (ask_of code.now self.old) reply }
         ensures { self.new ≡ after_reply code.now self.old reply }
     {
         let asked = self.ask(code);
@@ -179,7 +179,7 @@ impl Thread {
     #[inline(always)]
     pub fn take_asked(&mut self, code: &Code, asked: Ask, reply: Reply)
         requires asked { asked ≡ ask_of code.now self.old }
-        requires suits { Suits asked reply }
+        requires suits { ReplySuits asked reply }
         ensures { self.new ≡ after_reply code.now self.old reply }
     {
         self.step(code, asked, reply);

@@ -8,7 +8,7 @@ use Rattle.ir_order.proofs.CallerLemmas.{list_spells_if_order_not_empty}
 use Rattle.ir_outcomes.specs.declared.shown.Shown.{Shown}
 use Rattle.ir_record.specs.Recording.{turns_of_items}
 use Rattle.ir_record.specs.declared.item.Item.{Item}
-use Rattle.ir_explore_run.specs.Lines.{found_line}
+use Rattle.ir_explore_run.specs.Lines.{outcome_found_line}
 use Rattle.ir_explore_run.specs.Plan.{setup_of}
 use Rattle.ir_explore_run.specs.Texts.{Objects, objects_of, AreTexts, known_of}
 use Rattle.ir_explore_run.proofs.Hits.{shown_order_is_not_empty, is_hit_if_shown_outcome_is_first_to_fulfil}
@@ -63,5 +63,5 @@ returns c = λ cs none (x, s, at, does).
           (subst (λ z. AreTexts own flats c.as_slice-outcomes.result.now z lines) next
           (c.in_ok-text.ensures [] (texts_of_no_outcome_are_empty own flats c.as_slice-outcomes.result.now))));
       whole = c.in_ok-extend_from_slice.ensures.items
-          ∙ ap (λ z. lines ++ z) (c.as_bytes.ensures.value ∙ c.in_ok-line.ensures ∙ (λ i. found_line (next i) (same i).level (c.as_str.ensures.value i)));
+          ∙ ap (λ z. lines ++ z) (c.as_bytes.ensures.value ∙ c.in_ok-line.ensures ∙ (λ i. outcome_found_line (next i) (same i).level (c.as_str.ensures.value i)));
     }

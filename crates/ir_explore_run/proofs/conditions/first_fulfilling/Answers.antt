@@ -2,7 +2,7 @@ use Rattle.std.proofs.Common.{◌≡◌, ◌<◌, ◌+◌, suc, Some, map, lengt
 use Rattle.std.specs.Prelude.{slice_get}
 use Rattle.std.proofs.lemmas.Option.{slice_get-get_or}
 use Rattle.std.specs.List.{list_all}
-use Rattle.ir_chaos.specs.Conditions.{as_condition, fulfils, outcome_of}
+use Rattle.ir_chaos.specs.Conditions.{as_condition, fulfils, end_state}
 use Rattle.ir_store.specs.Nodes.{SourcedFlat}
 use Rattle.ir_explore_run.specs.Conditions.{NoneBefore}
 use Rattle.ir_explore_run.proofs.Fulfilled.{none_before_step_for_unfulfilling_outcome, reached_state_fulfils_declared_conditions_as_outcome_does}
@@ -27,7 +27,7 @@ returns-then-fulfils c = λ setup reached.
         s,
         (at, c.in_ok-state.ensures.value),
         sym (reached_state_fulfils_declared_conditions_as_outcome_does setup c.args.conditions.now s (reached x.node s c.in_ok-state.ensures.value) c.in_ok-state.ensures.flat)
-            ∙ ap (λ (z : SourcedFlat). list_all (λ d. fulfils (as_condition d) (outcome_of z.flat)) c.args.conditions.now) (sym c.state.view_is)
+            ∙ ap (λ (z : SourcedFlat). list_all (λ d. fulfils (as_condition d) (end_state z.flat)) c.args.conditions.now) (sym c.state.view_is)
             ∙ sym c.fulfils.ensures ∙ c.if-fulfils.true,
       ),
     )
@@ -44,7 +44,7 @@ loop-i-preserved c = λ setup reached.
     subst (NoneBefore setup.guest cs c.args.flats.now.items c.args.outcomes.now) next
     (none_before_step_for_unfulfilling_outcome setup.guest cs c.args.flats.now.items c.args.outcomes.now c.loop-i.i x s (c.loop-i.invariant setup reached) (at, c.in_ok-state.ensures.value)
     (sym (reached_state_fulfils_declared_conditions_as_outcome_does setup c.args.conditions.now s (reached x.node s c.in_ok-state.ensures.value) c.in_ok-state.ensures.flat)
-    ∙ ap (λ (z : SourcedFlat). list_all (λ d. fulfils (as_condition d) (outcome_of z.flat)) c.args.conditions.now) (sym c.state.view_is)
+    ∙ ap (λ (z : SourcedFlat). list_all (λ d. fulfils (as_condition d) (end_state z.flat)) c.args.conditions.now) (sym c.state.view_is)
     ∙ sym c.fulfils.ensures ∙ c.if-fulfils.false))
 
 pub returns : goal.returns

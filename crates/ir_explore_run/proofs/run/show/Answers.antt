@@ -12,7 +12,7 @@ use Rattle.ir_outcomes.specs.Explored.{AreExplored, IsExplored}
 use Rattle.ir_stream.specs.Answers.{AppendsPrefix}
 use Rattle.ir_explore_run.specs.Faults.{StopsPrinting}
 use Rattle.ir_explore_run.specs.Printed.{EndsEarly}
-use Rattle.ir_explore_run.specs.Texts.{Objects, objects_of, IsReason, IsStopped, IsEnding, IsAnswerAbout, known_of}
+use Rattle.ir_explore_run.specs.Texts.{Objects, objects_of, IsStopReason, IsStopped, IsEnding, IsAnswerAbout, known_of}
 use Rattle.ir_explore_run.specs.declared.fault.ExploreFault.TheVariants.{NoMem, Write}
 use Rattle.ir_explore_run.specs.Plan.{ExplorePlan, setup_of}
 use Rattle.ir_explore_run.proofs.Printed.{out_of_memory_before_first_line_stops_printing, printed_outcomes_are_part, failed_after_taken_text, printed_lines_and_ending_are_answer}
@@ -33,11 +33,11 @@ returns-in-Err-clause-ok g c =
     let old = g.O.Sink.written c.args.out.now in
     let new = g.O.Sink.written c.show_stop.new.out in
     let why = c.in-Err.why in
-    let reason : IsReason guest plan why =
+    let reason : IsStopReason guest plan why =
     subst (λ z. (why ≡ Memory) ⊎ IsStop z plan.bounds.private why) c.setup-setup.ensures
     (subst (λ (z : ExplorePlan). (why ≡ Memory) ⊎ IsStop c.setup-setup.result z.bounds.private why) c.plan.view_is c.in-Err.ensures.refused) in
     IfOk-weaker c.show_stop.result
-    (λ answered. (guest : Guest) (plan : ExplorePlan) → IsReason guest plan c.in-Err.why → (text : List ℕ) × IsStopped guest plan answered text × Appends old new text)
+    (λ answered. (guest : Guest) (plan : ExplorePlan) → IsStopReason guest plan c.in-Err.why → (text : List ℕ) × IsStopped guest plan answered text × Appends old new text)
     (λ answered. (text : List ℕ) × IsAnswerAbout guest plan answered text × Appends old new text)
     (λ answered p. let q = p guest plan reason in (q.0, inr q.1, q.2))
     c.show_stop.ensures.ok

@@ -8,7 +8,7 @@ use Rattle.std.proofs.lemmas.Option.{same_Some}
 use Rattle.ir_store.specs.Table.{HaveForm, HaveTicks, HaveNoTicks}
 use Rattle.ir_graph.specs.Times.{LeadsTickless}
 use Rattle.ir_graph.proofs.Times.{has_timed_run_if_reached_state_has_ticks}
-use Rattle.ir_graph.specs.Nodes.{LookAlike, AllRest, Stay}
+use Rattle.ir_graph.specs.Nodes.{LookAlike, AllRest, NodesStay}
 use Rattle.ir_graph.specs.Plain.{sourced_flat, IsLike, MayGo}
 use Rattle.ir_graph.specs.Reached.{IsReached, AllReached}
 use Rattle.ir_graph.proofs.Reached.{step_of_reached_is_reached}
@@ -189,7 +189,7 @@ returns-in-Ok-clause-leads c =
     leads_to_node_if_reached_state_looks_alike c.args.flats.now.items s u w t c.args.way.refused c.args.way.node c.requires.nodes at less may
     (subst (TakesStep (sourced_flat c.state.inside.flat c.state.inside.sources.items) (sourced_flat c.take.new.self c.state.inside.sources.items)
     c.args.way.thread) r step) goes c.node_of.new.flats.items c.in-Ok.next
-    (subst (λ z. Stay z c.node_of.new.flats.items) c.by_number_of.ensures.items c.node_of.ensures.stay)
+    (subst (λ z. NodesStay z c.node_of.new.flats.items) c.by_number_of.ensures.items c.node_of.ensures.stay)
     (λ k is. subst (λ z. LookAlike z k) c.in_ok-new.ensures.state (c.in-Ok.ensures.alike k is))
 
 pub returns-in-Ok-clause-reached : goal.returns-in-Ok-clause-reached
@@ -259,10 +259,10 @@ pub returns-in_err-new-clause-reached : goal.returns-in_err-new-clause-reached
 returns-in_err-new-clause-reached c = λ x all. subst (AllReached x) (sym c.by_number_of.ensures.items) all
 
 pub returns-in-Ok-clause-stay : goal.returns-in-Ok-clause-stay
-returns-in-Ok-clause-stay c = subst (λ z. Stay z c.node_of.new.flats.items) c.by_number_of.ensures.items c.node_of.ensures.stay
+returns-in-Ok-clause-stay c = subst (λ z. NodesStay z c.node_of.new.flats.items) c.by_number_of.ensures.items c.node_of.ensures.stay
 
 pub returns-clause-stay : goal.returns-clause-stay
-returns-clause-stay c = subst (λ z. Stay z c.node_of.new.flats.items) c.by_number_of.ensures.items c.node_of.ensures.stay
+returns-clause-stay c = subst (λ z. NodesStay z c.node_of.new.flats.items) c.by_number_of.ensures.items c.node_of.ensures.stay
 
 pub returns-in-Ok-clause-has : goal.returns-in-Ok-clause-has
 returns-in-Ok-clause-has c = λ x all was new.
@@ -331,6 +331,6 @@ returns-in-Ok-clause-tickless c = λ p is none.
     (leads_tickless_if_reached_state_is c.args.flats.now.items s u w t c.args.way.refused c.args.way.node c.requires.nodes at less may
     (subst (TakesStep (sourced_flat c.state.inside.flat c.state.inside.sources.items) (sourced_flat c.take.new.self c.state.inside.sources.items)
     c.args.way.thread) r step) goes c.node_of.new.flats.items c.in-Ok.next
-    (subst (λ z. Stay z c.node_of.new.flats.items) c.by_number_of.ensures.items c.node_of.ensures.stay)
+    (subst (λ z. NodesStay z c.node_of.new.flats.items) c.by_number_of.ensures.items c.node_of.ensures.stay)
     (λ k is. subst (λ z. LookAlike z k) c.in_ok-new.ensures.state (c.in-Ok.ensures.alike k is))
     (subst (λ (z : SourcedFlat). HaveNoTicks z.sources) c.in_ok-new.ensures.state (c.node_of.ensures.tickless none).1))

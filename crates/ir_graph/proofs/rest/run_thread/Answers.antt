@@ -4,7 +4,7 @@ use Rattle.ir_thread.specs.State.{shared_ask}
 use Rattle.ir_sources.specs.Sources.{given}
 use Rattle.ir_graph.specs.Plain.{sourced_flat, IsFair}
 use Rattle.std.specs.Prelude.{slice_set}
-use Rattle.ir_graph.specs.Stops.{IsRefused}
+use Rattle.ir_graph.specs.Stops.{IsNotFollowed}
 use Rattle.ir_graph.specs.Turn.{GoesAlone}
 use Rattle.ir_graph.proofs.Beside.{RunsBeside, runs_beside_no_steps, runs_beside_private_steps, runs_beside_fair_step, runs_beside_append, stops_at_refused_ask_with_source_set, spent_ask_is_refused_by_log_stop}
 use Rattle.ir_graph.proofs.rest.run_thread.Goals as goal
@@ -88,7 +88,7 @@ returns-in-Err-clause-stopped c = λ sources at.
     let why = c.in-Err.ensures.stopped in
     let g = c.run_to_ask-steps.new.self in
     stops_at_refused_ask_with_source_set c.args.flat.now g sources c.args.thread c.args.limit c.args.source.now c.private.source c.in-Err.stop at
-    (subst (λ z. IsRefused c.args.thread z c.private.source c.in-Err.stop) c.run_to_ask-steps.ensures.asked
+    (subst (λ z. IsNotFollowed c.args.thread z c.private.source c.in-Err.stop) c.run_to_ask-steps.ensures.asked
     (spent_ask_is_refused_by_log_stop c.args.thread c.run_to_ask-steps.result.1 c.private.source c.in-Err.stop why.0 why.1))
 
 pub returns-then-taken-limit-clause-stopped : goal.returns-then-taken-limit-clause-stopped
@@ -107,7 +107,7 @@ pub returns-in-Err-answer-clause-stopped : goal.returns-in-Err-answer-clause-sto
 returns-in-Err-answer-clause-stopped c = λ sources at.
     stops_at_refused_ask_with_source_set c.args.flat.now c.run_to_ask-steps.new.self sources c.args.thread c.args.limit c.args.source.now c.answer.new.source
     c.in-Err-answer.stop at
-    (subst (λ z. IsRefused c.args.thread z c.answer.new.source c.in-Err-answer.stop) c.run_to_ask-steps.ensures.asked c.in-Err-answer.ensures.stopped)
+    (subst (λ z. IsNotFollowed c.args.thread z c.answer.new.source c.in-Err-answer.stop) c.run_to_ask-steps.ensures.asked c.in-Err-answer.ensures.stopped)
 
 pub private-preserved : goal.private-preserved
 private-preserved c =

@@ -4,7 +4,7 @@ use Rattle.ir_thread.specs.State.{most_budget}
 use Rattle.ir_graph.specs.Graph.{IsGraph}
 use Rattle.ir_graph.specs.Notes.{noted_by, noted_in}
 use Rattle.ir_graph.specs.Plain.{GoesPlain}
-use Rattle.ir_graph.specs.Setup.{start_of}
+use Rattle.ir_graph.specs.Setup.{setup_start}
 use Rattle.ir_graph.proofs.Grown.{free_to_try_if_no_refusals_noted, noted_by_past_threads_leads_nowhere, start_is_graph}
 use Rattle.ir_image.specs.Guest.{Guest}
 use Rattle.ir_store.specs.Nodes.{SourcedFlat, sourced_in}
@@ -24,7 +24,7 @@ by_numbers-requires-clause-form c =
     let h = c.rest_all.new.state in
     let goes = subst (λ z. GoesPlain z h) c.in_ok-state.ensures c.in_ok-rest_all.ensures.goes in
     subst (λ z. HaveForm z h.flat.threads) (sym (c.new-flats.ensures.form ∙ c.form.ensures.value ∙ ap (λ (z : Guest). z.form) c.image-image.ensures))
-    (have_form_of_like_moment x.guest.form (start_of x).flat h.flat (flat_after_plain_steps_is_like_flat_before (start_of x) h goes)
+    (have_form_of_like_moment x.guest.form (setup_start x).flat h.flat (flat_after_plain_steps_is_like_flat_before (setup_start x) h goes)
     (start_threads_have_form x.guest most_budget x.profile 0 (length x.guest.entries)))
 
 pub by_numbers-requires-clause-sourced : goal.by_numbers-requires-clause-sourced

@@ -2,7 +2,7 @@ use Rattle.std.proofs.Common.{[], subst}
 use Rattle.std.specs.Prelude.{MatchOption}
 use Rattle.std.specs.String.{string_bytes}
 use Rattle.ir_hunt.specs.Hunt.{hunt_of}
-use Rattle.ir_hunt.specs.Tried.{AreAllTried, IsLowest}
+use Rattle.ir_hunt.specs.Tried.{AreAllTried, IsLowestSeed}
 use Rattle.ir_hunt.proofs.Parts.{no_seeds_are_tried}
 use Rattle.ir_hunt.proofs.search.lowest_seed.Goals as goal
 
@@ -19,6 +19,6 @@ returns g c =
     let search = c.found_in.result in (
       own.choices,
       subst (λ h. MatchOption search.found (AreAllTried h seeds.first seeds.last search.left_out)
-          (λ f. IsLowest h seeds.first seeds.last f.seed search.left_out (string_bytes f.list)))
+          (λ f. IsLowestSeed h seeds.first seeds.last f.seed search.left_out (string_bytes f.list)))
           c.in_ok-own.ensures (c.found_in.ensures own seeds c.in_ok-part.ensures),
     )

@@ -6,7 +6,7 @@ use Rattle.ir_explore.specs.declared.origin.Origin.{Origin}
 use Rattle.ir_explore.specs.Origins.{first_origin}
 use Rattle.ir_graph.proofs.CallerLemmas.{like_symmetric, like_transitive}
 use Rattle.ir_graph.specs.Notes.{noted_by}
-use Rattle.ir_graph.specs.Setup.{start_of}
+use Rattle.ir_graph.specs.Setup.{setup_start}
 use Rattle.ir_record.specs.Recording.{turns_of_items}
 use Rattle.ir_outcomes.specs.Path.{FallInLevel, IsPathTo}
 use Rattle.ir_outcomes.proofs.Along.{origins_fall_in_level}
@@ -44,7 +44,7 @@ returns-clause-shown c = λ s here.
     let setup = c.args.states.now.graph.setup in
     let u = c.in-Ok.run'.0 in
     let again = c.in-Ok.ensures.again in
-    let first = (start_of setup).flat in
+    let first = (setup_start setup).flat in
     let origins = c.as_slice-origins.result.now in
     let wide : c.args.node < length origins = subst (λ z. c.args.node < length z) (sym c.as_slice-origins.ensures.value) c.requires.origin in
     let n : Origin = slice_index_or origins c.args.node first_origin in

@@ -1,6 +1,6 @@
 use Rattle.std.proofs.Common.{false, refl, sym, subst}
 use Rattle.ir_record.specs.Recording.{turns_of_items}
-use Rattle.ir_graph.specs.Setup.{start_of}
+use Rattle.ir_graph.specs.Setup.{setup_start}
 use Rattle.ir_graph.proofs.CallerLemmas.{is_stop_if_stops_after_plain_steps_from_start}
 use Rattle.ir_outcomes.specs.Again.{IsAgain}
 use Rattle.ir_outcomes.proofs.Again.{is_again_after_turns_noted, is_again_without_empty_ways_appended}
@@ -8,7 +8,7 @@ use Rattle.ir_outcomes.proofs.rerun.add_rest.Goals as goal
 
 pub returns-in-Err-clause-fails : goal.returns-in-Err-clause-fails
 returns-in-Err-clause-fails c = λ setup first.
-    is_stop_if_stops_after_plain_steps_from_start setup c.args.limit c.args.thread c.in-Err.stop (start_of setup) c.args.state.now c.run_to_rest.new.state refl first
+    is_stop_if_stops_after_plain_steps_from_start setup c.args.limit c.args.thread c.in-Err.stop (setup_start setup) c.args.state.now c.run_to_rest.new.state refl first
     c.run_to_rest.ensures.goes c.in-Err.ensures.stopped
 
 pub returns-in-Ok-push-clause-again : goal.returns-in-Ok-push-clause-again

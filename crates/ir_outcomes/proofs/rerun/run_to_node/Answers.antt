@@ -1,4 +1,4 @@
-use Rattle.ir_graph.specs.Setup.{start_of}
+use Rattle.ir_graph.specs.Setup.{setup_start}
 use Rattle.ir_graph.proofs.CallerLemmas.{like_symmetric, like_transitive}
 use Rattle.ir_graph.specs.Notes.{noted_by}
 use Rattle.ir_outcomes.proofs.Along.{path_has_ways}
@@ -22,6 +22,6 @@ pub same_state-requires-clause-like : goal.same_state-requires-clause-like
 same_state-requires-clause-like c =
     let u = c.in-Ok.state in
     let s = c.in_ok-kept.kept in
-    let first = (start_of c.args.states.now.graph.setup).flat in
+    let first = (setup_start c.args.states.now.graph.setup).flat in
     like_transitive u.flat first s.flat (like_symmetric first u.flat c.in-Ok.ensures.again.like)
     (c.requires.search.graph.reached c.args.node s c.in_ok-kept.ensures.found).like

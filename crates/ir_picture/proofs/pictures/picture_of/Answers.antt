@@ -2,7 +2,7 @@ use Rattle.std.proofs.Common.{◌∙◌, ℕ, Some, List, sym, ap, subst}
 use Rattle.ir_past.specs.declared.stale_write.StaleWrite.{StaleWrite}
 use Rattle.ir_picture.specs.Answers.{IsThere}
 use Rattle.ir_picture.specs.Boxing.{AreApart}
-use Rattle.ir_picture.specs.Places.{ArePlaced}
+use Rattle.ir_picture.specs.Places.{AreBoxesPlaced}
 use Rattle.ir_picture.specs.Placing.{events_of_all, version_in}
 use Rattle.ir_picture.specs.Shown.{StartsAt, AreShown, shown_stale}
 use Rattle.ir_picture.specs.declared.placed_box.PlacedBox.{PlacedBox}
@@ -35,7 +35,7 @@ returns c =
       no_circle_if_no_next_box r p.boxes.items p.lanes.items (version_in p.table) are c.in_default.ensures,
       record {
         all = p.boxes.items;
-        placed = subst (ArePlaced r p.boxes.items) (sym c.in_ok-ends.ensures)
+        placed = subst (AreBoxesPlaced r p.boxes.items) (sym c.in_ok-ends.ensures)
             (are_placed_if_no_next_box r p.boxes.items p.lanes.items (version_in p.table) are c.in_default.ensures);
         shown = subst (λ (bs : List PlacedBox). AreShown bs c.args.near.now c.in_ok-boxes.boxes.items) c.boxes.ensures c.in_ok-boxes.ensures;
         rows = c.in_ok-rows.rows.items;

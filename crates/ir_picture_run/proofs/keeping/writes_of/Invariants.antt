@@ -1,6 +1,6 @@
 use Rattle.std.proofs.Common.{◌≡◌, take}
-use Rattle.ir_picture_run.specs.Resting.{writes_of}
+use Rattle.ir_picture_run.specs.Resting.{stale_of_rests}
 use Rattle.ir_picture_run.proofs.keeping.writes_of.Given as goal
 
 abbrev pub invariant-loop-own : goal.invariant-loop-own
-invariant-loop-own l = l.writes.items ≡ writes_of (take l.own-index l.kept)
+invariant-loop-own l = l.writes.items ≡ stale_of_rests (take l.own-index l.kept)

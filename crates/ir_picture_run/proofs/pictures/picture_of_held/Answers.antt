@@ -11,7 +11,7 @@ use Rattle.ir_picture.specs.Placing.{events_of_all}
 use Rattle.ir_picture.specs.Shown.{StartsAt, AreShown}
 use Rattle.ir_picture.specs.declared.placed_box.PlacedBox.{PlacedBox}
 use Rattle.ir_picture.proofs.CallerLemmas.{shown_of_some_boxes_are_some_boxes}
-use Rattle.ir_picture_run.specs.Resting.{resting_writes, writes_of}
+use Rattle.ir_picture_run.specs.Resting.{resting_writes, stale_of_rests}
 use Rattle.ir_picture_run.proofs.Shown.{run_boxes_are_some_boxes, start_of_run_event_exists, held_picture_is_run_picture}
 use Rattle.ir_picture_run.proofs.pictures.picture_of_held.Goals as goal
 
@@ -55,7 +55,7 @@ returns-clause-drawn c =
     ∙ ap (λ (bs : List PlacedBox). resting_writes bs c.deref-4.result.now c.deref-5.result.now) c.deref-3.ensures.value
     ∙ ap (λ (xs : List StaleWrite). resting_writes c.in_ok-shown.shown.items xs c.deref-5.result.now) c.deref-4.ensures.value
     ∙ ap (λ (rs : List (Option Rest)). resting_writes c.in_ok-shown.shown.items c.in_ok-rows.rows.items rs) c.deref-5.ensures.value)
-    (c.in_ok-stale.ensures ∙ ap writes_of c.deref-6.ensures.value)).0
+    (c.in_ok-stale.ensures ∙ ap stale_of_rests c.deref-6.ensures.value)).0
 
 pub returns-clause-of_trace : goal.returns-clause-of_trace
 returns-clause-of_trace c =
@@ -71,4 +71,4 @@ returns-clause-of_trace c =
     ∙ ap (λ (bs : List PlacedBox). resting_writes bs c.deref-4.result.now c.deref-5.result.now) c.deref-3.ensures.value
     ∙ ap (λ (xs : List StaleWrite). resting_writes c.in_ok-shown.shown.items xs c.deref-5.result.now) c.deref-4.ensures.value
     ∙ ap (λ (rs : List (Option Rest)). resting_writes c.in_ok-shown.shown.items c.in_ok-rows.rows.items rs) c.deref-5.ensures.value)
-    (c.in_ok-stale.ensures ∙ ap writes_of c.deref-6.ensures.value)).1
+    (c.in_ok-stale.ensures ∙ ap stale_of_rests c.deref-6.ensures.value)).1

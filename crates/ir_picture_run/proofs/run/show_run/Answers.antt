@@ -3,7 +3,7 @@ use Rattle.ir_files.proofs.CallerLemmas.{if_err_holds_if_holds_of_handed_on_erro
 use Rattle.ir_fit_run.proofs.CallerLemmas.{run_trace_is_coherent}
 use Rattle.ir_picture_run.specs.declared.run_view_err.RunViewErr.TheVariants.{Unwritten}
 use Rattle.ir_picture.proofs.CallerLemmas.{answered_of_implied_kind, not_answered_of_implied_kind}
-use Rattle.ir_picture_run.specs.Answers.{IsForm, IsViewAnswer}
+use Rattle.ir_picture_run.specs.Answers.{IsFormOfRun, IsRunViewAnswer}
 use Rattle.ir_picture_run.proofs.Shown.{run_answer_is_view_answer, picture_form_is_run_answer}
 use Rattle.ir_picture_run.proofs.run.show_run.Goals as goal
 
@@ -17,7 +17,7 @@ returns-in_err-show_picture-clause-fails g c =
     let p = err_from_is_err_and c.from_residual-in_err-show_picture.result c.from_residual-in_err-show_picture.ensures.1 in
     let e = c.in_err-show_picture.field-0.0 in
     if_err_holds_if_holds_of_handed_on_error _ c.from_residual-in_err-show_picture.result (Unwritten e) p.0 p.1 p.2
-    (λ i t fits. not_answered_of_implied_kind (IsForm asked.form f asked.around c.in_ok-shown.shown.picture c.in_ok-shown.shown.kept.items) (IsViewAnswer asked i t) e
+    (λ i t fits. not_answered_of_implied_kind (IsFormOfRun asked.form f asked.around c.in_ok-shown.shown.picture c.in_ok-shown.shown.kept.items) (IsRunViewAnswer asked i t) e
     _ (λ s text is. run_answer_is_view_answer asked f s text i t fits c.in_ok-shown.ensures.there
     (picture_form_is_run_answer asked f s text c.in_ok-shown.shown.picture c.in_ok-shown.shown.kept.items c.in_ok-shown.ensures.drawn is))
     c.in_err-show_picture.ensures.fails)
@@ -26,7 +26,7 @@ pub returns-clause-ok : goal.returns-clause-ok
 returns-clause-ok g c =
     let f = c.args.fitted.now in
     let asked = c.args.asked.now in
-    λ i t fits. answered_of_implied_kind (IsForm asked.form f asked.around c.in_ok-shown.shown.picture c.in_ok-shown.shown.kept.items) (IsViewAnswer asked i t)
+    λ i t fits. answered_of_implied_kind (IsFormOfRun asked.form f asked.around c.in_ok-shown.shown.picture c.in_ok-shown.shown.kept.items) (IsRunViewAnswer asked i t)
     c.in_ok-show_picture.field-0 _ (λ text is. run_answer_is_view_answer asked f c.in_ok-show_picture.field-0 text i t fits c.in_ok-shown.ensures.there
     (picture_form_is_run_answer asked f c.in_ok-show_picture.field-0 text c.in_ok-shown.shown.picture c.in_ok-shown.shown.kept.items c.in_ok-shown.ensures.drawn is))
     c.in_ok-show_picture.ensures.ok

@@ -10,7 +10,7 @@ use Rattle.ir_picture.specs.Answers.{many_line}
 use Rattle.ir_picture.specs.Progress.{AreBoxesOf}
 use Rattle.ir_picture.specs.declared.asked.Form.TheVariants as form
 use Rattle.ir_picture.specs.declared.placed_box.PlacedBox.{PlacedBox}
-use Rattle.ir_picture_run.specs.Answers.{IsForm}
+use Rattle.ir_picture_run.specs.Answers.{IsFormOfRun}
 use Rattle.ir_picture_run.specs.Numbers.{data_rows}
 use Rattle.ir_picture_run.specs.Steps.{AreDrawn}
 use Rattle.ir_picture_run.specs.declared.resting.Resting.{Resting}
@@ -31,7 +31,7 @@ pub returns-in_err-frame-clause-fails : goal.returns-in_err-frame-clause-fails
 returns-in_err-frame-clause-fails g c =
     let p = err_from_is_err_and c.from_residual-in_err-frame.result c.from_residual-in_err-frame.ensures.1 in
     if_err_holds_if_holds_of_handed_on_error _ c.from_residual-in_err-frame.result NoMem p.0 p.1 p.2
-    (not_answered_if_no_memory (IsForm form.Page c.args.fitted.now c.args.near.now c.args.shown.now.picture c.args.shown.now.kept.items)
+    (not_answered_if_no_memory (IsFormOfRun form.Page c.args.fitted.now c.args.near.now c.args.shown.now.picture c.args.shown.now.kept.items)
     (g.O.Sink.written c.args.out.now) (g.O.Sink.broken c.args.out.now) c.requires.works)
 
 pub returns-in_err-write_data-clause-fails : goal.returns-in_err-write_data-clause-fails
@@ -44,8 +44,8 @@ returns-in_err-write_data-clause-fails g c =
     let text : List ℕ = c.in_ok-frame.frame.before.items
     ++ (data_rows f near p c.deref-2.result.now c.deref-3.result.now ++ c.in_ok-frame.frame.after.items) in
     if_err_holds_if_holds_of_handed_on_error _ c.from_residual-in_err-write_data.result e q.0 q.1 q.2
-    (not_answered_if_stopped (IsForm form.Page f near p c.args.shown.now.kept.items) Done text e _
-    (subst (λ (ks : List Resting). IsForm form.Page f near p ks Done text) c.deref-3.ensures.value
+    (not_answered_if_stopped (IsFormOfRun form.Page f near p c.args.shown.now.kept.items) Done text e _
+    (subst (λ (ks : List Resting). IsFormOfRun form.Page f near p ks Done text) c.deref-3.ensures.value
     (framed_rows_are_page_form f near p c.deref-2.result.now c.deref-3.result.now c.in_ok-frame.frame.before.items c.in_ok-frame.frame.after.items
     (subst (AreDrawn f p.boxes.items) (sym c.deref-2.ensures.value)
     (subst (λ (bs : List PlacedBox). AreDrawn f bs c.in_ok-drawn.drawn.items) c.deref.ensures.value c.in_ok-drawn.ensures)) (omega (arith, c.if-len-gt-MOST_BOXES.false))
@@ -59,9 +59,9 @@ returns-clause-ok g c =
     let p = c.args.shown.now.picture in
     let text : List ℕ = c.in_ok-frame.frame.before.items
     ++ (data_rows f near p c.deref-2.result.now c.deref-3.result.now ++ c.in_ok-frame.frame.after.items) in
-    answered_if_written (IsForm form.Page f near p c.args.shown.now.kept.items) Done (g.O.Sink.written c.args.out.now)
+    answered_if_written (IsFormOfRun form.Page f near p c.args.shown.now.kept.items) Done (g.O.Sink.written c.args.out.now)
     (g.O.Sink.written c.write_data.new.out) (g.O.Sink.broken c.write_data.new.out) text
-    (subst (λ (ks : List Resting). IsForm form.Page f near p ks Done text) c.deref-3.ensures.value
+    (subst (λ (ks : List Resting). IsFormOfRun form.Page f near p ks Done text) c.deref-3.ensures.value
     (framed_rows_are_page_form f near p c.deref-2.result.now c.deref-3.result.now c.in_ok-frame.frame.before.items c.in_ok-frame.frame.after.items
     (subst (AreDrawn f p.boxes.items) (sym c.deref-2.ensures.value)
     (subst (λ (bs : List PlacedBox). AreDrawn f bs c.in_ok-drawn.drawn.items) c.deref.ensures.value c.in_ok-drawn.ensures)) (omega (arith, c.if-len-gt-MOST_BOXES.false))
@@ -70,7 +70,7 @@ returns-clause-ok g c =
 
 pub returns-then-len-gt-MOST_BOXES-clause-fails : goal.returns-then-len-gt-MOST_BOXES-clause-fails
 returns-then-len-gt-MOST_BOXES-clause-fails g c =
-    let is = IsForm form.Page c.args.fitted.now c.args.near.now c.args.shown.now.picture c.args.shown.now.kept.items in
+    let is = IsFormOfRun form.Page c.args.fitted.now c.args.near.now c.args.shown.now.picture c.args.shown.now.kept.items in
     let a = c.in_ok-many_answer.field-0 in
     let w = writer_of (g.O.Sink.written c.args.out.now) (g.O.Sink.written c.put_answer.new.out) (g.O.Sink.broken c.put_answer.new.out) in
     let count : c.len-then-len-gt-MOST_BOXES.result ≡ length c.args.shown.now.picture.boxes.items = omega (arith, c.len-then-len-gt-MOST_BOXES.ensures) in

@@ -1,5 +1,5 @@
 use Rattle.std.proofs.Common.{subst}
-use Rattle.ir_fit_run.specs.Opened.{IsOpened}
+use Rattle.ir_fit_run.specs.Opened.{IsFitOpened}
 use Rattle.ir_fit_run.specs.declared.opened.Opened.TheVariants.{Refused}
 use Rattle.ir_fit_run.proofs.CallerLemmas.{refusal_is_answered_or_stopped}
 use Rattle.ir_rests.specs.Lines.{IsRestsAnswer}
@@ -7,8 +7,8 @@ use Rattle.ir_rests.proofs.run.show.Goals as goal
 
 pub returns-in-Refused-clause-fails : goal.returns-in-Refused-clause-fails
 returns-in-Refused-clause-fails g c =
-    let because : IsOpened c.args.image.now c.args.trace.now (Refused c.in-Refused.why) =
-    subst (IsOpened c.args.image.now c.args.trace.now) c.in-Refused.is c.in_ok-fitted.ensures in
+    let because : IsFitOpened c.args.image.now c.args.trace.now (Refused c.in-Refused.why) =
+    subst (IsFitOpened c.args.image.now c.args.trace.now) c.in-Refused.is c.in_ok-fitted.ensures in
     (refusal_is_answered_or_stopped IsRestsAnswer c.args.image.now c.args.trace.now c.in-Refused.why c.refuse.result (g.O.Sink.written c.args.out.now)
     (g.O.Sink.written c.refuse.new.out) (g.O.Sink.broken c.refuse.new.out) because c.refuse.ensures.status c.refuse.ensures.ok
     c.refuse.ensures.works c.refuse.ensures.fails).1

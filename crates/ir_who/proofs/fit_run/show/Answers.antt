@@ -1,7 +1,7 @@
 use Rattle.std.proofs.Common.{Err, subst}
 use Rattle.std.proofs.lemmas.Result.{err_from_is_err_and}
 use Rattle.ir_files.proofs.CallerLemmas.{if_err_holds_if_holds_of_handed_on_error}
-use Rattle.ir_fit_run.specs.Opened.{IsOpened}
+use Rattle.ir_fit_run.specs.Opened.{IsFitOpened}
 use Rattle.ir_fit_run.specs.declared.opened.Opened.TheVariants.{Refused}
 use Rattle.ir_fit_run.proofs.CallerLemmas.{refusal_is_answered_or_stopped}
 use Rattle.ir_who.specs.FitLines.{IsFitWhoAnswer}
@@ -12,8 +12,8 @@ pub returns-in_err-refuse-in-Refused-clause-fails : goal.returns-in_err-refuse-i
 returns-in_err-refuse-in-Refused-clause-fails g c =
     let p = err_from_is_err_and c.from_residual-in_err-refuse-in-Refused.result c.from_residual-in_err-refuse-in-Refused.ensures.1 in
     let e = c.in_err-refuse-in-Refused.field-0.0 in
-    let because : IsOpened c.args.image.now c.args.trace.now (Refused c.in-Refused.why) =
-    subst (IsOpened c.args.image.now c.args.trace.now) c.in-Refused.is c.in_ok-fitted.ensures in
+    let because : IsFitOpened c.args.image.now c.args.trace.now (Refused c.in-Refused.why) =
+    subst (IsFitOpened c.args.image.now c.args.trace.now) c.in-Refused.is c.in_ok-fitted.ensures in
     if_err_holds_if_holds_of_handed_on_error _ c.from_residual-in_err-refuse-in-Refused.result (Unwritten e) p.0 p.1 p.2
     (refusal_is_answered_or_stopped (IsFitWhoAnswer c.args.asked.now) c.args.image.now c.args.trace.now c.in-Refused.why (Err e) (g.O.Sink.written c.args.out.now)
     (g.O.Sink.written c.refuse.new.out) (g.O.Sink.broken c.refuse.new.out) because _ _ _ c.in_err-refuse-in-Refused.ensures.fails).1

@@ -3,7 +3,7 @@ use Rattle.std.proofs.lemmas.Result.{err_from_is_err_and}
 use Rattle.ir_files.proofs.CallerLemmas.{if_err_holds_if_holds_of_handed_on_error}
 use Rattle.ir_files.specs.declared.exit_status.ExitStatus.TheVariants as status
 use Rattle.ir_past.proofs.CallerLemmas.{not_answered_if_stopped}
-use Rattle.ir_fit_run.specs.Answers.{IsAnswerOf}
+use Rattle.ir_fit_run.specs.Answers.{IsFitAnswerOf}
 use Rattle.ir_why.specs.FitAnswers.{IsFitReason}
 use Rattle.ir_why.specs.declared.why_err.WhyErr.TheVariants.{Unwritten}
 use Rattle.ir_why.proofs.fit_run.show_fitted.Goals as goal
@@ -13,5 +13,5 @@ returns-in_err-put_answer-clause-fails g c =
     let p = err_from_is_err_and c.from_residual-in_err-put_answer.result c.from_residual-in_err-put_answer.ensures.1 in
     let e = c.in_err-put_answer.field-0.0 in
     if_err_holds_if_holds_of_handed_on_error _ c.from_residual-in_err-put_answer.result (Unwritten e) p.0 p.1 p.2
-    (λ i t fits. not_answered_if_stopped (IsAnswerOf (IsFitReason c.args.asked.now) i t) status.Done c.in_ok-text.text.items e _
+    (λ i t fits. not_answered_if_stopped (IsFitAnswerOf (IsFitReason c.args.asked.now) i t) status.Done c.in_ok-text.text.items e _
     (inl (record { fitted = c.args.fitted.now; fits = fits; status = refl; answer = c.in_ok-text.ensures.ok })) c.in_err-put_answer.ensures.fails)

@@ -3,7 +3,7 @@ use Rattle.ir_trace.specs.Recorded.{Recorded}
 use Rattle.ir_past.specs.Answers.{AreCoherent}
 use Rattle.ir_past.specs.declared.place.Place.{Place}
 use Rattle.ir_fit_run.proofs.CallerLemmas.{run_trace_is_coherent, inside_event_number_is_below_event_count}
-use Rattle.ir_why.specs.FitAnswers.{AreInside}
+use Rattle.ir_why.specs.FitAnswers.{AreEventsInside}
 use Rattle.ir_why.specs.Tables.{AreThere}
 use Rattle.ir_why.proofs.Within.{trace_events_are_inside}
 use Rattle.ir_why.proofs.leaves.needs_of.Goals as goal
@@ -16,6 +16,6 @@ needs_of-requires-clause-event c = inside_event_number_is_below_event_count c.ar
     c.trace.result.now c.trace.ensures.value
 
 pub needs_left-requires : goal.needs_left-requires
-needs_left-requires c = subst (λ (ps : List Place). AreInside c.args.fitted.now ps) (sym c.deref.ensures.value)
+needs_left-requires c = subst (λ (ps : List Place). AreEventsInside c.args.fitted.now ps) (sym c.deref.ensures.value)
     (trace_events_are_inside c.args.fitted.now c.known.ensures.run c.in_ok-places.places.items
     (subst (λ (r : Recorded). AreThere r c.in_ok-places.places.items) c.trace.ensures.value c.in_ok-places.ensures.there))

@@ -1,12 +1,12 @@
 use Rattle.std.proofs.Common.{sym, ap, ◌∙◌}
 use Rattle.std.specs.List.{list_any}
-use Rattle.ir_chaos.specs.Conditions.{as_literal, holds, outcome_of}
+use Rattle.ir_chaos.specs.Conditions.{as_literal, holds, end_state}
 use Rattle.ir_chaos.proofs.Texts.{list_any-map}
 use Rattle.ir_chaos.proofs.condition.Condition.holds.Goals as goal
 
 pub returns : goal.returns
 returns c =
-    let o = outcome_of c.args.flat.now in
+    let o = end_state c.args.flat.now in
     c.some_holds.ensures
     ∙ ap (list_any (λ l. holds (as_literal l) o)) c.as_slice.ensures.value
     ∙ sym (list_any-map (λ l. holds l o) as_literal c.args.self.now.alternatives.items)

@@ -3,7 +3,7 @@ use Rattle.std.specs.List.{slice_index_or}
 use Rattle.ir_thread.specs.State as thread
 use Rattle.ir_chaos.proofs.Ready.{each_ready, chosen_ready_thread_has_step, ran_to_end_if_none_ready}
 use Rattle.ir_chaos.proofs.Runs.{ran_transitive, all_left_falls_if_took_some_of_one}
-use Rattle.ir_chaos.specs.Choices.{Serves}
+use Rattle.ir_chaos.specs.Choices.{CanChoose}
 use Rattle.ir_chaos.specs.Moments.{Ran, moment_of}
 use Rattle.ir_chaos.specs.Schedules.{AreReady}
 use Rattle.ir_flat.specs.Flat.{machine, tables}
@@ -16,7 +16,7 @@ choices-init g c = record {
   ran = c.in_ok-go_to_rests.ensures.ran c.args.chooser.now;
   ready = c.in_ok-go_to_rests.ensures.ready;
   rest = c.in_ok-go_to_rests.ensures.rest;
-  serves = subst (λ n. Serves n c.args.chooser.now) (sym (c.in_ok-go_to_rests.ensures.ran c.args.chooser.now).gained.threads)
+  serves = subst (λ n. CanChoose n c.args.chooser.now) (sym (c.in_ok-go_to_rests.ensures.ran c.args.chooser.now).gained.threads)
       c.requires.serves;
 }
 
@@ -63,7 +63,7 @@ choices-preserved g c = record {
       (ran g c);
   ready = c.in_ok-turn.ensures.ready;
   rest = c.in_ok-turn.ensures.rest;
-  serves = subst (λ n. Serves n c.choose-thread.new.self)
+  serves = subst (λ n. CanChoose n c.choose-thread.new.self)
       (ap (λ (xs : List thread.ThreadState). length xs) c.threads.ensures.value ∙ sym (ran g c).gained.threads) c.choose-thread.ensures.serves;
 }
 

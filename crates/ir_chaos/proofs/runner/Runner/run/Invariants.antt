@@ -1,7 +1,7 @@
 use Rattle.std.proofs.Common.{length}
 use Rattle.ir_flat.specs.Flat.{tables}
 use Rattle.ir_record.specs.Progress.{all_left}
-use Rattle.ir_chaos.specs.Choices.{Serves}
+use Rattle.ir_chaos.specs.Choices.{CanChoose}
 use Rattle.ir_record.specs.Worlds.{AreSameWorlds}
 use Rattle.ir_chaos.specs.Moments.{moment_of, Ran, AllRest, IsReady}
 use Rattle.ir_chaos.proofs.runner.Runner.run.Given as goal
@@ -12,7 +12,7 @@ invariant-choices g l = record {
   ran : Ran l.fn.tries (moment_of g.W.World.answers l.fn.self) l.fn.chooser (moment_of g.W.World.answers l.self) l.chooser;
   ready : IsReady g.W.World.broken l.self;
   rest : AllRest l.fn.tries l.self.flat;
-  serves : Serves (length l.self.flat.threads) l.chooser;
+  serves : CanChoose (length l.self.flat.threads) l.chooser;
 }
 
 abbrev pub decreases-choices : goal.decreases-choices

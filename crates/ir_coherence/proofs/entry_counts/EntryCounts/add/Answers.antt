@@ -1,7 +1,7 @@
 use Rattle.std.proofs.Common.{◌<◌, length, vec_len, refl, sym, subst, arith}
 use Rattle.std.proofs.lemmas.Result.{on_ok_weaker}
 use Rattle.ir_coherence.proofs.Tables.{value_of_element_has_room, reads_after_read_counted, writes_are_unchanged_by_counted_read, writes_after_write_counted, reads_are_unchanged_by_counted_write}
-use Rattle.ir_coherence.specs.Counting.{MayStand, count, OneMore}
+use Rattle.ir_coherence.specs.Counting.{MayStand, count_at, OneMore}
 use Rattle.ir_coherence.proofs.entry_counts.EntryCounts.add.Goals as goal
 
 pub add-requires : goal.add-requires
@@ -9,7 +9,7 @@ add-requires c =
     let objects = c.args.self.now.objects in
     let fits = subst (MayStand (vec_len objects)) c.in-Read.is c.requires.object in
     let within : c.in-Read.object < length objects.items = omega (arith, fits.1.0, objects.ok.0) in
-    value_of_element_has_room (λ x. count x.reads c.in-Read.version) objects.items c.in-Read.object c.index_mut.result.now 4294967296 within
+    value_of_element_has_room (λ x. count_at x.reads c.in-Read.version) objects.items c.in-Read.object c.index_mut.result.now 4294967296 within
     (sym c.index_mut.ensures.value) (c.requires.room.reads c.in-Read.object c.in-Read.version)
 
 pub add-requires-in-Write : goal.add-requires-in-Write
@@ -17,7 +17,7 @@ add-requires-in-Write c =
     let objects = c.args.self.now.objects in
     let fits = subst (MayStand (vec_len objects)) c.in-Write.is c.requires.object in
     let within : c.in-Write.object < length objects.items = omega (arith, fits.1.0, objects.ok.0) in
-    value_of_element_has_room (λ x. count x.writes c.in-Write.version) objects.items c.in-Write.object c.index_mut-in-Write.result.now 4294967296 within
+    value_of_element_has_room (λ x. count_at x.writes c.in-Write.version) objects.items c.in-Write.object c.index_mut-in-Write.result.now 4294967296 within
     (sym c.index_mut-in-Write.ensures.value) (c.requires.room.writes c.in-Write.object c.in-Write.version)
 
 pub returns-in-Read : goal.returns-in-Read

@@ -3,7 +3,7 @@ use Rattle.ir_packet.specs.Packets.{packet_of}
 use Rattle.ir_packet.specs.Replies.{reply_text}
 use Rattle.ir_packet.specs.declared.reply.Reply.TheVariants.{NoMemory}
 use Rattle.ir_gdb.specs.Stub.{Stub}
-use Rattle.ir_gdb.specs.Replies.{Replies}
+use Rattle.ir_gdb.specs.Replies.{RepliesTo}
 use Rattle.ir_gdb.specs.Connection.{Connecting, sent}
 use Rattle.ir_stream.proofs.CallerLemmas.{writes_or_fails_is_monotone}
 use Rattle.ir_gdb.proofs.Answering.{replies_if_carried_out, replies_no_memory_if_lacks, sent_reply_packet, sent_part_of_reply_packet}
@@ -11,8 +11,8 @@ use Rattle.ir_gdb.proofs.connection.Connection.answer.Goals as goal
 
 pub returns-in-Ok-clause-writes : goal.returns-in-Ok-clause-writes
 returns-in-Ok-clause-writes g c =
-    let replies : Replies c.args.self.now.link.stub c.args.request c.reply.new.out.items c.reply.new.self.stub =
-    subst (λ (x : Stub). Replies x c.args.request c.reply.new.out.items c.reply.new.self.stub) (ap (λ (x : Connecting). x.link.stub) c.self.view_is)
+    let replies : RepliesTo c.args.self.now.link.stub c.args.request c.reply.new.out.items c.reply.new.self.stub =
+    subst (λ (x : Stub). RepliesTo x c.args.request c.reply.new.out.items c.reply.new.self.stub) (ap (λ (x : Connecting). x.link.stub) c.self.view_is)
     (replies_if_carried_out c.self.inside.remote.stub c.args.request c.reply.new.self.stub _ c.reply.new.out.items c.in-Ok.ensures.ok c.clear.ensures.items) in
     writes_or_fails_is_monotone c.send.result
     (λ grown. sent_reply_packet c.args.self.now.link c.args.request c.reply.new.self.stub c.reply.new.out.items
@@ -27,8 +27,8 @@ returns-in-Ok-clause-writes g c =
 
 pub returns-in-Err-clause-writes : goal.returns-in-Err-clause-writes
 returns-in-Err-clause-writes g c =
-    let replies : Replies c.args.self.now.link.stub c.args.request (reply_text NoMemory) c.reply.new.self.stub =
-    subst (λ (x : Stub). Replies x c.args.request (reply_text NoMemory) c.reply.new.self.stub) (ap (λ (x : Connecting). x.link.stub) c.self.view_is)
+    let replies : RepliesTo c.args.self.now.link.stub c.args.request (reply_text NoMemory) c.reply.new.self.stub =
+    subst (λ (x : Stub). RepliesTo x c.args.request (reply_text NoMemory) c.reply.new.self.stub) (ap (λ (x : Connecting). x.link.stub) c.self.view_is)
     (replies_no_memory_if_lacks c.self.inside.remote.stub c.args.request c.reply.new.self.stub c.in-Err.ensures.err.0) in
     writes_or_fails_is_monotone c.send_reply.result
     (λ grown. sent_reply_packet c.args.self.now.link c.args.request c.reply.new.self.stub (reply_text NoMemory)

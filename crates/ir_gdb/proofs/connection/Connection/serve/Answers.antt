@@ -4,7 +4,7 @@ use Rattle.ir_stream.specs.declared.serving.Flow.{Flow}
 use Rattle.ir_stream.specs.declared.serving.Flow.TheVariants.{Quits}
 use Rattle.ir_packet.specs.Reading.{Reading, item_found, items_found}
 use Rattle.ir_packet.specs.Stream as stream
-use Rattle.ir_gdb.specs.Connection.{Connecting, ends}
+use Rattle.ir_gdb.specs.Connection.{Connecting, item_ends}
 use Rattle.ir_gdb.proofs.Items.{AfterBytes, found_payload_within_limit, after_bytes_at_start, at_byte, at_item, quit_ended, quit_known, write_failed}
 use Rattle.ir_gdb.proofs.connection.Connection.serve.Goals as goal
 
@@ -37,7 +37,7 @@ loop-taken-preserved-in_default g c =
       at = at_byte c.args.self.now.link (g.R.Source.left c.args.reader.now) (g.W.Sink.written c.args.writer.now)
           (g.R.Source.left c.loop-taken.reader) (g.R.Source.left c.next_byte.new.reader) (g.W.Sink.written c.loop-taken.writer) _
           c.self.inside.reader.place c.loop-taken.taken at c.in-Byte.byte c.take.new.self.place c.take.new.self.payload c.in-Byte.ensures.bytes
-          (subst (λ (f : _). items_found f c.take.new.self.payload ≡ stream.ends c.self.inside.reader.place c.in-Byte.byte) c.in_default.is
+          (subst (λ (f : _). items_found f c.take.new.self.payload ≡ stream.ended_items c.self.inside.reader.place c.in-Byte.byte) c.in_default.is
           c.take.ensures.found) c.take.ensures.place;
       reads = c.in-Byte.ensures.broken ∙ c.loop-taken.invariant.reads;
       writes = c.loop-taken.invariant.writes;
@@ -80,7 +80,7 @@ returns-in-Quits-clause-ended g c =
     c.self.inside.reader.place c.loop-taken.taken at c.in-Byte.byte c.in-Some.found c.take.new.self.payload c.in-Byte.ensures.bytes
     c.in-Some.ensures.found
     c.args.limit c.loop-taken-test.true c.take-in-loop-taken.new.self.link (g.W.Sink.written c.take-in-loop-taken.new.writer)
-    (quit c.in_ok-take.field-0 (ends (record { stub = c.self.inside.remote.stub; acknowledges = c.self.inside.acknowledges; is_owed = c.self.inside.is_owed; last = c.self.inside.packet.items })
+    (quit c.in_ok-take.field-0 (item_ends (record { stub = c.self.inside.remote.stub; acknowledges = c.self.inside.acknowledges; is_owed = c.self.inside.is_owed; last = c.self.inside.packet.items })
     (item_found c.in-Some.found c.take.new.self.payload)) c.in_ok-take.ensures.flow c.in-Quits.is) c.in_ok-take.ensures.writes.ok
 
 pub returns-in-Quits-clause-known : goal.returns-in-Quits-clause-known
@@ -97,7 +97,7 @@ returns-in-Quits-clause-known g c =
     c.self.inside.reader.place c.loop-taken.taken at c.in-Byte.byte c.in-Some.found c.take.new.self.payload c.in-Byte.ensures.bytes
     c.in-Some.ensures.found
     c.args.limit c.loop-taken-test.true c.take-in-loop-taken.new.self.link (g.W.Sink.written c.take-in-loop-taken.new.writer)
-    (quit c.in_ok-take.field-0 (ends (record { stub = c.self.inside.remote.stub; acknowledges = c.self.inside.acknowledges; is_owed = c.self.inside.is_owed; last = c.self.inside.packet.items })
+    (quit c.in_ok-take.field-0 (item_ends (record { stub = c.self.inside.remote.stub; acknowledges = c.self.inside.acknowledges; is_owed = c.self.inside.is_owed; last = c.self.inside.packet.items })
     (item_found c.in-Some.found c.take.new.self.payload)) c.in_ok-take.ensures.flow c.in-Quits.is) c.in_ok-take.ensures.writes.ok
 
 pub loop-taken-preserved : goal.loop-taken-preserved
@@ -116,7 +116,7 @@ loop-taken-preserved g c =
           c.in-Some.ensures.found
           c.take-in-loop-taken.new.self.link (g.W.Sink.written c.take-in-loop-taken.new.writer) c.take-in-loop-taken.new.self.reading.place
           (ap (λ (r : Reading). r.place) c.in_ok-take.ensures.reading ∙ c.in-Some.ensures.place)
-          (goes c.in_ok-take.field-0 (ends (record { stub = c.self.inside.remote.stub; acknowledges = c.self.inside.acknowledges; is_owed = c.self.inside.is_owed; last = c.self.inside.packet.items })
+          (goes c.in_ok-take.field-0 (item_ends (record { stub = c.self.inside.remote.stub; acknowledges = c.self.inside.acknowledges; is_owed = c.self.inside.is_owed; last = c.self.inside.packet.items })
           (item_found c.in-Some.found c.take.new.self.payload)) c.in_ok-take.ensures.flow c.in_default-2.not-Quits) c.in_ok-take.ensures.writes.ok;
       reads = c.in-Byte.ensures.broken ∙ c.loop-taken.invariant.reads;
       writes = c.in_ok-take.ensures.writes.stays ∙ c.loop-taken.invariant.writes;

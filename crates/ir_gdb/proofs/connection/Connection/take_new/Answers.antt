@@ -2,7 +2,7 @@ use Rattle.std.proofs.Common.{◌≡◌, ◌∙◌, ℕ, List, Bool, true, false
 use Rattle.ir_gdb.specs.Stub.{Stub}
 use Rattle.ir_packet.specs.Reading.{item_found}
 use Rattle.ir_packet.specs.declared.found.Found.{Found}
-use Rattle.ir_gdb.specs.Connection.{Connecting, Link, ends_by}
+use Rattle.ir_gdb.specs.Connection.{Connecting, Link, request_ends}
 use Rattle.ir_stream.proofs.CallerLemmas.{writes_or_fails_if_all_written, writes_or_fails_with_handed_on_error, writes_or_fails_is_monotone}
 use Rattle.ir_gdb.proofs.Arms.{packet_answered, packet_answered_part, ok_flow_of_request_is_flow_of_found_packet, long_answered, long_answered_part, bad_answered, bad_answered_part, interrupt_answered, acknowledged_answered, refused_answered, refused_answered_part, ok_flow_of_false_is_flow_of_test_if_test_is_false}
 use Rattle.ir_gdb.proofs.connection.Connection.take_new.Goals as goal
@@ -34,8 +34,8 @@ returns-in-TooLong-clause-writes g c = writes_or_fails_is_monotone c.take_long.r
     c.take_long.ensures.writes
 
 pub returns-in-TooLong-clause-flow : goal.returns-in-TooLong-clause-flow
-returns-in-TooLong-clause-flow g c = ok_flow_of_false_is_flow_of_test_if_test_is_false c.take_long.result (ends_by (item_found c.args.found c.args.self.now.reading.payload))
-    (ap (λ (f : Found). ends_by (item_found f c.args.self.now.reading.payload)) c.in-TooLong.is) c.take_long.ensures.flow
+returns-in-TooLong-clause-flow g c = ok_flow_of_false_is_flow_of_test_if_test_is_false c.take_long.result (request_ends (item_found c.args.found c.args.self.now.reading.payload))
+    (ap (λ (f : Found). request_ends (item_found f c.args.self.now.reading.payload)) c.in-TooLong.is) c.take_long.ensures.flow
 
 pub returns-in_err-acknowledge-in-BadSum-clause-writes : goal.returns-in_err-acknowledge-in-BadSum-clause-writes
 returns-in_err-acknowledge-in-BadSum-clause-writes g c = writes_or_fails_with_handed_on_error _ c.from_residual.result c.from_residual.ensures.1

@@ -3,7 +3,7 @@ use Rattle.ir_fit.specs.Fit.{FittedTrace, HasRun}
 use Rattle.ir_cut.specs.Positions.{cut_of, threads_of, last_of}
 use Rattle.ir_debug.specs.Machine.{Desk}
 use Rattle.ir_gdb.specs.Serving.{Serving}
-use Rattle.ir_gdb.specs.Stub.{Stub, spoken}
+use Rattle.ir_gdb.specs.Stub.{Stub, stub_spoken}
 use Rattle.ir_gdb.proofs.Stopping.{serving_seen, continues_to_end_of_search, end_of_search_within_last}
 use Rattle.ir_gdb.proofs.remote.Remote.above.Goals as goal
 
@@ -21,7 +21,7 @@ returns-clause-stops g c =
     let s = c.args.self.now.stub in
     let u = (serving_seen c.self.view_is).stub in
     let t = c.args.thread in
-    let same : u ≡ spoken s = ap (λ (x : Serving). x.stub) c.self.view_is ∙ c.speak.ensures in
+    let same : u ≡ stub_spoken s = ap (λ (x : Serving). x.stub) c.self.view_is ∙ c.speak.ensures in
     let at = c.last-last.ensures ∙ ap (λ (x : Desk). last_of x.fitted t) c.search.ensures.desk in
     continues_to_end_of_search s u c.speak.new.self.stub c.search.new.self.desk t c.last-last.result c.args.watched c.as_slice-points.result.now c.in_ok-hit.hit
     c.watches_if.result.now c.as_slice.result.now c.end_above.result same c.speak.ensures (c.as_slice-points.ensures.value ∙ c.in_ok-points.ensures.points)

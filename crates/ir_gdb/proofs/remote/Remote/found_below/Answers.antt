@@ -1,6 +1,6 @@
 use Rattle.std.proofs.Common.{◌≡◌, ◌∙◌, sym, ap}
 use Rattle.ir_gdb.specs.Serving.{Serving}
-use Rattle.ir_gdb.specs.Stub.{spoken}
+use Rattle.ir_gdb.specs.Stub.{stub_spoken}
 use Rattle.ir_gdb.specs.Stops.{downwards_of}
 use Rattle.ir_gdb.proofs.Stopping.{serving_seen, search_points_are_downwards_of, stops_below_at_end_of_search}
 use Rattle.ir_gdb.proofs.remote.Remote.found_below.Goals as goal
@@ -10,7 +10,7 @@ returns-clause-stops g c =
     let s = c.args.self.now.stub in
     let u = (serving_seen c.self.view_is).stub in
     let halts = c.halts in
-    let same : u ≡ spoken s = ap (λ (x : Serving). x.stub) c.self.view_is ∙ c.speak.ensures in
+    let same : u ≡ stub_spoken s = ap (λ (x : Serving). x.stub) c.self.view_is ∙ c.speak.ensures in
     let v = c.speak.new.self.stub in
     let are = search_points_are_downwards_of v c.args.thread c.args.watched c.as_slice-points.result.now halts.result.watches.now halts.result.breaks.now halts.result.own.now
     (c.as_slice-points.ensures.value ∙ c.in_ok-points.ensures.points) halts.ensures.watches halts.ensures.breaks halts.ensures.own in

@@ -3,7 +3,7 @@ use Rattle.ir_fit.specs.Fit.{FittedTrace}
 use Rattle.ir_cut.specs.Positions.{last_of}
 use Rattle.ir_timeline.specs.Hand.{IsCutOf}
 use Rattle.ir_gdb.specs.Serving.{Serving}
-use Rattle.ir_gdb.specs.Stub.{Stub, spoken}
+use Rattle.ir_gdb.specs.Stub.{Stub, stub_spoken}
 use Rattle.ir_gdb.proofs.Stopping.{serving_seen}
 use Rattle.ir_gdb.proofs.Over.{own_position_at_most_target, cut_position_within_last, search_points_are_points_over, has_hit_is_whether_found_hit_is_some}
 use Rattle.ir_gdb.proofs.remote.Remote.has_hit.Goals as goal
@@ -18,7 +18,7 @@ search_up_to-requires-clause-within g c κs within =
     let u = (serving_seen c.self.view_is).stub in
     let t = c.args.thread in
     let to = c.position-to.result in
-    let same : u ≡ spoken s = ap (λ (x : Serving). x.stub) c.self.view_is ∙ c.speak.ensures in
+    let same : u ≡ stub_spoken s = ap (λ (x : Serving). x.stub) c.self.view_is ∙ c.speak.ensures in
     let fitted = ap (λ (x : Stub). x.desk.fitted) same in
     let most = cut_position_within_last s.desk.fitted c.args.cut.now t c.has_run.ensures c.requires.cut c.requires.thread in
     let far = own_position_at_most_target to c.position.result t c.in_ok-here.here c.speak.new.self.stub.desk.at c.if-to-position.false c.in_ok-here.ensures.value
@@ -29,7 +29,7 @@ pub returns-clause-hit : goal.returns-clause-hit
 returns-clause-hit g c =
     let s = c.args.self.now.stub in
     let u = (serving_seen c.self.view_is).stub in
-    let same : u ≡ spoken s = ap (λ (x : Serving). x.stub) c.self.view_is ∙ c.speak.ensures in
+    let same : u ≡ stub_spoken s = ap (λ (x : Serving). x.stub) c.self.view_is ∙ c.speak.ensures in
     let are = c.as_slice-points.ensures.value
     ∙ search_points_are_points_over s c.speak.new.self.stub c.args.pc c.args.thread c.in_ok-points.points.items c.halts.result.watches.now c.halts.result.breaks.now
     c.halts.result.own.now c.speak.ensures c.in_ok-points.ensures.points c.halts.ensures.watches c.halts.ensures.breaks c.halts.ensures.own in

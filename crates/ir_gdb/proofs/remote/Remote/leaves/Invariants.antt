@@ -1,7 +1,7 @@
 use Rattle.std.proofs.Common.{◌≡◌, ◌≤◌, ◌-◌, suc}
 use Rattle.ir_cut.specs.Positions.{EachRun, cut_of, last_of}
 use Rattle.ir_timeline.specs.Hand.{IsCutOf}
-use Rattle.ir_gdb.specs.Stub.{spoken}
+use Rattle.ir_gdb.specs.Stub.{stub_spoken}
 use Rattle.ir_gdb.specs.Stops.{position_of, StaysWithin}
 use Rattle.ir_gdb.proofs.remote.Remote.leaves.Given as goal
 
@@ -10,7 +10,7 @@ decreases-steps g l = l.last - l.position
 
 abbrev pub invariant-steps : goal.invariant-steps
 invariant-steps g l = record {
-  stub : l.self.stub ≡ spoken l.fn.self.stub;
+  stub : l.self.stub ≡ stub_spoken l.fn.self.stub;
   last : l.last ≡ last_of l.fn.self.stub.desk.fitted l.thread;
   above : position_of l.fn.self.stub l.thread ≤ l.position;
   within : l.position ≤ l.last;

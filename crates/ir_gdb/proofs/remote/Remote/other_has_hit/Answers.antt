@@ -1,7 +1,7 @@
 use Rattle.std.proofs.Common.{◌<◌, ◌≤◌, ◌∙◌, sym, ap, subst, arith}
 use Rattle.ir_cut.specs.Positions.{threads_of}
 use Rattle.ir_timeline.specs.Hand.{IsCutOf}
-use Rattle.ir_gdb.specs.Stub.{Stub, spoken}
+use Rattle.ir_gdb.specs.Stub.{Stub, stub_spoken}
 use Rattle.ir_gdb.proofs.Over.{none_has_hit_step_for_mover, none_has_hit_step, pc_is_pc_of_at_own_position, other_has_hit_if_found, no_other_hit_if_none_found}
 use Rattle.ir_gdb.proofs.remote.Remote.other_has_hit.Goals as goal
 
@@ -31,7 +31,7 @@ returns-then-branch-clause-hit g c =
 
 pub threads-preserved : goal.threads-preserved
 threads-preserved g c = record {
-  stub = c.has_hit.ensures.stub ∙ ap (λ (x : Stub). spoken x) c.threads.invariant.stub;
+  stub = c.has_hit.ensures.stub ∙ ap (λ (x : Stub). stub_spoken x) c.threads.invariant.stub;
   none =
       none_has_hit_step c.args.self.now.stub c.threads.self.stub c.in_ok-has_hit.field-0 c.in_ok-pc.pc c.args.thread c.threads.other c.args.cut.now
       c.threads.invariant.stub c.if-branch.false c.in_ok-has_hit.ensures.hit c.threads.invariant.none;

@@ -8,7 +8,7 @@ use Rattle.ir_gdb.specs.declared.point.Breakpoint.{Breakpoint}
 use Rattle.ir_gdb.specs.declared.point.Watched.{Watched}
 use Rattle.ir_gdb.specs.declared.stopped.Stopped.{Stopped}
 use Rattle.ir_gdb.specs.Serving.{Serving}
-use Rattle.ir_gdb.specs.Stub.{Stub, spoken}
+use Rattle.ir_gdb.specs.Stub.{Stub, stub_spoken}
 use Rattle.ir_gdb.specs.Stops.{watches_if, stop_above, ranged}
 use Rattle.ir_gdb.proofs.Bounds.{stop_above_is_within_last_if_hit_is}
 use Rattle.ir_gdb.proofs.Stopping.{serving_seen, watches_if_ignores_spoken_and_desk}
@@ -25,7 +25,7 @@ search_up_to-requires-clause-within g c κs within =
     let u = (serving_seen c.self.view_is).stub in
     let t = c.args.thread in
     let left = c.in_ok-left.left in
-    let same : u ≡ spoken s = ap (λ (x : Serving). x.stub) c.self.view_is ∙ c.leaves.ensures.stub in
+    let same : u ≡ stub_spoken s = ap (λ (x : Serving). x.stub) c.self.view_is ∙ c.leaves.ensures.stub in
     let e = c.after_range-end.result in
     let v = c.leaves.new.self.stub in
     let said = c.leaves.ensures.stub in
@@ -42,7 +42,7 @@ returns-in-Some-clause-stops g c =
     let u = (serving_seen c.self.view_is).stub in
     let t = c.args.thread in
     let left = c.in_ok-left.left in
-    let same : u ≡ spoken s = ap (λ (x : Serving). x.stub) c.self.view_is ∙ c.leaves.ensures.stub in
+    let same : u ≡ stub_spoken s = ap (λ (x : Serving). x.stub) c.self.view_is ∙ c.leaves.ensures.stub in
     let e = c.after_range-end.result in
     let v = c.leaves.new.self.stub in
     let said = c.leaves.ensures.stub in
@@ -64,7 +64,7 @@ returns-in-Some-clause-within g c =
     let u = (serving_seen c.self.view_is).stub in
     let t = c.args.thread in
     let left = c.in_ok-left.left in
-    let same : u ≡ spoken s = ap (λ (x : Serving). x.stub) c.self.view_is ∙ c.leaves.ensures.stub in
+    let same : u ≡ stub_spoken s = ap (λ (x : Serving). x.stub) c.self.view_is ∙ c.leaves.ensures.stub in
     let e = c.after_range-end.result in
     let v = c.leaves.new.self.stub in
     let said = c.leaves.ensures.stub in
@@ -89,7 +89,7 @@ returns-clause-stops g c =
     let u = (serving_seen c.self.view_is).stub in
     let t = c.args.thread in
     let left = c.in_ok-left.left in
-    let same : u ≡ spoken s = ap (λ (x : Serving). x.stub) c.self.view_is ∙ c.leaves.ensures.stub in
+    let same : u ≡ stub_spoken s = ap (λ (x : Serving). x.stub) c.self.view_is ∙ c.leaves.ensures.stub in
     let e = c.after_range-end.result in
     let v = c.leaves.new.self.stub in
     let said = c.leaves.ensures.stub in
@@ -107,7 +107,7 @@ returns-clause-within g c =
     let u = (serving_seen c.self.view_is).stub in
     let t = c.args.thread in
     let left = c.in_ok-left.left in
-    let same : u ≡ spoken s = ap (λ (x : Serving). x.stub) c.self.view_is ∙ c.leaves.ensures.stub in
+    let same : u ≡ stub_spoken s = ap (λ (x : Serving). x.stub) c.self.view_is ∙ c.leaves.ensures.stub in
     let e = c.after_range-end.result in
     let v = c.leaves.new.self.stub in
     let said = c.leaves.ensures.stub in

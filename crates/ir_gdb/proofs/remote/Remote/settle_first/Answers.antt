@@ -6,7 +6,7 @@ use Rattle.ir_packet.specs.declared.reply.Reason.TheVariants as reason
 use Rattle.ir_gdb.specs.declared.stopped.Stopped.{Stopped}
 use Rattle.ir_gdb.specs.Stub.{Stub}
 use Rattle.ir_gdb.specs.Stops.{stopped}
-use Rattle.ir_gdb.specs.Together.{halt, AreStops, or_else, first_met}
+use Rattle.ir_gdb.specs.Together.{halt, AreStops, halt_or, first_met}
 use Rattle.ir_gdb.proofs.Moving.{stop_of_met_thread_ignores_default, met_by_first_and_settles}
 use Rattle.ir_gdb.proofs.remote.Remote.settle_first.Goals as goal
 
@@ -30,7 +30,7 @@ returns-in-Some-clause-ok g c =
     let stops = subst (λ (ys : List Stopped). EachRun s.desk.fitted (λ run. AreStops run s d t ys)) (sym c.as_slice-each.ensures.value) c.in_ok-each.ensures.stops in
     on_ok_weaker c.settle.result
     (met_by_first_and_settles s u c.settle.new.self.stub d t c.args.cut c.args.reason each c.in_ok-other.field-0 h c.stops.ensures.stub stops
-    c.in_ok-other.ensures.met (is ∙ sym (ap (λ (x : Option (ℕ × List ℕ)). or_else (first_met each x) own) c.in-Some.is)))
+    c.in_ok-other.ensures.met (is ∙ sym (ap (λ (x : Option (ℕ × List ℕ)). halt_or (first_met each x) own) c.in-Some.is)))
     c.settle.ensures.ok
 
 pub returns-in-None-clause-ok : goal.returns-in-None-clause-ok
@@ -44,5 +44,5 @@ returns-in-None-clause-ok g c =
     let stops = subst (λ (ys : List Stopped). EachRun s.desk.fitted (λ run. AreStops run s d t ys)) (sym c.as_slice-each.ensures.value) c.in_ok-each.ensures.stops in
     on_ok_weaker c.settle-in-None.result
     (met_by_first_and_settles s u c.settle-in-None.new.self.stub d t c.args.cut c.args.reason each c.in_ok-other.field-0 own c.stops.ensures.stub stops
-    c.in_ok-other.ensures.met (sym (ap (λ (x : Option (ℕ × List ℕ)). or_else (first_met each x) own) c.in-None.is)))
+    c.in_ok-other.ensures.met (sym (ap (λ (x : Option (ℕ × List ℕ)). halt_or (first_met each x) own) c.in-None.is)))
     c.settle-in-None.ensures.ok

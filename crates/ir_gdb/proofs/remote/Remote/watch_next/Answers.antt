@@ -5,7 +5,7 @@ use Rattle.ir_timeline.specs.Hand.{IsCutOf}
 use Rattle.ir_gdb.specs.declared.point.Watched.{Watched}
 use Rattle.ir_gdb.specs.Points.{watch_points}
 use Rattle.ir_gdb.specs.Serving.{Serving}
-use Rattle.ir_gdb.specs.Stub.{Stub, spoken}
+use Rattle.ir_gdb.specs.Stub.{Stub, stub_spoken}
 use Rattle.ir_gdb.proofs.Stopping.{serving_seen, watches_if_ignores_spoken_and_desk, watches_if_ignores_spoken, watch_next_is_reason_of_found_hit}
 use Rattle.ir_gdb.proofs.remote.Remote.watch_next.Goals as goal
 
@@ -20,7 +20,7 @@ returns-clause-watch g c =
     let t = c.args.thread in
     let w = c.args.watched in
     let u = (serving_seen c.self.view_is).stub in
-    let same : u ≡ spoken s = ap (λ (x : Serving). x.stub) c.self.view_is ∙ c.speak.ensures in
+    let same : u ≡ stub_spoken s = ap (λ (x : Serving). x.stub) c.self.view_is ∙ c.speak.ensures in
     let before = watches_if_ignores_spoken s c.speak.new.self.stub w c.speak.ensures in
     let are = c.as_slice-points.ensures.value ∙ c.in_ok-points.ensures.points
     ∙ ap (λ (x : List Watched). watch_points t 0 x) (c.watches_if.ensures.value ∙ before) in

@@ -1,6 +1,6 @@
 use Rattle.std.proofs.Common.{◌≡◌, false, sym, ◌∙◌, subst, inl}
 use Rattle.std.specs.List.{list_all}
-use Rattle.ir_chaos.specs.Conditions.{as_condition, fulfils, outcome_of}
+use Rattle.ir_chaos.specs.Conditions.{as_condition, fulfils, end_state}
 use Rattle.ir_chaos.specs.Moments.{moment_of}
 use Rattle.ir_hunt.proofs.Found.{turns_are_not_empty}
 use Rattle.ir_hunt.proofs.seeker.Seeker.fulfils.Goals as goal
@@ -14,5 +14,5 @@ returns-clause-some g c = turns_are_not_empty c.args.self.now.image.now c.args.s
     (moment_of (λ w. w.answers.items) c.run.new.self.runner) c.entries-threads.ensures.within.some_thread c.in_ok-run.ensures.ran
 
 pub returns-clause-other : goal.returns-clause-other
-returns-clause-other g c _ = inl (subst (λ p. list_all (λ x. fulfils (as_condition x) (outcome_of c.run.new.self.runner.flat)) p.now.conditions.now ≡ false)
+returns-clause-other g c _ = inl (subst (λ p. list_all (λ x. fulfils (as_condition x) (end_state c.run.new.self.runner.flat)) p.now.conditions.now ≡ false)
     c.in_ok-run.ensures.plan (sym c.holds.ensures ∙ c.if-holds.false))

@@ -7,7 +7,7 @@ use Rattle.ir_record.specs.declared.turns.Turns.{Turns}
 use Rattle.ir_sources.specs.Sources.{made_with, origins}
 use Rattle.ir_sources.proofs.CallerLemmas.{worlds_answered_by_own_origins}
 use Rattle.ir_order.specs.Spelling.{Spells}
-use Rattle.ir_chaos.specs.Conditions.{as_condition, fulfils, outcome_of}
+use Rattle.ir_chaos.specs.Conditions.{as_condition, fulfils, end_state}
 use Rattle.ir_chaos.specs.Moments.{moment_of}
 use Rattle.ir_hunt.specs.Hunt.{hunt_of}
 use Rattle.ir_hunt.specs.Stale.{IsWanted}
@@ -22,7 +22,7 @@ returns-then-is_found-clause-tried g c =
     let made = f.origins ∙ (λ i. origins true (ran.plan i).now.record.random (ran.plan i).now.record.input (length (ran.image i).now.entries)) in
     let answered = worlds_answered_by_own_origins (λ w. made_with w.time w.seed w.file.now) (λ w. w.answers.items) (λ w. (w.sources, w.gave)) true
     s.plan.now.record.random s.plan.now.record.input f.runner.worlds.items (length s.image.now.entries) made in
-    let holds = list_all-map (λ x. fulfils x (outcome_of f.runner.flat)) as_condition s.plan.now.conditions.now ∙ ran.each c.if-is_found.true in
+    let holds = list_all-map (λ x. fulfils x (end_state f.runner.flat)) as_condition s.plan.now.conditions.now ∙ ran.each c.if-is_found.true in
     let spells = subst (λ (ts : List Turns). order_of_turns ts ≢ [] → Spells (string_bytes c.in_ok-list.list) (order_of_turns ts)) c.as_slice.ensures.value
     c.in_ok-list.ensures.spelled ran.some in
     is_found_if_seed_run_fulfils (hunt_of s.image.now s.plan.now c.args.choices.now) c.args.seed (moment_of (λ w. w.answers.items) f.runner)
@@ -37,5 +37,5 @@ returns-clause-tried g c =
     let answered = worlds_answered_by_own_origins (λ w. made_with w.time w.seed w.file.now) (λ w. w.answers.items) (λ w. (w.sources, w.gave)) true
     s.plan.now.record.random s.plan.now.record.input f.runner.worlds.items (length s.image.now.entries) made in
     let fails = subst (λ b. (b ≡ false) ⊎ IsWanted s.image.now s.plan.now.record (order_of_turns f.runner.turns.items) s.plan.now.stale false)
-    (sym (list_all-map (λ x. fulfils x (outcome_of f.runner.flat)) as_condition s.plan.now.conditions.now)) (ran.other c.if-is_found.false) in
+    (sym (list_all-map (λ x. fulfils x (end_state f.runner.flat)) as_condition s.plan.now.conditions.now)) (ran.other c.if-is_found.false) in
     fails_if_seed_run_does (hunt_of s.image.now s.plan.now c.args.choices.now) c.args.seed (moment_of (λ w. w.answers.items) f.runner) ran.ran answered fails

@@ -1,7 +1,7 @@
 use Rattle.std.proofs.Common.{◌≡◌, length, true, sym, ap, ◌∙◌, subst}
 use Rattle.ir_sources.specs.Sources.{made_with}
 use Rattle.ir_sources.proofs.CallerLemmas.{world_count_is_thread_count}
-use Rattle.ir_chaos.specs.Choices.{Serves}
+use Rattle.ir_chaos.specs.Choices.{CanChoose}
 use Rattle.ir_chaos.specs.Moments.{moment_of}
 use Rattle.ir_hunt.proofs.Seeking.{thread_count_of_fresh_moment}
 use Rattle.ir_hunt.proofs.seeker.Seeker.run.Given.{Over}
@@ -23,4 +23,4 @@ run-requires-clause-ready g c =
     }
 
 pub run-requires-clause-serves : goal.run-requires-clause-serves
-run-requires-clause-serves g c = subst (λ n. Serves n c.args.chooser.now) (sym (long g c)) c.requires.serves
+run-requires-clause-serves g c = subst (λ n. CanChoose n c.args.chooser.now) (sym (long g c)) c.requires.serves

@@ -5,7 +5,7 @@ use Rattle.std.proofs.lemmas.Option.{slice_get-get_or}
 use Rattle.ir_explore.specs.Origins.{first_origin, BeginsAt}
 use Rattle.ir_explore.proofs.CallerLemmas.{index_of_element_is_below_length}
 use Rattle.ir_store.specs.Nodes.{SourcedFlat}
-use Rattle.ir_graph.specs.Setup.{start_of}
+use Rattle.ir_graph.specs.Setup.{setup_start}
 use Rattle.ir_graph.specs.Standing.{NeedsSwitches}
 use Rattle.ir_graph.proofs.CallerLemmas.{needs_as_many_switches_as_its_level}
 use Rattle.ir_outcomes.proofs.Listed.{all_outcomes}
@@ -58,8 +58,8 @@ returns-clause-explored c =
                 let low : n.0.level ≤ level.number = (let a = n.2 in omega (arith, a, number)) in
                 let later : 0 < v = (let a = going.between.number in omega (arith, a, number)) in
                 let less : v < length flats = (let a = going.between.until in let b = going.between.all in omega (arith, more, a, b)) in
-                let u : SourcedFlat = slice_index_or flats v (start_of s.graph.setup) in
-                let at : slice_get flats v ≡ Some u = slice_get-get_or flats v (start_of s.graph.setup) less in (
+                let u : SourcedFlat = slice_index_or flats v (setup_start s.graph.setup) in
+                let at : slice_get flats v ≡ Some u = slice_get-get_or flats v (setup_start s.graph.setup) less in (
                   v,
                   u,
                   at,

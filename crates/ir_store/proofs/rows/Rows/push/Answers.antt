@@ -1,7 +1,7 @@
 use Rattle.std.proofs.Common.{◌≡◌, ◌⊎◌, ◌++◌, [], ◌∷◌, ap, ◌∙◌, sym, subst, length, map, List}
 use Rattle.std.proofs.lemmas.List.{map_push}
 use Rattle.std.proofs.lemmas.Result.{on_ok_weaker, on_err_weaker}
-use Rattle.ir_freeze.specs.Twins.{IsBounded}
+use Rattle.ir_freeze.specs.Twins.{KeepsBounds}
 use Rattle.ir_sources.specs.Sources.{Source}
 use Rattle.ir_thread.specs.State.{ThreadState}
 use Rattle.ir_store.specs.Rows.{Row, packed_of, thread_in, beside_in, look_of, HasOwnBytes}
@@ -33,8 +33,8 @@ invariant_of-self c =
     (sym c.self.view_is) c.requires.look)) in (
       all_by_recursion_of_map_if_rows_unchanged_or_pushed (beside_in start) (λ (x : ThreadState × Source). x.0.form ≡ form) rows new row c.self.invariant.0
           (ap (λ (s : ThreadState). s.form) thread ∙ c.requires.form ∙ ap (λ (z : table.Table). z.form) (sym c.self.view_is)) c.put.ensures.either,
-      all_by_recursion_of_map_if_rows_unchanged_or_pushed (beside_in start) (λ (x : ThreadState × Source). IsBounded x.0) rows new row c.self.invariant.1
-          (subst IsBounded (sym thread) c.bounded.ensures) c.put.ensures.either,
+      all_by_recursion_of_map_if_rows_unchanged_or_pushed (beside_in start) (λ (x : ThreadState × Source). KeepsBounds x.0) rows new row c.self.invariant.1
+          (subst KeepsBounds (sym thread) c.bounded.ensures) c.put.ensures.either,
       all_by_recursion_if_unchanged_or_pushed (HasOwnBytes basis) rows new row c.self.invariant.2 (bytes ∙ ap (packed_of basis) (sym thread)) c.put.ensures.either,
       are_looks_kept_if_rows_unchanged_or_pushed (beside_in start) look_of basis rows new row c.self.invariant.3 is c.put.ensures.either,
     )

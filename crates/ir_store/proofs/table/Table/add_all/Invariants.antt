@@ -1,11 +1,11 @@
 use Rattle.std.proofs.Common.{◌≡◌, take}
-use Rattle.ir_store.specs.Table.{threads_at, sources_at, AreIn, Keeps}
+use Rattle.ir_store.specs.Table.{threads_at, sources_at, AreIn, KeepsNumbers}
 use Rattle.ir_store.proofs.table.Table.add_all.Given as goal
 
 abbrev pub invariant-loop-t : goal.invariant-loop-t
 invariant-loop-t l = record {
-  keeps : Keeps l.fn.self.items l.self.items;
-  looks : Keeps l.fn.self.looks l.self.looks;
+  keeps : KeepsNumbers l.fn.self.items l.self.items;
+  looks : KeepsNumbers l.fn.self.looks l.self.looks;
   form : l.self.form ≡ l.fn.self.form;
   basis : l.self.basis ≡ l.fn.self.basis;
   within : AreIn l.self.items l.numbers.items;
