@@ -12,7 +12,7 @@ docs/internals/architecture.md.
 A contract leads to the definitions that it names, and these to those that they name: names are followed by the `use` lines of their file. A type
 of the code leads to what its ghost fields and the view of its `impl Model` name, and so do the types of a contract's parameters and results. Its
 invariant isn't followed: each value that there is has it, so a contract promises no less for it (theorem.md). What leads to std or to another
-crate of the kit isn't followed either. A name that two files of the headline define is refused, and so is one in a table's row that its file
+crate of the kit isn't followed either. A name that two files of the headline and the claims define is refused, and so is one in a table's row that its file
 doesn't define. The headline may rest on MOST_LINES lines at most, and on MOST_DEFINITION_LINES of definitions beside the manual.
 """
 import re
@@ -61,7 +61,7 @@ CLAIMS = [
         ("ir_sources", "Sources", "`given`: what answers CLOCK, RANDOM and INPUT"),
         ("ir_graph", "Setup", "`Setup`, `IsCountedOf`: which complete runs count"),
         ("ir_seen", "Seen", "`IsCounted`"),
-        ("ir_graph", "Outcomes", "`Outcome`, `outcome_of`"),
+        ("ir_graph", "Outcomes", "`RunOutcome`, `run_outcome`"),
         ("ir_outcomes", "Explored", "`IsOutcomeOf`, `AreExplored`, `AreAll`, `AreHangs`"),
         ("ir_outcomes", "Shown", "`IsShown`: what LIST leads to"),
         ("ir_graph", "Hangs", "`IsCounting`, `CanEnd`, `IsHangOf`"),
@@ -84,7 +84,7 @@ CLAIMS = [
         ("ir_chaos", "Schedules", "`IsSchedule`: the run by a chooser"),
         ("ir_hunt", "Hunt", "`Hunt`: what is hunted"),
         ("ir_hunt", "Finding", "`IsOfSeed`, `IsFound`"),
-        ("ir_hunt", "Tried", "`Fails`, `AreTried`, `IsLowest`"),
+        ("ir_hunt", "Tried", "`Fails`, `AreTried`, `IsLowestSeed`"),
         ("ir_hunt", "Hunted", "`IsNoneIn`, `IsFoundIn`"),
         ("ir_hunt", "Stopping", "`IsHuntLine`: what is printed of it"),
     ], (1350, 530)),
@@ -97,8 +97,8 @@ CLAIMS = [
         ("ir_gdb", "Together", "`ContinuesAmong`, `FirstMet`: how all threads move"),
         ("ir_gdb", "Over", "`LeadsAlone`: how a thread moves by itself"),
         ("ir_gdb", "Endings", "`signal_of`, `ended`: which bad ends a move tells"),
-        ("ir_gdb", "Replies", "`Replies`: the reply to each request"),
-        ("ir_gdb", "Connection", "`Answers`: the bytes of packets and acknowledgements"),
+        ("ir_gdb", "Replies", "`RepliesTo`: the reply to each request"),
+        ("ir_gdb", "Connection", "`RepliesToItems`: the bytes of packets and acknowledgements"),
         ("ir_gdb", "Laws", "the laws"),
     ], (2380, 1250)),
     Claim("Insight", "The lines of `ir stale`, `who`, `why`, `diff` and `view`.", {
@@ -121,12 +121,9 @@ CLAIMS = [
         ("ir_why", "Waits", "`AreWaits`: the chain of a run"),
         ("ir_why", "FitAnswers", "`IsReasonIn`"),
         ("ir_diff", "Common", "`AreCommon`, `IsReady`"),
-        ("ir_picture", "Places", "`ArePlaced`: where boxes stand"),
+        ("ir_picture", "Places", "`AreBoxesPlaced`: where boxes stand"),
     ], (2830, 1295)),
 ]
-
-# The most names that two of all these files define.
-MOST_DOUBLED = 131
 
 CLAIMS_PAGE = PAGES / "claims.md"
 
@@ -136,7 +133,7 @@ CLAIMS_HEAD = """# What the other claims rest on
 Here are those of exploring, hunting, gdb and insight.
 Each part has only the files that neither the theorem nor the parts before it have.
 What its contracts promise in words is in [contracts](contracts.md), and how to read definitions in [the theorem](theorem.md#how-to-read-it).
-`python3 scripts/definitions.py` makes this page, and refuses a part with more lines than it may have.
+`python3 scripts/definitions.py` makes this page, and refuses a part with more lines than it may have, and a name that two files of these parts or of the headline define.
 
 In a table the last two columns count the definitions to which the contracts lead, and their lines without comments, imports and blank lines.
 The other definitions of a file needn't be read.
@@ -160,10 +157,10 @@ What a run is (`IsRun`) stands in Run.""",
     ("What a line is answered", """`Desk` is the small machine: the guest with its trace, a position for each thread, points and kept cuts.
 Its answers are defined for each run with the trace.
 It is `fresh` before its first answer and after a move, as `may_lack` asks.
-The answer to each command (`CarriesOut`) and what a show reads off the run at the cut (`shown`) stand in Machine.""",
+The answer to each command (`CarriesOut`) and what a show reads off the run at the cut (`show_text`) stand in Machine.""",
      [("ir_debug", "Machine", "Desk"), ("ir_debug", "Machine", "Kept"), ("ir_debug", "Machine", "Replies"),
-      ("ir_debug", "Machine", "RepliesBy"), ("ir_debug", "Machine", "Answers"), ("ir_debug", "Machine", "AnswersBy"),
-      ("ir_debug", "Machine", "Gives"), ("ir_debug", "Machine", "Refuses")]),
+      ("ir_debug", "Machine", "RepliesBy"), ("ir_debug", "Machine", "AnswersCommand"), ("ir_debug", "Machine", "AnswersBy"),
+      ("ir_debug", "Machine", "AnswersWith"), ("ir_debug", "Machine", "Refuses")]),
     ("Where a move leads", """A move forwards takes the least consistent cut with the thread at the position, and a move backwards the greatest.
 `cont` stops at the first hit, and `rcont` at the last.""",
      [("ir_debug", "Machine", "StopsAt"), ("ir_debug", "Machine", "Leads"), ("ir_debug", "Machine", "Continues"),
@@ -454,21 +451,9 @@ def claim_text(claim, by_file, new):
     return text
 
 
-def doubled():
-    """The names that two files of the headline and the claims define, with these files."""
-    every = {file for _, _, files, _ in parts() for file in files} | {file for _, by_file, _ in claims() for file in by_file}
-    defined = {}
-    for crate, name in sorted(every):
-        for item in module(crate, name).definitions:
-            defined.setdefault(item, []).append((crate, name))
-    return {item: files for item, files in sorted(defined.items()) if len(files) > 1}
-
-
 def claims_page():
     """The page of the claims as it has to be."""
-    text = CLAIMS_HEAD + "".join(claim_text(*found) for found in claims())
-    text += "\n## Names with several meanings\n\nA file names which it means in its `use` lines.\n\n"
-    return text + "".join(f"- `{item}`: {', '.join(f'{name} of {crate}' for crate, name in files)}\n" for item, files in doubled().items())
+    return CLAIMS_HEAD + "".join(claim_text(*found) for found in claims())
 
 
 def claim_faults():
@@ -484,8 +469,6 @@ def claim_faults():
                 continue
             yield from (f"scripts/definitions.py: {crate}/specs/{name} has no {item}" for item in re.findall(r"`(\w+)`", says)
                         if item not in where.definitions and not item.isupper() and item != "clock")
-    if len(doubled()) > MOST_DOUBLED:
-        yield f"{len(doubled())} names are defined in two files of the claims: at most {MOST_DOUBLED}"
 
 
 def aim_faults():
@@ -606,9 +589,9 @@ def table_faults():
 
 
 def double_faults():
-    """The names that two files of the headline define."""
+    """The names that two files of the headline and the claims define."""
     defined = {}
-    for crate, name in sorted({file for _, _, files, _ in parts() for file in files}):
+    for crate, name in sorted({file for _, _, files, _ in parts() for file in files} | {file for _, by_file, _ in claims() for file in by_file}):
         for item in module(crate, name).definitions:
             defined.setdefault(item, []).append(f"{crate}/specs/{name.replace('.', '/')}")
     for item, files in sorted(defined.items()):

@@ -1,8 +1,6 @@
 -- What a thread would have done, had it read other words.
 use Rattle.std.specs.Prelude.{ℕ, zero, suc, ◌==◌, ◌&&◌, ◌||◌, Bool, true, false, not, List, [], ◌∷◌, slice_index, if◌then◌else◌, Option, Some, None}
 use Rattle.ir_image.specs.Guest.{most_object_words}
-use Rattle.ir_runs.specs.declared.access.Access.{Access}
-use Rattle.ir_runs.specs.declared.access.Access.TheVariants as access
 use Rattle.ir_runs.specs.declared.env_kind.EnvKind.{EnvKind}
 use Rattle.ir_runs.specs.declared.env_kind.EnvKind.TheVariants.{Clock, Random, Input}
 use Rattle.ir_thread.specs.State.{ThreadState, end_number, end_code, ask_of, after_reply}
@@ -11,6 +9,7 @@ use Rattle.ir_thread.specs.declared.ask.Ask.{Ask}
 use Rattle.ir_thread.specs.declared.ask.Ask.TheVariants as ask
 use Rattle.ir_thread.specs.declared.ask.Reply.{Reply}
 use Rattle.ir_thread.specs.declared.ask.Reply.TheVariants.{Go, Value}
+use Rattle.ir_fit.specs.Placed.{same_access}
 use Rattle.ir_walk.specs.declared.exchange.Exchange.{Exchange}
 use Rattle.ir_rests.specs.declared.hold.Hold.{Hold}
 use Rattle.ir_rests.specs.declared.hold.Hold.TheVariants.{Reading, Between, Writing}
@@ -56,12 +55,6 @@ abbrev pub answer : Hold → ℕ → List ℕ → Exchange → Reply
 answer h o fresh c = answer_by h o fresh c.asked c.reply
 
 -- ---- where it differs
-
--- whether two accesses are the same
-abbrev pub same_access : Access → Access → Bool
-same_access access.Reading access.Reading = true
-same_access access.Writing access.Writing = true
-same_access _ _ = false
 
 -- whether two calls of the environment are the same
 abbrev pub same_kind : EnvKind → EnvKind → Bool

@@ -1,7 +1,8 @@
 //! Where a thread comes to another call than it did.
 
 ghost use Rattle.std.specs.Prelude.{◌≡◌};
-ghost use Rattle.ir_rests.specs.WhatIf.{same_access, same_kind, same_call, is_other_value, is_writing_hold, difference};
+ghost use Rattle.ir_fit.specs.Placed.{same_access};
+ghost use Rattle.ir_rests.specs.WhatIf.{same_kind, same_call, is_other_value, is_writing_hold, difference};
 ghost use Rattle.ir_thread.specs.declared.ask.Ask.TheVariants as ask;
 
 use crate::hold::Hold;

@@ -9,13 +9,13 @@ use Rattle.ir_trace.specs.Recorded.{Recorded, RecordedThread, recorded_thread}
 use Rattle.ir_trace.specs.Absent.{absent}
 use Rattle.ir_fit.specs.Fit.{FittedTrace, HasRun}
 use Rattle.ir_fit.proofs.CallerLemmas.{event_positions_are_as_many_as_events, guest_start_is_start}
-use Rattle.ir_cut.specs.Positions.{cut_of, start_of, IsConsistentCut}
+use Rattle.ir_cut.specs.Positions.{cut_of, first_cut, start_of, IsConsistentCut}
 use Rattle.ir_cut.proofs.CallerLemmas.{no_trail_of_missing_thread}
 use Rattle.ir_past.specs.declared.place.Place.{Place}
 use Rattle.ir_picture.specs.Needs.{HasNoCircle, IsCircleAt}
 use Rattle.ir_picture.specs.Runs.{RunsHaveNoCircle}
 use Rattle.ir_fit_run.specs.Positions.{IsInside}
-use Rattle.ir_why.specs.FitAnswers.{AreEventsInside, first_cut}
+use Rattle.ir_why.specs.FitAnswers.{AreEventsInside}
 use Rattle.ir_why.specs.Tables.{AreThere}
 
 -- ---- what is inside

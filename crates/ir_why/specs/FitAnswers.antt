@@ -1,11 +1,11 @@
 -- What `ir why` answers where it is asked with an image.
-use Rattle.std.specs.Prelude.{◌≡◌, ◌+◌, ⊤, ℕ, List, [], length, replicate, Option, Some, None, false, codes}
+use Rattle.std.specs.Prelude.{◌≡◌, ◌+◌, ⊤, ℕ, List, [], length, Option, Some, None, false, codes}
 use Rattle.std.specs.Option.{option_map}
 use Rattle.std.specs.List.{slice_get}
 use Rattle.std.specs.Io.KnownBytes.{Appends}
 use Rattle.ir_log.specs.declared.event.Event.{Event}
 use Rattle.ir_fit.specs.Fit.{FittedTrace}
-use Rattle.ir_cut.specs.Positions.{IsConsistentCut}
+use Rattle.ir_cut.specs.Positions.{first_cut, IsConsistentCut}
 use Rattle.ir_cut.specs.Searching.{IsLeastCut}
 use Rattle.ir_files.specs.Writers.{Writer}
 use Rattle.ir_files.specs.declared.exit_status.ExitStatus.{ExitStatus}
@@ -54,10 +54,6 @@ pub record IsHereLine (f : FittedTrace) (p : Place) (line : List ℕ) : Type 0 w
   pub event : Event
   pub logged : event_at f.recorded p.thread p.event ≡ Some event
   pub text : line ≡ here_line p event (entry_of f p.thread p.event)
-
--- all threads at 0
-abbrev pub first_cut : FittedTrace → List ℕ
-first_cut f = replicate (length f.guest.entries) 0
 
 -- the least consistent cut that has the step by which an event is logged
 abbrev pub IsLeastFor : FittedTrace → Place → List ℕ → Type 0

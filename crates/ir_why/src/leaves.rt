@@ -2,8 +2,8 @@
 
 ghost use Rattle.std.specs.Prelude.{◌≡◌, IfOk};
 ghost use Rattle.ir_fit_run.specs.Positions.{IsInside, IsLeft};
-ghost use Rattle.ir_cut.specs.Positions.{IsConsistentCut};
-ghost use Rattle.ir_why.specs.FitAnswers.{AreEventsInside, IsNeed, AreNeedsOf, IsLeastFor, first_cut};
+ghost use Rattle.ir_cut.specs.Positions.{first_cut, IsConsistentCut};
+ghost use Rattle.ir_why.specs.FitAnswers.{AreEventsInside, IsNeed, AreNeedsOf, IsLeastFor};
 ghost use Rattle.ir_fit_run.specs.Paired.{ArePaired};
 ghost use Rattle.ir_why.specs.Tables.{HasTables};
 
