@@ -55,7 +55,7 @@ pub fn one(rest: &[u8]) -> Option<u32>
 }
 
 /// Two numbers with a `,` between them.
-#[tactic(auto, unfolding(crate::specs::Requests::two))]
+#[tactic(auto, unfolding(crate::specs::Requests::two_with_comma))]
 pub fn two(rest: &[u8]) -> Option<(u32, u32)>
     ensures { MatchOption result
         ((makes : ℕ → ℕ → Request) → requests.two_with_comma makes rest.now ≡ Malformed)

@@ -51,7 +51,7 @@ pub fn put_number(out: &mut Vec<u8>, number: u32)
 }
 
 // Puts why a thread stopped at the end.
-#[tactic(auto, unfolding(crate::specs::Replies::reason_text))]
+#[tactic(auto, unfolding(crate::specs::Replies::stop_reason_text))]
 fn put_reason(out: &mut Vec<u8>, reason: Reason)
     requires { vec_len out.old + 16 ≤ vec_capacity out.old }
     ensures bytes { out.new.items ≡ out.old.items ++ stop_reason_text reason }
@@ -124,7 +124,7 @@ fn put_stop_registers(out: &mut Vec<u8>, stop: &Stop)
 }
 
 /// Puts a stop of a thread at the end.
-#[tactic(auto, unfolding(crate::specs::Replies::stop_text))]
+#[tactic(auto, unfolding(crate::specs::Replies::stop_reply_text))]
 pub fn put_stop(out: &mut Vec<u8>, stop: &Stop)
     requires { vec_len out.old + 96 ≤ vec_capacity out.old }
     ensures bytes { out.new.items ≡ out.old.items ++ stop_reply_text stop.now }
@@ -140,7 +140,7 @@ pub fn put_stop(out: &mut Vec<u8>, stop: &Stop)
 }
 
 /// Puts registers at the end.
-#[tactic(auto, unfolding(crate::specs::Replies::words_text))]
+#[tactic(auto, unfolding(crate::specs::Replies::words_reply))]
 pub fn put_words(out: &mut Vec<u8>, words: &[u32])
     requires { vec_len out.old + 8 * length words.now ≤ vec_capacity out.old }
     ensures bytes { out.new.items ≡ out.old.items ++ words_reply words.now }
@@ -173,7 +173,7 @@ pub fn put_piece(out: &mut Vec<u8>, text: &[u8], from: u32, most: u32)
 }
 
 /// Puts what a session prints at the end.
-#[tactic(auto, unfolding(crate::specs::Replies::output_text))]
+#[tactic(auto, unfolding(crate::specs::Replies::output_reply))]
 pub fn put_output(out: &mut Vec<u8>, bytes: &[u8])
     requires { vec_len out.old + 2 * length bytes.now + 1 ≤ vec_capacity out.old }
     ensures bytes { out.new.items ≡ out.old.items ++ output_reply bytes.now }

@@ -81,7 +81,7 @@ fn is_passed_over(kind: char) -> bool
 }
 
 // What a line says.
-#[tactic(auto, unfolding(crate::specs::Maps::entry_of))]
+#[tactic(auto, unfolding(crate::specs::Maps::map_entry))]
 fn entry(alloc: Global, line: &[u8]) -> Result<Entry, AllocError>
     ensures { IfOk result (λ entry. entry ≡ entry_of line.now) }
 {

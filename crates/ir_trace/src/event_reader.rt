@@ -109,7 +109,7 @@ fn tagged(profile: Profile, tag: u8, objects: u8, bytes: &[u8]) -> Result<(Event
     }
 }
 
-#[tactic(auto, unfolding(crate::specs::Recorded::event_at))]
+#[tactic(auto, unfolding(crate::specs::Recorded::event_reading))]
 fn event(profile: Profile, objects: u8, bytes: &[u8]) -> Result<(Event, &[u8]), TraceErr>
     ensures exact { Gives (λ x. (x.0, x.1.now)) result (event_reading profile objects bytes.now) }
     ensures taken { IfOk result (λ x. length x.1.now + shortest profile ≤ length bytes.now) }
