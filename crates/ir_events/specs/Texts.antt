@@ -19,22 +19,22 @@ abbrev pub logged_at : FittedTrace → List (List ℕ) → ℕ → ℕ → Event
 logged_at f lists t i e = record { thread = t; number = i; step = entry_of f t i; pc = slice_index (slice_index_or lists t []) i; event = e }
 
 -- its line, if there is such an event
-abbrev pub line_if : FittedTrace → List (List ℕ) → List Symbol → ℕ → ℕ → Option Event → List ℕ
-line_if f lists symbols t i (Some e) = named_line symbols (logged_at f lists t i e)
-line_if f lists symbols t i None = []
+abbrev pub event_line_if : FittedTrace → List (List ℕ) → List Symbol → ℕ → ℕ → Option Event → List ℕ
+event_line_if f lists symbols t i (Some e) = named_line symbols (logged_at f lists t i e)
+event_line_if f lists symbols t i None = []
 
 -- the line of event i of thread t
 abbrev pub line_at : FittedTrace → List (List ℕ) → List Symbol → ℕ → ℕ → List ℕ
-line_at f lists symbols t i = line_if f lists symbols t i (slice_get (recorded_thread f.recorded t).events i)
+line_at f lists symbols t i = event_line_if f lists symbols t i (slice_get (recorded_thread f.recorded t).events i)
 
 -- the lines of the first n events of thread t
-unfoldable pub first_lines : FittedTrace → List (List ℕ) → List Symbol → ℕ → ℕ → List ℕ
-first_lines f lists symbols t zero = []
-first_lines f lists symbols t (suc n) = first_lines f lists symbols t n ++ line_at f lists symbols t n
+unfoldable pub first_event_lines : FittedTrace → List (List ℕ) → List Symbol → ℕ → ℕ → List ℕ
+first_event_lines f lists symbols t zero = []
+first_event_lines f lists symbols t (suc n) = first_event_lines f lists symbols t n ++ line_at f lists symbols t n
 
 -- the lines of all events of thread t
 abbrev pub thread_text : FittedTrace → List (List ℕ) → List Symbol → ℕ → List ℕ
-thread_text f lists symbols t = first_lines f lists symbols t (length (recorded_thread f.recorded t).events)
+thread_text f lists symbols t = first_event_lines f lists symbols t (length (recorded_thread f.recorded t).events)
 
 -- the lines of all events of the first n threads
 unfoldable pub first_threads : FittedTrace → List (List ℕ) → List Symbol → ℕ → List ℕ

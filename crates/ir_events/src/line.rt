@@ -4,7 +4,7 @@ ghost use Rattle.std.specs.Prelude.{◌≡◌, ◌++◌, codes, IfOk};
 ghost use Rattle.arrayvec.specs.ArrayVec.{array_vec_len};
 ghost use Rattle.ir_log.specs.Logging.{label_of};
 ghost use Rattle.ir_text.specs.Texts.{event_text};
-ghost use Rattle.ir_events.specs.Lines.{place_text, event_line};
+ghost use Rattle.ir_events.specs.Lines.{event_place_text, event_line};
 
 use crate::logged::Logged;
 use ir_log::Event;
@@ -15,7 +15,7 @@ use std::alloc::{AllocError, Global};
 // Puts where the event is into an empty text.
 fn put_place(text: &mut Text, logged: &Logged)
     requires { array_vec_len text.old ≡ 0 }
-    ensures { text.new.items ≡ text.old.items ++ place_text logged.now }
+    ensures { text.new.items ≡ text.old.items ++ event_place_text logged.now }
 {
     let mut digits = [0; 8];
     let _ = hex::encode_to_slice(logged.pc.to_be_bytes(), &mut digits);

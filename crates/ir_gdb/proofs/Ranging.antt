@@ -7,7 +7,7 @@ use Rattle.ir_hits.specs.Hits.{Numbered}
 use Rattle.ir_hits.specs.Searching.{IsNextHit}
 use Rattle.ir_gdb.specs.declared.stopped.Stopped.{Stopped}
 use Rattle.ir_gdb.specs.Stub.{Stub, stub_spoken}
-use Rattle.ir_gdb.specs.Stops.{Leaves, RangesTo, StaysWithin, is_within, position_of, upwards_of, after_range, end_of_range, ranged}
+use Rattle.ir_gdb.specs.Stops.{Leaves, RangesTo, StaysWithin, is_in_range, position_of, upwards_of, after_range, end_of_range, ranged}
 use Rattle.ir_gdb.proofs.Together.{below_next_cases}
 
 upwards_of_ignores_spoken : (s : Stub) (t : ℕ) (w : Bool) → upwards_of (stub_spoken s) t w ≡ upwards_of s t w
@@ -75,11 +75,11 @@ pc_in_cut_is_pc_at_position s v t k pc cut same there is =
 -- a thread that stays within a range up to a position stays so up to the next, if its pc there is in the range
 pub stays_within_range_up_to_next_position : (s : Stub) (t low high n pc : ℕ)
     → EachRun s.desk.fitted (λ run. StaysWithin run s t low high (position_of s t) (suc n))
-    → EachRun s.desk.fitted (λ run. pc ≡ (thread_at s.desk.fitted run t (n + 1)).core.pc) → is_within low high pc ≡ true
+    → EachRun s.desk.fitted (λ run. pc ≡ (thread_at s.desk.fitted run t (n + 1)).core.pc) → is_in_range low high pc ≡ true
     → EachRun s.desk.fitted (λ run. StaysWithin run s t low high (position_of s t) (suc (n + 1)))
 stays_within_range_up_to_next_position s t low high n pc before is inside run whole j above below = by (below_next_cases j (n + 1) (omega (arith, below))) where
-  by : (j < n + 1) ⊎ (j ≡ n + 1) → is_within low high (thread_at s.desk.fitted run t j).core.pc ≡ true
+  by : (j < n + 1) ⊎ (j ≡ n + 1) → is_in_range low high (thread_at s.desk.fitted run t j).core.pc ≡ true
   by (inl less) = before run whole j above (omega (arith, less))
   by (inr same) =
-      subst (λ (k : ℕ). is_within low high (thread_at s.desk.fitted run t k).core.pc ≡ true) (sym same)
-      (subst (λ (a : ℕ). is_within low high a ≡ true) (is run whole) inside)
+      subst (λ (k : ℕ). is_in_range low high (thread_at s.desk.fitted run t k).core.pc ≡ true) (sym same)
+      (subst (λ (a : ℕ). is_in_range low high a ≡ true) (is run whole) inside)

@@ -6,9 +6,9 @@ use Rattle.ir_packet.specs.Replies.{hex_number_text}
 use Rattle.ir_cut.specs.Positions.{last_of}
 use Rattle.ir_gdb.specs.Stops.{position_of}
 use Rattle.ir_gdb.specs.Endings.{end_of_thread, words_of_end}
-use Rattle.ir_gdb.specs.Texts.{position_text, thread_text, first_threads_text}
+use Rattle.ir_gdb.specs.Texts.{position_text, thread_list_line, first_threads_text}
 
-first_threads_text_step : (s : Stub) (n : ℕ) → first_threads_text s (n + 1) ≡ first_threads_text s n ++ thread_text s n
+first_threads_text_step : (s : Stub) (n : ℕ) → first_threads_text s (n + 1) ≡ first_threads_text s n ++ thread_list_line s n
 unfolding first_threads_text
 first_threads_text_step s n = let more : n + 1 ≡ suc n = omega arith in ap (λ (k : ℕ). first_threads_text s k) more
 
@@ -16,9 +16,9 @@ pub first_threads_text_put_at_start : (s : Stub) (old new head : List ℕ) → o
 unfolding first_threads_text
 first_threads_text_put_at_start s old new head none put = put ∙ ap (λ (xs : List ℕ). xs ++ head) none ∙ sym (append-nil head)
 
-pub first_threads_text_put_step : (s : Stub) (n : ℕ) (old new head : List ℕ) → old ≡ head ++ first_threads_text s n → new ≡ old ++ thread_text s n
+pub first_threads_text_put_step : (s : Stub) (n : ℕ) (old new head : List ℕ) → old ≡ head ++ first_threads_text s n → new ≡ old ++ thread_list_line s n
     → new ≡ head ++ first_threads_text s (n + 1)
-first_threads_text_put_step s n old new head is put = put ∙ ap (λ (xs : List ℕ). xs ++ thread_text s n) is ∙ append_assoc head (first_threads_text s n) (thread_text s n)
+first_threads_text_put_step s n old new head is put = put ∙ ap (λ (xs : List ℕ). xs ++ thread_list_line s n) is ∙ append_assoc head (first_threads_text s n) (thread_list_line s n)
     ∙ ap (λ (xs : List ℕ). head ++ xs) (sym (first_threads_text_step s n))
 
 pub append_of_three_put_texts : (old new head threads tail : List ℕ) → old ≡ head ++ threads → new ≡ old ++ tail → new ≡ head ++ (threads ++ tail)
@@ -70,7 +70,7 @@ append_of_five_texts_reassociated : (o a b c d : List ℕ) → (((o ++ a) ++ b) 
 append_of_five_texts_reassociated o a b c d = simp append_assoc
 
 pub thread_text_put_by_parts : (s : Stub) (t n : ℕ) (o0 o1 o2 o3 o4 : List ℕ) → n ≡ t + 1 → o1 ≡ o0 ++ codes "<thread id=\"" → o2 ≡ o1 ++ hex_number_text n
-    → o3 ≡ o2 ++ position_text s t → o4 ≡ o3 ++ codes "</thread>" → o4 ≡ o0 ++ thread_text s t
+    → o3 ≡ o2 ++ position_text s t → o4 ≡ o3 ++ codes "</thread>" → o4 ≡ o0 ++ thread_list_line s t
 thread_text_put_by_parts s t n o0 o1 o2 o3 o4 id e1 e2 e3 e4 = e4
     ∙ ap (λ (xs : List ℕ). xs ++ codes "</thread>") (e3 ∙ ap (λ (xs : List ℕ). xs ++ position_text s t) (e2
     ∙ ap (λ (xs : List ℕ). xs ++ hex_number_text n) e1))

@@ -90,17 +90,17 @@ abbrev pub StepsTo : List Step → Stub → ℕ → Bool → Stopped → Type 0
 StepsTo run s t watched to = StepsBy (nat_lt (position_of s t) (last_of s.desk.fitted t)) run s t watched (position_of s t) to
 
 -- whether an address is in a range
-abbrev pub is_within : ℕ → ℕ → ℕ → Bool
-is_within low high address = nat_le low address && nat_lt address high
+abbrev pub is_in_range : ℕ → ℕ → ℕ → Bool
+is_in_range low high address = nat_le low address && nat_lt address high
 
 -- pc of a thread is in a range at each position above the first and below the second
 abbrev pub StaysWithin : List Step → Stub → ℕ → ℕ → ℕ → ℕ → ℕ → Type 0
-StaysWithin run s t low high from to = (j : ℕ) → from < j → j < to → is_within low high (thread_at s.desk.fitted run t j).core.pc ≡ true
+StaysWithin run s t low high from to = (j : ℕ) → from < j → j < to → is_in_range low high (thread_at s.desk.fitted run t j).core.pc ≡ true
 
 -- the first position above a thread's own at which its pc isn't in a range, if there is one
 abbrev pub Leaves : List Step → Stub → ℕ → ℕ → ℕ → Option ℕ → Type 0
 Leaves run s t low high (Some k) = (position_of s t < k) × (k ≤ last_of s.desk.fitted t) × StaysWithin run s t low high (position_of s t) k
-    × (is_within low high (thread_at s.desk.fitted run t k).core.pc ≡ false)
+    × (is_in_range low high (thread_at s.desk.fitted run t k).core.pc ≡ false)
 Leaves run s t low high None = StaysWithin run s t low high (position_of s t) (suc (last_of s.desk.fitted t))
 
 abbrev pub end_of_range : ℕ → Option ℕ → ℕ

@@ -19,13 +19,13 @@ abbrev pub position_text : Stub → ℕ → List ℕ
 position_text s t = codes "\" name=\"thread " ++ decimal t ++ codes "\">at " ++ decimal (position_of s t) ++ codes " of " ++ decimal (last_of s.desk.fitted t)
     ++ (if position_of s t == last_of s.desk.fitted t then words_of_end (end_of_thread s.desk.fitted t) else [])
 
-abbrev pub thread_text : Stub → ℕ → List ℕ
-thread_text s t = codes "<thread id=\"" ++ hex_number_text (t + 1) ++ position_text s t ++ codes "</thread>"
+abbrev pub thread_list_line : Stub → ℕ → List ℕ
+thread_list_line s t = codes "<thread id=\"" ++ hex_number_text (t + 1) ++ position_text s t ++ codes "</thread>"
 
 -- the first n threads
 unfoldable pub first_threads_text : Stub → ℕ → List ℕ
 first_threads_text s zero = []
-first_threads_text s (suc n) = first_threads_text s n ++ thread_text s n
+first_threads_text s (suc n) = first_threads_text s n ++ thread_list_line s n
 
 -- the list of threads, each with its position
 abbrev pub thread_list_text : Stub → List ℕ

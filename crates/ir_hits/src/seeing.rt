@@ -153,10 +153,3 @@ pub fn lowest(
     }
     found
 }
-
-#[tactic(auto, using(crate::proofs::Onward::lowest_point_seen_after_passage_is_next_hit, crate::proofs::Hitting::hit_step_below_steps))]
-fn tmp() -> bool
-    ensures { result ≡ true }
-{
-    true
-}

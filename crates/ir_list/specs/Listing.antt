@@ -9,7 +9,7 @@ use Rattle.ir_disasm.specs.Printed.{text_of}
 use Rattle.ir_symbols.specs.Symbols.{Symbol}
 use Rattle.ir_symbols.specs.Tables.{symbols_within}
 use Rattle.ir_symbols.specs.Names.{name_text}
-use Rattle.ir_symbols.specs.Maps.{hex_word}
+use Rattle.ir_symbols.specs.Maps.{map_word}
 
 -- the name of an address: ` <NAME>`, ` <NAME+N>` or nothing
 abbrev pub address_name : List Symbol → ℕ → List ℕ
@@ -18,9 +18,9 @@ address_name symbols address = unwrap_or (name_text symbols address) []
 -- ---- threads
 
 -- the line of a thread: its number and its entry
-abbrev pub thread_line : List Symbol → ℕ → ℕ → List ℕ
-thread_line symbols number entry =
-    codes "thread " ++ (decimal number ++ (codes " entry " ++ (hex_word entry ++ (address_name symbols entry ++ 10 ∷ []))))
+abbrev pub entry_thread_line : List Symbol → ℕ → ℕ → List ℕ
+entry_thread_line symbols number entry =
+    codes "thread " ++ (decimal number ++ (codes " entry " ++ (map_word entry ++ (address_name symbols entry ++ 10 ∷ []))))
 
 -- ---- words
 
@@ -46,11 +46,11 @@ target_name symbols None = []
 -- the line of the word at an address: both, the text of the word, and the name of its target
 abbrev pub word_line : List Symbol → ℕ → ℕ → List ℕ
 word_line symbols address word =
-    hex_word address ++ 32 ∷ (hex_word word ++ 32 ∷ (text_of address word ++ (target_name symbols (target_of address word) ++ 10 ∷ [])))
+    map_word address ++ 32 ∷ (map_word word ++ 32 ∷ (text_of address word ++ (target_name symbols (target_of address word) ++ 10 ∷ [])))
 
 -- the line of a symbol
 abbrev pub symbol_line : Symbol → List ℕ
-symbol_line s = hex_word s.address ++ (codes " <" ++ (s.name ++ codes ">:\n"))
+symbol_line s = map_word s.address ++ (codes " <" ++ (s.name ++ codes ">:\n"))
 
 -- the lines of the word at an address: those of the symbols that are in it, in their order, and its own
 abbrev pub word_lines : List Symbol → ℕ → ℕ → List ℕ
@@ -64,13 +64,13 @@ lines_from lines number [] = []
 lines_from lines number (x ∷ xs) = lines number x ++ lines_from lines (number + 1) xs
 
 -- the lines of the threads, by their numbers and entries
-abbrev pub threads_text : List Symbol → List ℕ → List ℕ
-threads_text symbols entries = lines_from (thread_line symbols) 0 entries
+abbrev pub entry_threads_text : List Symbol → List ℕ → List ℕ
+entry_threads_text symbols entries = lines_from (entry_thread_line symbols) 0 entries
 
 -- the lines of the words of the code
-abbrev pub code_text : List Symbol → List ℕ → List ℕ
-code_text symbols code = lines_from (λ number word. word_lines symbols (code_start + 4 * number) word) 0 code
+abbrev pub code_lines_text : List Symbol → List ℕ → List ℕ
+code_lines_text symbols code = lines_from (λ number word. word_lines symbols (code_start + 4 * number) word) 0 code
 
 -- the listing of a guest: its threads and its code, with symbols
 abbrev pub listing_text : Guest → List Symbol → List ℕ
-listing_text guest symbols = threads_text symbols guest.entries ++ code_text symbols guest.code
+listing_text guest symbols = entry_threads_text symbols guest.entries ++ code_lines_text symbols guest.code

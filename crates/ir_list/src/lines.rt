@@ -3,7 +3,7 @@
 ghost use Rattle.std.specs.Prelude.{◌≡◌, ◌+◌, ◌%◌, ◌^◌, ◌<◌, IfOk};
 ghost use Rattle.std.specs.String.{string_bytes};
 ghost use Rattle.ir_isa.specs.Fields.{low_bits};
-ghost use Rattle.ir_list.specs.Listing.{address_name, thread_line, distance_of, address_after, target_of, target_name, word_line, symbol_line, word_lines};
+ghost use Rattle.ir_list.specs.Listing.{address_name, entry_thread_line, distance_of, address_after, target_of, target_name, word_line, symbol_line, word_lines};
 
 use ir_disasm::disassemble;
 use ir_isa::{Inst, decode};
@@ -27,7 +27,7 @@ pub fn thread_line(
     number: usize,
     entry: u32,
 ) -> Result<String, AllocError>
-    ensures { IfOk result (λ line. string_bytes line ≡ thread_line symbols.now number entry) }
+    ensures { IfOk result (λ line. string_bytes line ≡ entry_thread_line symbols.now number entry) }
 {
     let address = hex::encode(alloc, entry.to_be_bytes())?;
     let name = address_name(alloc, symbols, entry)?;

@@ -4,7 +4,7 @@ ghost use Rattle.std.specs.Prelude.{◌≡◌, ◌≤◌, length, OnOk, OnErr};
 ghost use Rattle.std.specs.Io.KnownBytes.{Appends};
 ghost use Rattle.ir_image.specs.Guest.{most_code_words};
 ghost use Rattle.ir_stream.specs.Answers.{AppendsPrefix};
-ghost use Rattle.ir_list.specs.Listing.{threads_text, code_text, listing_text};
+ghost use Rattle.ir_list.specs.Listing.{entry_threads_text, code_lines_text, listing_text};
 ghost use Rattle.ir_list.specs.Outcomes.{failed_after};
 
 use crate::lines::{thread_line, word_lines};
@@ -21,8 +21,8 @@ fn put_threads<O: Sink>(
     symbols: &SymbolTable,
     out: &mut O,
 ) -> Result<(), ListErr>
-    ensures ok { OnOk result (Appends (O.written out.old) (O.written out.new) (threads_text symbols.now entries.now)) }
-    ensures prefix { OnErr result (AppendsPrefix (O.written out.old) (O.written out.new) (threads_text symbols.now entries.now)) }
+    ensures ok { OnOk result (Appends (O.written out.old) (O.written out.new) (entry_threads_text symbols.now entries.now)) }
+    ensures prefix { OnErr result (AppendsPrefix (O.written out.old) (O.written out.new) (entry_threads_text symbols.now entries.now)) }
     ensures failed { O.broken out.new ≡ failed_after result (O.broken out.old) }
 {
     for (number, entry) in entries.iter().enumerate() {
@@ -40,8 +40,8 @@ fn put_code<O: Sink>(
     out: &mut O,
 ) -> Result<(), ListErr>
     requires { length code.now ≤ most_code_words }
-    ensures ok { OnOk result (Appends (O.written out.old) (O.written out.new) (code_text symbols.now code.now)) }
-    ensures prefix { OnErr result (AppendsPrefix (O.written out.old) (O.written out.new) (code_text symbols.now code.now)) }
+    ensures ok { OnOk result (Appends (O.written out.old) (O.written out.new) (code_lines_text symbols.now code.now)) }
+    ensures prefix { OnErr result (AppendsPrefix (O.written out.old) (O.written out.new) (code_lines_text symbols.now code.now)) }
     ensures failed { O.broken out.new ≡ failed_after result (O.broken out.old) }
 {
     for (number, word) in code.iter().enumerate() {

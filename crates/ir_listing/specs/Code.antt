@@ -11,7 +11,7 @@ use Rattle.ir_files.specs.declared.exit_status.ExitStatus.TheVariants as status
 use Rattle.ir_record_run.specs.Faults.{record_fault_words, of_image}
 
 -- the listing of the guest whose image the bytes are, with these names
-pub record IsListing (image : List ℕ) (symbols : List Symbol) (answered : ExitStatus) (text : List ℕ) : Type 0 where
+pub record IsCodeListing (image : List ℕ) (symbols : List Symbol) (answered : ExitStatus) (text : List ℕ) : Type 0 where
   pub guest : Guest
   pub is_guest : guest_at image ≡ Ok guest
   pub status : answered ≡ status.Done

@@ -7,7 +7,7 @@ ghost use Rattle.ir_files.specs.declared.exit_status.ExitStatus.TheVariants as s
 ghost use Rattle.ir_list.specs.Listing.{listing_text};
 ghost use Rattle.ir_past.specs.Answers.{Answered, NotAnswered, Stops, fault_words};
 ghost use Rattle.ir_past.specs.declared.past_err.PastErr.{PastErr};
-ghost use Rattle.ir_listing.specs.Code.{IsListing, RefusesImage};
+ghost use Rattle.ir_listing.specs.Code.{IsCodeListing, RefusesImage};
 
 use ir_files::{ExitStatus, tell};
 use ir_image::{Image, ImageErr, read_image};
@@ -52,12 +52,12 @@ pub fn list_report<O: Sink, E: Sink>(
     requires reports { E.broken faults.old ≡ false }
     ensures one { (result ≡ status.Done) ⊎ (result ≡ status.Refused) ⊎ (result ≡ status.Failed) }
     // The listing was written, and no fault reported.
-    ensures done { result ≡ status.Done → Answered (IsListing image.now symbols.now) result (writer_of (O.written out.old) (O.written out.new) (O.broken out.new)) × (faults.new ≡ faults.old) }
+    ensures done { result ≡ status.Done → Answered (IsCodeListing image.now symbols.now) result (writer_of (O.written out.old) (O.written out.new) (O.broken out.new)) × (faults.new ≡ faults.old) }
     ensures refused { result ≡ status.Refused → RefusesImage image.now (writer_of (O.written out.old) (O.written out.new) (O.broken out.new))
         (writer_of (E.written faults.old) (E.written faults.new) (E.broken faults.new)) }
     // Else what stopped it, what that leaves, and that it is reported.
     ensures stopped { result ≡ status.Failed → (e : PastErr)
-        × NotAnswered (IsListing image.now symbols.now) e (writer_of (O.written out.old) (O.written out.new) (O.broken out.new))
+        × NotAnswered (IsCodeListing image.now symbols.now) e (writer_of (O.written out.old) (O.written out.new) (O.broken out.new))
         × Reports (writer_of (E.written faults.old) (E.written faults.new) (E.broken faults.new)) (fault_text (fault_words e)) }
 {
     match read_image(alloc, image) {

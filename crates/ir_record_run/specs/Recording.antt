@@ -47,10 +47,10 @@ abbrev pub recorded_thread_line : ℕ → RecordedThread → List ℕ
 recorded_thread_line t r = line_by t (end_number r.end) (end_code r.end) r.steps (length r.events)
 
 -- the lines of threads from number t on
-abbrev pub lines_from : ℕ → List RecordedThread → List ℕ
-lines_from t [] = []
-lines_from t (r ∷ rs) = recorded_thread_line t r ++ lines_from (t + 1) rs
+abbrev pub recording_lines_from : ℕ → List RecordedThread → List ℕ
+recording_lines_from t [] = []
+recording_lines_from t (r ∷ rs) = recorded_thread_line t r ++ recording_lines_from (t + 1) rs
 
 -- a line for each thread
 abbrev pub recording_lines : Recorded → List ℕ
-recording_lines trace = lines_from 0 trace.threads
+recording_lines trace = recording_lines_from 0 trace.threads

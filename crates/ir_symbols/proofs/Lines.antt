@@ -7,7 +7,7 @@ use Rattle.std.proofs.lemmas.List.{take_rest}
 use Rattle.std.proofs.lemmas.List.Splits.{slice_split_none, slice_split_first}
 use Rattle.std.proofs.lemmas.List.Sums.{fails_before_first}
 use Rattle.ir_symbols.specs.Symbols.{Symbol}
-use Rattle.ir_symbols.specs.Maps.{lines_of, entry_of, symbols_from, with_first, with_entry}
+use Rattle.ir_symbols.specs.Maps.{map_lines, map_entry, symbols_from, with_first, with_entry}
 use Rattle.ir_symbols.specs.declared.entry.Entry.{Entry}
 use Rattle.ir_symbols.specs.declared.entry.Entry.TheVariants.{Nothing, Names, Faulty}
 
@@ -40,14 +40,14 @@ split_without_line_feed text e =
 
 -- the first line, where a line feed ends it
 pub lines_of_text_by_first_line : (text line : List ℕ) (n : ℕ) → position is_line_feed text ≡ Some n → line ≡ strip_carriage_return (take n text)
-    → lines_of text ≡ line ∷ lines_of (take (length text - (n + 1)) (drop (n + 1) text))
+    → map_lines text ≡ line ∷ map_lines (take (length text - (n + 1)) (drop (n + 1) text))
 lines_of_text_by_first_line text line n e f =
     ap (λ (parts : List (List ℕ)). map strip_carriage_return parts) (split_at_found_line_feed text n e)
-    ∙ ap (λ (first : List ℕ). first ∷ lines_of (drop (n + 1) text)) (sym f)
-    ∙ ap (λ (rest : List ℕ). line ∷ lines_of rest) (sym (take_rest text (n + 1)))
+    ∙ ap (λ (first : List ℕ). first ∷ map_lines (drop (n + 1) text)) (sym f)
+    ∙ ap (λ (rest : List ℕ). line ∷ map_lines rest) (sym (take_rest text (n + 1)))
 
 -- the last line
-pub lines_of_text_without_line_feed : (text line : List ℕ) → position is_line_feed text ≡ None → line ≡ strip_carriage_return text → lines_of text ≡ line ∷ []
+pub lines_of_text_without_line_feed : (text line : List ℕ) → position is_line_feed text ≡ None → line ≡ strip_carriage_return text → map_lines text ≡ line ∷ []
 lines_of_text_without_line_feed text line e f =
     ap (λ (parts : List (List ℕ)). map strip_carriage_return parts) (split_without_line_feed text e) ∙ ap (λ (first : List ℕ). first ∷ []) (sym f)
 
@@ -56,7 +56,7 @@ lines_of_text_without_line_feed text line e f =
 -- the lines that are left of a map
 abbrev pub lines_left : Option (Bor (List ℕ)) → List (List ℕ)
 lines_left None = []
-lines_left (Some text) = lines_of text.now
+lines_left (Some text) = map_lines text.now
 
 -- more than the bytes that are left
 abbrev pub size_left : Option (Bor (List ℕ)) → ℕ
@@ -75,15 +75,15 @@ with_all_of_with_first_pushes_symbol first s (Err number) = refl
 
 -- the next of the lines that are left
 lines_left_by_next_line : (left after : Option (Bor (List ℕ))) (text : Bor (List ℕ)) (line : List ℕ) → left ≡ Some text
-    → MatchOption after (lines_of text.now ≡ line ∷ []) (λ rest. lines_of text.now ≡ line ∷ lines_of rest.now)
+    → MatchOption after (map_lines text.now ≡ line ∷ []) (λ rest. map_lines text.now ≡ line ∷ map_lines rest.now)
     → lines_left left ≡ line ∷ lines_left after
 lines_left_by_next_line left None text line e h = ap lines_left e ∙ h
 lines_left_by_next_line left (Some rest) text line e h = ap lines_left e ∙ h
 
 -- what it says, and the others
 symbols_from_by_next_line : (number : ℕ) (left after : Option (Bor (List ℕ))) (text : Bor (List ℕ)) (line : List ℕ) (entry : Entry) → left ≡ Some text
-    → MatchOption after (lines_of text.now ≡ line ∷ []) (λ rest. lines_of text.now ≡ line ∷ lines_of rest.now)
-    → entry ≡ entry_of line
+    → MatchOption after (map_lines text.now ≡ line ∷ []) (λ rest. map_lines text.now ≡ line ∷ map_lines rest.now)
+    → entry ≡ map_entry line
     → symbols_from (number + 1) (lines_left left) ≡ with_entry (number + 1) entry (symbols_from (number + 1 + 1) (lines_left after))
 unfolding symbols_from
 symbols_from_by_next_line number left after text line entry e h f =
@@ -100,7 +100,7 @@ symbols_from_no_lines_left number (Some text) h = absurd (h text refl)
 -- a line that says nothing, one of a symbol, and a faulty one
 pub symbols_after_line_that_says_nothing : (whole : Result (List Symbol) ℕ) (first : List Symbol) (number : ℕ) (left after : Option (Bor (List ℕ))) (text : Bor (List ℕ))
     (line : List ℕ) → left ≡ Some text
-    → MatchOption after (lines_of text.now ≡ line ∷ []) (λ rest. lines_of text.now ≡ line ∷ lines_of rest.now) → Nothing ≡ entry_of line
+    → MatchOption after (map_lines text.now ≡ line ∷ []) (λ rest. map_lines text.now ≡ line ∷ map_lines rest.now) → Nothing ≡ map_entry line
     → with_all first (symbols_from (number + 1) (lines_left left)) ≡ whole
     → with_all first (symbols_from (number + 1 + 1) (lines_left after)) ≡ whole
 symbols_after_line_that_says_nothing whole first number left after text line e h f done =
@@ -108,7 +108,7 @@ symbols_after_line_that_says_nothing whole first number left after text line e h
 
 pub symbols_after_symbol_line : (whole : Result (List Symbol) ℕ) (first : List Symbol) (number : ℕ) (left after : Option (Bor (List ℕ))) (text : Bor (List ℕ))
     (line : List ℕ) (s : Symbol) → left ≡ Some text
-    → MatchOption after (lines_of text.now ≡ line ∷ []) (λ rest. lines_of text.now ≡ line ∷ lines_of rest.now) → Names s ≡ entry_of line
+    → MatchOption after (map_lines text.now ≡ line ∷ []) (λ rest. map_lines text.now ≡ line ∷ map_lines rest.now) → Names s ≡ map_entry line
     → with_all first (symbols_from (number + 1) (lines_left left)) ≡ whole
     → with_all (first ++ s ∷ []) (symbols_from (number + 1 + 1) (lines_left after)) ≡ whole
 symbols_after_symbol_line whole first number left after text line s e h f done =
@@ -117,7 +117,7 @@ symbols_after_symbol_line whole first number left after text line s e h f done =
 
 pub symbols_stop_at_faulty_line : (whole : Result (List Symbol) ℕ) (first : List Symbol) (number : ℕ) (left after : Option (Bor (List ℕ))) (text : Bor (List ℕ))
     (line : List ℕ) → left ≡ Some text
-    → MatchOption after (lines_of text.now ≡ line ∷ []) (λ rest. lines_of text.now ≡ line ∷ lines_of rest.now) → Faulty ≡ entry_of line
+    → MatchOption after (map_lines text.now ≡ line ∷ []) (λ rest. map_lines text.now ≡ line ∷ map_lines rest.now) → Faulty ≡ map_entry line
     → with_all first (symbols_from (number + 1) (lines_left left)) ≡ whole → whole ≡ Err (number + 1)
 symbols_stop_at_faulty_line whole first number left after text line e h f done =
     sym done ∙ ap (with_all first) (symbols_from_by_next_line number left after text line Faulty e h f)

@@ -14,7 +14,7 @@ use Rattle.std.proofs.lemmas.List.Splits.{slice_split_at}
 use Rattle.hex.specs.Hex.{IsBytes, decode_sized, is_hex_digit}
 use Rattle.hex.proofs.HexLemmas.{length-encode_with, decode_of-encode_lower, decode_of-ok, decode_sized-twice}
 use Rattle.ir_symbols.specs.Symbols.{Symbol, IsSymbol, address_of, is_kind, is_mark, is_printable, is_name}
-use Rattle.ir_symbols.specs.Maps.{hex_word, line_of, map_text, address_in, symbol_by, symbol_in, leading_blanks, is_undefined, is_passed_over, entry_of, lines_of, symbols_from, symbols_at, with_first, with_entry, IsTableOf}
+use Rattle.ir_symbols.specs.Maps.{map_word, line_of, map_text, address_in, symbol_by, symbol_in, leading_blanks, is_undefined, is_passed_over, map_entry, map_lines, symbols_from, symbols_at, with_first, with_entry, IsTableOf}
 use Rattle.ir_symbols.specs.Tables.{IsSortOf}
 use Rattle.ir_symbols.proofs.OneSort.{sorts_of_symbols_equal, sorted_symbols_are_own_sort}
 use Rattle.ir_symbols.specs.declared.entry.Entry.{Entry}
@@ -29,29 +29,29 @@ address_bytes_are_bytes n (suc (suc zero)) = omega arith
 address_bytes_are_bytes n (suc (suc (suc zero))) = omega arith
 address_bytes_are_bytes n (suc (suc (suc (suc i)))) = omega arith
 
-length_of_hex_word : (n : ℕ) → length (hex_word n) ≡ 8
+length_of_hex_word : (n : ℕ) → length (map_word n) ≡ 8
 length_of_hex_word n = length-encode_with _ (to_be_bytes w32 n)
 
-hex_word_is_hex_digits : (n : ℕ) → AllPass is_hex_digit (hex_word n)
-hex_word_is_hex_digits n = (decode_of-ok (hex_word n) (to_be_bytes w32 n) (decode_of-encode_lower (to_be_bytes w32 n) (address_bytes_are_bytes n))).1
+hex_word_is_hex_digits : (n : ℕ) → AllPass is_hex_digit (map_word n)
+hex_word_is_hex_digits n = (decode_of-ok (map_word n) (to_be_bytes w32 n) (decode_of-encode_lower (to_be_bytes w32 n) (address_bytes_are_bytes n))).1
 
-address_in_hex_word : (n : ℕ) → n < 2 ^ 32 → address_in (hex_word n) ≡ Some n
+address_in_hex_word : (n : ℕ) → n < 2 ^ 32 → address_in (map_word n) ≡ Some n
 address_in_hex_word n h =
-    let decoded : decode_sized (hex_word n) 4 ≡ Ok (to_be_bytes w32 n) =
-    decode_sized-twice (hex_word n) 4 (length_of_hex_word n) ∙ decode_of-encode_lower (to_be_bytes w32 n) (address_bytes_are_bytes n) in
+    let decoded : decode_sized (map_word n) 4 ≡ Ok (to_be_bytes w32 n) =
+    decode_sized-twice (map_word n) 4 (length_of_hex_word n) ∙ decode_of-encode_lower (to_be_bytes w32 n) (address_bytes_are_bytes n) in
     rw decoded (ap (λ (m : ℕ). Some m) (from_be_bytes-to_be_bytes_4 n h))
 
 -- ---- a line
 
 -- a line without its line feed
 abbrev line_without_feed : Symbol → List ℕ
-line_without_feed s = hex_word s.address ++ 32 ∷ s.kind ∷ 32 ∷ s.name
+line_without_feed s = map_word s.address ++ 32 ∷ s.kind ∷ 32 ∷ s.name
 
 line_of_splits_off_line_feed : (s : Symbol) (rest : List ℕ) → line_of s ++ rest ≡ line_without_feed s ++ 10 ∷ rest
 line_of_splits_off_line_feed s rest =
-    append_assoc (hex_word s.address) (32 ∷ s.kind ∷ 32 ∷ (s.name ++ 10 ∷ [])) rest
-    ∙ ap (λ (l : List ℕ). hex_word s.address ++ 32 ∷ s.kind ∷ 32 ∷ l) (append_assoc s.name (10 ∷ []) rest)
-    ∙ sym (append_assoc (hex_word s.address) (32 ∷ s.kind ∷ 32 ∷ s.name) (10 ∷ rest))
+    append_assoc (map_word s.address) (32 ∷ s.kind ∷ 32 ∷ (s.name ++ 10 ∷ [])) rest
+    ∙ ap (λ (l : List ℕ). map_word s.address ++ 32 ∷ s.kind ∷ 32 ∷ l) (append_assoc s.name (10 ∷ []) rest)
+    ∙ sym (append_assoc (map_word s.address) (32 ∷ s.kind ∷ 32 ∷ s.name) (10 ∷ rest))
 
 -- a byte that is no line feed
 abbrev IsNoLineFeed : ℕ → Type 0
@@ -72,10 +72,10 @@ name_has_no_line_feed (b ∷ name) h =
 
 line_without_feed_has_no_feed : (s : Symbol) → IsSymbol s → All IsNoLineFeed (line_without_feed s)
 line_without_feed_has_no_feed s h =
-    let digits : All IsNoLineFeed (hex_word s.address) =
-    All-weaker (λ b. is_hex_digit b ≡ true) IsNoLineFeed hex_digit_is_no_line_feed (hex_word s.address) (hex_word_is_hex_digits s.address) in
+    let digits : All IsNoLineFeed (map_word s.address) =
+    All-weaker (λ b. is_hex_digit b ≡ true) IsNoLineFeed hex_digit_is_no_line_feed (map_word s.address) (hex_word_is_hex_digits s.address) in
     let name : All IsNoLineFeed s.name = name_has_no_line_feed s.name (and_parts (list_all is_printable s.name) _ h.name_is).0 in
-    All-append IsNoLineFeed (hex_word s.address) (32 ∷ s.kind ∷ 32 ∷ s.name) digits
+    All-append IsNoLineFeed (map_word s.address) (32 ∷ s.kind ∷ 32 ∷ s.name) digits
     (All-cons IsNoLineFeed 32 (s.kind ∷ 32 ∷ s.name) refl (All-cons IsNoLineFeed s.kind (32 ∷ s.name) (kind_is_no_line_feed s.kind h.kind_is)
     (All-cons IsNoLineFeed 32 s.name refl name)))
 
@@ -92,14 +92,14 @@ name_is_nonempty_and_its_last_byte_is_mark name h =
 
 length_of_line_without_feed : (s : Symbol) → length (line_without_feed s) ≡ 11 + length s.name
 length_of_line_without_feed s =
-    length-append (hex_word s.address) (32 ∷ s.kind ∷ 32 ∷ s.name)
+    length-append (map_word s.address) (32 ∷ s.kind ∷ 32 ∷ s.name)
     ∙ (let size = length_of_hex_word s.address in omega (arith, size))
 
 last_byte_of_line_is_that_of_name : (s : Symbol) → 0 < length s.name → get_or (line_without_feed s) (length (line_without_feed s) - 1) 0 ≡ get_or s.name (length s.name - 1) 0
 last_byte_of_line_is_that_of_name s some =
     let size = length_of_line_without_feed s in
     let place : length (line_without_feed s) - 1 - 8 ≡ suc (suc (suc (length s.name - 1))) = omega (arith, size, some) in
-    get_or-append_right (hex_word s.address) (32 ∷ s.kind ∷ 32 ∷ s.name) 8 (length (line_without_feed s) - 1) 0 (length_of_hex_word s.address) (omega (arith, size))
+    get_or-append_right (map_word s.address) (32 ∷ s.kind ∷ 32 ∷ s.name) 8 (length (line_without_feed s) - 1) 0 (length_of_hex_word s.address) (omega (arith, size))
     ∙ ap (λ (k : ℕ). get_or (32 ∷ s.kind ∷ 32 ∷ s.name) k 0) place
 
 mark_is_no_carriage_return : (b : ℕ) → is_mark b ≡ true → b == 13 ≡ false
@@ -116,8 +116,8 @@ strip_leaves_line_without_feed_unchanged s h =
 symbol_in_line_without_feed : (s : Symbol) → IsSymbol s → symbol_in (line_without_feed s) ≡ Some s
 symbol_in_line_without_feed s h =
     let size = length_of_hex_word s.address in
-    let first : take 8 (line_without_feed s) ≡ hex_word s.address = take_at (hex_word s.address) (32 ∷ s.kind ∷ 32 ∷ s.name) 8 size in
-    let rest : drop 8 (line_without_feed s) ≡ 32 ∷ s.kind ∷ 32 ∷ s.name = drop_at (hex_word s.address) (32 ∷ s.kind ∷ 32 ∷ s.name) 8 size in
+    let first : take 8 (line_without_feed s) ≡ map_word s.address = take_at (map_word s.address) (32 ∷ s.kind ∷ 32 ∷ s.name) 8 size in
+    let rest : drop 8 (line_without_feed s) ≡ 32 ∷ s.kind ∷ 32 ∷ s.name = drop_at (map_word s.address) (32 ∷ s.kind ∷ 32 ∷ s.name) 8 size in
     let read : address_in (take 8 (line_without_feed s)) ≡ Some s.address = ap address_in first ∙ address_in_hex_word s.address h.address_fits in
     let kind : is_kind s.kind ≡ true = h.kind_is in
     let name : is_name s.name ≡ true = h.name_is in
@@ -140,11 +140,11 @@ leading_blanks_of_digits_are_zero (b ∷ digits) rest some h = let e = hex_digit
 symbol_line_is_not_undefined : (s : Symbol) → is_undefined (line_without_feed s) ≡ false
 symbol_line_is_not_undefined s =
     let size = length_of_hex_word s.address in
-    let none : leading_blanks (line_without_feed s) ≡ 0 = leading_blanks_of_digits_are_zero (hex_word s.address) (32 ∷ s.kind ∷ 32 ∷ s.name) (omega (arith, size)) (hex_word_is_hex_digits s.address) in
+    let none : leading_blanks (line_without_feed s) ≡ 0 = leading_blanks_of_digits_are_zero (map_word s.address) (32 ∷ s.kind ∷ 32 ∷ s.name) (omega (arith, size)) (hex_word_is_hex_digits s.address) in
     rw none refl
 
-entry_of_symbol_line : (s : Symbol) → IsSymbol s → is_passed_over s.kind ≡ false → entry_of (line_without_feed s) ≡ Names s
-unfolding entry_of
+entry_of_symbol_line : (s : Symbol) → IsSymbol s → is_passed_over s.kind ≡ false → map_entry (line_without_feed s) ≡ Names s
+unfolding map_entry
 entry_of_symbol_line s h placed =
     let size = length_of_line_without_feed s in
     let some : length (line_without_feed s) == 0 ≡ false = grind (arith, nat_tests) in
@@ -154,26 +154,26 @@ entry_of_symbol_line s h placed =
 
 -- ---- all lines
 
-lines_of_symbol_line : (s : Symbol) (rest : List ℕ) → IsSymbol s → lines_of (line_of s ++ rest) ≡ line_without_feed s ∷ lines_of rest
+lines_of_symbol_line : (s : Symbol) (rest : List ℕ) → IsSymbol s → map_lines (line_of s ++ rest) ≡ line_without_feed s ∷ map_lines rest
 lines_of_symbol_line s rest h =
-    ap lines_of (line_of_splits_off_line_feed s rest)
+    ap map_lines (line_of_splits_off_line_feed s rest)
     ∙ ap (λ (parts : List (List ℕ)). map strip_carriage_return parts)
     (slice_split_at (λ b. b == 10) (line_without_feed s) 10 rest (line_without_feed_has_no_feed s h) refl)
-    ∙ ap (λ (line : List ℕ). line ∷ lines_of rest) (strip_leaves_line_without_feed_unchanged s h)
+    ∙ ap (λ (line : List ℕ). line ∷ map_lines rest) (strip_leaves_line_without_feed_unchanged s h)
 
 -- a symbol that names a place
 abbrev pub NamesPlace : Symbol → Type 0
 NamesPlace s = is_passed_over s.kind ≡ false
 
 pub symbols_from_map_text : (number : ℕ) (symbols : List Symbol) → All IsSymbol symbols → All NamesPlace symbols
-    → symbols_from number (lines_of (map_text symbols)) ≡ Ok symbols
-unfolding symbols_from entry_of
+    → symbols_from number (map_lines (map_text symbols)) ≡ Ok symbols
+unfolding symbols_from map_entry
 symbols_from_map_text number [] h placed = refl
 symbols_from_map_text number (s ∷ symbols) h placed =
     let here : IsSymbol s = All-head IsSymbol s symbols h in
-    let says : entry_of (line_without_feed s) ≡ Names s = entry_of_symbol_line s here (All-head NamesPlace s symbols placed) in
+    let says : map_entry (line_without_feed s) ≡ Names s = entry_of_symbol_line s here (All-head NamesPlace s symbols placed) in
     ap (symbols_from number) (lines_of_symbol_line s (map_text symbols) here)
-    ∙ ap (λ (e : Entry). with_entry number e (symbols_from (number + 1) (lines_of (map_text symbols)))) says
+    ∙ ap (λ (e : Entry). with_entry number e (symbols_from (number + 1) (map_lines (map_text symbols)))) says
     ∙ ap (with_first s) (symbols_from_map_text (number + 1) symbols (All-tail IsSymbol s symbols h) (All-tail NamesPlace s symbols placed))
 
 -- a table of what was written is the table

@@ -15,12 +15,12 @@ use Rattle.ir_symbols.specs.declared.map_err.MapErr.TheVariants.{Line, NoMem}
 -- ---- writing
 
 -- a word in eight lower-case hexadecimal digits
-abbrev pub hex_word : ℕ → List ℕ
-hex_word word = encode_lower (to_be_bytes w32 word)
+abbrev pub map_word : ℕ → List ℕ
+map_word word = encode_lower (to_be_bytes w32 word)
 
 -- the line of a symbol: its address, its kind and its name
 abbrev pub line_of : Symbol → List ℕ
-line_of s = hex_word s.address ++ 32 ∷ s.kind ∷ 32 ∷ (s.name ++ 10 ∷ [])
+line_of s = map_word s.address ++ 32 ∷ s.kind ∷ 32 ∷ (s.name ++ 10 ∷ [])
 
 -- the lines of all symbols
 abbrev pub map_text : List Symbol → List ℕ
@@ -64,14 +64,14 @@ entry_by (Some s) = if is_passed_over s.kind then Nothing else Names s
 entry_by None = Faulty
 
 -- what a line says
-unfoldable pub entry_of : List ℕ → Entry
-entry_of line = if length line == 0 || is_undefined line then Nothing else entry_by (symbol_in line)
+unfoldable pub map_entry : List ℕ → Entry
+map_entry line = if length line == 0 || is_undefined line then Nothing else entry_by (symbol_in line)
 
 -- ---- all lines
 
 -- the lines between line feeds, without carriage returns at their ends
-abbrev pub lines_of : List ℕ → List (List ℕ)
-lines_of bytes = map strip_carriage_return (slice_split (λ b. b == 10) bytes)
+abbrev pub map_lines : List ℕ → List (List ℕ)
+map_lines bytes = map strip_carriage_return (slice_split (λ b. b == 10) bytes)
 
 -- one more symbol before others
 abbrev pub with_first : Symbol → Result (List Symbol) ℕ → Result (List Symbol) ℕ
@@ -87,11 +87,11 @@ with_entry number Faulty others = Err number
 -- the symbols of lines, or the number of the first faulty one, where the first line has this number
 unfoldable pub symbols_from : ℕ → List (List ℕ) → Result (List Symbol) ℕ
 symbols_from number [] = Ok []
-symbols_from number (line ∷ lines) = with_entry number (entry_of line) (symbols_from (number + 1) lines)
+symbols_from number (line ∷ lines) = with_entry number (map_entry line) (symbols_from (number + 1) lines)
 
 -- the symbols of a map in the order of its lines, or the number of the first faulty line, counted from 1
 abbrev pub symbols_at : List ℕ → Result (List Symbol) ℕ
-symbols_at bytes = symbols_from 1 (lines_of bytes)
+symbols_at bytes = symbols_from 1 (map_lines bytes)
 
 -- ---- what the reader answers
 
@@ -102,11 +102,11 @@ pub record IsTableOf (read : Result (List Symbol) ℕ) (table : List Symbol) : T
   pub sorted : IsSortOf symbols table
 
 -- reading met this fault, or memory ran out
-abbrev pub Fails : {Y : Type 0} → MapErr → Result Y ℕ → Type 0
-Fails (Line number) read = read ≡ Err number
-Fails NoMem read = Unit {0}
+abbrev pub IsMapFault : {Y : Type 0} → MapErr → Result Y ℕ → Type 0
+IsMapFault (Line number) read = read ≡ Err number
+IsMapFault NoMem read = Unit {0}
 
 -- an answer, seen by a view, is what reading gives, unless memory ran out
-abbrev pub Gives : {X Y : Type 0} → (X → Y) → Result X MapErr → Result Y ℕ → Type 0
-Gives view (Ok x) read = read ≡ Ok (view x)
-Gives view (Err e) read = Fails e read
+abbrev pub GivesSymbols : {X Y : Type 0} → (X → Y) → Result X MapErr → Result Y ℕ → Type 0
+GivesSymbols view (Ok x) read = read ≡ Ok (view x)
+GivesSymbols view (Err e) read = IsMapFault e read

@@ -2,7 +2,7 @@
 
 ghost use Rattle.std.specs.Prelude.{◌≡◌, ◌==◌, ◌<◌, ◌≤◌, [], ◌∷◌, length, position, IfOk, IfErr, IfSome, MatchOption};
 ghost use Rattle.std.specs.Str.Lines.{strip_carriage_return};
-ghost use Rattle.ir_symbols.specs.Maps.{address_in, symbol_by, symbol_in, leading_blanks, is_label, is_undefined, is_passed_over, entry_of, lines_of, symbols_at, Gives, Fails, IsTableOf};
+ghost use Rattle.ir_symbols.specs.Maps.{address_in, symbol_by, symbol_in, leading_blanks, is_label, is_undefined, is_passed_over, map_entry, map_lines, symbols_at, GivesSymbols, IsMapFault, IsTableOf};
 
 use crate::entry::Entry;
 use crate::legal::{is_kind, is_name};
@@ -83,7 +83,7 @@ fn is_passed_over(kind: char) -> bool
 // What a line says.
 #[tactic(auto, unfolding(crate::specs::Maps::map_entry))]
 fn entry(alloc: Global, line: &[u8]) -> Result<Entry, AllocError>
-    ensures { IfOk result (λ entry. entry ≡ entry_of line.now) }
+    ensures { IfOk result (λ entry. entry ≡ map_entry line.now) }
 {
     if line.is_empty() || is_undefined(line) {
         return Ok(Entry::Nothing);
@@ -114,7 +114,7 @@ fn line_feed(text: &[u8]) -> Option<usize>
 
 // The first line, and what follows its line feed, if there is one.
 fn first_line(text: &[u8]) -> (&[u8], Option<&[u8]>)
-    ensures lines { MatchOption result.1 (lines_of text.now ≡ result.0.now ∷ []) (λ rest. lines_of text.now ≡ result.0.now ∷ lines_of rest.now) }
+    ensures lines { MatchOption result.1 (map_lines text.now ≡ result.0.now ∷ []) (λ rest. map_lines text.now ≡ result.0.now ∷ map_lines rest.now) }
     ensures shorter { IfSome result.1 (λ rest. length rest.now < length text.now) }
 {
     match line_feed(text) {
@@ -125,7 +125,7 @@ fn first_line(text: &[u8]) -> (&[u8], Option<&[u8]>)
 
 // The symbols of a map in the order of its lines.
 fn symbols(alloc: Global, bytes: &[u8]) -> Result<Vec<Symbol>, MapErr>
-    ensures { Gives (λ symbols. symbols.items) result (symbols_at bytes.now) }
+    ensures { GivesSymbols (λ symbols. symbols.items) result (symbols_at bytes.now) }
 {
     let mut symbols = Vec::new(alloc);
     let mut number = 0;
@@ -157,7 +157,7 @@ pub fn read_map(alloc: Global, bytes: &[u8]) -> Result<SymbolTable, MapErr>
     // The table has the symbols of the lines.
     ensures read { IfOk result (λ table. IsTableOf (symbols_at bytes.now) table) }
     // Or it is the first faulty line, or memory ran out.
-    ensures faulty { IfErr result (λ error. Fails error (symbols_at bytes.now)) }
+    ensures faulty { IfErr result (λ error. IsMapFault error (symbols_at bytes.now)) }
 {
     let symbols = symbols(alloc, bytes)?;
     Ok(SymbolTable::of(alloc, symbols)?)

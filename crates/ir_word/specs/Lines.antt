@@ -28,8 +28,8 @@ use Rattle.ir_word.specs.declared.word_err.WordErr.{WordErr}
 use Rattle.ir_word.specs.declared.word_err.WordErr.TheVariants as err
 
 -- the line of version v with word i
-abbrev pub word_line : ℕ → ℕ → Worded → List ℕ
-word_line i v d = codes "version " ++ (decimal v ++ (codes " by " ++ (maker_text d.made_by ++ (step_if d.step
+abbrev pub changed_word_line : ℕ → ℕ → Worded → List ℕ
+changed_word_line i v d = codes "version " ++ (decimal v ++ (codes " by " ++ (maker_text d.made_by ++ (step_if d.step
     ++ (codes " word " ++ (decimal i ++ (codes " " ++ (hex_word d.word ++ 10 ∷ []))))))))
 
 -- whether version v has another word than the version before; the first counts as such
@@ -39,7 +39,7 @@ is_other ds (suc v) = not ((slice_index_or ds v unread).word == (slice_index_or 
 
 -- the line of version v, if it has another word than the version before
 abbrev pub word_line_if : ℕ → List Worded → ℕ → List ℕ
-word_line_if i ds v = if is_other ds v then word_line i v (slice_index_or ds v unread) else []
+word_line_if i ds v = if is_other ds v then changed_word_line i v (slice_index_or ds v unread) else []
 
 -- the lines of the first n versions
 unfoldable pub changed_lines : ℕ → List Worded → ℕ → List ℕ

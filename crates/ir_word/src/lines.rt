@@ -2,7 +2,7 @@
 
 ghost use Rattle.std.specs.Prelude.{◌≡◌, ◌<◌, length, IfOk};
 ghost use Rattle.std.specs.String.{string_bytes};
-ghost use Rattle.ir_word.specs.Lines.{word_line, is_other, word_text};
+ghost use Rattle.ir_word.specs.Lines.{changed_word_line, is_other, word_text};
 
 use crate::worded::Worded;
 use ir_fit_run::step_text;
@@ -12,7 +12,7 @@ use std::alloc::{AllocError, Global};
 
 // The line of a version.
 fn word_line(alloc: Global, index: u8, number: usize, worded: &Worded) -> Result<String, AllocError>
-    ensures { IfOk result (λ s. string_bytes s ≡ word_line index number worded.now) }
+    ensures { IfOk result (λ s. string_bytes s ≡ changed_word_line index number worded.now) }
 {
     let maker = maker_text(alloc, &worded.made_by)?;
     let step = step_text(alloc, worded.step)?;

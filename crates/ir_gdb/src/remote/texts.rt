@@ -3,7 +3,7 @@
 ghost use Rattle.std.specs.Prelude.{◌≡◌, ◌≤◌, ◌<◌, ◌+◌, ◌++◌, OnOk, OnErr, IfOk, vec_len, vec_capacity};
 ghost use Rattle.ir_cut.specs.Positions.{threads_of};
 ghost use Rattle.ir_packet.specs.Replies.{piece_text};
-ghost use Rattle.ir_gdb.specs.Texts.{position_text, thread_text, thread_list_text};
+ghost use Rattle.ir_gdb.specs.Texts.{position_text, thread_list_line, thread_list_text};
 
 use crate::ending::{end_of_thread, put_end};
 use crate::remote::Remote;
@@ -40,7 +40,7 @@ impl Remote {
         requires thread { thread < threads_of self.now.stub.desk.fitted }
         requires small { thread < 16 }
         requires room { vec_len out.old + 146 ≤ vec_capacity out.old }
-        ensures bytes { out.new.items ≡ out.old.items ++ thread_text self.now.stub thread }
+        ensures bytes { out.new.items ≡ out.old.items ++ thread_list_line self.now.stub thread }
         ensures len { vec_len out.new ≤ vec_len out.old + 146 }
         ensures capacity { vec_capacity out.new ≡ vec_capacity out.old }
     {

@@ -1,10 +1,10 @@
 use Rattle.std.proofs.Common.{sym, append-nil}
-use Rattle.ir_events.specs.Texts.{first_lines}
+use Rattle.ir_events.specs.Texts.{first_event_lines}
 use Rattle.ir_events.proofs.Joined.{first_lines_step}
 use Rattle.ir_events.proofs.texts.push_thread.Goals as goal
 
 pub loop-number-init : goal.loop-number-init
-unfolding first_lines
+unfolding first_event_lines
 loop-number-init c = sym (append-nil c.args.text.now.items)
 
 pub loop-number-preserved : goal.loop-number-preserved

@@ -1,7 +1,7 @@
 use Rattle.std.proofs.Common.{rules, ◌≡◌, ◌∙◌, true, sym, ap, subst}
 use Rattle.ir_timeline.specs.Hand.{IsCutOf}
 use Rattle.ir_gdb.specs.Stub.{Stub, stub_spoken}
-use Rattle.ir_gdb.specs.Stops.{is_within}
+use Rattle.ir_gdb.specs.Stops.{is_in_range}
 use Rattle.ir_gdb.proofs.Ranging.{pc_in_cut_is_pc_at_position, stays_within_range_up_to_next_position}
 use Rattle.ir_gdb.proofs.remote.Remote.leaves.Goals as goal
 
@@ -12,7 +12,7 @@ steps-preserved g c =
     let pc = c.in_ok-pc.pc in
     let cut = c.in_ok-at-2.at in
     let said = c.steps.invariant.stub in
-    let inside : is_within c.args.low c.args.high pc ≡ true = search rules in
+    let inside : is_in_range c.args.low c.args.high pc ≡ true = search rules in
     let is = pc_in_cut_is_pc_at_position s c.steps.self.stub t _ pc cut said c.in_ok-at-2.ensures.there c.in_ok-pc.ensures.pc in
     record {
       stub = c.in_ok-pc.ensures.stub ∙ ap (λ (x : Stub). stub_spoken x) said;
