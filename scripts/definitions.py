@@ -76,10 +76,14 @@ CLAIMS = [
         ("ir_order", "Recording", "`IsOfRun`: the run that a trace and outputs are of"),
         ("ir_explore_run", "Recorded", "the laws"),
     ], (420, 155)),
-    Claim("Exploring up to conditions", "`ir explore --until` records an outcome that fulfils them.", {"ir_explore_run/src/until.rt": ["explore_until"]}, [
+    Claim("Exploring up to conditions", "`ir explore --until` records an outcome that fulfils them, or a hang.", {
+        "ir_explore_run/src/until.rt": ["explore_until"],
+        "ir_explore_run/src/hang.rt": ["explore_hang"],
+    }, [
         ("ir_explore_run", "Conditions", "`IsFirst`, `NeverFulfils`"),
         ("ir_explore_run", "Until", "`IsSought`, `IsVain`"),
-    ], (325, 226)),
+        ("ir_explore_run", "Hang", "`FindsHang`, `IsHangTold`"),
+    ], (411, 267)),
     Claim("Hunting", "`ir hunt` says which seeds it tried, and which is the lowest that it found.", {"ir_hunt/src/hunting.rt": ["hunt_run"]}, [
         ("ir_chaos", "Schedules", "`IsSchedule`: the run by a chooser"),
         ("ir_hunt", "Hunt", "`Hunt`: what is hunted"),
@@ -101,7 +105,7 @@ CLAIMS = [
         ("ir_gdb", "Connection", "`RepliesToItems`: the bytes of packets and acknowledgements"),
         ("ir_gdb", "Laws", "the laws"),
     ], (2380, 1250)),
-    Claim("Insight", "The lines of `ir stale`, `who`, `why`, `diff` and `view`.", {
+    Claim("Insight", "The lines of `ir stale`, `who`, `why`, `diff`, `view`, `events` and `list`.", {
         "ir_past/src/run.rt": ["stale_run"],
         "ir_rests/src/run.rt": ["rests_run"],
         "ir_who/src/run.rt": ["who_run"],
@@ -114,6 +118,9 @@ CLAIMS = [
         "ir_picture/src/run.rt": ["view_run"],
         "ir_picture/src/laws.rt": ["needs_are_left", "runs_have_no_circle"],
         "ir_picture_run/src/run.rt": ["view_fit_run"],
+        "ir_picture_run/src/laws.rt": ["behind_is_in_cut", "behind_is_left", "rows_do_not_overlap"],
+        "ir_listing/src/events.rt": ["events_run"],
+        "ir_listing/src/code.rt": ["list_report"],
     }, [
         ("ir_past", "Past", "`event_at`, `IsMadeBy`: what made a version"),
         ("ir_rests", "Rests", "when a write rests on what was read"),
@@ -122,7 +129,9 @@ CLAIMS = [
         ("ir_why", "FitAnswers", "`IsReasonIn`"),
         ("ir_diff", "Common", "`AreCommon`, `IsReady`"),
         ("ir_picture", "Places", "`AreBoxesPlaced`: where boxes stand"),
-    ], (2830, 1295)),
+        ("ir_holds", "Held", "`IsHeld`: where boxes of holds stand"),
+        ("ir_events", "Lines", "the lines of events"),
+    ], (3310, 1420)),
 ]
 
 CLAIMS_PAGE = PAGES / "claims.md"

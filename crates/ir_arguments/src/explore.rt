@@ -48,8 +48,8 @@ has an outcome that does, and after `covered C` and `stopped WHY covered C` none
 as in `ir hunt`: `end T E`, `code T V`, `word O I V`, `out T TEXT`, `fault`, `bad`, or one of them after `!`, or several of these
 with ` | ` between them.
 With `--until hang` alone all lines are printed, and if there is the line `hang`, TRACE is of the run by its LIST, and the lines of
-`ir record` follow. Behind the hang each thread goes on until its budget is spent: as many steps as all threads take by LIST, and
-one.
+`ir record` follow. The run goes on behind the hang until its budget ends it: each thread may take one step more than all threads
+take together by LIST.
 Exit status: 0 finished without a hang, or covered, 1 a file that can't be read or written, memory that ran out outside the search,
 or standard output that can't be written, 2 bad arguments, 3 a refused image, or a guest with more threads or objects than the
 profile takes, or a COND about what the guest hasn't, 6 stopped, 7 finished, and from some state no run reaches an end any more.

@@ -63,8 +63,8 @@ pub record IsHangSearch (guest : Guest) (plan : ExplorePlan) (found : Result Han
   pub finds : FindsHang known found
 
 -- or the search didn't begin
-abbrev pub IsHangText : Guest → ExplorePlan → Result HangOrder ExitStatus → List ℕ → Type 0
-IsHangText guest plan found text = IsHangSearch guest plan found text
+abbrev pub IsHangTold : Guest → ExplorePlan → Result HangOrder ExitStatus → List ℕ → Type 0
+IsHangTold guest plan found text = IsHangSearch guest plan found text
     ⊎ ((answered : ExitStatus) × (found ≡ Err answered) × IsStopped guest plan answered text)
 
 -- the same of the guest that these bytes encode, which the profile allows
@@ -72,7 +72,7 @@ pub record IsHangAnswer (image : List ℕ) (plan : ExplorePlan) (found : Result 
   pub guest : Guest
   pub is : guest_at image ≡ Ok guest
   pub allowed : IsAllowed plan.profile guest
-  pub says : IsHangText guest plan found text
+  pub says : IsHangTold guest plan found text
 
 -- how a hang is recorded
 abbrev pub hang_plan : ExplorePlan → HangOrder → Plan

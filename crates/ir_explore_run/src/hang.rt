@@ -11,7 +11,7 @@ ghost use Rattle.ir_record_run.specs.declared.record_fault.RecordFault.{RecordFa
 ghost use Rattle.ir_thread.specs.State.{IsAllowed, most_budget};
 ghost use Rattle.ir_trace.specs.Encoding.{encoding};
 ghost use Rattle.ir_explore_run.specs.Faults.{explore_fault_status, explore_fault_words};
-ghost use Rattle.ir_explore_run.specs.Hang.{with_steps, budget_from, hang_plan, unhung_status_of, FindsHang, LeadsToHang, IsHangText, IsHangAnswer, IsHangRecorded, HasNoHangAnswer};
+ghost use Rattle.ir_explore_run.specs.Hang.{with_steps, budget_from, hang_plan, unhung_status_of, FindsHang, LeadsToHang, IsHangTold, IsHangAnswer, IsHangRecorded, HasNoHangAnswer};
 ghost use Rattle.ir_explore_run.specs.Texts.{AreKnown, known_of};
 ghost use Rattle.ir_explore_run.specs.declared.fault.ExploreFault.{ExploreFault};
 ghost use Rattle.ir_explore_run.specs.declared.hang_order.HangOrder.{HangOrder};
@@ -118,7 +118,7 @@ fn known_about(
 ) -> Result<Told, AllocError>
     requires allowed { IsAllowed plan.now.profile image.now }
     requires known { AreKnown image.now plan.now (known_of explored.now) }
-    ensures { IfOk result (λ told. IsHangText image.now plan.now told.found told.text.items) }
+    ensures { IfOk result (λ told. IsHangTold image.now plan.now told.found told.text.items) }
 {
     let (text, _) = known_text(alloc, image, plan, explored)?;
     let found = found_by(alloc, explored)?;
@@ -132,7 +132,7 @@ fn text_about<W: Observer>(
     plan: &HangPlan<'_, '_, '_, W>,
 ) -> Result<Told, AllocError>
     requires { IsAllowed plan.now.explore.profile image.now }
-    ensures { IfOk result (λ told. IsHangText image.now plan.now.explore told.found told.text.items) }
+    ensures { IfOk result (λ told. IsHangTold image.now plan.now.explore told.found told.text.items) }
 {
     match known(alloc, image, &plan.explore, plan.observer) {
         Ok(explored) => known_about(alloc, image, &plan.explore, &explored),
@@ -180,8 +180,8 @@ fn recording<'a>(plan: &ExplorePlan<'a>, order: &'a HangOrder) -> RecordPlan<'a>
 }
 
 /// Explores a guest, and writes what `explore_run` writes. If some run of the guest hangs, one is recorded by the list of the line of the hang, and
-/// all is written that `record_by_list` writes of it. What was recorded is handed back. Behind the hang each thread goes on until its budget is
-/// spent. The observer of the plan is told how far the search is.
+/// all is written that `record_by_list` writes of it. What was recorded is handed back. The run goes on behind the hang until its budget
+/// ends it. The observer of the plan is told how far the search is.
 ///
 /// # Errors
 /// The exit status, and nothing is recorded. It is `NotSo` if no run of the guest hangs, and `GaveUp` if that isn't known, because the search stopped
