@@ -121,7 +121,7 @@ shared_watches_are_not_more ws = filter_is_not_longer is_shared ws
 pub shared_watches_are_few : (n : ℕ) (ws : List Watched) → n + length ws ≤ most_stub_points → n + length (shared_of ws) ≤ most_stub_points
 shared_watches_are_few n ws few = let less = shared_watches_are_not_more ws in omega (arith, less, few)
 
-added_if : Bool → Watched → List Watched
+abbrev added_if : Bool → Watched → List Watched
 added_if true w = w ∷ []
 added_if false w = []
 
@@ -145,24 +145,27 @@ pub shared_of_more_with_private : (ws shared : List Watched) (w : Watched) → s
 shared_of_more_with_private ws shared w same is =
     same ∙ sym (append_none (shared_of ws)) ∙ ap (λ xs. shared_of ws ++ xs) (sym (filter_of_one w false is)) ∙ sym (filter-append is_shared ws (w ∷ []))
 
+one_kept : (r : Watched → Bool) (w : Watched) (xs : List Watched) → r w ≡ true → filter r (w ∷ xs) ≡ w ∷ filter r xs
+one_kept r w xs is = ap (λ b. if b then w ∷ filter r xs else filter r xs) is
+
+one_left_out : (r : Watched → Bool) (w : Watched) (xs : List Watched) → r w ≡ false → filter r (w ∷ xs) ≡ filter r xs
+one_left_out r w xs isnt = ap (λ b. if b then w ∷ filter r xs else filter r xs) isnt
+
+tests_commute_with_one : (p q : Watched → Bool) (w : Watched) (ws : List Watched) (a b : Bool) → p w ≡ a → q w ≡ b
+    → filter p (filter q ws) ≡ filter q (filter p ws) → filter p (filter q (w ∷ ws)) ≡ filter q (filter p (w ∷ ws))
+tests_commute_with_one p q w ws true true one two rest =
+    ap (filter p) (one_kept q w ws two) ∙ one_kept p w (filter q ws) one ∙ ap (λ xs. w ∷ xs) rest
+    ∙ sym (ap (filter q) (one_kept p w ws one) ∙ one_kept q w (filter p ws) two)
+tests_commute_with_one p q w ws true false one two rest =
+    ap (filter p) (one_left_out q w ws two) ∙ rest ∙ sym (ap (filter q) (one_kept p w ws one) ∙ one_left_out q w (filter p ws) two)
+tests_commute_with_one p q w ws false true one two rest =
+    ap (filter p) (one_kept q w ws two) ∙ one_left_out p w (filter q ws) one ∙ rest ∙ sym (ap (filter q) (one_left_out p w ws one))
+tests_commute_with_one p q w ws false false one two rest =
+    ap (filter p) (one_left_out q w ws two) ∙ rest ∙ sym (ap (filter q) (one_left_out p w ws one))
+
 tests_commute : (p q : Watched → Bool) (ws : List Watched) → filter p (filter q ws) ≡ filter q (filter p ws)
 tests_commute p q [] = refl
-tests_commute p q (w ∷ ws) = by (p w) (q w) refl refl
-  where
-    rest : filter p (filter q ws) ≡ filter q (filter p ws)
-    rest = tests_commute p q ws
-
-    kept : (r : Watched → Bool) (xs : List Watched) → r w ≡ true → filter r (w ∷ xs) ≡ w ∷ filter r xs
-    kept r xs is = ap (λ b. if b then w ∷ filter r xs else filter r xs) is
-
-    left : (r : Watched → Bool) (xs : List Watched) → r w ≡ false → filter r (w ∷ xs) ≡ filter r xs
-    left r xs isnt = ap (λ b. if b then w ∷ filter r xs else filter r xs) isnt
-
-    by : (a b : Bool) → p w ≡ a → q w ≡ b → filter p (filter q (w ∷ ws)) ≡ filter q (filter p (w ∷ ws))
-    by true true one two = ap (filter p) (kept q ws two) ∙ kept p (filter q ws) one ∙ ap (λ xs. w ∷ xs) rest ∙ sym (ap (filter q) (kept p ws one) ∙ kept q (filter p ws) two)
-    by true false one two = ap (filter p) (left q ws two) ∙ rest ∙ sym (ap (filter q) (kept p ws one) ∙ left q (filter p ws) two)
-    by false true one two = ap (filter p) (kept q ws two) ∙ left p (filter q ws) one ∙ rest ∙ sym (ap (filter q) (left p ws one))
-    by false false one two = ap (filter p) (left q ws two) ∙ rest ∙ sym (ap (filter q) (left p ws one))
+tests_commute p q (w ∷ ws) = tests_commute_with_one p q w ws (p w) (q w) refl refl (tests_commute p q ws)
 
 pub shared_of_fewer : (ws shared : List Watched) (w : Watched) → shared ≡ shared_of ws → watches_without shared w ≡ shared_of (watches_without ws w)
 shared_of_fewer ws shared w same = ap (λ xs. watches_without xs w) same ∙ tests_commute (λ x. not (is_same_watch x w)) is_shared ws

@@ -1,5 +1,5 @@
 -- Where points hit a thread of a run, by what they see of it before and after its steps.
-use Rattle.std.proofs.Common.{◌≡◌, ◌⊎◌, ℕ, suc, ◌<◌, ◌≤◌, Bool, true, false, List, length, Some, None, refl, sym, ap, ◌∙◌, subst, inl, inr, arith}
+use Rattle.std.proofs.Common.{◌≡◌, ◌⊎◌, ℕ, suc, ◌<◌, ◌≤◌, Bool, true, false, true≢false, List, length, Some, None, refl, sym, ap, ◌∙◌, subst, inl, inr, arith}
 use Rattle.std.specs.Prelude.{◌≢◌, ◌+◌, ◌*◌, slice_get}
 use Rattle.std.proofs.lemmas.Bool.{cases_lt, eqb-true}
 use Rattle.std.proofs.lemmas.Option.{slice_get_within, slice_get_cases}
@@ -36,15 +36,15 @@ no_hit_unless_point_concerns_thread f run points t k n none h = none (h.0, h.1, 
 -- what is put is put at the objects' addresses
 put_is_at_objects : (address : ℕ) (q : Ask) → puts_at address q ≡ true → objects_start ≤ address
 put_is_at_objects address (ask.Put object index value) at = let same = eqb-true (objects_start + object_size * object + 4 * index) address at in omega (arith, same)
-put_is_at_objects address ask.Private at = absurd (true_is_not_false false (sym at) refl)
-put_is_at_objects address (ask.Env kind) at = absurd (true_is_not_false false (sym at) refl)
-put_is_at_objects address (ask.Enter object access) at = absurd (true_is_not_false false (sym at) refl)
-put_is_at_objects address (ask.Try object) at = absurd (true_is_not_false false (sym at) refl)
-put_is_at_objects address (ask.Leave object access) at = absurd (true_is_not_false false (sym at) refl)
-put_is_at_objects address (ask.Get object index) at = absurd (true_is_not_false false (sym at) refl)
-put_is_at_objects address ask.Print at = absurd (true_is_not_false false (sym at) refl)
-put_is_at_objects address (ask.End e) at = absurd (true_is_not_false false (sym at) refl)
-put_is_at_objects address ask.Done at = absurd (true_is_not_false false (sym at) refl)
+put_is_at_objects address ask.Private at = absurd (true≢false (sym at))
+put_is_at_objects address (ask.Env kind) at = absurd (true≢false (sym at))
+put_is_at_objects address (ask.Enter object access) at = absurd (true≢false (sym at))
+put_is_at_objects address (ask.Try object) at = absurd (true≢false (sym at))
+put_is_at_objects address (ask.Leave object access) at = absurd (true≢false (sym at))
+put_is_at_objects address (ask.Get object index) at = absurd (true≢false (sym at))
+put_is_at_objects address ask.Print at = absurd (true≢false (sym at))
+put_is_at_objects address (ask.End e) at = absurd (true≢false (sym at))
+put_is_at_objects address ask.Done at = absurd (true≢false (sym at))
 
 -- the watched word of thread t is written by step j
 abbrev IsWritten : FittedTrace → List Step → ℕ → ℕ → ℕ → Type 0
