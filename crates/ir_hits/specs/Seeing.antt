@@ -1,5 +1,5 @@
 -- What points see of a thread before and after one of its steps.
-use Rattle.std.specs.Prelude.{◌≡◌, ◌≢◌, ℕ, ◌<◌, ◌≤◌, ⊤, true, false, List, length, slice_get, min, Option, Some, None, suc}
+use Rattle.std.specs.Prelude.{◌≡◌, ◌≢◌, ℕ, ◌<◌, ◌≤◌, ⊤, true, false, List, length, slice_get, min, Option, Some, None}
 use Rattle.ir_mach.specs.Execution.{memory_word}
 use Rattle.ir_runs.specs.declared.access.Access.TheVariants.{Writing}
 use Rattle.ir_thread.specs.State.{held_at, ask_of, ThreadState}

@@ -15,8 +15,8 @@ returns-in-Some-clause-hit g c =
     let h : Hit = record { position = c.steps-position.result; number = c.in-Some.number } in
     let x = c.thread_of-in-steps in
     let y = c.thread_of-thread in
-    let same = c.code.ensures.value ∙ ap (λ (g : Guest). g.code) c.image.ensures.value in
-    let passage = is_passage_if_thread_has_passed f c.args.search.last.now c.args.search.code.now c.args.search.points.now c.note_all.new.notes t c.args.search.to old new c.code.result.now x.result.now
+    let same = c.code-code.ensures.value ∙ ap (λ (g : Guest). g.code) c.image.ensures.value in
+    let passage = is_passage_if_thread_has_passed f c.args.search.last.now c.args.search.code.now c.args.search.points.now c.note_all.new.notes t c.args.search.to old new c.code-code.result.now x.result.now
     same x.ensures c.requires.search.ends c.requires.search.words c.requires.search.covered c.steps.invariant.stands c.take_steps.ensures.stands
     c.in_ok-take_steps.ensures.passed c.note_all.ensures in
     lowest_point_seen_after_passage_is_next_hit f c.args.search.last.now c.args.search.code.now c.args.search.points.now c.note_all.new.notes t c.args.search.to old new c.position-end.result
@@ -32,10 +32,10 @@ steps-preserved g c =
     let new = c.take_steps.new.state in
     let x = c.thread_of-in-steps in
     let y = c.thread_of-thread in
-    let same = c.code.ensures.value ∙ ap (λ (g : Guest). g.code) c.image.ensures.value in
+    let same = c.code-code.ensures.value ∙ ap (λ (g : Guest). g.code) c.image.ensures.value in
     let above = c.steps.invariant.above in
     let passed = c.in_ok-take_steps.ensures.passed in
-    let passage = is_passage_if_thread_has_passed f c.args.search.last.now c.args.search.code.now c.args.search.points.now c.note_all.new.notes t c.args.search.to old new c.code.result.now x.result.now
+    let passage = is_passage_if_thread_has_passed f c.args.search.last.now c.args.search.code.now c.args.search.points.now c.note_all.new.notes t c.args.search.to old new c.code-code.result.now x.result.now
     same x.ensures c.requires.search.ends c.requires.search.words c.requires.search.covered c.steps.invariant.stands c.take_steps.ensures.stands passed
     c.note_all.ensures in
     record {
