@@ -10,11 +10,22 @@ use ir_program::{Invocation, Surroundings, Terminals, program};
 use ir_stream::FromStd;
 use progress::{Progress, Wiping};
 use standard::stand_ins;
+use std::alloc::Global;
 use std::io::{self, BufReader, ErrorKind, IsTerminal};
 use std::process::ExitCode;
 use std::sync::Wait;
 use std::thread::Threads;
 use std::time::Clock;
+
+// The bytes of a block that `keep_heap` drops.
+const BLOCK: usize = 1 << 20;
+
+// Lets the heap keep what is free at its end. glibc gives all over 128 KiB of it back to the system, and a search that makes and drops a
+// thread's 64 KiB again and again would get them anew each time. A larger block that is dropped raises that to twice its size.
+// Without memory for the block the program is only slower.
+fn keep_heap(alloc: Global) {
+    let _ = Vec::<u8>::with_capacity(alloc, BLOCK);
+}
 
 // Says why the program stops, in one line on standard error. If that fails, there is no one left to report it to.
 fn complain(rt: &impl Eprint, why: &str) {
@@ -27,6 +38,7 @@ fn run<R: Threads + Wait + Sync + Clock + Eprint + AllocGlobal>(
     rt: &HostRuntime,
     threads: &R,
 ) -> ExitStatus {
+    keep_heap(rt.alloc());
     let words = match collected(rt) {
         Ok(words) => words,
         Err(error) if error.kind() == ErrorKind::InvalidData => {
