@@ -55,7 +55,7 @@ const WRONG: [(&str, &str); 11] = [
         "ir asm --explain=1 a.s a.img",
         "unexpected value '1' for '--explain' found; no more were expected",
     ),
-    ("ir play", "unrecognized subcommand 'play'"),
+    ("ir play", "unrecognized subcommand 'play': see ir --help"),
 ];
 
 #[test]
