@@ -129,6 +129,32 @@ SESSIONS = {
          "Old value = 20", "New value = 10", "No more reverse-execution history|Old value = 10", "point 1", "SIGTRAP", "log 1 of 1",
          "Cannot access memory at address 0x80000004"],
     ),
+    "12-watched-words": Session(
+        "objs",
+        ["watch *(int *)0x80000004", "watch -l account[0].object.owner", *["continue"] * 3, "x/2xw 0x80000000", *["continue"] * 2,
+         *["reverse-continue"] * 5, "delete", "tbreak objs.c:9", "continue", "watch *(long long *)0x80000000", "next", "stepi", "reverse-next",
+         "reverse-stepi", "bt"],
+        [r'Thread 2 "thread 1" hit Hardware watchpoint 2', "Old value = 0", "New value = 2", r"payer_body \(\) at .*objs.c:10",
+         r'Thread 2 "thread 1" hit Hardware watchpoint 1', "Old value = 0", "New value = 10", r"payer_body \(\) at .*objs.c:11",
+         r'Thread 1 "thread 0" hit Hardware watchpoint 2', "Old value = 2", "New value = 1", r"0x80000000:\s+0x00000001\s+0x0000000a",
+         r'Thread 1 "thread 0" hit Hardware watchpoint 1', "Old value = 10", "New value = 20", "No more reverse-execution history",
+         r'Thread 1 "thread 0" hit Hardware watchpoint 1', "Old value = 20", "New value = 10", r"payer_body \(\) at .*objs.c:10",
+         r'Thread 1 "thread 0" hit Hardware watchpoint 2', "Old value = 1", "New value = 2", r"payer_body \(\) at .*objs.c:9",
+         r'Thread 2 "thread 1" hit Hardware watchpoint 1', "Old value = 10", "New value = 0",
+         r'Thread 2 "thread 1" hit Hardware watchpoint 2', "Old value = 2", "New value = 0", "No more reverse-execution history",
+         r"Temporary breakpoint 3, payer_body \(\) at .*objs.c:9", "Old value = 0", r"New value = [12]$", "Old value = [12]$", "New value = 0",
+         r"#1 .*payer \(\)"],
+        locked=False,
+    ),
+    "12-unwatchable": Session(
+        "objs",
+        ["watch *(int *)0x80000040", "continue", "delete", "watch *(long long *)0x8000003c", "continue", "delete", "watch *(char (*)[64])0x80000000",
+         "continue", "delete", "rwatch *(int *)0x80000004", "continue", "delete", "awatch *(int *)0x80000004", "continue", "delete",
+         "watch account[0].object.balance", "continue", "delete", "continue"],
+        [*["Could not insert hardware watchpoint"] * 2, "hit Hardware watchpoint 3", *["Could not insert hardware watchpoint"] * 3,
+         "No more reverse-execution history"],
+        locked=False,
+    ),
     "12-writers": Session(
         "objs",
         ["ir-owatch account[0].object.balance", "continue", "print account[0].object", "continue", "print account[0].object", "continue", "reverse-continue",
@@ -420,6 +446,33 @@ def check_bad_ends(folder):
     check_session(Session("ends", lines, [told, told, told], locked=False), folder)
 
 
+def check_object_words(folder):
+    """A watch of an object's word stops at the steps that `ir who --word` names, forwards and backwards."""
+    subprocess.run([GCC, str(TOP / "examples" / "c" / "bank.c"), "@guest/ir.opts", "-o", "money.elf"], cwd=folder, check=True)
+    for words in (["elf", "money.elf", "money.img"], ["hunt", "money.img", "money.trc", "--seeds", "1+1000", "--until", "!word 0 0 20"]):
+        ended = run(words, folder)
+        if ended.returncode:
+            raise Wrong(f"{words}: {ended!r}")
+    said = run("who money.trc 0 --word 0 --image money.img", folder).stdout.decode()
+    values = [int(value, 16) for value in re.findall(r" word 0 (\w{8})$", said, re.M)]
+    values = [value - 2**32 if value >= 2**31 else value for value in values]
+    writers = [(int(thread), int(step)) for thread, step in re.findall(r"^version \d+ by thread (\d+) .*step (\d+) word", said, re.M)]
+    changes = [(*writer, old, new) for writer, old, new in zip(writers, values, values[1:]) if old != new]
+    if len({thread for thread, *_ in changes}) != 2:
+        raise Wrong(f"one writer only: {said}")
+    wanted = []
+    for thread, step, old, new in changes:
+        wanted += [rf'Thread {thread + 1} "thread {thread}" hit Hardware watchpoint 1', rf"Old value = {old}$", rf"New value = {new}$",
+                   r"^at " + r"\d+ " * thread + rf"{step + 1}\b"]
+    wanted.append("No more reverse-execution history")
+    for thread, step, old, new in reversed(changes):
+        wanted += [rf'Thread {thread + 1} "thread {thread}" hit Hardware watchpoint 1', rf"Old value = {new}$", rf"New value = {old}$", "bank.c:26",
+                   r"^at " + r"\d+ " * thread + rf"{step}\b"]
+    wanted.append("No more reverse-execution history")
+    moves = [line for move in ("continue", "reverse-continue") for line in [move, "monitor pos"] * (len(changes) + 1)]
+    check_session(Session("money", ["watch *(int *)0x80000000", *moves], wanted, locked=False), folder)
+
+
 def check_other_file(folder):
     """A file of another program than the one that was recorded is told on connecting."""
     for name in ("img", "trc"):
@@ -572,6 +625,7 @@ CHECKS = {
     "25-at-an-end": check_at_an_end,
     "26-bad-ends": check_bad_ends,
     "27-other-file": check_other_file,
+    "28-object-words": check_object_words,
 }
 
 

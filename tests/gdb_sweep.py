@@ -1,11 +1,12 @@
 #!/usr/bin/env python3
-"""Random breakpoints in a real gdb: each hit of each thread is shown once, forwards and backwards, in an order that the run allows.
+"""Random breakpoints and watches in a real gdb: each hit of each thread is shown once, forwards and backwards, in an order that the run allows.
 
 python3 tests/gdb_sweep.py IR [--rounds N] [--seed S]
 
 Needs gdb-multiarch. If it isn't installed nothing is tested, and the status is 0. Assembles and records guests of the repository. For each it
 sets up to three breakpoints at random words of the code, goes through all hits by `continue` and back by `reverse-continue`, and compares
-what gdb shows with each thread's hits by a session of `ir debug`. The last line is `N passed, M failed`.
+what gdb shows with each thread's hits by a session of `ir debug`. Then it does so with watches of up to three words of objects, and compares
+what gdb shows with the steps that changed them by `ir who --word`. The last line is `N passed, M failed`.
 """
 import random
 import re
@@ -19,6 +20,7 @@ from lib import TOP, Wrong, finish, parser_of, program, run, use
 
 GDB = "gdb-multiarch"
 CODE = 0x10000
+OBJECTS = 0x80000000
 # Each guest, and how it is recorded.
 GUESTS = {
     "calls": ("--budget", "600"),
@@ -77,18 +79,18 @@ def hits_of(folder, guest, addresses, thread, threads, steps):
     return found[0], found[1]
 
 
-def stops_of(folder, guest, addresses):
-    """What gdb shows forwards and backwards: of each stop its thread, its pc, and where all threads are."""
+def stops_of(folder, guest, points):
+    """What gdb shows with these points, forwards and backwards: of each stop its thread, its pc, and where all threads are."""
     words = [GDB, "-nx", "-batch", "-ex", "set pagination off", "-ex", "set confirm off", "-ex", "set architecture riscv:rv32",
              "-ex", f"target remote | {program()} gdb {guest}.img {guest}.trc"]
-    for address in addresses:
-        words += ["-ex", f"break *{address}"]
+    for point in points:
+        words += ["-ex", point]
     words += ["-ex", f"source {folder / 'through.py'}"]
     ended = subprocess.run(words, cwd=folder, stdin=subprocess.DEVNULL, stdout=subprocess.PIPE, stderr=subprocess.STDOUT, text=True, errors="replace",
                            timeout=600, check=False)
     parts = ended.stdout.split("over\n")
     if len(parts) != 3:
-        raise Wrong(f"gdb with breakpoints at {addresses}:\n{ended.stdout}")
+        raise Wrong(f"gdb with {points}:\n{ended.stdout}")
     found = []
     for part in parts[:2]:
         stops = re.findall(r"^stop (\d+) (\d+)\n(at [\d ]+)$", part, re.M)
@@ -96,18 +98,15 @@ def stops_of(folder, guest, addresses):
     return found
 
 
-def check_stops(stops, hits, addresses, rises):
+def check_stops(stops, wanted, points, rises):
     """Each hit is shown once, where it is, and the threads only go on."""
-    wanted = sorted((thread, at) for thread, positions in enumerate(hits) for at in positions)
     found = sorted((thread, where[thread]) for thread, _, where in stops)
-    if found != wanted:
-        raise Wrong(f"hits of {addresses}: gdb shows {found}, sessions {wanted}")
-    if any(pc not in addresses for _, pc, _ in stops):
-        raise Wrong(f"a stop beside {addresses}: {stops}")
+    if found != sorted(wanted):
+        raise Wrong(f"hits of {points}: gdb shows {found}, sessions {sorted(wanted)}")
     for (_, _, one), (_, _, other) in zip(stops, stops[1:]):
         before, after = (one, other) if rises else (other, one)
         if any(low > high for low, high in zip(before, after)):
-            raise Wrong(f"threads go the other way with {addresses}: {one}, {other}")
+            raise Wrong(f"threads go the other way with {points}: {one}, {other}")
 
 
 def places_of(image):
@@ -126,9 +125,45 @@ def check_round(folder, guest, chance):
     places = places_of((folder / f"{guest}.img").read_bytes())
     addresses = sorted(chance.sample(places, min(len(places), chance.randint(1, 3))))
     by_threads = [hits_of(folder, guest, addresses, thread, len(ends), ends[thread]) for thread in range(len(ends))]
-    forwards, backwards = stops_of(folder, guest, addresses)
-    check_stops(forwards, [hits for hits, _ in by_threads], addresses, True)
-    check_stops(backwards, [hits for _, hits in by_threads], addresses, False)
+    points = [f"break *{address}" for address in addresses]
+    found = stops_of(folder, guest, points)
+    for way, stops in enumerate(found):
+        check_stops(stops, [(thread, at) for thread, hits in enumerate(by_threads) for at in hits[way]], points, way == 0)
+        if any(pc not in addresses for _, pc, _ in stops):
+            raise Wrong(f"a stop beside {addresses}: {stops}")
+    return sum(map(len, found))
+
+
+def changes_of(folder, guest, number, word):
+    """The thread and the step of each version in which a word of an object isn't what it was."""
+    ended = run(f"who {guest}.trc {number} --word {word} --image {guest}.img", folder)
+    if ended.returncode:
+        raise Wrong(f"who: {ended!r}")
+    said = ended.stdout.decode()
+    before = re.search(r"^version 0 .* (\w+)$", said, re.M).group(1)
+    found = []
+    for thread, step, value in re.findall(r"^version \d+ by thread (\d+) .*step (\d+) word \d+ (\w+)$", said, re.M):
+        if value != before:
+            found.append((int(thread), int(step)))
+        before = value
+    return found
+
+
+def objects_of(folder, guest):
+    """How many objects the guest has."""
+    said = answers(folder, guest, [f"obj {number}" for number in range(16)])
+    return 16 - sum(1 for line in said if line.startswith("refused"))
+
+
+def check_watches(folder, guest, chance):
+    """One choice of watched words of objects: how often they changed."""
+    words = [(number, word) for number in range(objects_of(folder, guest)) for word in range(2)]
+    watched = chance.sample(words, min(len(words), chance.randint(1, 3)))
+    points = [f"watch *(int *){OBJECTS + 64 * number + 4 * word}" for number, word in watched]
+    changes = [change for number, word in watched for change in changes_of(folder, guest, number, word)]
+    forwards, backwards = stops_of(folder, guest, points)
+    check_stops(forwards, [(thread, step + 1) for thread, step in changes], points, True)
+    check_stops(backwards, changes, points, False)
     return len(forwards) + len(backwards)
 
 
@@ -144,7 +179,7 @@ def made(folder):
 
 def main():
     parser = parser_of(__doc__)
-    parser.add_argument("--rounds", type=int, default=5, help="how many choices of breakpoints for each guest")
+    parser.add_argument("--rounds", type=int, default=5, help="how many choices of breakpoints, and of watches, for each guest")
     parser.add_argument("--seed", type=int, default=1, help="the seed of the choices")
     asked = parser.parse_args()
     use(asked.program)
@@ -157,9 +192,9 @@ def main():
         made(folder)
         for guest in GUESTS:
             hits = 0
-            for _ in range(asked.rounds):
+            for check in [check_round, check_watches] * asked.rounds:
                 try:
-                    hits += check_round(folder, guest, chance)
+                    hits += check(folder, guest, chance)
                     passed += 1
                 except (Wrong, subprocess.TimeoutExpired, OSError) as wrong:
                     failed += 1

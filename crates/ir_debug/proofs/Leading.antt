@@ -107,10 +107,11 @@ thread_same_after_last_step f run t j le =
 -- a point hits where the thread comes
 pub hit_position_at_most_steps : (f : FittedTrace) (run : List Step) (t k : ℕ) (p : Point) → HitBy f run t k p → k ≤ steps_of f run t
 hit_position_at_most_steps f run t k (Break u address) hit = let l = hit.2 in omega (arith, l)
-hit_position_at_most_steps f run t k (Watch u address) (same, (j, is, changes)) = elim (cases_lt j (steps_of f run t)) [
+hit_position_at_most_steps f run t k (Watch u address) (same, (j, is, inl changes)) = elim (cases_lt j (steps_of f run t)) [
   | inl l ↦ omega (arith, is, l)
-  | inr past ↦ absurd (changes (ap (λ (x : thread.ThreadState). memory_word x.core.memory address) (thread_same_after_last_step f run t j past)))
+  | inr past ↦ absurd (changes.1 (ap (λ (x : thread.ThreadState). memory_word x.core.memory address) (thread_same_after_last_step f run t j past)))
 ]
+hit_position_at_most_steps f run t k (Watch u address) (same, (j, is, inr puts)) = let l = puts.0 in omega (arith, is, l)
 hit_position_at_most_steps f run t k (WatchObject object) (j, is, (version, emitted)) =
     let within = (get_or_is_item_if_at_index (trail (machine_of f) (start_of f) run t) j (emitted.0, Out object Writing version) emitted.1).0 in
     omega (arith, is, within)

@@ -104,5 +104,5 @@ aligned_address_is_memory_word address test =
 -- the word that it watches is one of private memory
 pub permitted_point_is_watchable : (d : Desk) (p : Point) → refusal_of d (command.Set p) ≡ None → IsWatchable p
 permitted_point_is_watchable d (Break t address) none = tt
-permitted_point_is_watchable d (Watch t address) none = aligned_address_is_memory_word address (permitted_command_passes_tests d (command.Set (Watch t address)) none).address
+permitted_point_is_watchable d (Watch t address) none = λ low. aligned_address_is_memory_word address (permitted_command_passes_tests d (command.Set (Watch t address)) none).address
 permitted_point_is_watchable d (WatchObject object) none = tt

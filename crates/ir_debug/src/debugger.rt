@@ -195,7 +195,7 @@ impl Debugger {
         self.timeline.go_to(hands, &self.at)
     }
 
-    /// Sees that the run in hand is at the cut, and what the last answer was stays. After a move it is there.
+    /// Takes the run in hand to the cut, and leaves the last answer as it was. After a move the run is there already.
     ///
     /// # Errors
     /// Out of memory.

@@ -1,12 +1,12 @@
 -- Private memory from its changes, and threads from their bytes.
-use Rattle.std.proofs.Common.{false, cond, Option, Some, None, flat_map, ◌≡◌, ◌+◌, ◌*◌, ◌/◌, ◌≤◌, ◌<◌, ◌^◌, ℕ, suc, List, [], ◌∷◌, ◌++◌, length, map, take, drop, set, get_or, refl, sym, ap, ◌∙◌, arith, inl, inr}
-use Rattle.std.proofs.lemmas.List.{append_assoc, length-append, drop_at, drop_more, length-drop, length-set, take_more, take_more_set, take_all, map_push}
+use Rattle.std.proofs.Common.{false, cond, Option, Some, None, flat_map, ◌≡◌, ◌+◌, ◌*◌, ◌/◌, ◌≤◌, ◌<◌, ◌^◌, ℕ, suc, List, [], ◌∷◌, ◌++◌, length, map, drop, set, get_or, refl, sym, ap, ◌∙◌, arith, inl, inr}
+use Rattle.std.proofs.lemmas.List.{append_assoc, length-append, drop_at, drop_more, length-drop, length-set}
 use Rattle.std.proofs.lemmas.Nat.{from_le_bytes-to_le_bytes_2}
 use Rattle.std.specs.Int.{w16, from_le_bytes}
 use Rattle.ir_live.specs.Table.{kept_registers}
 use Rattle.ir_mach.specs.Core.{memory_size}
-use Rattle.ir_mach.specs.Pages.{page_of, pages_of, memory_pages}
-use Rattle.ir_mach.proofs.CallerLemmas.{page_at_place_of_pages_from, core_of_own_pages}
+use Rattle.ir_mach.specs.Pages.{pages_of}
+use Rattle.ir_mach.proofs.CallerLemmas.{core_of_own_pages}
 use Rattle.ir_runs.specs.declared.access.Access.{Access}
 use Rattle.ir_thread.specs.Frames.{frame_of, thread_of}
 use Rattle.ir_thread.specs.State.{ThreadState}
@@ -55,20 +55,6 @@ pub memory_is_whole_after_last_change : (memory bytes : List ℕ) (k : ℕ) (who
 memory_is_whole_after_last_change memory bytes k whole past before =
     let few : length (drop (3 * k) bytes) < 3 = omega (arith, length-drop (3 * k) bytes, past) in
     sym (too_few_bytes_change_nothing memory (drop (3 * k) bytes) few) ∙ before
-
--- one page more
-pub mapped_pages_prefix_equal_step_after_page_set : {X : Type 0} (g : X → List ℕ) (pages : List X) (x : X) (memory : List ℕ) (i : ℕ) → length pages ≡ 16 → i < 16
-    → g x ≡ page_of memory i → map g (take i pages) ≡ take i (pages_of memory)
-    → map g (take (i + 1) (set pages i x)) ≡ take (i + 1) (pages_of memory)
-mapped_pages_prefix_equal_step_after_page_set g pages x memory i many lt is before =
-    ap (map g) (take_more_set pages i x (omega (arith, many, lt))) ∙ map_push g (take i pages) x
-    ∙ (λ j. before j ++ (is ∙ ap (page_of memory) (omega arith) ∙ sym (page_at_place_of_pages_from memory 0 memory_pages i [] lt)) j ∷ [])
-    ∙ sym (take_more (pages_of memory) i [] lt)
-
-pub mapped_pages_equal_if_prefixes_of_sixteen_are : {X : Type 0} (g : X → List ℕ) (pages : List X) (memory : List ℕ) (i : ℕ) → length pages ≡ 16 → 16 ≤ i
-    → map g (take i pages) ≡ take i (pages_of memory) → map g pages ≡ pages_of memory
-mapped_pages_equal_if_prefixes_of_sixteen_are g pages memory i many past e =
-    ap (map g) (sym (take_all i pages (omega (arith, many, past)))) ∙ e ∙ take_all i (pages_of memory) past
 
 -- a place's byte is written behind what is before it
 set_at_prefix_length : (before rest : List ℕ) (old new : ℕ) → set (before ++ old ∷ rest) (length before) new ≡ before ++ new ∷ rest

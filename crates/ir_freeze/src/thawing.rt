@@ -2,12 +2,8 @@
 
 ghost use Rattle.std.specs.Prelude.{◌≡◌, drop, length, vec_len, IfOk, IfSome};
 ghost use Rattle.ir_mach.specs.Core.{memory_size};
-ghost use Rattle.ir_mach.specs.Pages.{pages_of};
-ghost use Rattle.ir_thread.specs.Frames.{thread_of};
 ghost use Rattle.ir_freeze.specs.Thawed.{before_changes, changed, thawed};
 
-use crate::pages::page_in;
-use ir_mach::MEMORY_PAGES;
 use ir_thread::{Frame, Thread};
 use std::alloc::{AllocError, Global};
 
@@ -28,18 +24,6 @@ fn change(memory: &mut Vec<u8>, changes: &[u8])
         let high = changes[CHANGE * k + 1];
         memory[u16::from_le_bytes([low, high]) as usize] = changes[CHANGE * k + 2];
     }
-}
-
-// The thread of this frame and this private memory.
-fn built(alloc: Global, frame: &Frame, memory: &[u8]) -> Result<Thread, AllocError>
-    requires { length memory.now ≡ memory_size }
-    ensures { IfOk result (λ thread. thread ≡ thread_of frame.now (pages_of memory.now)) }
-{
-    let mut pages: [&[u8]; MEMORY_PAGES] = [&[]; MEMORY_PAGES];
-    for i in 0..MEMORY_PAGES {
-        pages[i] = page_in(memory, i);
-    }
-    Thread::build(alloc, frame, &pages)
 }
 
 // The bytes from `at` on.
@@ -78,5 +62,5 @@ pub fn thaw(
 {
     let mut memory = Vec::from_slice(alloc, start)?;
     change(&mut memory, tail(bytes, at));
-    built(alloc, frame, memory.as_slice())
+    Thread::with_memory(alloc, frame, memory)
 }

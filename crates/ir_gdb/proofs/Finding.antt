@@ -1,12 +1,12 @@
 -- Where a thread stops does not depend on the numbers and the order of the points that hit it.
-use Rattle.std.proofs.Common.{◌≡◌, ◌≢◌, ◌+◌, ◌⊎◌, ◌∙◌, ℕ, zero, suc, List, [], ◌∷◌, ◌++◌, length, Option, Some, None, append-nil, inl, inr, refl, sym, ap, subst, arith}
+use Rattle.std.proofs.Common.{◌≡◌, ◌<◌, ◌+◌, ◌⊎◌, ◌∙◌, ℕ, zero, suc, Bool, true, false, true≢false, List, [], ◌∷◌, ◌++◌, length, Option, Some, None, append-nil, inl, inr, refl, sym, ap, subst, arith}
 use Rattle.std.specs.Prelude.{option_map}
 use Rattle.std.proofs.lemmas.Bool.{cases_eq, cases_lt}
 use Rattle.ir_mach.specs.Execution.{memory_word}
 use Rattle.ir_runs.specs.declared.access.Access.TheVariants.{Reading, Writing}
 use Rattle.ir_runs.specs.Machine.{Label, Quiet, Answer, In, Refused, Out}
 use Rattle.ir_runs.specs.Run.{Step, At, Emits, count, trail}
-use Rattle.ir_thread.specs.State.{ThreadState}
+use Rattle.ir_thread.specs.State.{ThreadState, ask_of}
 use Rattle.ir_fit.specs.Fit.{FittedTrace}
 use Rattle.ir_cut.specs.Positions.{machine_of, start_of, thread_at}
 use Rattle.ir_command.specs.declared.command.Point.{Point}
@@ -14,7 +14,7 @@ use Rattle.ir_command.specs.declared.command.Point.TheVariants.{Break, Watch, Wa
 use Rattle.ir_command.specs.declared.command.Direction.{Direction}
 use Rattle.ir_command.specs.declared.command.Direction.TheVariants.{Forwards, Backwards}
 use Rattle.ir_command.specs.declared.hit.Hit.{Hit}
-use Rattle.ir_hits.specs.Hits.{Numbered, HitBy, HitByNumber, IsLowest, NoneWithin, IsFirstHit, IsLastHit, Finds}
+use Rattle.ir_hits.specs.Hits.{Numbered, objects_start, puts_at, ChangesWord, PutsWord, HitBy, HitByNumber, IsLowest, NoneWithin, IsFirstHit, IsLastHit, Finds}
 use Rattle.ir_gdb.specs.declared.point.Breakpoint.{Breakpoint}
 use Rattle.ir_gdb.specs.Points.{watch_points, break_points, own_points, points_upwards, points_downwards}
 
@@ -79,6 +79,39 @@ written_leave_emitted_or_not f run t j object = by (emitted_at_place_or_none ste
     by (inl (x, at)) = of_label x at (written_leave_or_not object x.1)
     by (inr none) = inr (λ leaves. none (leaves.1.0, Out object Writing leaves.0) leaves.1.1)
 
+word_is_changed_or_not : (f : FittedTrace) (run : List Step) (t address j : ℕ) → ChangesWord f run t address j ⊎ (ChangesWord f run t address j → ⊥)
+word_is_changed_or_not f run t address j = elim (cases_lt address objects_start) [
+  | inr high ↦ inr (λ h. let low = h.0 in omega (arith, low, high))
+  | inl low ↦ elim (cases_eq (memory_word (thread_at f run t j).core.memory address) (memory_word (thread_at f run t (suc j)).core.memory address)) [
+    | inr ne ↦ inl (low, ne)
+    | inl kept ↦ inr (λ h. h.1 kept)
+  ]
+]
+
+word_is_put_or_not : (f : FittedTrace) (run : List Step) (t address j : ℕ) → PutsWord f run t address j ⊎ (PutsWord f run t address j → ⊥)
+word_is_put_or_not f run t address j = elim (cases_lt j (count (machine_of f) (start_of f) run t)) [
+  | inr past ↦ inr (λ h. let less = h.0 in omega (arith, less, past))
+  | inl less ↦ by less (puts_at address (ask_of f.guest.code (thread_at f run t j))) refl
+]
+  where
+    by : j < count (machine_of f) (start_of f) run t → (b : Bool) → puts_at address (ask_of f.guest.code (thread_at f run t j)) ≡ b
+        → PutsWord f run t address j ⊎ (PutsWord f run t address j → ⊥)
+    by less true is = inl (less, is)
+    by less false is = inr (λ h. true≢false (sym h.1 ∙ is))
+
+word_is_written_or_not : (f : FittedTrace) (run : List Step) (t address j : ℕ)
+    → (ChangesWord f run t address j ⊎ PutsWord f run t address j) ⊎ (ChangesWord f run t address j ⊎ PutsWord f run t address j → ⊥)
+word_is_written_or_not f run t address j = elim (word_is_changed_or_not f run t address j) [
+  | inl changes ↦ inl (inl changes)
+  | inr not ↦ elim (word_is_put_or_not f run t address j) [
+    | inl puts ↦ inl (inr puts)
+    | inr none ↦ inr (λ h. elim h [
+      | inl changes ↦ not changes
+      | inr puts ↦ none puts
+    ])
+  ]
+]
+
 hit_by_or_not : (f : FittedTrace) (run : List Step) (t k : ℕ) (p : Point) → HitBy f run t k p ⊎ (HitBy f run t k p → ⊥)
 hit_by_or_not f run t k (Break u address) = elim (cases_eq u t) [
   | inr ne ↦ inr (λ h. ne h.0)
@@ -93,10 +126,10 @@ hit_by_or_not f run t k (Break u address) = elim (cases_eq u t) [
 hit_by_or_not f run t zero (Watch u address) = inr (λ h. let e = h.1.1 in omega (arith, e))
 hit_by_or_not f run t (suc j) (Watch u address) = elim (cases_eq u t) [
   | inr ne ↦ inr (λ h. ne h.0)
-  | inl same ↦ elim (cases_eq (memory_word (thread_at f run t j).core.memory address) (memory_word (thread_at f run t (suc j)).core.memory address)) [
-    | inr ne ↦ inl (same, (j, refl, ne))
-    | inl kept ↦ inr (λ h. let e = h.1.1 in let i : h.1.0 ≡ j = omega (arith, e) in
-        subst (λ n. memory_word (thread_at f run t n).core.memory address ≢ memory_word (thread_at f run t (suc n)).core.memory address) i h.1.2 kept)
+  | inl same ↦ elim (word_is_written_or_not f run t address j) [
+    | inl written ↦ inl (same, (j, refl, written))
+    | inr kept ↦ inr (λ h. let e = h.1.1 in let i : h.1.0 ≡ j = omega (arith, e) in
+        kept (subst (λ n. ChangesWord f run t address n ⊎ PutsWord f run t address n) i h.1.2))
   ]
 ]
 hit_by_or_not f run t zero (WatchObject object) = inr (λ h. let e = h.1 in omega (arith, e))

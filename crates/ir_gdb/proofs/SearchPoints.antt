@@ -1,9 +1,10 @@
 -- Points as those of one search.
-use Rattle.std.proofs.Common.{◌≡◌, ◌≤◌, ◌+◌, ◌-◌, ◌*◌, ◌/◌, ◌%◌, ◌∙◌, ℕ, zero, suc, List, [], ◌∷◌, ◌++◌, length, refl, sym, ap, subst, arith, append_assoc}
+use Rattle.std.proofs.Common.{◌≡◌, ◌<◌, ◌≤◌, ◌+◌, ◌-◌, ◌*◌, ◌/◌, ◌%◌, ◌∙◌, ℕ, zero, suc, List, [], ◌∷◌, ◌++◌, length, refl, sym, ap, subst, arith, append_assoc}
 use Rattle.std.specs.List.{AllByRecursion}
+use Rattle.std.proofs.lemmas.Bool.Decides.{nat_tests}
 use Rattle.ir_mach.specs.Core.{memory_start, memory_size}
 use Rattle.ir_command.specs.declared.command.Point.TheVariants.{Watch}
-use Rattle.ir_hits.specs.Hits.{Numbered}
+use Rattle.ir_hits.specs.Hits.{Numbered, objects_start}
 use Rattle.ir_hits.specs.Watchable.{AreWatchable}
 use Rattle.ir_gdb.specs.declared.point.Breakpoint.{Breakpoint}
 use Rattle.ir_gdb.specs.declared.point.Watched.{Watched}
@@ -25,20 +26,29 @@ pub append_of_push_is_append_of_cons : (old items new tail whole : List Numbered
 append_of_push_is_append_of_cons old items new tail whole x pushed is put =
     put ∙ ap (λ xs. xs ++ tail) pushed ∙ append_assoc old (x ∷ []) tail ∙ ap (λ xs. old ++ xs) (sym is)
 
--- ---- watched words are words of private memory
+-- ---- watched words below the objects' are words of private memory
 
 appended_points_are_watchable : (xs ys : List Numbered) → AreWatchable xs → AreWatchable ys → AreWatchable (xs ++ ys)
 appended_points_are_watchable [] ys first rest = rest
 appended_points_are_watchable (x ∷ xs) ys first rest = (first.0, appended_points_are_watchable xs ys first.1 rest)
 
-word_points_are_watchable : (t number n address : ℕ) → address % 4 ≡ 0 → memory_start ≤ address → address + 4 * n ≤ memory_start + memory_size
+word_points_are_watchable : (t number n address : ℕ) → address % 4 ≡ 0 → memory_start ≤ address
+    → (address < objects_start → address + 4 * n ≤ memory_start + memory_size)
     → AreWatchable (word_points t number n address)
 unfolding word_points
 word_points_are_watchable t number zero address aligned low high = tt
 word_points_are_watchable t number (suc n) address aligned low high = (
-  record { aligned = aligned; low = low; high = omega (arith, high) },
-  word_points_are_watchable t number n (address + 4) (omega (arith, aligned)) (omega (arith, low)) (omega (arith, high)),
+  λ own. record { aligned = aligned; low = low; high = let within = high own in omega (arith, within) },
+  word_points_are_watchable t number n (address + 4) (omega (arith, aligned)) (omega (arith, low)) (λ own. let within = high (omega (arith, own)) in omega (arith, within)),
 )
+
+-- the words of a watch that isn't of the objects end where private memory does, or before
+words_end_in_memory : (w : Watched) → IsWatched w → w.address / 4 * 4 < objects_start → w.address / 4 * 4 + 4 * watched_words w ≤ memory_start + memory_size
+words_end_in_memory w is less =
+    let under : w.address < objects_start = omega (arith, less) in
+    let own = is.own (grind (arith, nat_tests, under)) in
+    let low = is.low in
+    omega (arith, low, own)
 
 watch_points_are_watchable : (t number : ℕ) (ws : List Watched) → AllByRecursion IsWatched ws → AreWatchable (watch_points t number ws)
 unfolding watch_points
@@ -46,7 +56,7 @@ watch_points_are_watchable t number [] all = tt
 watch_points_are_watchable t number (w ∷ ws) all =
     let first = all.0 in
     appended_points_are_watchable (word_points t number (watched_words w) (w.address / 4 * 4)) (watch_points t (number + 1) ws)
-    (word_points_are_watchable t number (watched_words w) (w.address / 4 * 4) (omega arith) (omega (arith, first.low)) (omega (arith, first.low, first.high)))
+    (word_points_are_watchable t number (watched_words w) (w.address / 4 * 4) (omega arith) (omega (arith, first.low)) (words_end_in_memory w first))
     (watch_points_are_watchable t (number + 1) ws all.1)
 
 break_points_are_watchable : (t number : ℕ) (bs : List Breakpoint) → AreWatchable (break_points t number bs)

@@ -8,7 +8,8 @@ use Rattle.ir_runs.specs.Machine.{Object}
 use Rattle.ir_runs.specs.Run.{Step, object_at}
 use Rattle.ir_cut.specs.Positions.{EachRun, machine_of, start_of, cut_of}
 use Rattle.ir_gdb.specs.Serving.{Serving, IsThere}
-use Rattle.ir_gdb.specs.Reads.{object_size, object_byte, word_byte, objects_start, byte_seen, current_of, bytes_there}
+use Rattle.ir_hits.specs.Hits.{objects_start, object_size}
+use Rattle.ir_gdb.specs.Reads.{object_byte, word_byte, byte_seen, current_of, bytes_there}
 use Rattle.ir_gdb.proofs.Bytes.{bytes_there_end_at_missing_byte}
 
 pub guest_object_is_below_number_of_objects_in_hand : (s : Serving) (n : ℕ) → IsThere s → n < object_count s.stub.desk.fitted.guest → n < length s.state.objects

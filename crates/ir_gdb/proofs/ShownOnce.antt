@@ -13,7 +13,7 @@ use Rattle.ir_packet.specs.declared.reply.Reason.{Reason}
 use Rattle.ir_gdb.specs.declared.point.Watched.{Watched}
 use Rattle.ir_gdb.specs.declared.stopped.Stopped.{Stopped}
 use Rattle.ir_gdb.specs.Points.{points_upwards, points_downwards}
-use Rattle.ir_gdb.specs.Stub.{Stub}
+use Rattle.ir_gdb.specs.Stub.{Stub, shared_of}
 use Rattle.ir_gdb.specs.Stops.{position_of, watches_if, upwards_of, downwards_of, end_above, end_below, is_hit, StopsInDirection, BackBy, StopsBelow, ContinuesBackBy, reason_at_end}
 use Rattle.ir_gdb.specs.Together.{Halt, halt, Comes, stop_among, is_on_way, AreStops, FirstMet, meets, halt_or, own_halt, met_or, StopsAmong, FirstStop, furthest, ContinuesAmong}
 use Rattle.ir_gdb.specs.Laws.{MeetsNone, PassesNone, PassesNoHit, Stands, stub_behind, ShowsHit, ContinuesToEnd, IsHitBeyond, ShowsAt, IsShownOnce}
@@ -44,13 +44,13 @@ not_beyond_itself Backwards a b one same = omega (arith, one, same)
 
 watches_if_none : (s : Stub) (w : Bool) → s.watches ≡ [] → watches_if s w ≡ []
 watches_if_none s true none = none
-watches_if_none s false none = refl
+watches_if_none s false none = ap shared_of none
 
 upwards_of_any : (s : Stub) (u : ℕ) (w : Bool) → s.watches ≡ [] → upwards_of s u false ≡ upwards_of s u w
-upwards_of_any s u w none = ap (λ (ws : List Watched). points_upwards u ws s.breaks s.desk.points) (sym (watches_if_none s w none))
+upwards_of_any s u w none = ap (λ (ws : List Watched). points_upwards u ws s.breaks s.desk.points) (watches_if_none s false none ∙ sym (watches_if_none s w none))
 
 downwards_of_any : (s : Stub) (u : ℕ) (w : Bool) → s.watches ≡ [] → downwards_of s u false ≡ downwards_of s u w
-downwards_of_any s u w none = ap (λ (ws : List Watched). points_downwards u ws s.breaks s.desk.points) (sym (watches_if_none s w none))
+downwards_of_any s u w none = ap (λ (ws : List Watched). points_downwards u ws s.breaks s.desk.points) (watches_if_none s false none ∙ sym (watches_if_none s w none))
 
 -- a hit is at the position to which a thread comes, or beyond
 hit_not_passed : (run : List Step) (s : Stub) (d : Direction) (u k c : ℕ) (w : Bool) → s.watches ≡ [] → PassesNone run s d u w c → IsHitBeyond run s d u k

@@ -83,7 +83,7 @@ PassesNone run s Forwards u watched k = NoneWithin s.desk.fitted run (upwards_of
 PassesNone run s Backwards u watched k = NoneWithin s.desk.fitted run (downwards_of s u watched) u (suc k) (position_of s u)
     × (k < position_of s u → NoneWithin s.desk.fitted run (watch_points u 0 (watches_if s watched)) u (position_of s u) (suc (position_of s u)))
 
--- a move of thread t ends at a stop, and no thread has passed a hit. Watches are of thread t alone
+-- a move of thread t ends at a stop, and no thread has passed a hit. Watches of private memory are of thread t alone, those of the objects of all
 pub record PassesNoHit (run : List Step) (s : Stub) (t : ℕ) (d : Direction) (h : Halt) : Type 0 where
   pub others : (u : ℕ) → u < threads_of s.desk.fitted → u ≢ h.thread → MeetsNone run s d u (u == t) (cut_of h.cut u)
   pub own : PassesNone run s d h.thread (h.thread == t) (cut_of h.cut h.thread)

@@ -5,7 +5,7 @@ use Rattle.ir_hits.specs.Hits.{Numbered}
 use Rattle.ir_gdb.specs.declared.point.Breakpoint.{Breakpoint}
 use Rattle.ir_gdb.specs.declared.point.Watched.{Watched}
 
--- n words from an address on, for thread t, under one number
+-- n words from an address on, of the private memory of thread t or of the objects, under one number
 unfoldable pub word_points : ℕ → ℕ → ℕ → ℕ → List Numbered
 word_points t number zero address = []
 word_points t number (suc n) address = record { number = number; point = Watch t address } ∷ word_points t number n (address + 4)

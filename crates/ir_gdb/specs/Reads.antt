@@ -9,6 +9,7 @@ use Rattle.ir_thread.specs.State as thread
 use Rattle.ir_runs.specs.Run.{Step, object_at}
 use Rattle.ir_cut.specs.Positions.{machine_of, start_of, cut_of, threads_of, thread_at}
 use Rattle.ir_fit.specs.Fit.{FittedTrace}
+use Rattle.ir_hits.specs.Hits.{objects_start, object_size}
 use Rattle.ir_packet.specs.Replies.{word_digits, words_reply, reply_text}
 use Rattle.ir_packet.specs.declared.reply.Reply.{Reply}
 use Rattle.ir_packet.specs.declared.reply.Reply.TheVariants as reply
@@ -76,14 +77,6 @@ abbrev pub register_reply : List Step → Stub → ℕ → List ℕ
 register_reply run s n = word_digits (slice_index (register_words (current_of run s s.general).core) n)
 
 -- ---- memory
-
--- the first address of the objects
-abbrev pub objects_start : ℕ
-objects_start = 0x80000000
-
--- the bytes from the start of one object to the start of the next
-abbrev pub object_size : ℕ
-object_size = 64
 
 -- the byte of an object at a place: of its first words, the lowest byte of a word first, and 0 behind them
 abbrev pub word_byte : ℕ → (ℕ → ℕ) → ℕ → ℕ

@@ -1,8 +1,9 @@
 -- Breakpoints and watches that gdb sets and takes away.
-use Rattle.std.specs.Prelude.{ℕ, ◌+◌, ◌%◌, ◌==◌, ◌&&◌, not, nat_lt, nat_le, Bool, true, false, List, [], ◌∷◌, ◌++◌, length, find, is_some, if◌then◌else◌}
+use Rattle.std.specs.Prelude.{ℕ, ◌+◌, ◌*◌, ◌%◌, ◌==◌, ◌&&◌, ◌||◌, not, nat_lt, nat_le, Bool, true, false, List, [], ◌∷◌, ◌++◌, length, find, is_some, if◌then◌else◌}
 use Rattle.std.specs.List.{filter}
-use Rattle.ir_image.specs.Guest.{Guest}
+use Rattle.ir_image.specs.Guest.{Guest, object_count}
 use Rattle.ir_mach.specs.Execution.{lies_in_memory}
+use Rattle.ir_hits.specs.Hits.{objects_start, object_size}
 use Rattle.ir_debug.specs.Machine.{lies_in_code}
 use Rattle.ir_packet.specs.declared.reply.Reply.{Reply}
 use Rattle.ir_packet.specs.declared.reply.Reply.TheVariants as reply
@@ -42,9 +43,13 @@ watches_without watches w = filter (λ x. not (is_same_watch x w)) watches
 abbrev pub is_code_word : Guest → ℕ → Bool
 is_code_word g address = (address % 4 == 0) && lies_in_code g 4 address
 
--- a few bytes, all of private memory
-abbrev pub can_watch : Watched → Bool
-can_watch w = nat_lt 0 w.size && (nat_le w.size most_watched && lies_in_memory w.size w.address)
+-- whether bytes from an address on are all of objects that the guest has
+abbrev pub lies_in_objects : Guest → ℕ → ℕ → Bool
+lies_in_objects g width address = nat_le objects_start address && nat_le (address + width) (objects_start + object_size * object_count g)
+
+-- a few bytes, all of private memory or all of objects
+abbrev pub can_watch : Guest → Watched → Bool
+can_watch g w = nat_lt 0 w.size && (nat_le w.size most_watched && (lies_in_memory w.size w.address || lies_in_objects g w.size w.address))
 
 -- ---- what becomes of one that is set
 
@@ -57,7 +62,7 @@ abbrev pub break_setting : Stub → Breakpoint → Setting
 break_setting s b = if is_code_word s.desk.fitted.guest b.address then room_setting s (has_break s.breaks b) else setting.BadAddress
 
 abbrev pub watch_setting : Stub → Watched → Setting
-watch_setting s w = if can_watch w then room_setting s (has_watch s.watches w) else setting.BadAddress
+watch_setting s w = if can_watch s.desk.fitted.guest w then room_setting s (has_watch s.watches w) else setting.BadAddress
 
 abbrev pub setting_reply : Setting → Reply
 setting_reply setting.BadAddress = reply.BadAddress
@@ -92,11 +97,11 @@ address_reply false = reply.BadAddress
 abbrev pub clear_break_reply : Stub → Breakpoint → Reply
 clear_break_reply s b = address_reply (is_code_word s.desk.fitted.guest b.address)
 
-abbrev pub clear_watch_reply : Watched → Reply
-clear_watch_reply w = address_reply (can_watch w)
+abbrev pub clear_watch_reply : Stub → Watched → Reply
+clear_watch_reply s w = address_reply (can_watch s.desk.fitted.guest w)
 
 abbrev pub without_break : Stub → Breakpoint → Stub
 without_break s b = if is_code_word s.desk.fitted.guest b.address then record s { breaks = breaks_without s.breaks b } else s
 
 abbrev pub without_watch : Stub → Watched → Stub
-without_watch s w = if can_watch w then record s { watches = watches_without s.watches w } else s
+without_watch s w = if can_watch s.desk.fitted.guest w then record s { watches = watches_without s.watches w } else s

@@ -1,5 +1,5 @@
 -- Where a thread stops that moves alone, and why.
-use Rattle.std.specs.Prelude.{◌≡◌, ◌<◌, ◌≤◌, ℕ, zero, suc, ◌+◌, ◌-◌, nat_lt, nat_le, ◌&&◌, Bool, true, false, List, [], slice_get, Option, Some, None, option_map, length, if◌then◌else◌}
+use Rattle.std.specs.Prelude.{◌≡◌, ◌<◌, ◌≤◌, ℕ, zero, suc, ◌+◌, ◌-◌, nat_lt, nat_le, ◌&&◌, Bool, true, false, List, slice_get, Option, Some, None, option_map, length, if◌then◌else◌}
 use Rattle.ir_runs.specs.Run.{Step}
 use Rattle.ir_cut.specs.Positions.{cut_of, last_of, thread_at}
 use Rattle.ir_hits.specs.Hits.{Numbered, IsFirstHit, IsLastHit}
@@ -15,7 +15,7 @@ use Rattle.ir_gdb.specs.declared.point.Breakpoint.{Breakpoint}
 use Rattle.ir_gdb.specs.declared.point.Watched.{Watched}
 use Rattle.ir_gdb.specs.declared.stopped.Stopped.{Stopped}
 use Rattle.ir_gdb.specs.Points.{watch_points, points_upwards, points_downwards}
-use Rattle.ir_gdb.specs.Stub.{Stub}
+use Rattle.ir_gdb.specs.Stub.{Stub, shared_of}
 
 abbrev pub stopped : ℕ → Reason → Stopped
 stopped k why = record { position = k; reason = why }
@@ -24,10 +24,10 @@ stopped k why = record { position = k; reason = why }
 abbrev pub position_of : Stub → ℕ → ℕ
 position_of s t = cut_of s.desk.at t
 
--- the watches, if they count
+-- the watches that count for a thread: all for the one that moves, and those of the objects for another
 abbrev pub watches_if : Stub → Bool → List Watched
 watches_if s true = s.watches
-watches_if s false = []
+watches_if s false = shared_of s.watches
 
 -- ---- why a thread stops at a point
 
@@ -50,7 +50,7 @@ break_reason breaks n = reason_of_break (slice_get breaks n)
 abbrev pub watch_reason : List Watched → ℕ → Reason
 watch_reason watches n = reason_of_watch (slice_get watches n)
 
--- upwards a watch stops before the step that changes its word: gdb takes that step itself
+-- upwards a watch stops before the step that changes its word, or puts it: gdb takes that step itself
 abbrev pub stop_above : List Watched → List Breakpoint → Hit → Stopped
 stop_above watches breaks h =
     if nat_lt h.number (length watches) then stopped (h.position - 1) (watch_reason watches h.number)

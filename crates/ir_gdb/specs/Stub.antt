@@ -1,9 +1,11 @@
 -- What is held for gdb beside the run.
-use Rattle.std.specs.Prelude.{◌<◌, ◌≤◌, ◌+◌, ⊤, None, Some, true, false, Bool, ℕ, List, [], length, Option}
-use Rattle.std.specs.List.{AllByRecursion}
+use Rattle.std.specs.Prelude.{◌<◌, ◌≤◌, ◌≡◌, ◌+◌, ◌*◌, ⊤, None, Some, true, false, nat_le, Bool, ℕ, List, [], length, Option}
+use Rattle.std.specs.List.{AllByRecursion, filter}
+use Rattle.ir_image.specs.Guest.{most_objects}
 use Rattle.ir_mach.specs.Core.{memory_start, memory_size}
 use Rattle.ir_fit.specs.Fit.{FittedTrace}
 use Rattle.ir_cut.specs.Positions.{threads_of}
+use Rattle.ir_hits.specs.Hits.{objects_start, object_size}
 use Rattle.ir_debug.specs.Machine as desk
 use Rattle.ir_debug.specs.Machine.{Desk}
 use Rattle.ir_packet.specs.declared.reply.Reason.TheVariants.{Step}
@@ -67,12 +69,21 @@ IsChoice f (Some t) = t < threads_of f
 abbrev pub most_stub_points : ℕ
 most_stub_points = 64
 
--- a watch is of a few bytes, all of private memory
+-- whether a watch is of the objects, which all threads share; any other is of private memory
+abbrev pub is_shared : Watched → Bool
+is_shared w = nat_le objects_start w.address
+
+-- the watches of the objects
+abbrev pub shared_of : List Watched → List Watched
+shared_of watches = filter is_shared watches
+
+-- a watch is of a few bytes, all of private memory or all of objects
 pub record IsWatched (w : Watched) : Type 0 where
   pub some : 0 < w.size
   pub few : w.size ≤ most_watched
   pub low : memory_start ≤ w.address
-  pub high : w.address + w.size ≤ memory_start + memory_size
+  pub high : w.address + w.size ≤ objects_start + object_size * most_objects
+  pub own : is_shared w ≡ false → w.address + w.size ≤ memory_start + memory_size
 
 -- what is always so
 pub record IsStub (s : Stub) : Type 0 where

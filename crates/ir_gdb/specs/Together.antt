@@ -27,7 +27,7 @@ halt t cut why = record { thread = t; cut = cut; reason = why }
 abbrev pub Comes : List Step → Stub → Direction → ℕ → ℕ → List ℕ → Type 0
 Comes run s direction t k cut = StopsAt run s.desk.fitted s.desk.at t direction k cut
 
--- thread u's own stop when `mover` moves, whose watches alone count
+-- thread u's own stop when `mover` moves, for whom alone watches of private memory count
 abbrev pub OwnStop : List Step → Stub → Direction → ℕ → ℕ → Stopped → Type 0
 OwnStop run s direction mover u to = StopsInDirection direction run s u (u == mover) to
 

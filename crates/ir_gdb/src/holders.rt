@@ -1,10 +1,12 @@
 //! The breakpoints and the watches that gdb has set.
 
 ghost use Rattle.std.specs.Prelude.{◌≡◌};
+ghost use Rattle.std.specs.Vec.{vec_capacity};
 ghost use Rattle.ir_gdb.specs.Setting.{is_same_break, is_same_watch, has_break, has_watch, breaks_without, watches_without};
-ghost use Rattle.ir_gdb.specs.Stub.{most_stub_points};
+ghost use Rattle.ir_gdb.specs.Stub.{is_shared, shared_of, most_stub_points};
 
 use crate::point::{Breakpoint, Watched};
+use ir_hits::OBJECTS_START;
 use std::alloc::{AllocError, Global};
 use std::marker::Model;
 
@@ -23,6 +25,13 @@ pub fn is_same_watch(a: Watched, b: Watched) -> bool
     ensures { result ≡ is_same_watch a b }
 {
     a.address == b.address && a.size == b.size
+}
+
+// Whether a watch is of the objects.
+pub fn is_shared(watched: Watched) -> bool
+    ensures { result ≡ is_shared watched }
+{
+    OBJECTS_START <= watched.address
 }
 
 // Whether there is such a breakpoint.
@@ -101,23 +110,33 @@ impl Breaks {
     }
 }
 
+// Takes a watch out of a list of watches.
+fn take_out(watches: &mut Vec<Watched>, point: Watched)
+    ensures watches { watches.new.items ≡ watches_without watches.old.items point }
+    ensures capacity { vec_capacity watches.new ≡ vec_capacity watches.old }
+{
+    watches.retain(|each| !is_same_watch(*each, point));
+}
+
 /// The watches that are set, the last at the end, with room for all that may be.
 #[derive(Drop)]
 pub struct Watches {
     each: Vec<Watched>,
+    // Those of the objects, in the same order.
+    shared: Vec<Watched>,
 }
 
 impl Model for Watches {
-    ghost use Rattle.std.specs.Prelude.{◌≤◌, List};
+    ghost use Rattle.std.specs.Prelude.{◌≡◌, ◌≤◌, List};
     ghost use Rattle.std.specs.Vec.{vec_capacity};
     ghost use Rattle.ir_gdb.specs.declared.point.Watched.{Watched};
-    ghost use Rattle.ir_gdb.specs.Stub.{most_stub_points};
+    ghost use Rattle.ir_gdb.specs.Stub.{shared_of, most_stub_points};
 
     ghost Value = { List Watched };
 
     ghost view = { λ p. p.each.items };
 
-    ghost invariant = { λ p. most_stub_points ≤ vec_capacity p.each };
+    ghost invariant = { λ p. (most_stub_points ≤ vec_capacity p.each) × (most_stub_points ≤ vec_capacity p.shared) × (p.shared.items ≡ shared_of p.each.items) };
 }
 
 impl Watches {
@@ -131,7 +150,8 @@ impl Watches {
         ensures { IfOk result (λ points. points ≡ []) }
     {
         let each = Vec::with_capacity(alloc, MOST_POINTS)?;
-        Ok(Watches { each })
+        let shared = Vec::with_capacity(alloc, MOST_POINTS)?;
+        Ok(Watches { each, shared })
     }
 
     /// The watches.
@@ -141,18 +161,31 @@ impl Watches {
         self.each.as_slice()
     }
 
+    /// Those of the objects.
+    pub fn shared(&self) -> &[Watched]
+        ensures { result.now ≡ shared_of self.now }
+    {
+        self.shared.as_slice()
+    }
+
     /// Sets one more, for which there is room. Takes no memory.
+    #[tactic(auto, using(crate::proofs::Setting::shared_of_more_with_shared, crate::proofs::Setting::shared_of_more_with_private, crate::proofs::Setting::shared_watches_are_not_more))]
     pub fn set(&mut self, point: Watched)
         requires { length self.old < most_stub_points }
         ensures { self.new ≡ self.old ++ point ∷ [] }
     {
         self.each.push_reserved(point);
+        if is_shared(point) {
+            self.shared.push_reserved(point);
+        }
     }
 
     /// Takes one away.
+    #[tactic(auto, using(crate::proofs::Setting::shared_of_fewer))]
     pub fn clear(&mut self, point: Watched)
         ensures { self.new ≡ watches_without self.old point }
     {
-        self.each.retain(|each| !is_same_watch(*each, point));
+        take_out(&mut self.each, point);
+        take_out(&mut self.shared, point);
     }
 }

@@ -7,7 +7,7 @@ pub struct Breakpoint {
     pub hardware: bool,
 }
 
-/// A watch of the words that some bytes lie in: `Z2`.
+/// A watch of the words that some bytes lie in, of private memory or of the objects: `Z2`.
 #[derive(Clone, Copy, Debug, PartialEq, Eq)]
 pub struct Watched {
     pub address: u32,

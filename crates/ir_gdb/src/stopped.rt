@@ -1,6 +1,6 @@
 //! Where threads stop.
 
-ghost use Rattle.std.specs.Prelude.{◌≡◌, true, IsTrue, ◌↔◌, None, option_map};
+ghost use Rattle.std.specs.Prelude.{◌≡◌, None, option_map};
 ghost use Rattle.ir_gdb.specs.Stops.{stop_above, stop_below, after_range, end_above, end_below, watch_reason, break_reason, is_hit};
 
 use crate::point::{Breakpoint, Watched};
@@ -71,7 +71,7 @@ pub fn break_reason(breaks: &[Breakpoint], number: usize) -> Reason
     }
 }
 
-/// Where a search upwards stops: a watch before the step that changes its word.
+/// Where a search upwards stops: a watch before the step that changes its word, or puts it.
 pub fn stop_above(watches: &[Watched], breaks: &[Breakpoint], hit: Hit) -> Stopped
     ensures { result ≡ stop_above watches.now breaks.now hit }
 {

@@ -1,21 +1,24 @@
 -- Where points hit a thread of a run, by what they see of it before and after its steps.
-use Rattle.std.proofs.Common.{◌≡◌, ℕ, suc, ◌<◌, ◌≤◌, List, length, Some, None, refl, sym, ap, ◌∙◌, subst, inl, inr, arith}
-use Rattle.std.specs.Prelude.{slice_get}
-use Rattle.std.proofs.lemmas.Bool.{cases_lt}
+use Rattle.std.proofs.Common.{◌≡◌, ◌⊎◌, ℕ, suc, ◌<◌, ◌≤◌, true, false, true≢false, List, length, Some, None, refl, sym, ap, ◌∙◌, subst, inl, inr, arith}
+use Rattle.std.specs.Prelude.{◌≢◌, ◌+◌, ◌*◌, slice_get}
+use Rattle.std.proofs.lemmas.Bool.{cases_lt, eqb-true}
 use Rattle.std.proofs.lemmas.Option.{slice_get_within, slice_get_cases}
+use Rattle.ir_lemmas.proofs.CallerLemmas.{true_is_not_false}
 use Rattle.ir_mach.specs.Execution.{memory_word}
 use Rattle.ir_runs.specs.Machine.{Out}
 use Rattle.ir_runs.specs.declared.access.Access.TheVariants.{Writing}
 use Rattle.ir_runs.specs.Run.{Step}
-use Rattle.ir_thread.specs.State.{ThreadState}
+use Rattle.ir_thread.specs.State.{ThreadState, ask_of}
+use Rattle.ir_thread.specs.declared.ask.Ask.{Ask}
+use Rattle.ir_thread.specs.declared.ask.Ask.TheVariants as ask
 use Rattle.ir_fit.specs.Fit.{FittedTrace, IsRunOf}
 use Rattle.ir_command.specs.declared.command.Point.{Point}
 use Rattle.ir_command.specs.declared.command.Point.TheVariants.{Break, Watch, WatchObject}
-use Rattle.ir_hits.specs.Hits.{Numbered, HitBy, HitByNumber, IsLowest}
+use Rattle.ir_hits.specs.Hits.{Numbered, HitBy, HitByNumber, IsLowest, objects_start, object_size, puts_at, ChangesWord, PutsWord}
 use Rattle.ir_cut.specs.Positions.{thread_at}
-use Rattle.ir_hits.specs.Seeing.{Concerns, SomeConcerns, IsNoted, AllNoted, SeesHit, SeesHitAt, IsLowestOf, steps_of, Changes, LeavesWritten}
+use Rattle.ir_hits.specs.Seeing.{Concerns, SomeConcerns, IsNoted, AllNoted, SeesHit, SeesHitAt, IsLowestOf, steps_of, LeavesWritten}
 use Rattle.ir_hits.specs.declared.before.Before.{Before}
-use Rattle.ir_hits.specs.declared.before.Before.TheVariants.{Nothing, Word, Inside}
+use Rattle.ir_hits.specs.declared.before.Before.TheVariants.{Nothing, Word, Putting, Inside}
 use Rattle.ir_hits.proofs.Leaves.{emitting_step_is_below_step_count, thread_same_after_last_step, held_for_writing_before_and_not_after_written_leave, leaves_written_if_write_hold_lost}
 
 -- ---- one point
@@ -30,44 +33,86 @@ pub no_hit_unless_point_concerns_thread : (f : FittedTrace) (run : List Step) (p
     → HitByNumber f run points t k n → ⊥
 no_hit_unless_point_concerns_thread f run points t k n none h = none (h.0, h.1, h.2, hitting_point_concerns_thread f run t k h.1.point h.4)
 
+-- what is put is put at the objects' addresses
+put_is_at_objects : (address : ℕ) (q : Ask) → puts_at address q ≡ true → objects_start ≤ address
+put_is_at_objects address (ask.Put object index value) at = let same = eqb-true (objects_start + object_size * object + 4 * index) address at in omega (arith, same)
+put_is_at_objects address ask.Private at = absurd (true≢false (sym at))
+put_is_at_objects address (ask.Env kind) at = absurd (true≢false (sym at))
+put_is_at_objects address (ask.Enter object access) at = absurd (true≢false (sym at))
+put_is_at_objects address (ask.Try object) at = absurd (true≢false (sym at))
+put_is_at_objects address (ask.Leave object access) at = absurd (true≢false (sym at))
+put_is_at_objects address (ask.Get object index) at = absurd (true≢false (sym at))
+put_is_at_objects address ask.Print at = absurd (true≢false (sym at))
+put_is_at_objects address (ask.End e) at = absurd (true≢false (sym at))
+put_is_at_objects address ask.Done at = absurd (true≢false (sym at))
+
+-- the watched word of thread t is written by step j
+abbrev IsWritten : FittedTrace → List Step → ℕ → ℕ → ℕ → Type 0
+IsWritten f run t address j = ChangesWord f run t address j ⊎ PutsWord f run t address j
+
+-- by a step that the thread takes
+word_is_written_below_steps : (f : FittedTrace) (run : List Step) (t address j : ℕ) → IsWritten f run t address j → j < steps_of f run t
+word_is_written_below_steps f run t address j (inr puts) = puts.0
+word_is_written_below_steps f run t address j (inl changes) = elim (cases_lt j (steps_of f run t)) [
+  | inl l ↦ l
+  | inr past ↦ absurd (changes.1 (ap (λ (x : ThreadState). memory_word x.core.memory address) (thread_same_after_last_step f run t j past)))
+]
+
 -- no point hits after the last step
 pub hit_step_below_steps : (f : FittedTrace) (run : List Step) (t j : ℕ) (p : Point) → HitBy f run t (suc j) p → j < steps_of f run t
 hit_step_below_steps f run t j (Break u address) h = omega (arith, h.2)
-hit_step_below_steps f run t j (Watch u address) h = elim (cases_lt j (steps_of f run t)) [
-  | inl l ↦ l
-  | inr past ↦
-      let same : j ≡ h.1.0 = omega (arith, h.1.1) in
-      absurd (h.1.2 (ap (λ (x : ThreadState). memory_word x.core.memory address)
-      (thread_same_after_last_step f run t h.1.0 (subst (λ i. steps_of f run t ≤ i) same past))))
-]
+hit_step_below_steps f run t j (Watch u address) h =
+    let within = word_is_written_below_steps f run t address h.1.0 h.1.2 in let is = h.1.1 in omega (arith, is, within)
 hit_step_below_steps f run t j (WatchObject object) h =
     let within = emitting_step_is_below_step_count f run t h.0 (Out object Writing h.2.0) h.2.1 in omega (arith, h.1, within)
+
+-- a word that is noted as one that isn't put is written if it changes
+written_word_noted_unput_is_changed : (f : FittedTrace) (run : List Step) (t address j word : ℕ) → address < objects_start
+    → word ≡ memory_word (thread_at f run t j).core.memory address → IsWritten f run t address j → word ≢ memory_word (thread_at f run t (suc j)).core.memory address
+written_word_noted_unput_is_changed f run t address j word low is (inl changes) = λ same. changes.1 (sym is ∙ same)
+written_word_noted_unput_is_changed f run t address j word low is (inr puts) =
+    let high = put_is_at_objects address (ask_of f.guest.code (thread_at f run t j)) puts.1 in absurd (omega (arith, low, high))
+
+-- none of the objects' that isn't put is
+unput_object_word_is_not_written : (f : FittedTrace) (run : List Step) (t address j : ℕ) → objects_start ≤ address
+    → puts_at address (ask_of f.guest.code (thread_at f run t j)) ≡ false → IsWritten f run t address j → ⊥
+unput_object_word_is_not_written f run t address j high isnt (inl changes) = let low = changes.0 in omega (arith, low, high)
+unput_object_word_is_not_written f run t address j high isnt (inr puts) = true_is_not_false _ puts.1 isnt
+
+-- the step after which a watch hits
+written_at_step : (f : FittedTrace) (run : List Step) (t j address : ℕ) → ((i : ℕ) × (suc j ≡ suc i) × IsWritten f run t address i) → IsWritten f run t address j
+written_at_step f run t j address (i, is, written) = subst (IsWritten f run t address) (let e : i ≡ j = omega (arith, is) in e) written
 
 -- what hits after step j is seen there
 pub hit_after_step_is_seen : (f : FittedTrace) (run : List Step) → IsRunOf f.guest f.recorded run → (t j last : ℕ)
     → (thread_at f run t (suc j)).steps ≡ suc j → last ≡ steps_of f run t → (p : Point) (b : Before)
-    → IsNoted t (thread_at f run t j) p b → HitBy f run t (suc j) p → SeesHit t last (thread_at f run t (suc j)) b p
+    → IsNoted f.guest.code t (thread_at f run t j) p b → HitBy f run t (suc j) p → SeesHit t last (thread_at f run t (suc j)) b p
 hit_after_step_is_seen f run whole t j last steps all (Break u address) b k h = (h.0, h.1, omega (arith, h.2, steps, all))
-hit_after_step_is_seen f run whole t j last steps all (Watch u address) Nothing k h = k h.0
-hit_after_step_is_seen f run whole t j last steps all (Watch u address) (Word word) k h = λ same.
-    subst (Changes f run t address) (let e : h.1.0 ≡ j = omega (arith, h.1.1) in e) h.1.2 (sym k.1 ∙ same)
+hit_after_step_is_seen f run whole t j last steps all (Watch u address) Nothing k h =
+    let none = k h.0 in unput_object_word_is_not_written f run t address j none.0 none.1 (written_at_step f run t j address h.1)
+hit_after_step_is_seen f run whole t j last steps all (Watch u address) (Word word) k h =
+    (k.1, written_word_noted_unput_is_changed f run t address j word k.1 k.2 (written_at_step f run t j address h.1))
+hit_after_step_is_seen f run whole t j last steps all (Watch u address) Putting k h = tt
 hit_after_step_is_seen f run whole t j last steps all (Watch u address) Inside k h = k
 hit_after_step_is_seen f run whole t j last steps all (WatchObject object) Nothing k h =
     k (held_for_writing_before_and_not_after_written_leave f run whole t j object (subst (LeavesWritten f run t object) (let e : h.0 ≡ j = omega (arith, h.1) in e) h.2)).0
 hit_after_step_is_seen f run whole t j last steps all (WatchObject object) (Word word) k h = k
+hit_after_step_is_seen f run whole t j last steps all (WatchObject object) Putting k h = k
 hit_after_step_is_seen f run whole t j last steps all (WatchObject object) Inside k h =
     (held_for_writing_before_and_not_after_written_leave f run whole t j object (subst (LeavesWritten f run t object) (let e : h.0 ≡ j = omega (arith, h.1) in e) h.2)).1
 
 -- and the other way round
 pub seen_hit_after_step_is_hit : (f : FittedTrace) (run : List Step) → IsRunOf f.guest f.recorded run → (t j last : ℕ) → j < steps_of f run t
     → (thread_at f run t (suc j)).steps ≡ suc j → last ≡ steps_of f run t → (p : Point) (b : Before)
-    → IsNoted t (thread_at f run t j) p b → SeesHit t last (thread_at f run t (suc j)) b p → HitBy f run t (suc j) p
+    → IsNoted f.guest.code t (thread_at f run t j) p b → SeesHit t last (thread_at f run t (suc j)) b p → HitBy f run t (suc j) p
 seen_hit_after_step_is_hit f run whole t j last less steps all (Break u address) b k h = (h.0, h.1, omega (arith, h.2, steps, all))
 seen_hit_after_step_is_hit f run whole t j last less steps all (Watch u address) Nothing k h = absurd h
-seen_hit_after_step_is_hit f run whole t j last less steps all (Watch u address) (Word word) k h = (k.0, (j, refl, λ same. h (k.1 ∙ same)))
+seen_hit_after_step_is_hit f run whole t j last less steps all (Watch u address) (Word word) k h = (k.0, (j, refl, inl (k.1, λ same. h.1 (k.2 ∙ same))))
+seen_hit_after_step_is_hit f run whole t j last less steps all (Watch u address) Putting k h = (k.0, (j, refl, inr (less, k.1)))
 seen_hit_after_step_is_hit f run whole t j last less steps all (Watch u address) Inside k h = absurd h
 seen_hit_after_step_is_hit f run whole t j last less steps all (WatchObject object) Nothing k h = absurd h
 seen_hit_after_step_is_hit f run whole t j last less steps all (WatchObject object) (Word word) k h = absurd h
+seen_hit_after_step_is_hit f run whole t j last less steps all (WatchObject object) Putting k h = absurd h
 seen_hit_after_step_is_hit f run whole t j last less steps all (WatchObject object) Inside k h = (j, refl, leaves_written_if_write_hold_lost f run whole t j object less k h)
 
 -- at the start there is no step to look back to
@@ -130,10 +175,10 @@ no_hit_if_none_seen f run points notes t k last y s none n h =
 -- after step j
 pub hits_seen_after_step : (f : FittedTrace) (run : List Step) → IsRunOf f.guest f.recorded run → (points : List Numbered) (notes : List Before)
     → (t j last : ℕ) (x y : ThreadState) → x ≡ thread_at f run t j → y ≡ thread_at f run t (suc j) → y.steps ≡ suc j
-    → last ≡ steps_of f run t → j < steps_of f run t → AllNoted t x points notes → AreHitsSeen f run points notes t (suc j) last y
+    → last ≡ steps_of f run t → j < steps_of f run t → AllNoted f.guest.code t x points notes → AreHitsSeen f run points notes t (suc j) last y
 hits_seen_after_step f run whole points notes t j last x y was is steps all less k =
     let at : (thread_at f run t (suc j)).steps ≡ suc j = ap (λ (z : ThreadState). z.steps) (sym is) ∙ steps in
-    let before : AllNoted t (thread_at f run t j) points notes = subst (λ z. AllNoted t z points notes) was k in
+    let before : AllNoted f.guest.code t (thread_at f run t j) points notes = subst (λ z. AllNoted f.guest.code t z points notes) was k in
     subst (AreHitsSeen f run points notes t (suc j) last) (sym is) (record {
       size = k.size;
       seen = λ i p b here there. hit_after_step_is_seen f run whole t j last at all p.point b (before.each i p b here there);

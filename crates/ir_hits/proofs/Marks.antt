@@ -63,8 +63,8 @@ points_covered_by_marks code first marks t points is_watched none stored kept br
   where
     by : (q : Point) → p.point ≡ q → IsCovered (record { words = code; marks = marks }) t q
     by (Break u address) e = subst (IsBreakMarked marks t) e (breaks i p (slice_get_within points i p is) is)
-    by (Watch u address) e = λ same pc j found store.
-        kept pc (stored (is_watched_if_point_watches t points is_watched i p none is (subst (Watches t) (sym e) same)) pc j found store)
+    by (Watch u address) e = λ same low pc j found store.
+        kept pc (stored (is_watched_if_point_watches t points is_watched i p none is (subst (Watches t) (sym e) (same, low))) pc j found store)
     by (WatchObject object) e = tt
 
 -- what is written back to a vector is all of it

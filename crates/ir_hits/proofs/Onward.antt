@@ -30,26 +30,26 @@ pub record IsPassage (f : FittedTrace) (last : List ℕ) (code : Marked) (points
   pub before : StandsAt f (positions (flat_in f old)) old
   pub after : StandsAt f (positions (flat_in f new)) new
   pub passed : HasPassed code t to (flat_in f old) (flat_in f new)
-  pub all : AllNoted t (slice_index_or old.threads t idle) points notes
+  pub all : AllNoted f.guest.code t (slice_index_or old.threads t idle) points notes
 
 pub is_passage_if_thread_has_passed : (f : FittedTrace) (last : List ℕ) (code : Marked) (points : List Numbered) (notes : List Before) (t to : ℕ)
-    (old new : Standing) (x : ThreadState) → x ≡ slice_index_or old.threads t idle → AreLast f last → code.words ≡ f.guest.code
-    → AreCovered code t points → StandsAt f (positions (flat_in f old)) old → StandsAt f (positions (flat_in f new)) new
-    → HasPassed code t to (flat_in f old) (flat_in f new) → AllNoted t x points notes
+    (old new : Standing) (words : List ℕ) (x : ThreadState) → words ≡ f.guest.code → x ≡ slice_index_or old.threads t idle → AreLast f last
+    → code.words ≡ f.guest.code → AreCovered code t points → StandsAt f (positions (flat_in f old)) old → StandsAt f (positions (flat_in f new)) new
+    → HasPassed code t to (flat_in f old) (flat_in f new) → AllNoted words t x points notes
     → IsPassage f last code points notes t to old new
-is_passage_if_thread_has_passed f last code points notes t to old new x is ends words covered before after passed all = record {
+is_passage_if_thread_has_passed f last code points notes t to old new words x same is ends marked covered before after passed all = record {
   ends = ends;
-  words = words;
+  words = marked;
   covered = covered;
   before = before;
   after = after;
   passed = passed;
-  all = subst (λ z. AllNoted t z points notes) is all;
+  all = subst (λ (z : List ℕ × ThreadState). AllNoted z.0 t z.1 points notes) (λ i. (same i, is i)) all;
 }
 
 -- the points noted so much of the thread before its k-th step, which comes at j or later, and hit it nowhere between
 record ComesTo (f : FittedTrace) (run : List Step) (points : List Numbered) (notes : List Before) (t j k : ℕ) : Type 0 where
-  pub all : AllNoted t (thread_at f run t k) points notes
+  pub all : AllNoted f.guest.code t (thread_at f run t k) points notes
   pub none : NoneWithin f run points t (suc j) (suc k)
 
 -- by one step
@@ -57,7 +57,7 @@ passage_comes_to_position_of_its_start : (f : FittedTrace) (last : List ℕ) (co
     → IsPassage f last code points notes t to old new → (run : List Step) → IsRunOf f.guest f.recorded run → (k : ℕ)
     → positions (flat_in f old) t ≡ k → ComesTo f run points notes t (positions (flat_in f old) t) k
 passage_comes_to_position_of_its_start f last code points notes t to old new s run whole k at = record {
-  all = subst (λ z. AllNoted t z points notes) (thread_of_standing_is_run_thread f old s.before run whole t k at) s.all;
+  all = subst (λ z. AllNoted f.guest.code t z points notes) (thread_of_standing_is_run_thread f old s.before run whole t k at) s.all;
   none = no_hit_in_empty_window f run points t (suc (positions (flat_in f old) t)) (suc k) (omega (arith, at));
 }
 
@@ -84,7 +84,7 @@ passage_by_stretch_comes_to_position_before_its_end f last code points notes t t
       steps = steps;
     } in
     record {
-      all = subst (λ i. AllNoted t (thread_at f run t i) points notes) on
+      all = subst (λ i. AllNoted f.guest.code t (thread_at f run t i) points notes) on
           (notes_still_hold_within_stretch f run code points notes t j n (k - j) x y stretch (omega (arith, sum)) s.all);
       none = subst (NoneWithin f run points t (suc j)) (sym sum) (no_hit_within_stretch f run code points t j n x y stretch);
     }

@@ -1,5 +1,5 @@
 -- What a thread passes over at instructions that aren't marked.
-use Rattle.std.proofs.Common.{◌≡◌, ℕ, suc, zero, ◌+◌, ◌-◌, ◌<◌, ◌≤◌, Bool, true, false, List, refl, sym, ap, ◌∙◌, subst, add-zero, add-suc, inl, inr, arith}
+use Rattle.std.proofs.Common.{◌≡◌, ◌⊎◌, ℕ, suc, zero, ◌+◌, ◌-◌, ◌<◌, ◌≤◌, false, List, refl, sym, ap, ◌∙◌, subst, add-zero, add-suc, inl, inr, arith}
 use Rattle.ir_lemmas.proofs.CallerLemmas.{true_is_not_false}
 use Rattle.ir_mach.specs.Marks.{Marked, is_marked}
 use Rattle.ir_mach.specs.Execution.{memory_word}
@@ -18,11 +18,11 @@ use Rattle.ir_weave.specs.Standing.{positions}
 use Rattle.ir_weave.specs.Stepping.{HasGone}
 use Rattle.ir_command.specs.declared.command.Point.{Point}
 use Rattle.ir_command.specs.declared.command.Point.TheVariants.{Break, Watch, WatchObject}
-use Rattle.ir_hits.specs.Hits.{Numbered, HitBy, NoneWithin}
+use Rattle.ir_hits.specs.Hits.{Numbered, HitBy, NoneWithin, puts_at, ChangesWord, PutsWord}
 use Rattle.ir_hits.specs.Passing.{Watches, IsCovered, AreCovered, HasPassed}
-use Rattle.ir_hits.specs.Seeing.{IsNoted, AllNoted, steps_of, Changes, LeavesWritten}
+use Rattle.ir_hits.specs.Seeing.{IsNoted, AllNoted, steps_of, LeavesWritten}
 use Rattle.ir_hits.specs.declared.before.Before.{Before}
-use Rattle.ir_hits.specs.declared.before.Before.TheVariants.{Nothing, Word, Inside}
+use Rattle.ir_hits.specs.declared.before.Before.TheVariants.{Nothing, Word, Putting, Inside}
 use Rattle.ir_hits.proofs.Leaves.{held_for_writing_before_and_not_after_written_leave}
 
 -- ---- private steps of a run
@@ -76,8 +76,20 @@ watched_memory_is_unchanged_within_stretch : (f : FittedTrace) (run : List Step)
 watched_memory_is_unchanged_within_stretch f run code points t j n k x y (Break u address) s le c w = absurd w
 watched_memory_is_unchanged_within_stretch f run code points t j n k x y (Watch u address) s le c w =
     ap (λ (z : ThreadState). z.core.memory) (thread_within_stretch_is_run_of_code f run code points t j n k x y s le)
-    ∙ thread_memory_is_unchanged_by_unmarked_steps code k x (run_of code.words k x) (c w) (unmarked_steps_prefix code k n x y le s.steps)
+    ∙ thread_memory_is_unchanged_by_unmarked_steps code k x (run_of code.words k x) (c w.0 w.1) (unmarked_steps_prefix code k n x y le s.steps)
 watched_memory_is_unchanged_within_stretch f run code points t j n k x y (WatchObject object) s le c w = absurd w
+
+-- the thread asks nothing of others
+step_within_stretch_is_private : (f : FittedTrace) (run : List Step) (code : Marked) (points : List Numbered) (t j n k : ℕ) (x y : ThreadState)
+    → IsStretch f run code points t j n x y → k < n → ask_of f.guest.code (thread_at f run t (j + k)) ≡ ask.Private
+step_within_stretch_is_private f run code points t j n k x y s less =
+    ap (ask_of f.guest.code) (thread_within_stretch_is_run_of_code f run code points t j n k x y s (omega (arith, less)))
+    ∙ ap (λ c. ask_of c (run_of code.words k x)) (sym s.words) ∙ s.steps.steps.each k less
+
+-- so it puts no word
+nothing_is_put_within_stretch : (f : FittedTrace) (run : List Step) (code : Marked) (points : List Numbered) (t j n k : ℕ) (x y : ThreadState) (address : ℕ)
+    → IsStretch f run code points t j n x y → k < n → puts_at address (ask_of f.guest.code (thread_at f run t (j + k))) ≡ false
+nothing_is_put_within_stretch f run code points t j n k x y address s less = ap (puts_at address) (step_within_stretch_is_private f run code points t j n k x y s less)
 
 -- ---- no point hits between
 
@@ -89,12 +101,16 @@ covered_point_not_hit_within_stretch f run code points t j n k x y (Break u addr
     let pc : (run_of code.words (suc k) x).core.pc ≡ address = ap (λ (z : ThreadState). z.core.pc) (sym here) ∙ h.1 in
     true_is_not_false (is_marked code.marks address) (c h.0)
     (ap (λ a. is_marked code.marks a) (sym pc) ∙ thread_unmarked_step_begins_unmarked code (suc k) n x y less s.steps)
-covered_point_not_hit_within_stretch f run code points t j n k x y (Watch u address) s less c h =
-    let e : h.1.0 ≡ j + k = omega (arith, h.1.1) in
-    let before = watched_memory_is_unchanged_within_stretch f run code points t j n k x y (Watch u address) s (omega (arith, less)) c h.0 in
-    let after = ap (λ i. (thread_at f run t i).core.memory) (sym (add-suc j k))
-    ∙ watched_memory_is_unchanged_within_stretch f run code points t j n (suc k) x y (Watch u address) s (omega (arith, less)) c h.0 in
-    subst (Changes f run t address) e h.1.2 (ap (λ m. memory_word m address) (before ∙ sym after))
+covered_point_not_hit_within_stretch f run code points t j n k x y (Watch u address) s less c (same, (i, is, written)) =
+    by (subst (λ m. ChangesWord f run t address m ⊎ PutsWord f run t address m) (let e : i ≡ j + k = omega (arith, is) in e) written)
+  where
+    by : ChangesWord f run t address (j + k) ⊎ PutsWord f run t address (j + k) → ⊥
+    by (inl changes) =
+        let before = watched_memory_is_unchanged_within_stretch f run code points t j n k x y (Watch u address) s (omega (arith, less)) c (same, changes.0) in
+        let after = ap (λ m. (thread_at f run t m).core.memory) (sym (add-suc j k))
+        ∙ watched_memory_is_unchanged_within_stretch f run code points t j n (suc k) x y (Watch u address) s (omega (arith, less)) c (same, changes.0) in
+        changes.1 (ap (λ m. memory_word m address) (before ∙ sym after))
+    by (inr puts) = true_is_not_false _ puts.1 (nothing_is_put_within_stretch f run code points t j n k x y address s (omega (arith, less)))
 covered_point_not_hit_within_stretch f run code points t j n k x y (WatchObject object) s less c h =
     let e : h.0 ≡ j + k = omega (arith, h.1) in
     let inside = held_for_writing_before_and_not_after_written_leave f run s.whole t (j + k) object (subst (LeavesWritten f run t object) e h.2) in
@@ -112,23 +128,31 @@ no_hit_within_stretch f run code points t j n x y s i m low high h =
 
 -- ---- what the points noted is what they would note before the last step
 
-note_holds_in_thread_with_equal_held_and_memory : (t : ℕ) (x z : ThreadState) (p : Point) (b : Before) → z.held ≡ x.held → (Watches t p → z.core.memory ≡ x.core.memory)
-    → IsNoted t x p b → IsNoted t z p b
-note_holds_in_thread_with_equal_held_and_memory t x z (Break u address) b held memory k = tt
-note_holds_in_thread_with_equal_held_and_memory t x z (Watch u address) Nothing held memory k = k
-note_holds_in_thread_with_equal_held_and_memory t x z (Watch u address) (Word word) held memory k = (k.0, k.1 ∙ ap (λ m. memory_word m address) (sym (memory k.0)))
-note_holds_in_thread_with_equal_held_and_memory t x z (Watch u address) Inside held memory k = k
-note_holds_in_thread_with_equal_held_and_memory t x z (WatchObject object) Nothing held memory k = λ e. k (ap (λ h. held_at h object) (sym held) ∙ e)
-note_holds_in_thread_with_equal_held_and_memory t x z (WatchObject object) (Word word) held memory k = k
-note_holds_in_thread_with_equal_held_and_memory t x z (WatchObject object) Inside held memory k = ap (λ h. held_at h object) held ∙ k
+note_holds_in_thread_alike : (code : List ℕ) (t : ℕ) (x z : ThreadState) (p : Point) (b : Before) → z.held ≡ x.held
+    → (Watches t p → z.core.memory ≡ x.core.memory) → ((address : ℕ) → puts_at address (ask_of code x) ≡ puts_at address (ask_of code z))
+    → IsNoted code t x p b → IsNoted code t z p b
+note_holds_in_thread_alike code t x z (Break u address) b held memory puts k = tt
+note_holds_in_thread_alike code t x z (Watch u address) Nothing held memory puts k = λ same. let none = k same in (none.0, sym (puts address) ∙ none.1)
+note_holds_in_thread_alike code t x z (Watch u address) (Word word) held memory puts k =
+    (k.0, k.1, k.2 ∙ ap (λ m. memory_word m address) (sym (memory (k.0, k.1))))
+note_holds_in_thread_alike code t x z (Watch u address) Putting held memory puts k = (k.0, sym (puts address) ∙ k.1)
+note_holds_in_thread_alike code t x z (Watch u address) Inside held memory puts k = k
+note_holds_in_thread_alike code t x z (WatchObject object) Nothing held memory puts k = λ e. k (ap (λ h. held_at h object) (sym held) ∙ e)
+note_holds_in_thread_alike code t x z (WatchObject object) (Word word) held memory puts k = k
+note_holds_in_thread_alike code t x z (WatchObject object) Putting held memory puts k = k
+note_holds_in_thread_alike code t x z (WatchObject object) Inside held memory puts k = ap (λ h. held_at h object) held ∙ k
 
 pub notes_still_hold_within_stretch : (f : FittedTrace) (run : List Step) (code : Marked) (points : List Numbered) (notes : List Before) (t j n k : ℕ)
-    (x y : ThreadState) → IsStretch f run code points t j n x y → k ≤ n → AllNoted t x points notes
-    → AllNoted t (thread_at f run t (j + k)) points notes
-notes_still_hold_within_stretch f run code points notes t j n k x y s le all = record {
+    (x y : ThreadState) → IsStretch f run code points t j n x y → k < n → AllNoted f.guest.code t x points notes
+    → AllNoted f.guest.code t (thread_at f run t (j + k)) points notes
+notes_still_hold_within_stretch f run code points notes t j n k x y s less all = record {
   size = all.size;
-  each = λ i p b here there. note_holds_in_thread_with_equal_held_and_memory t x (thread_at f run t (j + k)) p.point b (held_is_unchanged_within_stretch f run code points t j n k x y s le)
-      (watched_memory_is_unchanged_within_stretch f run code points t j n k x y p.point s le (s.covered i p here)) (all.each i p b here there);
+  each = λ i p b here there. note_holds_in_thread_alike f.guest.code t x (thread_at f run t (j + k)) p.point b
+      (held_is_unchanged_within_stretch f run code points t j n k x y s (omega (arith, less)))
+      (watched_memory_is_unchanged_within_stretch f run code points t j n k x y p.point s (omega (arith, less)) (s.covered i p here))
+      (λ address. ap (λ z. puts_at address (ask_of f.guest.code z)) (sym (ap (thread_at f run t) (add-zero j) ∙ s.at))
+      ∙ nothing_is_put_within_stretch f run code points t j n 0 x y address s (omega (arith, less))
+      ∙ sym (nothing_is_put_within_stretch f run code points t j n k x y address s less)) (all.each i p b here there);
 }
 
 -- ---- how far the thread came

@@ -25,9 +25,9 @@ NoneConcerns t points n = (j : ℕ) (p : Numbered) → j < n → slice_get point
 -- ---- what points note
 
 -- the first n points noted what they had to
-abbrev pub AreFirstNoted : ℕ → ThreadState → List Numbered → List Before → ℕ → Type 0
-AreFirstNoted t x points notes n = (j : ℕ) (p : Numbered) (b : Before) → j < n → slice_get points j ≡ Some p → slice_get notes j ≡ Some b
-    → IsNoted t x p.point b
+abbrev pub AreFirstNoted : List ℕ → ℕ → ThreadState → List Numbered → List Before → ℕ → Type 0
+AreFirstNoted code t x points notes n = (j : ℕ) (p : Numbered) (b : Before) → j < n → slice_get points j ≡ Some p → slice_get notes j ≡ Some b
+    → IsNoted code t x p.point b
 
 -- a list of one value holds no other
 pub element_of_replicated_nothing_is_nothing : (n i : ℕ) (b : Before) → slice_get (replicate n Nothing) i ≡ Some b → b ≡ Nothing

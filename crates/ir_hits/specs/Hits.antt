@@ -1,7 +1,9 @@
 -- Where points hit the threads of a run.
-use Rattle.std.specs.Prelude.{◌≡◌, ◌≢◌, ℕ, suc, ◌<◌, ◌≤◌, List, slice_get, Option, Some, None}
+use Rattle.std.specs.Prelude.{◌≡◌, ◌≢◌, ◌⊎◌, ℕ, suc, ◌+◌, ◌*◌, ◌==◌, ◌<◌, ◌≤◌, Bool, true, false, List, slice_get, Option, Some, None}
 use Rattle.ir_mach.specs.Execution.{memory_word}
-use Rattle.ir_thread.specs.State as thread
+use Rattle.ir_thread.specs.State.{ask_of}
+use Rattle.ir_thread.specs.declared.ask.Ask.{Ask}
+use Rattle.ir_thread.specs.declared.ask.Ask.TheVariants as ask
 use Rattle.ir_runs.specs.declared.access.Access.TheVariants.{Writing}
 use Rattle.ir_runs.specs.Machine.{Out}
 use Rattle.ir_runs.specs.Run.{Step, count, Emits}
@@ -18,12 +20,33 @@ pub record Numbered : Type 0 where
   pub number : ℕ
   pub point : Point
 
--- the point hits thread t at position k: its pc is there, and it has a step left; or the step to k changed the word; or that step left the
--- object, which the thread had entered for writing
+-- the address at which a watch finds the first object's words
+abbrev pub objects_start : ℕ
+objects_start = 0x80000000
+
+-- the bytes from there on to the next object's
+abbrev pub object_size : ℕ
+object_size = 64
+
+-- whether the word of an object at an address is put
+abbrev pub puts_at : ℕ → Ask → Bool
+puts_at address (ask.Put object index value) = objects_start + object_size * object + 4 * index == address
+puts_at address asked = false
+
+-- step j of thread t changes the word of private memory at an address
+abbrev pub ChangesWord : FittedTrace → List Step → ℕ → ℕ → ℕ → Type 0
+ChangesWord f run t address j =
+    (address < objects_start) × (memory_word (thread_at f run t j).core.memory address ≢ memory_word (thread_at f run t (suc j)).core.memory address)
+
+-- it puts the word of an object at an address
+abbrev pub PutsWord : FittedTrace → List Step → ℕ → ℕ → ℕ → Type 0
+PutsWord f run t address j = (j < count (machine_of f) (start_of f) run t) × (puts_at address (ask_of f.guest.code (thread_at f run t j)) ≡ true)
+
+-- the point hits thread t at position k: its pc is there, and it has a step left; or the step to k changed the word of its private memory, or
+-- put the word of an object, at the address; or that step left the object, which the thread had entered for writing
 abbrev pub HitBy : FittedTrace → List Step → ℕ → ℕ → Point → Type 0
 HitBy f run t k (Break u address) = (u ≡ t) × ((thread_at f run t k).core.pc ≡ address) × (k < count (machine_of f) (start_of f) run t)
-HitBy f run t k (Watch u address) = (u ≡ t) × ((j : ℕ) × (k ≡ suc j)
-    × (memory_word (thread_at f run t j).core.memory address ≢ memory_word (thread_at f run t (suc j)).core.memory address))
+HitBy f run t k (Watch u address) = (u ≡ t) × ((j : ℕ) × (k ≡ suc j) × (ChangesWord f run t address j ⊎ PutsWord f run t address j))
 HitBy f run t k (WatchObject object) = (j : ℕ) × (k ≡ suc j)
     × ((version : ℕ) × Emits (machine_of f) (start_of f) run t j (Out object Writing version))
 

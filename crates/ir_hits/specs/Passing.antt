@@ -9,7 +9,7 @@ use Rattle.ir_flat.specs.Flat.{Flat, thread_of}
 use Rattle.ir_weave.specs.Standing.{positions}
 use Rattle.ir_command.specs.declared.command.Point.{Point}
 use Rattle.ir_command.specs.declared.command.Point.TheVariants.{Break, Watch, WatchObject}
-use Rattle.ir_hits.specs.Hits.{Numbered}
+use Rattle.ir_hits.specs.Hits.{Numbered, objects_start}
 
 -- whether it is an instruction that stores
 abbrev pub is_store : Option Inst → Bool
@@ -34,20 +34,21 @@ IsBreakMarked marks t (WatchObject object) = ⊤
 abbrev pub AreBreaksMarked : List Bool → ℕ → List Numbered → ℕ → Type 0
 AreBreaksMarked marks t points n = (j : ℕ) (p : Numbered) → j < n → slice_get points j ≡ Some p → IsBreakMarked marks t p.point
 
--- the point watches a word of thread t
+-- the point watches a word of thread t's private memory
 abbrev pub Watches : ℕ → Point → Type 0
 Watches t (Break u address) = ⊥
-Watches t (Watch u address) = u ≡ t
+Watches t (Watch u address) = (u ≡ t) × (address < objects_start)
 Watches t (WatchObject object) = ⊥
 
 -- none of the first n points does
 abbrev pub NoneWatches : ℕ → List Numbered → ℕ → Type 0
 NoneWatches t points n = (j : ℕ) (p : Numbered) → j < n → slice_get points j ≡ Some p → Watches t p.point → ⊥
 
--- where the point may hit thread t is marked: its breakpoint, and for a watched word every store
+-- where the point may hit thread t is marked: its breakpoint, and for a watched word of its private memory every store. An object's word is put,
+-- and an object left, by a call, over which no thread passes
 abbrev pub IsCovered : Marked → ℕ → Point → Type 0
 IsCovered code t (Break u address) = u ≡ t → is_marked code.marks address ≡ true
-IsCovered code t (Watch u address) = u ≡ t → AreStoresMarked code.words code.marks
+IsCovered code t (Watch u address) = u ≡ t → address < objects_start → AreStoresMarked code.words code.marks
 IsCovered code t (WatchObject object) = ⊤
 
 abbrev pub AreCovered : Marked → ℕ → List Numbered → Type 0

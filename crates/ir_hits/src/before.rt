@@ -5,8 +5,10 @@
 pub enum Before {
     /// Nothing from which a hit may follow.
     Nothing,
-    /// The watched word.
+    /// The watched word of private memory.
     Word(u32),
+    /// The thread's next step puts the watched word of an object.
+    Putting,
     /// The thread is inside the watched object for writing.
     Inside,
 }

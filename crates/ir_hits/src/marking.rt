@@ -4,7 +4,7 @@ ghost use Rattle.std.specs.Prelude.{◌≡◌, ◌↔◌, true, false, length, m
 ghost use Rattle.ir_mach.specs.Marks.{is_marked, AreStoresMarked};
 ghost use Rattle.ir_hits.specs.Passing.{stores, KeepsMarks, IsBreakMarked, AreBreaksMarked, Watches, NoneWatches, AreCovered};
 
-use crate::point::NumberedPoint;
+use crate::point::{NumberedPoint, OBJECTS_START};
 use ir_command::Point;
 use ir_image::{CODE_START, Code};
 use ir_isa::{Inst, decode};
@@ -68,12 +68,12 @@ fn mark_breaks(marks: &mut [bool], t: usize, points: &[NumberedPoint])
     }
 }
 
-// Whether the point watches a word of thread t.
+// Whether the point watches a word of thread t's private memory.
 fn watches(t: usize, point: Point) -> bool
     ensures { IsTrue result ↔ Watches t point }
 {
     match point {
-        Point::Watch { thread, .. } => thread as usize == t,
+        Point::Watch { thread, address } => thread as usize == t && address < OBJECTS_START,
         Point::Break { .. } | Point::WatchObject { .. } => false,
     }
 }
@@ -90,7 +90,8 @@ fn some_watches(t: usize, points: &[NumberedPoint]) -> bool
     false
 }
 
-/// The code with a mark wherever a point may hit thread t: at its breakpoints, and at every store where a word of it is watched.
+/// The code with a mark wherever a point may hit thread t: at its breakpoints, and at every store where a word of its private memory is
+/// watched.
 ///
 /// # Errors
 /// Out of memory.

@@ -6,7 +6,13 @@ ghost use Rattle.ir_hits.specs.Hits.{Numbered};
 use ir_command::Point;
 use std::marker::Model;
 
-/// A point, and the number that it goes by.
+/// The address at which a watch finds the first object's words.
+pub const OBJECTS_START: u32 = 0x8000_0000;
+
+/// The bytes from there on to the next object's.
+pub const OBJECT_SIZE: u32 = 64;
+
+/// A point, and the number that it goes by. A watch at an address of an object's word hits a thread that puts the word.
 #[derive(Clone, Copy, Debug, PartialEq, Eq)]
 pub struct NumberedPoint {
     number: u32,

@@ -45,9 +45,10 @@ fn next_hit<H: Hands>(
     ensures size { length notes.new ≡ length notes.old }
 {
     let t = search.t;
+    let code = search.fitted.image().code();
     let end = search.last.position(t);
     'steps: while thread_of(state, t).steps() < search.to {
-        note_all(thread_of(state, t), t, search.points, notes);
+        note_all(thread_of(state, t), code, t, search.points, notes);
         take_steps(hands, search, state)?;
         let thread = thread_of(state, t);
         if let Some(number) = lowest(thread, t, end, search.points, notes) {

@@ -1,16 +1,18 @@
 //! What points see of a thread before and after one of its steps.
 
 ghost use Rattle.std.specs.Prelude.{◌≡◌, ◌<◌, ◌↔◌, true, false, Some, length, IsTrue};
+ghost use Rattle.ir_hits.specs.Hits.{puts_at};
 ghost use Rattle.ir_runs.specs.declared.access.Access.TheVariants.{Writing};
 ghost use Rattle.ir_thread.specs.State.{held_at};
 ghost use Rattle.ir_hits.specs.Watchable.{AreWatchable, IsWatchable};
 ghost use Rattle.ir_hits.specs.Seeing.{SomeConcerns, Concerns, IsNoted, AllNoted, SeesHit, IsLowestOf, lower_of};
 
 use crate::before::Before;
-use crate::point::NumberedPoint;
+use crate::point::{NumberedPoint, OBJECT_SIZE, OBJECTS_START};
 use ir_command::Point;
+use ir_image::Code;
 use ir_runs::Access;
-use ir_thread::Thread;
+use ir_thread::{Ask, Thread};
 
 // Whether the point may hit thread t.
 fn concerns(t: usize, point: Point) -> bool
@@ -43,19 +45,34 @@ fn is_writing(thread: &Thread, object: u32) -> bool
     o < held.len() && matches!(held[o], Some(Access::Writing))
 }
 
+// Whether what a thread asks is to put the word of an object at an address.
+fn puts_at(address: u32, asked: Ask) -> bool
+    ensures { result ≡ puts_at address asked }
+{
+    let Ask::Put(object, index, _) = asked else {
+        return false;
+    };
+    OBJECTS_START + OBJECT_SIZE * u32::from(object) + 4 * u32::from(index) == address
+}
+
 // What the point notes of thread t.
-fn note(thread: &Thread, t: usize, point: Point) -> Before
+fn note(thread: &Thread, code: &Code, t: usize, point: Point) -> Before
     requires { IsWatchable point }
-    ensures { IsNoted t thread.now point result }
+    ensures { IsNoted code.now t thread.now point result }
 {
     match point {
         Point::Break { .. } => Before::Nothing,
         Point::Watch { thread: u, address } => {
-            if u as usize == t {
-                Before::Word(thread.mach().load_word(address))
-            } else {
-                Before::Nothing
+            if u as usize != t {
+                return Before::Nothing;
             }
+            if address < OBJECTS_START {
+                return Before::Word(thread.mach().load_word(address));
+            }
+            if puts_at(address, thread.ask(code)) {
+                return Before::Putting;
+            }
+            Before::Nothing
         }
         Point::WatchObject { object } => {
             if is_writing(thread, object) {
@@ -68,13 +85,19 @@ fn note(thread: &Thread, t: usize, point: Point) -> Before
 }
 
 // What each point notes of thread t.
-pub fn note_all(thread: &Thread, t: usize, points: &[NumberedPoint], notes: &mut [Before])
+pub fn note_all(
+    thread: &Thread,
+    code: &Code,
+    t: usize,
+    points: &[NumberedPoint],
+    notes: &mut [Before],
+)
     requires points { AreWatchable points.now }
     requires size { length notes.old ≡ length points.now }
-    ensures { AllNoted t thread.now points.now notes.new }
+    ensures { AllNoted code.now t thread.now points.now notes.new }
 {
     for i in 0..points.len() {
-        notes[i] = note(thread, t, points[i].point());
+        notes[i] = note(thread, code, t, points[i].point());
     }
 }
 
@@ -88,12 +111,15 @@ fn hits(thread: &Thread, t: usize, last: u64, before: Before, point: Point) -> b
             u as usize == t && thread.mach().pc() == address && thread.steps() < last
         }
         Point::Watch { address, .. } => match before {
-            Before::Word(word) => word != thread.mach().load_word(address),
+            Before::Word(word) => {
+                address < OBJECTS_START && word != thread.mach().load_word(address)
+            }
+            Before::Putting => true,
             Before::Nothing | Before::Inside => false,
         },
         Point::WatchObject { object } => match before {
             Before::Inside => !is_writing(thread, object),
-            Before::Nothing | Before::Word(_) => false,
+            Before::Nothing | Before::Word(_) | Before::Putting => false,
         },
     }
 }

@@ -15,7 +15,7 @@ mod run;
 mod unmarked;
 
 pub use laws::{built_again, steps_together};
-pub use mach::{MEMORY_PAGES, Mach, PAGE_SIZE};
+pub use mach::{MEMORY_PAGES, Mach, PAGE_SIZE, joined};
 pub use marked::MarkedCode;
 pub use outcome::{Fault, Ran};
 pub use regs::Regs;

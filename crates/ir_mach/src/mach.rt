@@ -18,7 +18,7 @@ use std::marker::Model;
 
 mod pages;
 
-pub use pages::{MEMORY_PAGES, PAGE_SIZE};
+pub use pages::{MEMORY_PAGES, PAGE_SIZE, joined};
 
 // The address just above private memory.
 const STACK_TOP: u32 = MEMORY_START + MEMORY_SIZE;

@@ -1,6 +1,6 @@
 //! Bytes at addresses: the code, private memory, and the objects.
 
-ghost use Rattle.std.specs.Prelude.{◌≡◌, ◌≤◌, ◌<◌, ◌*◌, ◌+◌, Some, slice_index, length, min};
+ghost use Rattle.std.specs.Prelude.{◌≡◌, ◌≤◌, ◌<◌, Some, slice_index, length, min};
 ghost use Rattle.ir_image.specs.Guest.{most_object_words, word_at_pc};
 ghost use Rattle.ir_mach.specs.Core.{memory_size};
 ghost use Rattle.ir_mach.specs.Execution.{byte_at};
@@ -11,16 +11,11 @@ ghost use Rattle.ir_gdb.specs.Serving.{IsThere};
 
 use crate::remote::Remote;
 use arrayvec::ArrayVec;
+use ir_hits::{OBJECT_SIZE, OBJECTS_START};
 use ir_image::{CODE_START, Code, MEMORY_START};
 
 /// The most bytes that `m` gives.
 pub const MOST_BYTES: usize = 2000;
-
-// The first address of the objects.
-const OBJECTS_START: u32 = 0x8000_0000;
-
-// The bytes from the start of one object to the start of the next.
-const OBJECT_SIZE: u32 = 64;
 
 // A byte of a word, from its lowest up.
 fn byte_of(word: u32, place: u32) -> u8

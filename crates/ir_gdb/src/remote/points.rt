@@ -1,11 +1,13 @@
 //! `Z` and `z`: breakpoints and watches.
 
 ghost use Rattle.std.specs.Prelude.{◌≡◌};
-ghost use Rattle.ir_gdb.specs.Setting.{is_code_word, can_watch, room_setting, break_setting, watch_setting, setting_reply, with_break, with_watch, clear_break_reply, clear_watch_reply, without_break, without_watch};
+ghost use Rattle.ir_mach.specs.Execution.{lies_in_memory};
+ghost use Rattle.ir_gdb.specs.Setting.{is_code_word, lies_in_objects, can_watch, room_setting, break_setting, watch_setting, setting_reply, with_break, with_watch, clear_break_reply, clear_watch_reply, without_break, without_watch};
 
 use crate::holders::{MOST_POINTS, has_break, has_watch};
 use crate::point::{Breakpoint, Setting, Watched};
 use crate::remote::Remote;
+use ir_hits::{OBJECT_SIZE, OBJECTS_START};
 use ir_image::{CODE_START, Image, MEMORY_SIZE, MEMORY_START};
 use ir_packet::Reply;
 
@@ -20,16 +22,31 @@ fn is_code_word(image: &Image, address: u32) -> bool
     address % 4 == 0 && CODE_START <= address && u64::from(address) + 4 <= code_end
 }
 
-// Whether bytes from an address on can be watched: they are a few, and all of private memory.
-fn can_watch(watched: Watched) -> bool
-    ensures { result ≡ can_watch watched }
+// Whether bytes from an address on are all of private memory.
+fn lies_in_memory(watched: Watched) -> bool
+    ensures { result ≡ lies_in_memory watched.size watched.address }
 {
     let Watched { address, size } = watched;
-    let memory_end = u64::from(MEMORY_START) + u64::from(MEMORY_SIZE);
-    0 < size
-        && size <= MOST_WATCHED
-        && MEMORY_START <= address
-        && u64::from(address) + u64::from(size) <= memory_end
+    let end = u64::from(MEMORY_START) + u64::from(MEMORY_SIZE);
+    MEMORY_START <= address && u64::from(address) + u64::from(size) <= end
+}
+
+// Whether they are all of objects that there are.
+fn lies_in_objects(image: &Image, watched: Watched) -> bool
+    ensures { result ≡ lies_in_objects image.now watched.size watched.address }
+{
+    let Watched { address, size } = watched;
+    let end = u64::from(OBJECTS_START) + u64::from(OBJECT_SIZE) * image.object_count() as u64;
+    OBJECTS_START <= address && u64::from(address) + u64::from(size) <= end
+}
+
+// Whether bytes from an address on can be watched: they are a few, and all of private memory or all of objects.
+fn can_watch(image: &Image, watched: Watched) -> bool
+    ensures { result ≡ can_watch image.now watched }
+{
+    0 < watched.size
+        && watched.size <= MOST_WATCHED
+        && (lies_in_memory(watched) || lies_in_objects(image, watched))
 }
 
 // The reply to a point that is set, or isn't.
@@ -71,7 +88,7 @@ impl Remote {
     fn watch_setting(&self, watched: Watched) -> Setting
         ensures { result ≡ watch_setting self.now.stub watched }
     {
-        if !can_watch(watched) {
+        if !can_watch(self.debugger.fitted().image(), watched) {
             return Setting::BadAddress;
         }
         self.setting(has_watch(self.watches.as_slice(), watched))
@@ -109,6 +126,7 @@ impl Remote {
         ensures reply { result ≡ setting_reply (watch_setting self.old.stub watched) }
         ensures stub { self.new.stub ≡ with_watch self.old.stub watched }
     {
+        self.debugger.fitted().image().object_count();
         let setting = self.watch_setting(watched);
         if let Setting::New = setting {
             self.watches.set(watched);
@@ -119,10 +137,10 @@ impl Remote {
     #[tactic(auto, using(crate::proofs::Setting::stub_without_watch_is_stub))]
     /// `z2`: takes a watch away.
     pub fn clear_watch(&mut self, watched: Watched) -> Reply
-        ensures reply { result ≡ clear_watch_reply watched }
+        ensures reply { result ≡ clear_watch_reply self.old.stub watched }
         ensures stub { self.new.stub ≡ without_watch self.old.stub watched }
     {
-        if !can_watch(watched) {
+        if !can_watch(self.debugger.fitted().image(), watched) {
             return Reply::BadAddress;
         }
         self.watches.clear(watched);

@@ -20,7 +20,8 @@ use ir_packet::{Motion, Reason};
 use std::alloc::{AllocError, Global};
 
 impl Remote {
-    // The watches, if they count.
+    // The watches that count for a thread: all for the one that moves, and those of the objects for another.
+    #[tactic(auto, using(crate::proofs::Setting::shared_watches_are_watched, crate::proofs::Setting::shared_watches_are_few))]
     fn watches_if(&self, watched: bool) -> &[Watched]
         ensures value { result.now ≡ watches_if self.now.stub watched }
         ensures watched { AllByRecursion IsWatched result.now }
@@ -29,7 +30,7 @@ impl Remote {
         if watched {
             return self.watches.as_slice();
         }
-        &[]
+        self.watches.shared()
     }
 
     // What may stop a thread.

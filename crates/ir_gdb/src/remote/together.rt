@@ -1,10 +1,9 @@
 //! Which thread stops where a move of one brings others along that have hits on their way.
 
-ghost use Rattle.std.specs.Prelude.{◌≡◌, ◌≤◌, ◌<◌, ◌&&◌, ◌||◌, ◌==◌, not, length, IfOk, IfSome};
+ghost use Rattle.std.specs.Prelude.{◌≡◌, ◌≤◌, ◌<◌, ◌||◌, ◌==◌, length, IfOk, IfSome};
 ghost use Rattle.ir_cut.specs.Positions.{EachRun, threads_of};
 ghost use Rattle.ir_timeline.specs.Hand.{IsCutOf};
 ghost use Rattle.ir_gdb.specs.Stub.{stub_spoken};
-ghost use Rattle.ir_gdb.specs.Stops.{position_of};
 ghost use Rattle.ir_gdb.specs.Together.{AreStops, AreWithin, meets, passes, is_free, is_all_free, moves, moves_other, MetAt, FirstMet, first_met};
 
 use crate::remote::Remote;
@@ -24,7 +23,7 @@ impl Remote {
         self.debugger.fitted().image().entries().len() as u32
     }
 
-    // Where each thread stops that continues alone in a direction. Watches count for one thread.
+    // Where each thread stops that continues alone in a direction. Watches of private memory count for one thread.
     pub fn stops<H: Hands>(
         &mut self,
         hands: &H,

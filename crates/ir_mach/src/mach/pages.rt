@@ -1,8 +1,8 @@
-//! A machine taken apart into registers and pages of private memory, and built from them.
+//! A machine taken apart into registers and pages of private memory, and built from registers and memory.
 
-ghost use Rattle.std.specs.Prelude.{◌≡◌, ◌<◌, length, flat_map, map, true, false, IfOk};
+ghost use Rattle.std.specs.Prelude.{◌≡◌, ◌<◌, length, vec_len, flat_map, map, true, false, IfOk};
 ghost use Rattle.ir_mach.specs.Core.{memory_size};
-ghost use Rattle.ir_mach.specs.Pages.{ArePages, core_of, memory_pages, page_of, page_size, register_file};
+ghost use Rattle.ir_mach.specs.Pages.{ArePages, core_of, memory_pages, page_of, page_size, pages_of, register_file};
 
 use crate::mach::Mach;
 use crate::regs::Regs;
@@ -25,8 +25,11 @@ fn page_in(memory: &[u8], i: usize) -> &[u8]
     &memory[first..first + PAGE_SIZE]
 }
 
-// The bytes of these pages, one page after the other.
-fn joined(alloc: Global, pages: &[&[u8]]) -> Result<Vec<u8>, AllocError>
+/// The bytes of these 16 pages of 4,096 bytes, one page after the other.
+///
+/// # Errors
+/// Out of memory.
+pub fn joined(alloc: Global, pages: &[&[u8]]) -> Result<Vec<u8>, AllocError>
     requires { ArePages (map (λ page. page.now) pages.now) }
     ensures size { IfOk result (λ memory. length memory.items ≡ memory_size) }
     ensures value { IfOk result (λ memory. memory.items ≡ flat_map (λ page. page) (map (λ page. page.now) pages.now)) }
@@ -67,19 +70,15 @@ impl Mach {
         page_in(self.memory.as_slice(), i as usize)
     }
 
-    /// The machine with these registers and these 16 pages of 4,096 bytes.
-    ///
-    /// # Errors
-    /// Out of memory.
-    pub fn build(alloc: Global, regs: &Regs, pages: &[&[u8]]) -> Result<Mach, AllocError>
-        requires { ArePages (map (λ page. page.now) pages.now) }
-        ensures { IfOk result (λ mach. mach ≡ core_of regs.now (map (λ page. page.now) pages.now)) }
+    /// The machine with these registers and these 65,536 bytes of private memory, which stay where they are.
+    pub fn with_memory(regs: &Regs, memory: Vec<u8>) -> Mach
+        requires { vec_len memory ≡ memory_size }
+        ensures { result ≡ core_of regs.now (pages_of memory.items) }
     {
-        let memory = joined(alloc, pages)?;
-        Ok(Mach {
+        Mach {
             pc: regs.pc,
             registers: regs.registers,
             memory,
-        })
+        }
     }
 }

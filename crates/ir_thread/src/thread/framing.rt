@@ -1,15 +1,15 @@
-//! A thread taken apart into a frame and pages, and built from them.
+//! A thread taken apart into a frame and pages, and built from a frame and memory or pages.
 
-ghost use Rattle.std.specs.Prelude.{◌≡◌, ◌<◌, length, map, true, false, IfOk};
+ghost use Rattle.std.specs.Prelude.{◌≡◌, ◌<◌, length, vec_len, map, true, false, IfOk};
 ghost use Rattle.ir_mach.specs.Core.{memory_size};
-ghost use Rattle.ir_mach.specs.Pages.{ArePages, memory_pages, page_of, page_size};
+ghost use Rattle.ir_mach.specs.Pages.{ArePages, memory_pages, page_of, page_size, pages_of};
 ghost use Rattle.ir_thread.specs.Frames.{frame_of, thread_of};
 
 use crate::frame::Frame;
 use crate::holding::roomy;
 use crate::limits::MOST_OUTPUT;
 use crate::thread::Thread;
-use ir_mach::Mach;
+use ir_mach::{Mach, joined};
 use ir_runs::Access;
 use std::alloc::{AllocError, Global};
 
@@ -91,18 +91,18 @@ impl Thread {
         self.mach.page(i)
     }
 
-    /// The thread with this frame and these 16 pages of 4,096 bytes, with room for all that it may print.
+    /// The thread with this frame and these 65,536 bytes of private memory, which stay where they are, with room for all that it may print.
     ///
     /// # Errors
     /// Out of memory.
-    pub fn build(alloc: Global, frame: &Frame, pages: &[&[u8]]) -> Result<Thread, AllocError>
-        requires { ArePages (map (λ page. page.now) pages.now) }
-        ensures { IfOk result (λ thread. thread ≡ thread_of frame.now (map (λ page. page.now) pages.now)) }
+    pub fn with_memory(alloc: Global, frame: &Frame, memory: Vec<u8>) -> Result<Thread, AllocError>
+        requires { vec_len memory ≡ memory_size }
+        ensures { IfOk result (λ thread. thread ≡ thread_of frame.now (pages_of memory.items)) }
     {
         let mut output = Vec::with_capacity(alloc, MOST_OUTPUT)?;
         output.extend_from_slice(frame.output.as_slice())?;
         Ok(Thread {
-            mach: Mach::build(alloc, &frame.regs, pages)?,
+            mach: Mach::with_memory(&frame.regs, memory),
             number: frame.number,
             held: roomy(alloc, frame.held.as_slice())?,
             budget: frame.budget,
@@ -113,5 +113,16 @@ impl Thread {
             output,
             ended: frame.ended,
         })
+    }
+
+    /// The thread with this frame and these 16 pages of 4,096 bytes, with room for all that it may print.
+    ///
+    /// # Errors
+    /// Out of memory.
+    pub fn build(alloc: Global, frame: &Frame, pages: &[&[u8]]) -> Result<Thread, AllocError>
+        requires { ArePages (map (λ page. page.now) pages.now) }
+        ensures { IfOk result (λ thread. thread ≡ thread_of frame.now (map (λ page. page.now) pages.now)) }
+    {
+        Thread::with_memory(alloc, frame, joined(alloc, pages)?)
     }
 }

@@ -7,6 +7,6 @@ use Rattle.ir_freeze.proofs.thawing.thaw.Goals as goal
 
 pub returns : goal.returns
 returns c =
-    subst (λ z. IfOk c.built.result (λ thread. thread ≡ thread_of c.args.frame.now (pages_of z)))
-    (c.as_slice.ensures.value ∙ c.change.ensures.value ∙ (λ i. changed (c.in_ok-memory.ensures.items i) (c.tail.ensures i)))
-    c.built.ensures
+    subst (λ z. IfOk c.with_memory.result (λ thread. thread ≡ thread_of c.args.frame.now (pages_of z)))
+    (c.change.ensures.value ∙ (λ i. changed (c.in_ok-memory.ensures.items i) (c.tail.ensures i)))
+    c.with_memory.ensures

@@ -1,4 +1,5 @@
-use Rattle.std.proofs.Common.{◌≡◌, ◌<◌, ◌-◌, arith}
+use Rattle.std.proofs.Common.{◌≡◌, ◌∙◌, ◌<◌, ◌-◌, ap, arith}
+use Rattle.ir_image.specs.Guest.{Guest}
 use Rattle.ir_weave.specs.Standing.{flat_in, positions}
 use Rattle.ir_command.specs.declared.hit.Hit.{Hit}
 use Rattle.ir_hits.proofs.Standing.{steps_of_thread_are_position}
@@ -14,8 +15,9 @@ returns-in-Some-clause-hit g c =
     let h : Hit = record { position = c.steps-position.result; number = c.in-Some.number } in
     let x = c.thread_of-in-steps in
     let y = c.thread_of-thread in
-    let passage = is_passage_if_thread_has_passed f c.args.search.last.now c.args.search.code.now c.args.search.points.now c.note_all.new.notes t c.args.search.to old new x.result.now
-    x.ensures c.requires.search.ends c.requires.search.words c.requires.search.covered c.steps.invariant.stands c.take_steps.ensures.stands
+    let same = c.code-code.ensures.value ∙ ap (λ (g : Guest). g.code) c.image.ensures.value in
+    let passage = is_passage_if_thread_has_passed f c.args.search.last.now c.args.search.code.now c.args.search.points.now c.note_all.new.notes t c.args.search.to old new c.code-code.result.now x.result.now
+    same x.ensures c.requires.search.ends c.requires.search.words c.requires.search.covered c.steps.invariant.stands c.take_steps.ensures.stands
     c.in_ok-take_steps.ensures.passed c.note_all.ensures in
     lowest_point_seen_after_passage_is_next_hit f c.args.search.last.now c.args.search.code.now c.args.search.points.now c.note_all.new.notes t c.args.search.to old new c.position-end.result
     (positions (flat_in f c.args.state.now) t) y.result.now h y.ensures passage c.position-end.ensures c.steps.invariant.above
@@ -30,10 +32,11 @@ steps-preserved g c =
     let new = c.take_steps.new.state in
     let x = c.thread_of-in-steps in
     let y = c.thread_of-thread in
+    let same = c.code-code.ensures.value ∙ ap (λ (g : Guest). g.code) c.image.ensures.value in
     let above = c.steps.invariant.above in
     let passed = c.in_ok-take_steps.ensures.passed in
-    let passage = is_passage_if_thread_has_passed f c.args.search.last.now c.args.search.code.now c.args.search.points.now c.note_all.new.notes t c.args.search.to old new x.result.now
-    x.ensures c.requires.search.ends c.requires.search.words c.requires.search.covered c.steps.invariant.stands c.take_steps.ensures.stands passed
+    let passage = is_passage_if_thread_has_passed f c.args.search.last.now c.args.search.code.now c.args.search.points.now c.note_all.new.notes t c.args.search.to old new c.code-code.result.now x.result.now
+    same x.ensures c.requires.search.ends c.requires.search.words c.requires.search.covered c.steps.invariant.stands c.take_steps.ensures.stands passed
     c.note_all.ensures in
     record {
       stands = c.take_steps.ensures.stands;
