@@ -1,6 +1,6 @@
 //! A machine taken apart into registers and pages of private memory, and built from registers and memory.
 
-ghost use Rattle.std.specs.Prelude.{◌≡◌, ◌<◌, length, vec_len, flat_map, map, true, false, IfOk};
+ghost use Rattle.std.specs.Prelude.{◌≡◌, ◌<◌, length, flat_map, map, true, false, IfOk};
 ghost use Rattle.ir_mach.specs.Core.{memory_size};
 ghost use Rattle.ir_mach.specs.Pages.{ArePages, core_of, memory_pages, page_of, page_size, pages_of, register_file};
 
@@ -72,7 +72,7 @@ impl Mach {
 
     /// The machine with these registers and these 65,536 bytes of private memory, which stay where they are.
     pub fn with_memory(regs: &Regs, memory: Vec<u8>) -> Mach
-        requires { vec_len memory ≡ memory_size }
+        requires { length memory.items ≡ memory_size }
         ensures { result ≡ core_of regs.now (pages_of memory.items) }
     {
         Mach {

@@ -1,6 +1,6 @@
 //! A thread taken apart into a frame and pages, and built from a frame and memory or pages.
 
-ghost use Rattle.std.specs.Prelude.{◌≡◌, ◌<◌, length, vec_len, map, true, false, IfOk};
+ghost use Rattle.std.specs.Prelude.{◌≡◌, ◌<◌, length, map, true, false, IfOk};
 ghost use Rattle.ir_mach.specs.Core.{memory_size};
 ghost use Rattle.ir_mach.specs.Pages.{ArePages, memory_pages, page_of, page_size, pages_of};
 ghost use Rattle.ir_thread.specs.Frames.{frame_of, thread_of};
@@ -96,7 +96,7 @@ impl Thread {
     /// # Errors
     /// Out of memory.
     pub fn with_memory(alloc: Global, frame: &Frame, memory: Vec<u8>) -> Result<Thread, AllocError>
-        requires { vec_len memory ≡ memory_size }
+        requires { length memory.items ≡ memory_size }
         ensures { IfOk result (λ thread. thread ≡ thread_of frame.now (pages_of memory.items)) }
     {
         let mut output = Vec::with_capacity(alloc, MOST_OUTPUT)?;
