@@ -1,6 +1,6 @@
 //! A thread taken apart into a frame and pages, and built from a frame and memory or pages.
 
-ghost use Rattle.std.specs.Prelude.{◌≡◌, ◌<◌, length, map, true, false, IfOk};
+ghost use Rattle.std.specs.Prelude.{◌≡◌, ◌<◌, [], length, map, true, false, IfOk};
 ghost use Rattle.ir_mach.specs.Core.{memory_size};
 ghost use Rattle.ir_mach.specs.Pages.{ArePages, memory_pages, page_of, page_size, pages_of};
 ghost use Rattle.ir_thread.specs.Frames.{frame_of, thread_of};
@@ -91,18 +91,14 @@ impl Thread {
         self.mach.page(i)
     }
 
-    /// The thread with this frame and these 65,536 bytes of private memory, which stay where they are, with room for all that it may print.
-    ///
-    /// # Errors
-    /// Out of memory.
-    pub fn with_memory(alloc: Global, frame: &Frame, memory: Vec<u8>) -> Result<Thread, AllocError>
-        requires { length memory.items ≡ memory_size }
-        ensures { IfOk result (λ thread. thread ≡ thread_of frame.now (pages_of memory.items)) }
+    // The thread of this frame on this machine, with room for all that it may print.
+    fn on_machine(alloc: Global, frame: &Frame, mach: Mach) -> Result<Thread, AllocError>
+        ensures { IfOk result (λ thread. thread ≡ record (thread_of frame.now []) { core = mach }) }
     {
         let mut output = Vec::with_capacity(alloc, MOST_OUTPUT)?;
         output.extend_from_slice(frame.output.as_slice())?;
         Ok(Thread {
-            mach: Mach::with_memory(&frame.regs, memory),
+            mach,
             number: frame.number,
             held: roomy(alloc, frame.held.as_slice())?,
             budget: frame.budget,
@@ -113,6 +109,17 @@ impl Thread {
             output,
             ended: frame.ended,
         })
+    }
+
+    /// The thread with this frame and these 65,536 bytes of private memory, which stay where they are, with room for all that it may print.
+    ///
+    /// # Errors
+    /// Out of memory.
+    pub fn with_memory(alloc: Global, frame: &Frame, memory: Vec<u8>) -> Result<Thread, AllocError>
+        requires { length memory.items ≡ memory_size }
+        ensures { IfOk result (λ thread. thread ≡ thread_of frame.now (pages_of memory.items)) }
+    {
+        Thread::on_machine(alloc, frame, Mach::with_memory(&frame.regs, memory))
     }
 
     /// The thread with this frame and these 16 pages of 4,096 bytes, with room for all that it may print.
