@@ -71,7 +71,7 @@ SESSIONS = {
         "over",
         ["continue", "print table.limit", "watch table.limit", "reverse-continue", "bt", "print i", "print last", "continue", "reverse-continue",
          "reverse-continue"],
-        ['Thread 1 "thread 0" received signal SIGTERM', "= 16", "Hardware watchpoint 1: table.limit", "Old value = 16", "New value = 100",
+        [r'Thread 1 "0 \w+" received signal SIGTERM', "= 16", "Hardware watchpoint 1: table.limit", "Old value = 16", "New value = 100",
          r"0x\w+ in fill \(last=4\) at .*over.c:17", r"#1 .*filler_body \(\)", "= 4", "= 4", "Old value = 100", "New value = 16", "over.c:18",
          "Old value = 16", "New value = 100", "No more reverse-execution history"],
     ),
@@ -98,9 +98,9 @@ SESSIONS = {
         "lost",
         ["info threads", "break write_count", "thread 2", "continue", "thread 3", "continue", "info threads", "reverse-continue", "info threads",
          "monitor pos"],
-        [r'\* 1 +Thread 1 "thread 0" \(at 0 of \d+\)', r'Thread 2 "thread 1" hit Breakpoint 1, write_count \(count=1\)',
-         r'Thread 3 "thread 2" hit Breakpoint 1, write_count \(count=3\)', r'1 +Thread 1 "thread 0" \(at [1-9]\d* of \d+\)',
-         r'2 +Thread 2 "thread 1" \(at [1-9]\d* of \d+\)', r'\* 3 +Thread 3 "thread 2" \(at [1-9]\d* of \d+\)', "No more reverse-execution history",
+        [r'\* 1 +Thread 1 "0 \w+" \(at 0 of \d+\)', r'Thread 2 "1 \w+" hit Breakpoint 1, write_count \(count=1\)',
+         r'Thread 3 "2 \w+" hit Breakpoint 1, write_count \(count=3\)', r'1 +Thread 1 "0 \w+" \(at [1-9]\d* of \d+\)',
+         r'2 +Thread 2 "1 \w+" \(at [1-9]\d* of \d+\)', r'\* 3 +Thread 3 "2 \w+" \(at [1-9]\d* of \d+\)', "No more reverse-execution history",
          r"\* 3 .*\(at 0 of \d+\)", r"at [1-9]\d* [1-9]\d* 0"],
     ),
     "09-moved-along": Session(
@@ -129,19 +129,31 @@ SESSIONS = {
          "Old value = 20", "New value = 10", "No more reverse-execution history|Old value = 10", "point 1", "SIGTRAP", "log 1 of 1",
          "Cannot access memory at address 0x80000004"],
     ),
+    "12-questions": Session(
+        "objs",
+        ["ir-who 0", "ir-who account[0].object.balance", "ir-who 0 1", "ir-stale", "ir-why 0 0", "ir-events 0", "ir-why", "break objs.c:11",
+         "continue", "ir-why", "ir-events", "ir-who payer_body", "ir-who 99", "ir-events 7", "ir-why 0 99"],
+        [r"object 0 versions \d", r"version 1 by thread \d event \d step \d+ readers \d  \(objs.c:\d+\)", r"object 0 versions \d",
+         r"version 1 by thread \d event \d step \d+ word 1 \w{8}  \(objs.c:\d+\)", r"version 1 by thread \d event \d .*  \(objs.c:\d+\)",
+         r"stale \d of \d", r"thread 0 event 0 step \d+ write 0 version \d readers \d  \(objs.c:\d+\)",
+         r"^thread 0 event 0 step \d+ pc 000\w+ .*  \(objs.c:\d+\)", "Thread 0 has made no event yet", "hit Breakpoint 1",
+         r"thread 0 event 0 step \d+ .*  \(objs.c:\d+\)", r"thread 0 event 0 .*  \(objs.c:\d+\)", "payer_body is no word of an object",
+         "the trace has no object of this number", "Thread 7 has no event",
+         "the thread has no event of this number"],
+    ),
     "12-watched-words": Session(
         "objs",
         ["watch *(int *)0x80000004", "watch -l account[0].object.owner", *["continue"] * 3, "x/2xw 0x80000000", *["continue"] * 2,
          *["reverse-continue"] * 5, "delete", "tbreak objs.c:9", "continue", "watch *(long long *)0x80000000", "next", "stepi", "reverse-next",
          "reverse-stepi", "bt"],
-        [r'Thread 2 "thread 1" hit Hardware watchpoint 2', "Old value = 0", "New value = 2", r"payer_body \(\) at .*objs.c:10",
-         r'Thread 2 "thread 1" hit Hardware watchpoint 1', "Old value = 0", "New value = 10", r"payer_body \(\) at .*objs.c:11",
-         r'Thread 1 "thread 0" hit Hardware watchpoint 2', "Old value = 2", "New value = 1", r"0x80000000:\s+0x00000001\s+0x0000000a",
-         r'Thread 1 "thread 0" hit Hardware watchpoint 1', "Old value = 10", "New value = 20", "No more reverse-execution history",
-         r'Thread 1 "thread 0" hit Hardware watchpoint 1', "Old value = 20", "New value = 10", r"payer_body \(\) at .*objs.c:10",
-         r'Thread 1 "thread 0" hit Hardware watchpoint 2', "Old value = 1", "New value = 2", r"payer_body \(\) at .*objs.c:9",
-         r'Thread 2 "thread 1" hit Hardware watchpoint 1', "Old value = 10", "New value = 0",
-         r'Thread 2 "thread 1" hit Hardware watchpoint 2', "Old value = 2", "New value = 0", "No more reverse-execution history",
+        [r'Thread 2 "1 \w+" hit Hardware watchpoint 2', "Old value = 0", "New value = 2", r"payer_body \(\) at .*objs.c:10",
+         r'Thread 2 "1 \w+" hit Hardware watchpoint 1', "Old value = 0", "New value = 10", r"payer_body \(\) at .*objs.c:11",
+         r'Thread 1 "0 \w+" hit Hardware watchpoint 2', "Old value = 2", "New value = 1", r"0x80000000:\s+0x00000001\s+0x0000000a",
+         r'Thread 1 "0 \w+" hit Hardware watchpoint 1', "Old value = 10", "New value = 20", "No more reverse-execution history",
+         r'Thread 1 "0 \w+" hit Hardware watchpoint 1', "Old value = 20", "New value = 10", r"payer_body \(\) at .*objs.c:10",
+         r'Thread 1 "0 \w+" hit Hardware watchpoint 2', "Old value = 1", "New value = 2", r"payer_body \(\) at .*objs.c:9",
+         r'Thread 2 "1 \w+" hit Hardware watchpoint 1', "Old value = 10", "New value = 0",
+         r'Thread 2 "1 \w+" hit Hardware watchpoint 2', "Old value = 2", "New value = 0", "No more reverse-execution history",
          r"Temporary breakpoint 3, payer_body \(\) at .*objs.c:9", "Old value = 0", r"New value = [12]$", "Old value = [12]$", "New value = 0",
          r"#1 .*payer \(\)"],
         locked=False,
@@ -159,7 +171,7 @@ SESSIONS = {
         "objs",
         ["ir-owatch account[0].object.balance", "continue", "print account[0].object", "continue", "print account[0].object", "continue", "reverse-continue",
          "reverse-continue", "reverse-continue", "monitor clear 1"],
-        ["point 1", r'Thread (\d) "thread \d" received signal SIGTRAP', r"\{owner = \d, balance = 10", r'Thread (\d) "thread \d" received signal SIGTRAP',
+        ["point 1", r'Thread (\d) "\d \w+" received signal SIGTRAP', r"\{owner = \d, balance = 10", r'Thread (\d) "\d \w+" received signal SIGTRAP',
          r"\{owner = \d, balance = 20", "No more reverse-execution history", "received signal SIGTRAP", "received signal SIGTRAP",
          "No more reverse-execution history", "cleared 1"],
         locked=False,
@@ -434,14 +446,14 @@ def check_bad_ends(folder):
             ended = run(text, folder)
             if ended.returncode:
                 raise Wrong(f"{text} with end {way}: {ended!r}")
-        told = rf'Thread 2 "thread 1" received signal {signal_name}'
+        told = rf'Thread 2 "1 \w+" received signal {signal_name}'
         all_words = [rf'\d +Thread 1 .*\(at (\d+) of \1 done\)', rf'\* 2 +Thread 2 .*\(at (\d+) of \1 ended: {words}\)']
         lines = ["continue", "info threads", "continue", "reverse-continue", "thread 1", "continue", "thread 1", "reverse-stepi", "stepi", "info threads"]
         wanted = [told, *all_words, OVER, OVER, told, r"\(gdb\) stepi\n0x", r"\* 1 +Thread 1 "]
         check_session(Session("ends", lines, wanted, locked=False), folder)
         check_session(Session("ends", ["thread 2", "continue", "continue", "thread 1", "continue"], [told, OVER, OVER]), folder)
     # a step over a breakpoint, and a single step, to the thread's end
-    told = 'Thread 2 "thread 1" received signal SIGXCPU'
+    told = r'Thread 2 "1 \w+" received signal SIGXCPU'
     lines = ["thread 2", "continue", "reverse-stepi", "break *$pc", "stepi", "reverse-stepi", "delete", "stepi"]
     check_session(Session("ends", lines, [told, told, told], locked=False), folder)
 
@@ -462,11 +474,11 @@ def check_object_words(folder):
         raise Wrong(f"one writer only: {said}")
     wanted = []
     for thread, step, old, new in changes:
-        wanted += [rf'Thread {thread + 1} "thread {thread}" hit Hardware watchpoint 1', rf"Old value = {old}$", rf"New value = {new}$",
+        wanted += [rf'Thread {thread + 1} "{thread} \w+" hit Hardware watchpoint 1', rf"Old value = {old}$", rf"New value = {new}$",
                    r"^at " + r"\d+ " * thread + rf"{step + 1}\b"]
     wanted.append("No more reverse-execution history")
     for thread, step, old, new in reversed(changes):
-        wanted += [rf'Thread {thread + 1} "thread {thread}" hit Hardware watchpoint 1', rf"Old value = {new}$", rf"New value = {old}$", "bank.c:26",
+        wanted += [rf'Thread {thread + 1} "{thread} \w+" hit Hardware watchpoint 1', rf"Old value = {new}$", rf"New value = {old}$", "bank.c:26",
                    r"^at " + r"\d+ " * thread + rf"{step}\b"]
     wanted.append("No more reverse-execution history")
     moves = [line for move in ("continue", "reverse-continue") for line in [move, "monitor pos"] * (len(changes) + 1)]
