@@ -19,6 +19,9 @@ import view  # noqa: E402
 
 FULL = b"ir: standard output can't be written\n"
 
+# The status where nobody reads what is printed: 128 and the number of SIGPIPE.
+UNREAD = 141
+
 # The lost update: both threads read version 0, thread 1 writes first.
 BAD, GOOD = "0x10,1x25", "0x25"
 STALE = b"""stale 1 of 2
@@ -716,7 +719,7 @@ def refused(folder):
 
 
 def not_written(folder):
-    """A full device, a closed output and a pipe that no process reads are reported."""
+    """A full device and a closed output are reported, and a pipe that no process reads isn't."""
     for arguments in ("stale bad.trc", "stale bad.trc --image lost.img", "stale odd.trc", "stale lost.img", "who bad.trc 0", "who bad.trc 0 0",
                       "who bad.trc 0 --word 0 --image lost.img", "why bad.trc 0 1", "diff bad.trc good.trc", "diff bad.trc counter.trc"):
         for to in (">/dev/full", ">&-"):
@@ -726,7 +729,7 @@ def not_written(folder):
         os.close(reader)
         ended = run(arguments, folder, stdout=writer)
         os.close(writer)
-        wants(f"{arguments}: a closed pipe", (ended.returncode, ended.stderr), (1, FULL))
+        wants(f"{arguments}: a closed pipe", (ended.returncode, ended.stderr), (UNREAD, b""))
     ended = shell("./ir who bad.trc 1 2>&-", folder)
     wants("a closed standard error", (ended.returncode, ended.stdout), (2, b""))
 

@@ -42,6 +42,9 @@ DOUBLE_LINE = b"thread 0 end 1 code 144 steps 6 events 0\n"
 TWO_LINES = b"thread 0 end 2 code 0 steps 4 events 0\nthread 1 end 2 code 0 steps 1 events 0\n"
 FULL = b"ir: standard output can't be written\n"
 
+# The status where nobody reads what is printed: 128 and the number of SIGPIPE.
+UNREAD = 141
+
 # The fault of bad.s, and what explains it.
 BAD_LINE = "line 2 error 2\n"
 EXPLAINED = BAD_LINE + "bad.s:2: an unknown instruction or directive: x\n"
@@ -237,7 +240,10 @@ def test_hints(folder):
         wants(f"{words!r} is said once", message.count(words), 1)
     wants("each line and the end are prompted for", message.count("(ir) "), 5)
     status, out, message = typed("", ["00"], folder)
-    wants("no argument", (status, out, "ir: waiting for an image and a trace, " in message), (3, b"image refused 1\n", True))
+    wants("no argument", (status, out, message.count("ir: waiting for an image and a trace, ")), (3, b"image refused 1\n", 1))
+    # The input ends at one Ctrl-D, though neither line came.
+    status, out, message = typed("", [], folder)
+    wants("no line", (status, out, "see ir --help\n" in message), (3, b"image refused 1\n", True))
 
 
 def test_own_files(folder):
@@ -458,13 +464,21 @@ def test_full_devices(folder):
 
 
 def test_closed_pipe(folder):
-    """No process reads the output."""
-    for arguments in ("record d.img d.trc --order 0", "--help", "trace whole.trc", "debug d.img whole.trc"):
+    """No process reads the output: nothing is said of that, and the files are written."""
+    whole = (folder / "whole.trc").read_bytes()
+    for arguments in ("record d.img d.trc --order 0", "--help", "trace whole.trc", "debug d.img whole.trc", "explore d.img"):
         reader, writer = os.pipe()
         os.close(reader)
         ended = run(arguments, folder, stdout=writer)
         os.close(writer)
-        wants(arguments, (ended.returncode, ended.stderr), (1, FULL))
+        wants(arguments, (ended.returncode, ended.stderr), (UNREAD, b""))
+    wants("the trace", (folder / "d.trc").read_bytes(), whole)
+    # What else fails is said.
+    reader, writer = os.pipe()
+    os.close(reader)
+    ended = run("record d.img none/d.trc --order 0", folder, stdout=writer)
+    os.close(writer)
+    wants("another fault", (ended.returncode, ended.stderr), (1, b"ir: none/d.trc can't be written: no such file or folder\n"))
     before = sorted(path.name for path in folder.iterdir())
     for arguments in ("asm d.s /dev/stdout", "record d.img /dev/stdout --order 0", "record d.img /dev/stdout"):
         reader, writer = os.pipe()

@@ -3,6 +3,7 @@
 
 mod progress;
 mod standard;
+mod unread;
 
 use ir_arguments::collected;
 use ir_files::ExitStatus;
@@ -16,6 +17,10 @@ use std::process::ExitCode;
 use std::sync::Wait;
 use std::thread::Threads;
 use std::time::Clock;
+use unread::{Noticing, Reader, Sparing};
+
+// The exit status where nobody reads standard output any more: what a shell tells of a program that SIGPIPE ends, which is 128 and its number.
+const UNREAD: u8 = 141;
 
 // The bytes of a block that `keep_heap` drops.
 const BLOCK: usize = 1 << 20;
@@ -33,10 +38,11 @@ fn complain(rt: &impl Eprint, why: &str) {
 }
 
 // Does what the arguments ask for, over standard streams and the files of the system; the exit status. Threads that record
-// or replay are those of the second handle.
+// or replay are those of the second handle. What is known of the reader of standard output is noted.
 fn run<R: Threads + Wait + Sync + Clock + Eprint + AllocGlobal>(
     rt: &HostRuntime,
     threads: &R,
+    reader: &Reader,
 ) -> ExitStatus {
     keep_heap(rt.alloc());
     let words = match collected(rt) {
@@ -59,8 +65,11 @@ fn run<R: Threads + Wait + Sync + Clock + Eprint + AllocGlobal>(
         faults: rt.stderr().is_terminal(),
     };
     let progress = Progress::new(threads, terminals.faults);
-    let mut out = Wiping::new(FromStd::new(io::writer(rt)), &progress);
-    let mut faults = Wiping::new(FromStd::new(rt.stderr()), &progress);
+    let mut out = Wiping::new(
+        FromStd::new(Noticing::new(io::writer(rt), reader)),
+        &progress,
+    );
+    let mut faults = Sparing::new(Wiping::new(FromStd::new(rt.stderr()), &progress), reader);
     program(
         Surroundings {
             rt: threads,
@@ -77,10 +86,20 @@ fn run<R: Threads + Wait + Sync + Clock + Eprint + AllocGlobal>(
     )
 }
 
+// The number that the system is given: that of the exit status, but where the program failed only because nobody reads standard output.
+fn number_of(status: ExitStatus, reader: &Reader) -> u8 {
+    if status == ExitStatus::Failed && reader.is_kept_back() {
+        UNREAD
+    } else {
+        status.number()
+    }
+}
+
 fn main(rt: HostRuntime) -> ExitCode {
+    let reader = Reader::new();
     let status = match stand_ins(&rt) {
         // They are kept until all is done.
-        Ok(_kept) => run(&rt, &rt),
+        Ok(_kept) => run(&rt, &rt, &reader),
         Err(_) => {
             complain(
                 &rt,
@@ -89,5 +108,5 @@ fn main(rt: HostRuntime) -> ExitCode {
             ExitStatus::Failed
         }
     };
-    ExitCode::from(status.number())
+    ExitCode::from(number_of(status, &reader))
 }
