@@ -104,7 +104,7 @@ CLAIMS = [
         ("ir_gdb", "Replies", "`RepliesTo`: the reply to each request"),
         ("ir_gdb", "Connection", "`RepliesToItems`: the bytes of packets and acknowledgements"),
         ("ir_gdb", "Laws", "the laws"),
-    ], (2380, 1250)),
+    ], (2387, 1250)),
     Claim("Insight", "The lines of `ir stale`, `who`, `why`, `diff`, `view`, `events` and `list`.", {
         "ir_past/src/run.rt": ["stale_run"],
         "ir_rests/src/run.rt": ["rests_run"],
@@ -201,7 +201,7 @@ These definitions also name:
 MANUAL = {("ir_isa", "Fields"), ("ir_isa", "Code"), ("ir_mach", "Core"), ("ir_mach", "Execution"), ("ir_disasm", "Printed")}
 
 # The most lines of the headline's files, and of its definitions beside those that restate the manual.
-MOST_LINES = 3100
+MOST_LINES = 3123
 MOST_DEFINITION_LINES = 1500
 
 # What a law says all of: who believes the law needn't read the definition. The file of the law and its name.

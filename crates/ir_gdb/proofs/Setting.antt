@@ -118,8 +118,8 @@ shared_watches_are_watched ws all = filter_keeps_property_of_all IsWatched is_sh
 pub shared_watches_are_not_more : (ws : List Watched) → length (shared_of ws) ≤ length ws
 shared_watches_are_not_more ws = filter_is_not_longer is_shared ws
 
-pub shared_watches_are_few : (n : ℕ) (ws : List Watched) → n + length ws ≤ most_stub_points → n + length (shared_of ws) ≤ most_stub_points
-shared_watches_are_few n ws few = let less = shared_watches_are_not_more ws in omega (arith, less, few)
+pub shared_watches_are_few : (n : ℕ) (ws shared : List Watched) → shared ≡ shared_of ws → n + length ws ≤ most_stub_points → n + length shared ≤ most_stub_points
+shared_watches_are_few n ws shared same few = let less = shared_watches_are_not_more ws in let as_many = ap length same in omega (arith, less, few, as_many)
 
 abbrev added_if : Bool → Watched → List Watched
 added_if true w = w ∷ []
