@@ -240,7 +240,10 @@ def test_hints(folder):
         wants(f"{words!r} is said once", message.count(words), 1)
     wants("each line and the end are prompted for", message.count("(ir) "), 5)
     status, out, message = typed("", ["00"], folder)
-    wants("no argument", (status, out, "ir: waiting for an image and a trace, " in message), (3, b"image refused 1\n", True))
+    wants("no argument", (status, out, message.count("ir: waiting for an image and a trace, ")), (3, b"image refused 1\n", 1))
+    # The input ends at one Ctrl-D, though neither line came.
+    status, out, message = typed("", [], folder)
+    wants("no line", (status, out, "see ir --help\n" in message), (3, b"image refused 1\n", True))
 
 
 def test_own_files(folder):

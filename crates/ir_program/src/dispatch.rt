@@ -15,6 +15,7 @@ use crate::commands::record::record_file;
 use crate::commands::trace::trace_file;
 use crate::commands::until::until_file;
 use crate::commands::{explain_image, say};
+use crate::ends_once::EndsOnce;
 use crate::prompting::Prompting;
 use ir_arguments::{Asked, Make, Print, parsed};
 use ir_debug::{Sink, Source};
@@ -47,9 +48,7 @@ pub struct Invocation<'a> {
 
 // What is said at a terminal where nothing was asked for.
 const WAITS: &str =
-    "ir: waiting for an image and a trace, a line of hexadecimal digits each, and then for commands; ir --help tells
-what else it does
-";
+    "ir: waiting for an image and a trace, a line of hexadecimal each; see ir --help\n";
 
 // Writes a text about the program.
 fn help<O: Sink, E: Sink>(text: &str, out: &mut O, faults: &mut E) -> ExitStatus {
@@ -62,7 +61,7 @@ fn help<O: Sink, E: Sink>(text: &str, out: &mut O, faults: &mut E) -> ExitStatus
     }
 }
 
-// The session of what is read, an image and a trace as lines of digits and then commands.
+// The session of what is read, an image and a trace as lines of digits and then commands. At a terminal its input ends at the first end of it.
 fn bundled_session<R, H, I, O, E>(
     rt: &R,
     hands: &H,
@@ -81,7 +80,7 @@ where
     requires writes { O.broken out.old ≡ false }
     requires reports { E.broken faults.old ≡ false }
 {
-    let mut input = input;
+    let mut input = EndsOnce::new(input, at_terminal);
     if at_terminal {
         let _ = rt.eprint(format_args!("{WAITS}"));
     }

@@ -6,6 +6,7 @@ mod commands;
 mod debugging;
 mod dispatch;
 mod ends;
+mod ends_once;
 mod fault;
 mod gdb;
 mod hints;
