@@ -9,7 +9,7 @@ _ir() {
             elf) words="--explain --help" ;;
             list) words="--map --help" ;;
             record) words="--order --order-file --chaos --by --budget --random --profile --input --output --status --help" ;;
-            hunt) words="--seeds --until --by --jobs --budget --random --profile --input --output --help" ;;
+            hunt) words="--seeds --until --by --jobs --seconds --budget --random --profile --input --output --help" ;;
             explore) words="--until --states --switches --private --random --profile --input --output --help" ;;
             debug) words="--help" ;;
             gdb) words="--help" ;;

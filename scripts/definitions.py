@@ -88,7 +88,7 @@ CLAIMS = [
         ("ir_chaos", "Schedules", "`IsSchedule`: the run by a chooser"),
         ("ir_hunt", "Hunt", "`Hunt`: what is hunted"),
         ("ir_hunt", "Finding", "`IsOfSeed`, `IsFound`"),
-        ("ir_hunt", "Tried", "`Fails`, `AreTried`, `IsLowestSeed`"),
+        ("ir_hunt", "Tried", "`Fails`, `AreTried`, `IsLowestSeed`, `IsTriedLast`"),
         ("ir_hunt", "Hunted", "`IsNoneIn`, `IsFoundIn`"),
         ("ir_hunt", "Stopping", "`IsHuntLine`: what is printed of it"),
     ], (1350, 530)),

@@ -14,6 +14,9 @@ REFUSED = [
     ("hunt lost.img h.trc --seeds 0..9", 2, "the following required arguments were not provided: --until <COND>"),
     ("hunt lost.img h.trc --until fault --jobs 0", 2, "--jobs: '0' is no number from 1 to 64"),
     ("hunt lost.img h.trc --until fault --jobs 65", 2, "--jobs: '65' is no number from 1 to 64"),
+    ("hunt lost.img h.trc --until fault --seconds 0", 2, "--seconds: '0' is no number from 1 to 1000000"),
+    ("hunt lost.img h.trc --until fault --seconds 1000001", 2, "--seconds: '1000001' is no number from 1 to 1000000"),
+    ("hunt lost.img h.trc --until fault --seconds 1.5", 2, "--seconds: '1.5' is no number from 1 to 1000000"),
     ("hunt lost.img h.trc --seeds 9..8 --until fault", 2,
      "--seeds: '9..8' is neither A..B, A not above B, nor A+N, of numbers up to 18446744073709551615"),
     ("hunt lost.img h.trc --seeds 9 --until fault", 2,
@@ -140,6 +143,23 @@ def last_seeds(folder):
     wants("the last seeds", (ended.returncode, ended.stdout), (5, f"none {last - 2}..{last}\n".encode()))
 
 
+def bounded(folder):
+    """After its seconds a hunt ends with the seeds that it has tried, and says up to which; a hunt that is done before says nothing of them."""
+    (folder / "k.trc").write_bytes(b"an older trace")
+    start = time.monotonic()
+    ended = run("hunt lost.img k.trc --seeds 7..18446744073709551615 --until fault --seconds 1", folder)
+    took = time.monotonic() - start
+    said_so = re.fullmatch(rb"none 7\.\.(\d+)\nstopped seconds\n", ended.stdout)
+    wants("the seconds are over", (ended.returncode, ended.stderr, bool(said_so)), (6, b"", True))
+    wants("some seeds were tried, and not all", 7 < int(said_so[1]) < 2**64 - 1, True)
+    wants("it took a second, and few more", 1 <= took < 30, True)
+    wants("TRACE", (folder / "k.trc").read_bytes(), b"an older trace")
+    done = run("hunt lost.img k.trc --seeds 0..20 --until fault --seconds 1000000", folder)
+    wants("all seeds were tried", (done.returncode, done.stdout), (5, b"none 0..20\n"))
+    same = [run(f"hunt lost.img k.trc --seeds 0+1000 --until '!word 0 0 2' {words}", folder).stdout for words in ("", "--seconds 1000000")]
+    wants("what is found", same[0], same[1])
+
+
 def kept(folder):
     """None found, Ctrl-C or a full device: TRACE stays as it was."""
     (folder / "k.trc").write_bytes(b"an older trace")
@@ -166,7 +186,7 @@ def all_of_it(folder):
     """All tests of hunts, in a folder of their own."""
     assembled(folder, "lost", examples()["lost_update"])
     (folder / "folder").mkdir(exist_ok=True)
-    for test in (refused, reported_first, recorded_again, conditions, stale_writes, bad_ends, last_seeds, kept, on_many_machines):
+    for test in (refused, reported_first, recorded_again, conditions, stale_writes, bad_ends, last_seeds, bounded, kept, on_many_machines):
         test(folder)
     assembled(folder, "account", (TOP / "docs/guide/account.s").read_text())
     found("hunt account.img account.trc --seeds 0+1000 --until 'word 0 0 0xffffff9c'", folder)

@@ -18,12 +18,19 @@ const JOBS: &str = "jobs";
 // The most threads that can be asked for.
 const MOST_JOBS: u64 = 64;
 
+const SECONDS: &str = "seconds";
+
+// The most seconds that can be asked for.
+const MOST_SECONDS: u64 = 1_000_000;
+
 /// What follows the help of `ir hunt`.
 pub const HUNT_AFTER: &str =
     "Each seed gives a schedule of the guest's threads, always the same. The guest is run by the schedules of A, A+1 and so on up to
 B, on all processors. The lowest seed whose run fulfils each COND is recorded again: `found seed S order LIST` is printed, then
 TRACE is written, and the lines of `ir record` follow. LIST is for `ir record --order`. If no seed does, `none A..B` is printed,
 nothing is written, and the exit status isn't 0. That proves nothing of other schedules. A+N is N seeds from A on.
+After the seconds of `--seconds` no further seeds are begun: then `none A..L` is of the seeds that were tried, and
+`stopped seconds` follows, if any are left.
 Threads change places only before an entry, and when a thread is done; with P 2 also before a leave. The ways to choose:
    walk    each thread that can continue has the same chance
    pct:D   the thread of the highest priority continues. Priorities are drawn; at D - 1 drawn places the thread that would continue
@@ -42,7 +49,7 @@ Numbers are decimal, or hexadecimal after 0x:
 CLOCK, RANDOM, FILE, P and PREFIX are those of `ir record` with LIST. Ctrl-C ends a hunt, and nothing is written.
 Exit status: 0 found, 1 a file that can't be read or written or is too long, 2 bad arguments, 3 a refused image, a guest with
 more threads or objects than P allows, or a COND about what the guest hasn't, 5 none was found, 6 none was found among the seeds
-that were followed, and some were left out because their runs have too many turns.
+that were followed, and some were left out because their runs have too many turns, or because the time was over.
 ";
 
 /// What is hunted, how, and where what is found goes.
@@ -62,6 +69,8 @@ pub struct HuntArguments {
     pub stale: Option<bool>,
     /// The most threads that hunt at once.
     pub jobs: usize,
+    /// How many seconds the hunt may take; `None` if as many as it takes.
+    pub seconds: Option<u32>,
     /// How the guest is recorded, by whatever order.
     pub options: RecordingOptions,
 }
@@ -93,6 +102,16 @@ fn jobs_arg<'a>(alloc: Global) -> Arg<'a> {
         )
 }
 
+fn seconds_arg<'a>(alloc: Global) -> Arg<'a> {
+    Arg::new(alloc, SECONDS)
+        .long(SECONDS)
+        .value_name("N")
+        .allow_negative_numbers(true)
+        .help(
+            "The seconds after which no further seeds are begun, from 1 to 1000000; without it all seeds are tried",
+        )
+}
+
 /// The command with its arguments.
 pub fn with_arguments<'a>(alloc: Global, command: Command<'a>) -> Result<Command<'a>, AllocError> {
     let command = command
@@ -101,7 +120,8 @@ pub fn with_arguments<'a>(alloc: Global, command: Command<'a>) -> Result<Command
         .arg(seeds_arg(alloc))?
         .arg(until_arg(alloc))?
         .arg(by_arg(alloc))?
-        .arg(jobs_arg(alloc))?;
+        .arg(jobs_arg(alloc))?
+        .arg(seconds_arg(alloc))?;
     with_options(alloc, command)
 }
 
@@ -115,6 +135,37 @@ fn jobs_by(alloc: Global, matches: &ArgMatches<'_>) -> Result<Result<usize, Stri
         None => Ok(Err(format!(in alloc;
             "--{JOBS}: '{text}' is no number from 1 to {MOST_JOBS}"
         )?)),
+    }
+}
+
+// The most seconds that are asked for, if they are, or what is wrong with their number.
+fn seconds_by(
+    alloc: Global,
+    matches: &ArgMatches<'_>,
+) -> Result<Result<Option<u32>, String>, AllocError> {
+    let Some(text) = matches.get_str(SECONDS) else {
+        return Ok(Ok(None));
+    };
+    match number_within(1, MOST_SECONDS, text) {
+        Some(number) => Ok(Ok(Some(number as u32))),
+        None => Ok(Err(format!(in alloc;
+            "--{SECONDS}: '{text}' is no number from 1 to {MOST_SECONDS}"
+        )?)),
+    }
+}
+
+// The most threads and seconds that are asked for, or what is wrong with one of the numbers.
+fn bounds_by(
+    alloc: Global,
+    matches: &ArgMatches<'_>,
+) -> Result<Result<(usize, Option<u32>), String>, AllocError> {
+    let jobs = match jobs_by(alloc, matches)? {
+        Ok(jobs) => jobs,
+        Err(why) => return Ok(Err(why)),
+    };
+    match seconds_by(alloc, matches)? {
+        Ok(seconds) => Ok(Ok((jobs, seconds))),
+        Err(why) => Ok(Err(why)),
     }
 }
 
@@ -151,8 +202,8 @@ pub fn asked(alloc: Global, matches: &ArgMatches<'_>) -> Result<Asked, AllocErro
         Ok(wanted) => wanted,
         Err(why) => return Ok(Asked::Nothing(why)),
     };
-    let jobs = match jobs_by(alloc, matches)? {
-        Ok(jobs) => jobs,
+    let (jobs, seconds) = match bounds_by(alloc, matches)? {
+        Ok(bounds) => bounds,
         Err(why) => return Ok(Asked::Nothing(why)),
     };
     Ok(Asked::Hunt(HuntArguments {
@@ -163,6 +214,7 @@ pub fn asked(alloc: Global, matches: &ArgMatches<'_>) -> Result<Asked, AllocErro
         until,
         stale,
         jobs,
+        seconds,
         options,
     }))
 }

@@ -98,11 +98,10 @@ last_of_part_is_lowest h seeds first last a list from within part = record {
   lower = subst (λ z. AreTried h z (last - z) a) from part.lower;
 }
 
--- where no seed is found in a part of all seeds, all were tried
-pub seeds_of_whole_part_are_tried : (h : Hunt) (seeds : Seeds) (first last a : ℕ) → first ≡ seeds.first → last ≡ seeds.last
-    → WereTried h first last a None → AreAllTried h seeds.first seeds.last a
-seeds_of_whole_part_are_tried h seeds first last a from to part =
-    subst (λ z. AreAllTried h seeds.first z a) to (subst (λ z. AreAllTried h z last a) from part)
+-- where no seed is found in a part, all of it were tried
+pub seeds_of_part_are_tried : (h : Hunt) (seeds : Seeds) (first last a : ℕ) → first ≡ seeds.first → WereTried h first last a None
+    → AreAllTried h seeds.first last a
+seeds_of_part_are_tried h seeds first last a from part = subst (λ z. AreAllTried h z last a) from part
 
 -- of no seeds all were tried
 pub no_seeds_are_tried : (h : Hunt) (first last : ℕ) → last < first → AreAllTried h first last 0

@@ -10,8 +10,8 @@ use Rattle.ir_hunt.specs.declared.plan.HuntPlan.{HuntPlan}
 use Rattle.ir_hunt.specs.Finding.{IsFound, IsOrderOfSeed}
 use Rattle.ir_hunt.specs.Hunt.{Hunt, hunt_of}
 use Rattle.ir_hunt.specs.Hunted.{IsFoundIn, IsNoneIn}
-use Rattle.ir_hunt.specs.Tried.{AreAllTried, Fails, IsLowestSeed}
-use Rattle.ir_hunt.specs.Lines.{found_line, left_out_words, none_line}
+use Rattle.ir_hunt.specs.Tried.{AreAllTried, Fails, IsLowestSeed, IsTriedLast}
+use Rattle.ir_hunt.specs.Lines.{found_line, left_out_words, none_lines}
 use Rattle.ir_hunt.specs.Stopping.{IsHuntLine, TellsLeftOut}
 
 pub error_fact_if_is_err : {A E : Type 0} (r : Result A E) (P : Type 0) → OnErr r P → is_err r ≡ true → P
@@ -23,21 +23,22 @@ ok_fact_unless_is_err (Ok x) P h e = h
 ok_fact_unless_is_err (Err x) P h e = absurd cc
 
 -- the line of what was found, or of nothing
-pub line_is_hunt_line : {F : Type 0} (seed_of : F → ℕ) (list_of : F → List ℕ) (image : List ℕ) (plan : HuntPlan) (found : Option F) (left_out : ℕ) (line : List ℕ)
-    → MatchOption found (IsNoneIn image plan left_out) (λ f. IsFoundIn image plan left_out (seed_of f) (list_of f))
-    → MatchOption found (line ≡ none_line plan.seeds.first plan.seeds.last) (λ f. line ≡ found_line (seed_of f) (list_of f))
+pub line_is_hunt_line : {F : Type 0} (seed_of : F → ℕ) (list_of : F → List ℕ) (image : List ℕ) (plan : HuntPlan) (found : Option F) (last left_out : ℕ) (line : List ℕ)
+    → MatchOption found (IsNoneIn image plan last left_out) (λ f. IsFoundIn image plan left_out (seed_of f) (list_of f))
+    → MatchOption found (line ≡ none_lines plan.seeds.first last plan.seeds.last) (λ f. line ≡ found_line (seed_of f) (list_of f))
     → IsHuntLine image plan line
-line_is_hunt_line seed_of list_of image plan None left_out line h e = inr (left_out, h, e)
-line_is_hunt_line seed_of list_of image plan (Some f) left_out line h e = inl (left_out, seed_of f, list_of f, h, e)
+line_is_hunt_line seed_of list_of image plan None last left_out line h e = inr (last, left_out, h, e)
+line_is_hunt_line seed_of list_of image plan (Some f) last left_out line h e = inl (left_out, seed_of f, list_of f, h, e)
 
 -- what a search of an image's guest came to is what its hunt comes to
 pub search_is_hunt : {F : Type 0} (seed_of : F → ℕ) (list_of : F → List ℕ) (image : List ℕ) (plan : HuntPlan) (guest : Guest) (choices : List ℕ) (found : Option F)
-    (left_out : ℕ) → guest_at image ≡ Ok guest
-    → MatchOption found (AreAllTried (hunt_of guest plan choices) plan.seeds.first plan.seeds.last left_out)
+    (last left_out : ℕ) → guest_at image ≡ Ok guest
+    → MatchOption found (IsTriedLast plan.seeds.last plan.seconds last × AreAllTried (hunt_of guest plan choices) plan.seeds.first last left_out)
     (λ f. IsLowestSeed (hunt_of guest plan choices) plan.seeds.first plan.seeds.last (seed_of f) left_out (list_of f))
-    → MatchOption found (IsNoneIn image plan left_out) (λ f. IsFoundIn image plan left_out (seed_of f) (list_of f))
-search_is_hunt seed_of list_of image plan guest choices None left_out is h = record { guest = guest; is = is; choices = choices; tried = h }
-search_is_hunt seed_of list_of image plan guest choices (Some f) left_out is h = record { guest = guest; is = is; choices = choices; lowest = h }
+    → MatchOption found (IsNoneIn image plan last left_out) (λ f. IsFoundIn image plan left_out (seed_of f) (list_of f))
+search_is_hunt seed_of list_of image plan guest choices None last left_out is h =
+    record { guest = guest; is = is; choices = choices; ends = h.0; tried = h.1 }
+search_is_hunt seed_of list_of image plan guest choices (Some f) last left_out is h = record { guest = guest; is = is; choices = choices; lowest = h }
 
 -- the list of a seed without conditions spells the order of its run
 pub list_is_order_of_seed : {S : Type 0} (words_of : S → List ℕ) (image : List ℕ) (guest : Guest) (plan : Plan) (way : Way) (seed : ℕ) (choices : List ℕ) (hunt : Hunt) (o : Option S)

@@ -1,8 +1,8 @@
 -- What is tried of a hunt's seeds at a time.
-use Rattle.std.specs.Prelude.{◌≡◌, ◌≤◌, List, All, None, option_map}
+use Rattle.std.specs.Prelude.{◌≡◌, ◌≤◌, ℕ, List, All, Option, None, option_map}
 use Rattle.std.specs.String.{string_bytes}
 use Rattle.ir_hunt.specs.Hunt.{Hunt}
-use Rattle.ir_hunt.specs.Tried.{WereTried}
+use Rattle.ir_hunt.specs.Tried.{WereTried, IsTriedLast}
 use Rattle.ir_hunt.specs.declared.part.Part.{Part}
 use Rattle.ir_hunt.specs.declared.plan.Seeds.{Seeds}
 
@@ -20,6 +20,11 @@ pub record IsBegun (hunt : Hunt) (seeds : Seeds) (part : Part) : Type 0 where
 pub record IsPartOf (hunt : Hunt) (seeds : Seeds) (part : Part) : Type 0 where
   pub begun : IsBegun hunt seeds part
   pub all : part.list ≡ None → part.seeds.last ≡ seeds.last
+
+-- and if none is found, these are all of them, or the time is bounded
+pub record IsPartWithin (hunt : Hunt) (seeds : Seeds) (seconds : Option ℕ) (part : Part) : Type 0 where
+  pub begun : IsBegun hunt seeds part
+  pub ends : part.list ≡ None → IsTriedLast seeds.last seconds part.seeds.last
 
 -- a worker of the hunt has tried the seeds of these parts
 pub record HasTried (hunt of : Hunt) (parts : List Part) : Type 0 where

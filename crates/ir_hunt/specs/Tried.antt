@@ -1,5 +1,5 @@
 -- Which seeds of a hunt were tried.
-use Rattle.std.specs.Prelude.{◌≡◌, ◌≤◌, ◌⊎◌, ℕ, zero, suc, ◌+◌, ◌-◌, List, Option, Some, None}
+use Rattle.std.specs.Prelude.{◌≡◌, ◌<◌, ◌≤◌, ◌⊎◌, ℕ, zero, suc, ◌+◌, ◌-◌, List, Option, Some, None}
 use Rattle.ir_runs.specs.Run.{Step}
 use Rattle.ir_order.specs.Recording.{IsPlanned}
 use Rattle.ir_hunt.specs.Finding.{IsOfSeed, FailsSome, IsFound}
@@ -30,6 +30,10 @@ pub record IsLowestSeed (hunt : Hunt) (first last seed left_out : ℕ) (list : L
 -- all seeds from the first to the last were tried
 abbrev pub AreAllTried : Hunt → ℕ → ℕ → ℕ → Type 0
 AreAllTried hunt first last left_out = AreTried hunt first (last + 1 - first) left_out
+
+-- the seed that is tried last where none is found: the last of all, or an earlier one, but that only if the time is bounded
+abbrev pub IsTriedLast : ℕ → Option ℕ → ℕ → Type 0
+IsTriedLast last seconds tried = (tried ≡ last) ⊎ ((tried < last) × ((s : ℕ) × (seconds ≡ Some s)))
 
 -- the seeds from the first to the last were tried, one after the other: all of them if there is no list, and else the last is found
 abbrev pub WereTried : Hunt → ℕ → ℕ → ℕ → Option (List ℕ) → Type 0

@@ -1,6 +1,6 @@
 //! A hunt, and the recording of what it finds.
 
-ghost use Rattle.std.specs.Prelude.{◌≡◌, ◌<◌, ◌++◌, ◌⊎◌, ℕ, List, false, true, IfOk, IfErr, IfSome, MatchOption, None, OnOk};
+ghost use Rattle.std.specs.Prelude.{◌≡◌, ◌<◌, ◌++◌, ◌⊎◌, nat_lt, ℕ, List, false, true, IfOk, IfErr, IfSome, MatchOption, None, OnOk};
 ghost use Rattle.std.specs.String.{string_bytes};
 ghost use Rattle.std.specs.Io.KnownBytes.{Appends};
 ghost use Rattle.ir_trace.specs.Encoding.{encoding};
@@ -12,11 +12,11 @@ ghost use Rattle.ir_record_run.specs.declared.record_fault.RecordFault.{RecordFa
 ghost use Rattle.ir_record_run.specs.declared.record_fault.RecordFault.TheVariants.{Lines};
 ghost use Rattle.ir_hunt.specs.Finding.{IsOrderOfSeed, by_list};
 ghost use Rattle.ir_hunt.specs.Hunted.{IsFoundIn, IsNoneIn, IsFinding};
-ghost use Rattle.ir_hunt.specs.Lines.{found_line, left_out_words, none_line};
+ghost use Rattle.ir_hunt.specs.Lines.{found_line, left_out_words, none_lines};
 ghost use Rattle.ir_hunt.specs.Stopping.{RefusesHunt, IsTold, IsHuntLine, TellsLeftOut, none_status};
 
 use crate::plan::{HuntPlan, Seeds};
-use crate::report::{found_line, left_out_words, none_line};
+use crate::report::{found_line, left_out_words, none_lines};
 use crate::search::{Found, Search, lowest_seed};
 use crate::seeker::{Lost, Seeker};
 use ir_chaos::Way;
@@ -55,6 +55,7 @@ pub fn order_of_seed<C: Clock>(
         conditions: &[],
         stale: None,
         jobs: 1,
+        seconds: None,
         is_shown: false,
     };
     let mut seeker = Seeker::new(alloc, clock, guest, &plan)?;
@@ -66,23 +67,29 @@ pub fn order_of_seed<C: Clock>(
     }
 }
 
-// What a hunt comes to: the line that says so, what was found, and how many seeds were left out, if any were.
+// What a hunt comes to: the lines that say so, what was found, how many seeds were left out, if any were, and which was tried last.
 #[derive(Drop)]
 struct Sought {
     line: String,
     found: Option<Found>,
     left_out: Option<String>,
+    last: u64,
 }
 
 // What a hunt comes to, by its search.
 fn sought_by(alloc: Global, search: Search, seeds: Seeds) -> Result<Sought, AllocError>
     ensures found { IfOk result (λ s. s.found ≡ search.found) }
-    ensures line { IfOk result (λ s. MatchOption s.found (string_bytes s.line ≡ none_line seeds.first seeds.last)
+    ensures last { IfOk result (λ s. s.last ≡ search.last) }
+    ensures line { IfOk result (λ s. MatchOption s.found (string_bytes s.line ≡ none_lines seeds.first s.last seeds.last)
         (λ f. string_bytes s.line ≡ found_line f.seed (string_bytes f.list))) }
     ensures left_out { IfOk result (λ s. MatchOption s.left_out (search.left_out ≡ 0)
         (λ words. (0 < search.left_out) × (string_bytes words ≡ left_out_words search.left_out))) }
 {
-    let Search { found, left_out } = search;
+    let Search {
+        found,
+        left_out,
+        last,
+    } = search;
     let left_out = left_out_words(alloc, left_out)?;
     match found {
         Some(found) => {
@@ -91,14 +98,16 @@ fn sought_by(alloc: Global, search: Search, seeds: Seeds) -> Result<Sought, Allo
                 line,
                 found: Some(found),
                 left_out,
+                last,
             })
         }
         None => {
-            let line = none_line(alloc, seeds)?;
+            let line = none_lines(alloc, seeds, last)?;
             Ok(Sought {
                 line,
                 found: None,
                 left_out,
+                last,
             })
         }
     }
@@ -112,9 +121,9 @@ fn hunted<R: Threads + Clock + Sync + Eprint>(
     plan: &HuntPlan<'_>,
 ) -> Result<Sought, RecordFault>
     ensures sought { IfOk result (λ s. (left_out : ℕ)
-        × MatchOption s.found (IsNoneIn image.now plan.now left_out) (λ f. IsFoundIn image.now plan.now left_out f.seed (string_bytes f.list))
+        × MatchOption s.found (IsNoneIn image.now plan.now s.last left_out) (λ f. IsFoundIn image.now plan.now left_out f.seed (string_bytes f.list))
         × MatchOption s.left_out (left_out ≡ 0) (λ words. (0 < left_out) × (string_bytes words ≡ left_out_words left_out))) }
-    ensures line { IfOk result (λ s. MatchOption s.found (string_bytes s.line ≡ none_line plan.now.seeds.first plan.now.seeds.last)
+    ensures line { IfOk result (λ s. MatchOption s.found (string_bytes s.line ≡ none_lines plan.now.seeds.first s.last plan.now.seeds.last)
         (λ f. string_bytes s.line ≡ found_line f.seed (string_bytes f.list))) }
     ensures refused { IfErr result (λ e. RefusesHunt e image.now plan.now.record) }
 {
@@ -146,10 +155,13 @@ fn tell_left_out<E: Sink>(faults: &mut E, words: &Option<String>)
     }
 }
 
-// The exit status of a hunt that found none, by the words that say how many seeds were left out.
-fn none_status(words: &Option<String>) -> ExitStatus
-    ensures { (left_out : ℕ) → MatchOption words.now (left_out ≡ 0) (λ words. (0 < left_out) × (string_bytes words ≡ left_out_words left_out)) → result ≡ none_status left_out }
+// The exit status of a hunt that found none, by whether its time was over, and by the words that say how many seeds were left out.
+fn none_status(is_over: bool, words: &Option<String>) -> ExitStatus
+    ensures { (left_out : ℕ) → MatchOption words.now (left_out ≡ 0) (λ words. (0 < left_out) × (string_bytes words ≡ left_out_words left_out)) → result ≡ none_status is_over left_out }
 {
+    if is_over {
+        return ExitStatus::GaveUp;
+    }
     match words {
         Some(_) => ExitStatus::GaveUp,
         None => ExitStatus::NotSo,
@@ -171,12 +183,13 @@ fn by_list<'a>(how: &RecordPlan<'a>, list: &'a str) -> RecordPlan<'a>
 
 /// Tries the seeds of a plan. If the run of one fulfils each of its conditions, the run of the lowest is recorded: first a line
 /// `found seed S order LIST` is written, and then all that `record_by_list` writes of the recording by LIST. Else a line
-/// `none A..B` is all that is written. How many of the seeds that were tried were left out is reported at the end, if any were.
+/// `none A..B` is all that is written, of the seeds that were tried; and if the plan bounds the time, and it was over before the last seed, a line
+/// `stopped seconds` after it. How many of the seeds that were tried were left out is reported at the end, if any were.
 /// What was recorded is handed back.
 ///
 /// # Errors
-/// The exit status. It is `NotSo` if no seed fulfils the conditions, and `GaveUp` if none is known to, but some were left out. Else it is the
-/// status of a fault, as of `record_run`, which is reported in one line.
+/// The exit status. It is `NotSo` if no seed fulfils the conditions, and `GaveUp` if none is known to, but some were left out or not tried. Else it is
+/// the status of a fault, as of `record_run`, which is reported in one line.
 pub fn hunt_run<R, W, P, O, E>(
     rt: &R,
     image: &ParsedImage<'_>,
@@ -203,10 +216,10 @@ where
         × Appends (O.written out.old) (O.written out.new) (found_line seed list ++ recording_lines recorded)
         × TellsLeftOut left_out (writer_of (E.written faults.old) (E.written faults.new) (E.broken faults.new)) (faults.new ≡ faults.old)) }
     ensures whole { OnOk result (W.whole files.new.trace ≡ true) }
-    // Else each seed was tried and none is found, which was written, and it is reported how many were left out, if some were; or nothing was
-    // written; or the line failed; or what was found is said, and its recording stopped.
-    ensures stopped { IfErr result (λ status. ((left_out : ℕ) × (status ≡ none_status left_out) × IsNoneIn image.now plan.now left_out
-        × (files.new.trace ≡ files.old.trace) × (files.new.outputs ≡ files.old.outputs) × Appends (O.written out.old) (O.written out.new) (none_line plan.now.seeds.first plan.now.seeds.last)
+    // Else each seed was tried, or where the time is bounded each up to one, and none is found, which was written, and it is reported how many were
+    // left out, if some were; or nothing was written; or the lines failed; or what was found is said, and its recording stopped.
+    ensures stopped { IfErr result (λ status. ((last left_out : ℕ) × (status ≡ none_status (nat_lt last plan.now.seeds.last) left_out) × IsNoneIn image.now plan.now last left_out
+        × (files.new.trace ≡ files.old.trace) × (files.new.outputs ≡ files.old.outputs) × Appends (O.written out.old) (O.written out.new) (none_lines plan.now.seeds.first last plan.now.seeds.last)
         × TellsLeftOut left_out (writer_of (E.written faults.old) (E.written faults.new) (E.broken faults.new)) (faults.new ≡ faults.old))
         ⊎ ((e : RecordFault) × (status ≡ fault_status e) × (
         (RefusesHunt e image.now plan.now.record × (files.new.trace ≡ files.old.trace) × (files.new.outputs ≡ files.old.outputs) × (out.new ≡ out.old)
@@ -235,7 +248,8 @@ where
     }
     let Some(found) = &sought.found else {
         tell_left_out(faults, &sought.left_out);
-        return Err(none_status(&sought.left_out));
+        let is_over = sought.last < plan.seeds.last;
+        return Err(none_status(is_over, &sought.left_out));
     };
     let list = found.list.as_str();
     let plan = &by_list(&plan.record, list);

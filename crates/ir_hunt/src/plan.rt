@@ -27,6 +27,8 @@ pub struct HuntPlan<'a> {
     pub stale: Option<bool>,
     /// The most threads that hunt at once. There is one at least.
     pub jobs: usize,
+    /// How many seconds it may take: no further seeds are begun after them. If it is `None`, as many as it takes.
+    pub seconds: Option<u32>,
     /// Whether it is shown on standard error, once a second, how many seeds were tried.
     pub is_shown: bool,
 }

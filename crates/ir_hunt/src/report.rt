@@ -2,7 +2,7 @@
 
 ghost use Rattle.std.specs.Prelude.{◌≡◌, ◌<◌, IfOk, MatchOption};
 ghost use Rattle.std.specs.String.{string_bytes};
-ghost use Rattle.ir_hunt.specs.Lines.{found_line, left_out_words, none_line};
+ghost use Rattle.ir_hunt.specs.Lines.{found_line, left_out_words, none_line, none_lines};
 
 use crate::plan::Seeds;
 use std::alloc::{AllocError, Global};
@@ -14,12 +14,22 @@ pub fn found_line(alloc: Global, seed: u64, list: &str) -> Result<String, AllocE
     format!(in alloc; "found seed {seed} order {list}\n")
 }
 
-/// The line of a hunt that found none.
-pub fn none_line(alloc: Global, seeds: Seeds) -> Result<String, AllocError>
-    ensures { IfOk result (λ s. string_bytes s ≡ none_line seeds.first seeds.last) }
+// The line of a hunt that found none of the seeds from the first to the one that was tried last.
+fn none_line(alloc: Global, first: u64, tried: u64) -> Result<String, AllocError>
+    ensures { IfOk result (λ s. string_bytes s ≡ none_line first tried) }
 {
-    let Seeds { first, last } = seeds;
-    format!(in alloc; "none {first}..{last}\n")
+    format!(in alloc; "none {first}..{tried}\n")
+}
+
+/// The lines of a hunt that found none of these seeds up to the one that was tried last.
+pub fn none_lines(alloc: Global, seeds: Seeds, tried: u64) -> Result<String, AllocError>
+    ensures { IfOk result (λ s. string_bytes s ≡ none_lines seeds.first tried seeds.last) }
+{
+    let mut lines = none_line(alloc, seeds.first, tried)?;
+    if tried < seeds.last {
+        lines.push_str("stopped seconds\n")?;
+    }
+    Ok(lines)
 }
 
 /// In words, how many seeds were left out, if any were.

@@ -1,10 +1,10 @@
 //! The lowest seed, sought on all processors.
 
-ghost use Rattle.std.specs.Prelude.{◌≡◌, ◌≤◌, ◌<◌, All, IfOk, MatchOption, length, List, ℕ};
+ghost use Rattle.std.specs.Prelude.{◌≡◌, ◌≤◌, ◌<◌, All, IfOk, MatchOption, Option, Some, true, length, List, ℕ};
 ghost use Rattle.std.specs.String.{string_bytes};
 ghost use Rattle.ir_hunt.specs.Hunt.{Hunt, hunt_of};
-ghost use Rattle.ir_hunt.specs.Parts.{HasTried, IsBegun, IsPartOf};
-ghost use Rattle.ir_hunt.specs.Tried.{AreAllTried, IsLowestSeed};
+ghost use Rattle.ir_hunt.specs.Parts.{HasTried, IsBegun, IsPartOf, IsPartWithin};
+ghost use Rattle.ir_hunt.specs.Tried.{AreAllTried, IsLowestSeed, IsTriedLast};
 ghost use Rattle.ir_hunt.specs.declared.plan.Seeds.{Seeds};
 ghost use Rattle.ir_thread.specs.State.{IsAllowed};
 
@@ -39,6 +39,8 @@ pub struct Search {
     pub found: Option<Found>,
     /// How many of the seeds that were tried were left out; if one is found, of those below it.
     pub left_out: u128,
+    /// The seed that was tried last.
+    pub last: u64,
 }
 
 // So many workers.
@@ -125,11 +127,24 @@ fn gathered<C: Clock>(
     Ok(part)
 }
 
-// How long stretches are, and what is shown of them.
+// How long stretches are, what is shown of them, and how many seconds all of them may take.
 #[derive(Clone, Copy, Debug)]
 struct Pace {
     stretches: Stretches,
     shown: Shown,
+    seconds: Option<u32>,
+}
+
+impl Pace {
+    // Whether the time is over, if it is bounded.
+    fn is_over<R: Clock>(&self, rt: &R) -> bool
+        ensures { result ≡ true → (s : ℕ) × (self.now.seconds ≡ Some s) }
+    {
+        match self.seconds {
+            Some(seconds) => self.shown.has_lasted(rt, seconds),
+            None => false,
+        }
+    }
 }
 
 // The workers try the next stretch of these seeds: what was tried of it, up to the first seed that is found.
@@ -146,6 +161,7 @@ fn try_stretch<R: Threads + Clock + Sync + Eprint>(
     ensures tries { All (λ w. w.tries ≡ own.old) workers.new }
     ensures same { own.new ≡ own.old }
     ensures part { IfOk result (λ part. IsBegun own.old seeds part) }
+    ensures seconds { pace.new.seconds ≡ pace.old.seconds }
 {
     let stretch = pace.stretches.next(seeds);
     let dealer = Dealer::new(stretch, workers.len() as u64);
@@ -160,7 +176,7 @@ fn try_stretch<R: Threads + Clock + Sync + Eprint>(
     Ok(part)
 }
 
-// What was tried of all these seeds, stretch by stretch, up to the first that is found.
+// What was tried of all these seeds, stretch by stretch, up to the first that is found, or until the time is over.
 fn try_stretches<R: Threads + Clock + Sync + Eprint>(
     rt: &R,
     alloc: Global,
@@ -171,10 +187,13 @@ fn try_stretches<R: Threads + Clock + Sync + Eprint>(
 ) -> Result<Part, AllocError>
     requires some { seeds.first ≤ seeds.last }
     requires tries { All (λ w. w.tries ≡ own.old) workers.old }
-    ensures { IfOk result (λ part. IsPartOf own.old seeds part) }
+    ensures { IfOk result (λ part. IsPartWithin own.old seeds pace.old.seconds part) }
 {
     let mut part = try_stretch(rt, alloc, workers, own, seeds, pace)?;
     'stretches: while part.ends_before(seeds.last) {
+        if pace.is_over(rt) {
+            return Ok(part);
+        }
         let left = Seeds {
             first: part.seeds.last + 1,
             last: seeds.last,
@@ -191,25 +210,26 @@ fn try_all<R: Threads + Clock + Sync + Eprint>(
     alloc: Global,
     workers: &mut [Worker<'_, R>],
     own: &mut Tries<'_, R>,
-    seeds: Seeds,
-    is_shown: bool,
+    plan: &HuntPlan<'_>,
 ) -> Result<Part, AllocError>
-    requires some { seeds.first ≤ seeds.last }
+    requires some { plan.now.seeds.first ≤ plan.now.seeds.last }
     requires tries { All (λ w. w.tries ≡ own.old) workers.old }
-    ensures { IfOk result (λ part. IsPartOf own.old seeds part) }
+    ensures { IfOk result (λ part. IsPartWithin own.old plan.now.seeds plan.now.seconds part) }
 {
     let mut pace = Pace {
         stretches: Stretches::new(workers.len() as u64),
-        shown: Shown::new(rt, is_shown),
+        shown: Shown::new(rt, plan.is_shown),
+        seconds: plan.seconds,
     };
-    let part = try_stretches(rt, alloc, workers, own, seeds, &mut pace);
+    let part = try_stretches(rt, alloc, workers, own, plan.seeds, &mut pace);
     pace.shown.end(rt);
     part
 }
 
-// What was found of seeds that were tried up to the first that is found.
+// What was found of seeds that were tried up to the first that is found, or until the time is over.
 fn found_in(part: Part) -> Search
-    ensures { (hunt : Hunt) (seeds : Seeds) → IsPartOf hunt seeds part → MatchOption result.found (AreAllTried hunt seeds.first seeds.last result.left_out)
+    ensures { (hunt : Hunt) (seeds : Seeds) (seconds : Option ℕ) → IsPartWithin hunt seeds seconds part
+        → MatchOption result.found (IsTriedLast seeds.last seconds result.last × AreAllTried hunt seeds.first result.last result.left_out)
         (λ f. IsLowestSeed hunt seeds.first seeds.last f.seed result.left_out (string_bytes f.list)) }
 {
     let Part {
@@ -224,15 +244,18 @@ fn found_in(part: Part) -> Search
                 list,
             }),
             left_out,
+            last: seeds.last,
         },
         None => Search {
             found: None,
             left_out,
+            last: seeds.last,
         },
     }
 }
 
-/// The lowest seed that fulfils, sought by as many threads as there are processors, and no more than the plan wants.
+/// The lowest seed that fulfils, sought by as many threads as there are processors, and no more than the plan wants. Where the plan bounds the
+/// time, it may end before the last seed.
 ///
 /// # Errors
 /// Out of memory.
@@ -243,7 +266,8 @@ pub fn lowest_seed<R: Threads + Clock + Sync + Eprint>(
     plan: &HuntPlan<'_>,
 ) -> Result<Search, AllocError>
     requires { IsAllowed plan.now.record.profile image.now }
-    ensures { IfOk result (λ s. (choices : List ℕ) × MatchOption s.found (AreAllTried (hunt_of image.now plan.now choices) plan.now.seeds.first plan.now.seeds.last s.left_out)
+    ensures { IfOk result (λ s. (choices : List ℕ)
+        × MatchOption s.found (IsTriedLast plan.now.seeds.last plan.now.seconds s.last × AreAllTried (hunt_of image.now plan.now choices) plan.now.seeds.first s.last s.left_out)
         (λ f. IsLowestSeed (hunt_of image.now plan.now choices) plan.now.seeds.first plan.now.seeds.last f.seed s.left_out (string_bytes f.list))) }
 {
     let seeds = plan.seeds;
@@ -251,12 +275,13 @@ pub fn lowest_seed<R: Threads + Clock + Sync + Eprint>(
         return Ok(Search {
             found: None,
             left_out: 0,
+            last: seeds.last,
         });
     }
     let mut own = Tries::new(alloc, rt, image, plan)?;
     let count = worker_count(rt, seeds, plan.jobs);
     let mut each = workers(rt, alloc, image, plan, count, &own)?;
     let workers = each.as_mut_slice();
-    let part = try_all(rt, alloc, workers, &mut own, seeds, plan.is_shown)?;
+    let part = try_all(rt, alloc, workers, &mut own, plan)?;
     Ok(found_in(part))
 }

@@ -63,6 +63,14 @@ impl Shown {
         millis.saturating_sub(before)
     }
 
+    /// Whether so many seconds have passed since the start, or the clock can't be read.
+    pub fn has_lasted<R: Clock>(&self, rt: &R, seconds: u32) -> bool {
+        match self.start.and_then(|start| millis_since(rt, start)) {
+            Some(millis) => millis / 1000 >= seconds,
+            None => true,
+        }
+    }
+
     /// Takes its line off the terminal, if one stands there.
     pub fn end<R: Eprint>(&mut self, rt: &R) {
         if self.stands {

@@ -96,6 +96,7 @@ where
         conditions: conditions.as_slice(),
         stale: arguments.stale,
         jobs: arguments.jobs,
+        seconds: arguments.seconds,
         is_shown: explains,
     };
     let places = Places {

@@ -23,7 +23,7 @@ returns-then-is_err-clause-stopped g c =
       inr (inl (
         line,
         refl,
-        line_is_hunt_line (λ f. f.seed) (λ f. string_bytes f.list) c.args.image.now c.args.plan.now c.in-Ok.sought.found sought.0 line sought.1 c.in-Ok.ensures.line,
+        line_is_hunt_line (λ f. f.seed) (λ f. string_bytes f.list) c.args.image.now c.args.plan.now c.in-Ok.sought.found c.in-Ok.sought.last sought.0 line sought.1 c.in-Ok.ensures.line,
         (
           subst (λ (bytes : List ℕ). AppendsPrefix (g.O.Sink.written c.args.out.now) (g.O.Sink.written c.write_all.new.writer) bytes)
               c.as_bytes.ensures.value prefix,

@@ -11,4 +11,5 @@ stretches-preserved g c =
       same = more.same ∙ inv.same;
       begun = begun_with_more_after c.args.own.now c.stretches.own c.args.seeds _ c.stretches.part c.in_ok-next.next c.then-part.result inv.same inv.begun more.part refl
           both.first both.last both.tried;
+      seconds = more.seconds ∙ inv.seconds;
     }
