@@ -29,7 +29,7 @@ hexadecimal, and then the commands of `ir debug`, a line each. With xxd for the 
 Exit status: 0 done, 1 a fault, 2 bad arguments, 3 a refused source, ELF file, MAP, LIST, COND, image or trace, or a guest that
 needs the second profile, 4 a trace that doesn't fit or contradicts itself, 5 no seed or outcome is as COND says, or, with
 `ir record --status`, a thread didn't end by END with code 0, 6 `ir hunt` or `ir explore` gave up, 7 `ir explore` finished, and
-some run hangs.
+some run hangs, 141 nobody reads standard output any more.
 ";
 
 // So many edits make a word another one.

@@ -17,7 +17,7 @@ All of gdb's commands that look, stop and move work, backwards too. Nothing can 
   continue                      to the next hit of any thread, in an order that the run allows
   reverse-continue              the same backwards
   set scheduler-locking on      moves only the current thread: the others go as far as they must, and don't stop it
-  watch X                       counts for the thread that moves, since each thread has memory of its own
+  watch X                       counts for the thread that moves; of a word of an object, for each thread that puts it
   monitor LINE                  a command of `ir debug`, such as `monitor pos`
   x/8xw 0x80000040              object 1: object O is 64 bytes of memory from 0x80000000 + 64 * O on
 What can't be opened is named on standard error in the lines of `ir debug`.
