@@ -15,7 +15,7 @@ use Rattle.ir_gdb.specs.declared.point.Watched.{Watched}
 use Rattle.ir_gdb.specs.declared.stopped.Moving.{Moving}
 use Rattle.ir_gdb.specs.declared.stopped.Stopped.{Stopped}
 use Rattle.ir_gdb.specs.Points.{points_upwards, with_point}
-use Rattle.ir_gdb.specs.Stub.{Stub, stub_spoken}
+use Rattle.ir_gdb.specs.Stub.{Stub, shared_of, stub_spoken}
 use Rattle.ir_gdb.specs.Stops.{position_of, MovesTo}
 use Rattle.ir_gdb.specs.Together.{Halt, Comes, MovesAlone}
 use Rattle.ir_gdb.specs.Over.{pc_here, points_over, OnWay, HasHit, NoneHasHit, OtherHasHit, PassesHit, over, StepsOver, is_step, waits, no_more, LeadsBy, LeadsAlone}
@@ -36,11 +36,11 @@ has_hit_is_whether_hit_on_way_is_some run s pc u cut None way = way
 has_hit_is_whether_hit_on_way_is_some run s pc u cut (Some h) way = (h, way)
 
 pub search_points_are_points_over : (s v : Stub) (pc u : ℕ) (points : List Numbered) (ws : List Watched) (bs : List Breakpoint) (own : List Numbered) → v ≡ stub_spoken s
-    → points ≡ with_point (points_upwards u ws bs own) u pc → ws ≡ [] → bs ≡ v.breaks → own ≡ v.desk.points → points ≡ points_over s pc u
+    → points ≡ with_point (points_upwards u ws bs own) u pc → ws ≡ shared_of v.watches → bs ≡ v.breaks → own ≡ v.desk.points → points ≡ points_over s pc u
 search_points_are_points_over s v pc u points ws bs own same is watches breaks mine =
-    is ∙ ap (λ (x : List Watched). with_point (points_upwards u x bs own) u pc) watches
-    ∙ ap (λ (x : List Breakpoint). with_point (points_upwards u [] x own) u pc) (breaks ∙ ap (λ (x : Stub). x.breaks) same)
-    ∙ ap (λ (x : List Numbered). with_point (points_upwards u [] s.breaks x) u pc) (mine ∙ ap (λ (x : Stub). x.desk.points) same)
+    is ∙ ap (λ (x : List Watched). with_point (points_upwards u x bs own) u pc) (watches ∙ ap (λ (x : Stub). shared_of x.watches) same)
+    ∙ ap (λ (x : List Breakpoint). with_point (points_upwards u (shared_of s.watches) x own) u pc) (breaks ∙ ap (λ (x : Stub). x.breaks) same)
+    ∙ ap (λ (x : List Numbered). with_point (points_upwards u (shared_of s.watches) s.breaks x) u pc) (mine ∙ ap (λ (x : Stub). x.desk.points) same)
 
 pub has_hit_is_whether_found_hit_is_some : (s : Stub) (f : FittedTrace) (pc u to : ℕ) (cut here : List ℕ) (points : List Numbered) (hit : Option Hit) (is : Bool)
     → f ≡ s.desk.fitted → here ≡ s.desk.at → to ≡ cut_of cut u → points ≡ points_over s pc u
