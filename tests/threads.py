@@ -331,6 +331,14 @@ def where_of(folder, *words):
     return subprocess.run([sys.executable, WHERE, *words, "--ir", program()], cwd=folder, check=False, capture_output=True, text=True, timeout=100)
 
 
+def names_in(folder, typed, *trace):
+    """What ir-where adds to lines about threads and objects of account."""
+    words = [sys.executable, WHERE, "account.elf", *trace, "--note", "--ir", program()]
+    ended = subprocess.run(words, cwd=folder, check=False, capture_output=True, text=True, timeout=100, input=typed)
+    wants("the note", ended.returncode, 0)
+    return [line[2:] for line in ended.stdout.splitlines() if line[:2] == "  "]
+
+
 def test_where(folder):
     """ir-where names the variable and the line of each entry that the program makes, also in the page of `ir view`, and refuses what isn't a recording."""
     status, _ = guest(folder, "account", PROGRAMS / "account.c").run("hunt", "account.trc", "--seeds", "0+1000", "--until", "fault")
@@ -347,6 +355,11 @@ def test_where(folder):
     noted = subprocess.run([sys.executable, WHERE, "account.elf", "account.trc", "--note", "--ir", program()], cwd=folder, check=False, capture_output=True, text=True, timeout=100, input=said).stdout
     wants("noted", ([line for line in noted.splitlines() if line[:2] != "  "], "event 1 balance" in noted or "balance account.c" in noted), (said.splitlines(), True))
     wants("without an image", where(folder).stdout, where_of(folder, "account.elf", "account.trc").stdout)
+    ends = "thread 0 end 1 code 134 out 0\nthread 1 end 2 code 0 out 0\n"
+    wants("threads of the recording", names_in(folder, ends, "account.trc"), ["thread 0 main", "thread 1 check"])
+    check = next(address for address, names in symbols_of(folder, "account.elf").items() if "check" in names)
+    outcome = f"{ends}object 2 words 00000004 {check} 00000000\n"
+    wants("threads of an outcome", names_in(folder, outcome), ["thread 0 main", "thread 1 check", "object 2 thread-1"])
     (folder / "account.trc").write_bytes(b"IRT1")
     wants("no recording", where(folder).returncode != 0, True)
 

@@ -10,10 +10,10 @@ FOLDER = Path(__file__).resolve().parent / "faults"
 
 @dataclass(frozen=True)
 class Fault:
-    """A fault: the search that records it, the lines of that thread's end, what is typed in gdb, and what has to be shown (regular expressions).
+    """A fault: the search and the condition that record it, what is typed in gdb, and what gdb has to show (regular expressions).
 
-    LINE stands for the number of the line of the source that has the text `at`. `ends` is the end and the code of some thread, `outcomes` is how many
-    outcomes the repaired form has."""
+    `ends` is the end and the code of some thread of the recording. LINE in what is typed or shown stands for the number of the line of the source that
+    has the text `at`. `outcomes` is how many outcomes the repaired form has."""
 
     search: str
     condition: str
@@ -48,7 +48,7 @@ FAULTS = {
         ("continue", "thread apply all bt"), ("received signal SIGXCPU", r"(in|#\d+ +)lock \(\) at .*ticket.c:(LINE|\d+)$"), 1),
     "queue": Fault(
         "hunt", "fault", (2, 0), "assert(count < PLACES);",
-        (*ASSERTED, "shared tail", "shared head"), (r"put \(.*\) at .*queue.c:LINE$", r"^tail = 3$", r"^head = 0$"), 2),
+        (*ASSERTED, "shared tail", "shared head"), (r"put \(.*\) at .*queue.c:LINE$", r"^tail = 2$", r"^head = 0$"), 2),
     "condvar": Fault(
         "explore", "hang", (13, 0), "ir_wait(DOOR, LOCK, OPENED);",
         ("continue", "thread apply all bt"), ("received signal SIGXCPU", r"in ir_wait \(.*\) at", r"visitor_body \(\) at .*condvar.c:LINE$"), 1),
@@ -62,11 +62,11 @@ FAULTS = {
         ("received signal SIGABRT", r"checked \(.*\) at .*trap.c:LINE$", r"#1 .*advance \(\) at .*trap.c", r"#2 .*closer_body \(\) at .*trap.c"), 1),
     "stack": Fault(
         "hunt", "end 0 7", (7, 0), "volatile ir_word page[256];",
-        ("continue", "info threads", "print {int[4]}0x80000000", "bt -1"),
-        ("received signal SIGSEGV", r"ended: bad store\)", r"= \{1, 2, 3, 1\}$", r"walker_body \(\) at .*stack.c"), 1),
+        ("continue", "info threads", *["up", "print page[0]"] * 4, "bt -2"),
+        ("received signal SIGSEGV", r"ended: bad store\)", "= 3$", "= 2$", "= 1$", "= 3$", r"walker_body \(\) at .*stack.c"), 1),
 }
 
-# Names and what is wrong with each: the bytes of the section .ir.names, and what is reported of them.
+
 def record(number, word, name):
     """A record of .ir.names."""
     return number.to_bytes(4, "little") + word.to_bytes(4, "little") + name.ljust(32, b"\0")
@@ -74,6 +74,8 @@ def record(number, word, name):
 
 ITSELF = 0xFFFFFFFF
 GOOD = record(3, ITSELF, b"count")
+
+# What is wrong with names: the bytes of the section .ir.names, and what is reported of them.
 BAD_NAMES = {
     "cut-short": (GOOD + record(2, ITSELF, b"turn")[:20], "the last one is left out"),
     "not-utf-8": (record(2, ITSELF, b"\xff\xfe") + GOOD, "isn't in UTF-8"),

@@ -1,4 +1,4 @@
-/* Lamport's bakery. Each thread draws a number above those of the others, and goes in by rising number.
+/* Lamport's bakery. Each thread draws a number above all others, and goes in by rising number.
 
    What is wrong: two threads may draw the same number. Then the thread with the lower number of its own should go first, and here
    neither waits.

@@ -3,7 +3,7 @@
    What is wrong: a key is looked up under the lock, and its value is read after that. By then another thread may have put another key
    there.
 
-   How it shows: the value isn't that of the key, and the assertion of `get` fails.
+   How it shows: the value belongs to the other key, and the assertion of `get` fails.
      ir hunt cache.elf cache.trc --until fault */
 #include <assert.h>
 #include <pthread.h>

@@ -47,6 +47,14 @@ static bool put(int number)
 }
 #endif
 
+static int take(void)
+{
+    pthread_mutex_lock(&lock);
+    int number = numbers[head++ % PLACES];
+    pthread_mutex_unlock(&lock);
+    return number;
+}
+
 static void *producer(void *unused)
 {
     put(11);
@@ -59,6 +67,7 @@ int main(void)
     pthread_create(&thread, NULL, producer, NULL);
     put(12);
     pthread_join(thread, NULL);
-    assert(tail - head == PLACES && numbers[0] == 10);
+    assert(take() == 10);
+    assert(take() >= 11);
     return 0;
 }
