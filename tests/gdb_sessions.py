@@ -103,6 +103,12 @@ SESSIONS = {
          r'2 +Thread 2 "thread 1" \(at [1-9]\d* of \d+\)', r'\* 3 +Thread 3 "thread 2" \(at [1-9]\d* of \d+\)', "No more reverse-execution history",
          r"\* 3 .*\(at 0 of \d+\)", r"at [1-9]\d* [1-9]\d* 0"],
     ),
+    "08-names": Session(
+        "lost",
+        ["ir-names", "info threads", "break write_count", "continue"],
+        [*(rf'Thread {number} "adder" \(at 0 of \d+\)' for number in (1, 2, 3)), r'Thread \d "adder" hit Breakpoint 1, write_count'],
+        locked=False,
+    ),
     "09-moved-along": Session(
         "lost",
         ["tbreak lost.c:24", "continue", "next", "next", "info threads"],

@@ -39,13 +39,13 @@ FAULTS = {
     "deque": Fault(
         "hunt", "bad", (1, 1), "ir_store(RING, bottom % PLACES, job);",
         ("continue", "info threads", "watch *(int *)0x80000080", "reverse-continue"),
-        ("received signal SIGTERM", r"ended: code 1\)", r"Old value = 2$", r"New value = 0$", r"push \(job=.*\) at .*deque.c:LINE$"), 4),
+        ("received signal SIGTERM", r"ended: code 1\)", r"Old value = 2$", r"New value = 0$", r"push \(job=.*\) at .*deque.c:LINE$"), 3),
     "cache": Fault(
         "hunt", "fault", (2, 0), "assert(found == computed(key));",
         (*ASSERTED, "shared cached", "shared value"), (r"get \(.*\) at .*cache.c:LINE$", r"^cached = [12]$", r"^value = [12]01$"), 2),
     "ticket": Fault(
         "explore", "hang", (13, 0), "while (atomic_load(&called) != ticket)",
-        ("continue", "thread apply all bt"), ("received signal SIGXCPU", r"(in|#\d+ +)lock \(\) at .*ticket.c:(LINE|\d+)$"), 1),
+        ("continue", "thread apply all bt"), ("received signal SIGXCPU", r"(in|#\d+ +)lock \(\) at .*ticket.c:LINE$"), 2),
     "queue": Fault(
         "hunt", "fault", (2, 0), "assert(count < PLACES);",
         (*ASSERTED, "shared tail", "shared head"), (r"put \(.*\) at .*queue.c:LINE$", r"^tail = 2$", r"^head = 0$"), 2),
