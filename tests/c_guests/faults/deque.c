@@ -8,7 +8,7 @@
 #include "ir_sync.h"
 
 enum { TOP, BOTTOM, RING, DONE };    /* the objects */
-enum { PLACES = 2, JOBS = 3, NONE = -1 };
+enum { PLACES = 2, NONE = -1 };
 
 static int push(ir_word job)
 {
