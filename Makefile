@@ -48,13 +48,13 @@ install:
 	install -D -m 755 ir $(DESTDIR)$(PREFIX)/bin/ir
 	install -D -m 644 man/ir.1 $(SHARE)/man/man1/ir.1
 	install -D -m 644 completions/ir.bash $(SHARE)/bash-completion/completions/ir
-	install -D -m 755 -t $(DESTDIR)$(PREFIX)/bin guest/ir-cc guest/ir-where
+	install -D -m 755 -t $(DESTDIR)$(PREFIX)/bin guest/ir-cc guest/ir-where guest/ir-lines
 	install -D -m 644 -t $(SHARE)/ir guest/*.h guest/ir.ld guest/ir_mem.c examples/ir.gdb
 	sed 's|guest|$(GUEST)|g' guest/ir.opts > $(SHARE)/ir/ir.opts
 	cd guest && find threads -type f ! -name '*.pyc' -exec install -D -m 644 {} $(abspath $(SHARE))/ir/{} \;
 
 uninstall:
-	rm -f $(addprefix $(DESTDIR)$(PREFIX)/bin/,ir ir-cc ir-where) $(SHARE)/man/man1/ir.1 $(SHARE)/bash-completion/completions/ir
+	rm -f $(addprefix $(DESTDIR)$(PREFIX)/bin/,ir ir-cc ir-where ir-lines) $(SHARE)/man/man1/ir.1 $(SHARE)/bash-completion/completions/ir
 	rm -rf $(SHARE)/ir
 
 # A tarball of the built program and what belongs to it, with the commit and the kit: the same bytes each time for the same ./ir.

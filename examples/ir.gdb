@@ -200,16 +200,42 @@ for kind in Who, Stale, Why, Events:
     kind()
 
 
+def name_thread(thread, function):
+    """Names a thread by its number in the guest and by a function."""
+    thread.name = f"{thread.ptid[1] - 1} {function}"
+
+
 def name_threads():
-    """Names each thread by its number and by the function that it begins in: on connecting it is before its first step."""
+    """Names each thread by the function that it begins in: on connecting it is before its first step."""
     now = gdb.selected_thread()
     for thread in gdb.selected_inferior().threads():
         thread.switch()
         function = gdb.newest_frame().name()
         if function and not function.startswith("ir_"):
-            thread.name = f"{thread.ptid[1] - 1} {function}"
+            name_thread(thread, function)
     if now:
         now.switch()
+
+
+def name_created():
+    """Names the first thread of an ordinary program, and those that are created by now, by the functions that they were created with."""
+    finder = shutil.which("ir-lines") or shutil.which("guest/ir-lines")
+    if finder is None:
+        raise gdb.GdbError("ir-lines is neither in PATH nor in guest/.")
+    said = subprocess.run([finder, gdb.current_progspace().filename, "--names"], capture_output=True, text=True, check=False).stdout
+    gates = dict(re.findall(r"^object (\d+) thread-(\d+)", said, re.M))
+    threads = {str(thread.ptid[1] - 1): thread for thread in gdb.selected_inferior().threads()}
+    for number, name in re.findall(r"^thread (\d+) (\S+)", said, re.M):
+        name_thread(threads[number], name)
+    for number, thread in ((each, threads[name]) for each, name in gates.items() if name in threads):
+        start = int.from_bytes(gdb.selected_inferior().read_memory(OBJECTS + OBJECT_SIZE * int(number) + WORD_SIZE, WORD_SIZE).tobytes(), "little")
+        function = gdb.block_for_pc(start)
+        if function and function.function:
+            name_thread(thread, function.function)
+end
+# ir-names: the threads of an ordinary program that are created by now are named by the functions that they were created with.
+define ir-names
+python name_created()
 end
 # Says on connecting if the program of gdb's file isn't the one that was recorded.
 define ir-compare

@@ -88,6 +88,15 @@ typedef struct made_by_IR_THREAD *ir_entry(void);
 
 #define IR_TABLE_(part) __attribute__((section(part), used, aligned(4)))
 
+/* IR_NAME(object, word, "name"); says what guest/ir-where and guest/ir-lines call a word of an object, or the object itself with
+   IR_ITSELF as the word. A name has at most 31 bytes, and no blanks. Names are no part of the image. */
+#define IR_ITSELF 0xffffffffu
+#define IR_NAME(object, word, name) IR_NAME_(object, word, name, __COUNTER__)
+#define IR_NAME_(object, word, name, number) IR_NAMED_(object, word, name, number)
+#define IR_NAMED_(object, word, name, number) \
+    static const struct { ir_word its_object, its_word; char text[32]; } ir_name_##number IR_TABLE_(".ir.names") = { object, word, name }; \
+    _Static_assert(sizeof(name) <= 32, "IR_NAME takes a name of at most 31 bytes")
+
 /* ---- How a call is made: its number in a7, its arguments in a0 to a2, its answer in a0. "memory" keeps what you wrote between two calls
    between them. Calls are inlined at every level, but ir_pause, ir_puts and ir_choose are functions of ir_mem.c.
 

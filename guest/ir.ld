@@ -12,8 +12,8 @@
    Sections of other names are refused, --orphan-handling=error in ir.opts: a variable has a section of its own, so the linker names it.
    `. = .` stands before an assertion that has to count what is before it.
 
-   .ir.small and .ir.large are the marks that ir.h leaves in a file for its form. They are never loaded. .ir.objects.last are the words of
-   the object of ir_choose, if it is called. */
+   .ir.small and .ir.large are the marks that ir.h leaves in a file for its form, and .ir.names are the names of IR_NAME. They are never
+   loaded. .ir.objects.last are the words of the object of ir_choose, if it is called. */
 
 OUTPUT_ARCH(riscv)
 /* No thread begins here. A symbol that is always there keeps the linker from asking for _start. */
@@ -87,5 +87,6 @@ SECTIONS
   .debug_names 0 : { *(.debug_names .debug_pubnames .debug_pubtypes .debug_gnu_pubnames .debug_gnu_pubtypes) }
   .ir.small 0 (INFO) : { KEEP(*(.ir.small)) }
   .ir.large 0 (INFO) : { KEEP(*(.ir.large)) }
+  .ir.names 0 (INFO) : { KEEP(*(.ir.names)) }
   ASSERT(SIZEOF(.ir.small) == 0 || SIZEOF(.ir.large) == 0, "ir.ld: some files define IR_LARGE 1 and others don't; -DIR_LARGE=1 defines it in all of them")
 }

@@ -15,12 +15,14 @@ from dataclasses import dataclass
 from functools import partial
 from pathlib import Path
 
+from gdb_sessions import GDB, Session, check_session
 from hunting import found
 from lib import TOP, Wrong, finish, program, run, shell, use, wants
 from pages import commands_of, matches
 
 sys.path.append(str(TOP / "tests" / "c_guests"))
 
+import faults  # noqa: E402
 import make  # noqa: E402
 
 TOOLS = "riscv64-unknown-elf-"
@@ -875,6 +877,129 @@ def test_mended(folder, name):
     wants(f"{name}: a hunt", (ended.returncode, ended.stdout[:5]), (5, b"none "))
 
 
+# Programs with a fault, each found, shown by gdb at its line, and repaired.
+
+
+def compiled(folder, name, elf, *more):
+    """Compiles one of the programs, ordinary or on ir.h, by ir-cc, without a warning."""
+    command = [sys.executable, "guest/ir-cc", str(faults.FOLDER / f"{name}.c"), "-Wall", "-Wextra", *more, "-o", f"{elf}.elf"]
+    ended = subprocess.run(command, cwd=folder, check=False, capture_output=True, text=True, timeout=300)
+    wants(f"{name}: ir-cc", (ended.returncode, ended.stderr), (0, ""))
+
+
+def test_fault(folder, name):
+    """The fault of a program is found and recorded, and gdb shows it at its line."""
+    fault = faults.FAULTS[name]
+    compiled(folder, name, name)
+    ended = run([fault.search, f"{name}.elf", f"{name}.trc", "--until", fault.condition], folder, timeout=1200)
+    wants(f"{name}: the search", (ended.returncode, ended.stderr), (0, b""))
+    ends = [tuple(map(int, it)) for it in re.findall(r"^thread \d+ end (\d+) code (\d+) steps", ended.stdout.decode(), re.MULTILINE)]
+    wants(f"{name}: how a thread ended", fault.ends in ends, True)
+    if not shutil.which(GDB):
+        print(f"  {GDB} isn't installed, so nothing is shown by it")
+        return
+    wants(f"{name}: ir elf", run(["elf", f"{name}.elf", f"{name}.img"], folder).returncode, 0)
+    line = fault.line(name)
+    typed, shown = ([text.replace("LINE", line) for text in texts] for texts in (fault.typed, fault.shown))
+    check_session(Session(name, typed, shown, locked=False), folder)
+
+
+def test_repaired(folder, name):
+    """Without its fault no run of a program has it, and none waits forever: the search is finished."""
+    compiled(folder, name, name, "-DREPAIRED")
+    ended = run(["explore", f"{name}.elf", f"{name}.trc", "--until", faults.FAULTS[name].condition], folder, timeout=1200)
+    last = ended.stdout.decode().splitlines()[-1:]
+    counted = [re.sub(r"states \d+", "states", line) for line in last]
+    wants(f"{name}: all outcomes", (ended.returncode, counted), (5, [f"finished outcomes {faults.FAULTS[name].outcomes} states hangs 0"]))
+
+
+# Lines and names.
+
+
+def ran(folder, *words, typed=""):
+    """A run of ir-lines or ir-where."""
+    return subprocess.run([sys.executable, *words], cwd=folder, check=False, capture_output=True, text=True, timeout=300, input=typed)
+
+
+def test_lines(folder):
+    """Each address of the code has the frames that addr2line names, by rising address, at each level; with inlined callers."""
+    for level in LEVELS:
+        compiled(folder, "peterson", "lines", level)
+        ended = ran(folder, "guest/ir-lines", "lines.elf")
+        wants(f"at {level}: the run", (ended.returncode, ended.stderr), (0, ""))
+        found_lines = [re.fullmatch(r"([0-9a-f]{8}) (\S+) (.+:[1-9]\d*)", line).groups() for line in ended.stdout.splitlines()]
+        addresses = [int(address, 16) for address, _, _ in found_lines]
+        wants(f"at {level}: rising", addresses, sorted(addresses))
+        wants(f"at {level}: code", {address % 4 for address in addresses} | {address >> 16 for address in addresses}, {0, 1})
+        for address in sorted(set(addresses))[::7]:
+            frames = [(function, line) for at, function, line in found_lines if int(at, 16) == address]
+            wanted = tool("addr2line", folder, "-f", "-i", "-e", "lines.elf", f"{address:#x}").splitlines()
+            wants(f"at {level}: {address:#x}", frames, [(function, line.split(" ")[0]) for function, line in zip(wanted[::2], wanted[1::2])])
+    wants("inlined callers", len(set(addresses)) < len(addresses), True)
+
+
+NAMES_OF_PETERSON = ["thread 0 adder", "thread 1 adder", "object 0 wants-0", "object 1 wants-1", "object 2 turn", "object 3 count", "object 3 word 0 the-count"]
+
+
+def test_names(folder):
+    """Names don't change the image, and tools print them: of a guest on ir.h, and of an ordinary program."""
+    compiled(folder, "peterson", "named")
+    text = (faults.FOLDER / "peterson.c").read_text()
+    (folder / "plain.c").write_text("".join(line for line in text.splitlines(True) if not line.startswith("IR_NAME(")))
+    ended = ran(folder, "guest/ir-cc", "plain.c", "-o", "plain.elf")
+    wants("ir-cc", (ended.returncode, ended.stderr), (0, ""))
+    for name in ("named", "plain"):
+        wants(f"{name}: ir elf", run(f"elf {name}.elf {name}.img", folder).returncode, 0)
+    wants("the image", (folder / "named.img").read_bytes(), (folder / "plain.img").read_bytes())
+    wants("the names", ran(folder, "guest/ir-lines", "named.elf", "--names").stdout.splitlines(), NAMES_OF_PETERSON)
+    wants("no names", ran(folder, "guest/ir-lines", "plain.elf", "--names").stdout.splitlines(), NAMES_OF_PETERSON[:2])
+    compiled(folder, "cache", "cache")
+    lines = ran(folder, "guest/ir-lines", "cache.elf", "--names").stdout.splitlines()
+    wants("main", lines[:2], ["thread 0 main", "object 0 thread-1"])
+    wants("the variables", sorted(line.split()[4] for line in lines[2:] if "+" not in line), ["cached", "lock", "value"])
+
+
+def test_bad_names(folder):
+    """Names that are none are left out and reported, and the others are taken. What is no ELF file is refused with a text."""
+    compiled(folder, "peterson", "named")
+    for name, (data, why) in faults.BAD_NAMES.items():
+        (folder / "names.bin").write_bytes(data)
+        tool("objcopy", folder, "--update-section", ".ir.names=names.bin", "named.elf", "bad.elf")
+        ended = ran(folder, "guest/ir-lines", "bad.elf", "--names")
+        wants(f"{name}: what is taken", (ended.returncode, [line for line in ended.stdout.splitlines() if line[:6] == "object"]), (0, ["object 3 count"]))
+        wants(f"{name}: {ended.stderr}", (why in ended.stderr, "Traceback" in ended.stderr), (True, False))
+    whole = (folder / "named.elf").read_bytes()
+    for data in (b"", b"no ELF file", whole[:100], whole[:-100], whole[:len(whole) // 2]):
+        (folder / "bad.elf").write_bytes(data)
+        ended = ran(folder, "guest/ir-lines", "bad.elf")
+        wants(f"{len(data)} bytes", (ended.returncode, bool(ended.stderr), "Traceback" in ended.stderr), (1, True, False))
+
+
+def noted(folder, typed, *words):
+    """The lines that ir-where adds to what is typed."""
+    ended = ran(folder, "guest/ir-where", *words, "--note", "--ir", program(), typed=typed)
+    wants("the note", (ended.returncode, ended.stderr), (0, ""))
+    wants("the lines as they were", [line for line in ended.stdout.splitlines() if line[:2] != "  "], typed.splitlines())
+    return [line[2:] for line in ended.stdout.splitlines() if line[:2] == "  "]
+
+
+def test_noted(folder):
+    """ir-where names threads, objects, words and lines in what `ir hunt`, `ir who`, `ir stale` and `ir explore` print."""
+    compiled(folder, "peterson", "peterson")
+    hunted = run(["hunt", "peterson.elf", "peterson.trc", "--until", "!word 3 0 2"], folder).stdout.decode()
+    wants("ir hunt", noted(folder, hunted, "peterson.elf"), ["thread 0 adder", "thread 1 adder"])
+    said = run("who peterson.trc 3 --word 0 --image peterson.elf", folder).stdout.decode()
+    notes = noted(folder, said, "peterson.elf", "peterson.trc")
+    wants("ir who", notes[:2], ["object 3 count", "object 3 word 0 the-count"])
+    entered = int(faults.FAULTS["peterson"].line("peterson")) - 1
+    wants("the writer", [line.split(" ", 4)[4] for line in notes[2:3]], [f"count peterson.c:{entered} add in adder"])
+    said = run("stale peterson.trc --image peterson.elf", folder).stdout.decode()
+    notes = noted(folder, said, "peterson.elf", "peterson.trc")
+    wants("ir stale", "object 3 word 0 the-count" in notes, True)
+    said = "outcome 1 switches 1 order 1x97,0x97\nthread 1 end 1 code 0 out 0\nobject 3 words 00000002 00000000 00000000\n"
+    wants("ir explore", noted(folder, said, "peterson.elf"), ["thread 1 adder", "object 3 count the-count=00000002"])
+
+
 def test_page(folder):
     """Each command of the page writes what follows it there, if the compiler is the one of the page."""
     if tool("gcc", folder, "-dumpfullversion").strip() != PAGE_COMPILER:
@@ -899,13 +1024,16 @@ def tests():
     all_ |= {f"explored-{name}": partial(test_explored, source=source, more=more, codes=codes) for name, (source, more, codes) in EXPLORED.items()}
     all_ |= {f"proved-{name}": partial(test_proved, name=name) for name in PROVED}
     all_ |= {f"story-{name}": partial(test_story, name=name) for name in STORIES}
+    all_ |= {f"fault-{name}": partial(test_fault, name=name) for name in faults.FAULTS}
+    all_ |= {f"repaired-{name}": partial(test_repaired, name=name) for name in faults.FAULTS}
+    all_ |= {"lines": test_lines, "names": test_names, "bad-names": test_bad_names, "noted": test_noted}
     return all_ | {f"mended-{name}": partial(test_mended, name=name) for name in MENDED}
 
 
 def passes(name, test):
     """Whether a test in a folder of its own passes; prints a line."""
     with tempfile.TemporaryDirectory() as folder:
-        for linked in ("guest", "examples", "docs"):
+        for linked in ("guest", "examples", "docs", "tests"):
             (Path(folder) / linked).symlink_to(TOP / linked)
         (Path(folder) / "ir").symlink_to(program())
         try:

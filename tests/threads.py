@@ -328,7 +328,15 @@ def where(folder, *arguments):
 
 def where_of(folder, *words):
     """What ir-where prints of these."""
-    return subprocess.run([sys.executable, WHERE, *words, "--ir", program()], cwd=folder, check=False, capture_output=True, text=True, timeout=100)
+    return subprocess.run([sys.executable, WHERE, *words, "--ir", program()], cwd=folder, check=False, capture_output=True, text=True, timeout=600)
+
+
+def names_in(folder, typed, *trace):
+    """What ir-where adds to lines about threads and objects of account."""
+    words = [sys.executable, WHERE, "account.elf", *trace, "--note", "--ir", program()]
+    ended = subprocess.run(words, cwd=folder, check=False, capture_output=True, text=True, timeout=600, input=typed)
+    wants("the note", ended.returncode, 0)
+    return [line[2:] for line in ended.stdout.splitlines() if line[:2] == "  "]
 
 
 def test_where(folder):
@@ -344,9 +352,14 @@ def test_where(folder):
     wants("at most", (where(folder, "--most", "3").stdout.count("\n"), "events more: --most N" in where(folder, "--most", "3").stderr), (3, True))
     wants("the page", "balance at account.c:13 in deposit" in where(folder, "--page").stdout, True)
     said = run("who account.trc 3 1 --image account.img", folder).stdout.decode()
-    noted = subprocess.run([sys.executable, WHERE, "account.elf", "account.trc", "--note", "--ir", program()], cwd=folder, check=False, capture_output=True, text=True, timeout=100, input=said).stdout
+    noted = subprocess.run([sys.executable, WHERE, "account.elf", "account.trc", "--note", "--ir", program()], cwd=folder, check=False, capture_output=True, text=True, timeout=600, input=said).stdout
     wants("noted", ([line for line in noted.splitlines() if line[:2] != "  "], "event 1 balance" in noted or "balance account.c" in noted), (said.splitlines(), True))
     wants("without an image", where(folder).stdout, where_of(folder, "account.elf", "account.trc").stdout)
+    ends = "thread 0 end 1 code 134 out 0\nthread 1 end 2 code 0 out 0\n"
+    wants("threads of the recording", names_in(folder, ends, "account.trc"), ["thread 0 main", "thread 1 check"])
+    check = next(address for address, names in symbols_of(folder, "account.elf").items() if "check" in names)
+    outcome = f"{ends}object 2 words 00000004 {check} 00000000\n"
+    wants("threads of an outcome", names_in(folder, outcome), ["thread 0 main", "thread 1 check", "object 2 thread-1"])
     (folder / "account.trc").write_bytes(b"IRT1")
     wants("no recording", where(folder).returncode != 0, True)
 
