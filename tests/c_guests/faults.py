@@ -45,7 +45,7 @@ FAULTS = {
         (*ASSERTED, "shared cached", "shared value"), (r"get \(.*\) at .*cache.c:LINE$", r"^cached = [12]$", r"^value = [12]01$"), 2),
     "ticket": Fault(
         "explore", "hang", (13, 0), "while (atomic_load(&called) != ticket)",
-        ("continue", "thread apply all bt"), ("received signal SIGXCPU", r"(in|#\d+ +)lock \(\) at .*ticket.c:LINE$"), 2),
+        ("continue", "thread apply all bt"), ("received signal SIGXCPU", r"(in |#\d+ +)lock \(\) at .*ticket.c:LINE$"), 2),
     "queue": Fault(
         "hunt", "fault", (2, 0), "assert(count < PLACES);",
         (*ASSERTED, "shared tail", "shared head"), (r"put \(.*\) at .*queue.c:LINE$", r"^tail = 2$", r"^head = 0$"), 2),
