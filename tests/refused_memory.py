@@ -11,8 +11,9 @@ requests. The start of a thread is a request too.
 - A session that can't be opened writes nothing.
 - `ir asm`, `ir record`, `ir trace`, `ir stale`, `ir who`, `ir why`, `ir diff` and `ir view` end as with ample memory, or with status 1 and a line that says why.
   Then only the last lines may be missing, and a file that is there is whole.
-- `ir explore` ends as with ample memory, with status 1 and a line that says why, or with status 6 and the line `stopped memory`: then the outcomes
-  before that line are the first of those with ample memory, and all of those that it says are covered. With `--until` nothing is recorded then.
+- `ir explore` ends as with ample memory, but for orders that may be longer (each is recorded), with status 1 and a line that says why, or with
+  status 6 and the line `stopped memory`: then the outcomes before that line are the first of those with ample memory, and all of those that it
+  says are covered. With `--until` nothing is recorded then.
 - If a thread isn't started, all is as with ample memory.
 
 Then the same with all requests refused from that one on. A session may then run out of memory again and again, and ends by `quit`. With
@@ -361,6 +362,26 @@ def is_cut(out, ample):
     return len(switches_of(listed)) == int(said[2]) >= len(least)
 
 
+ORDER = re.compile(rb" order (\S+)")
+
+
+def has_longer_orders(folder, words, found, ample):
+    """Whether an answer of `ir explore` is that with ample memory but for orders. Where memory runs out while the short order of an outcome is
+    tried, it has the order in which each thread first goes to its first entry by itself: that has to lead to the outcome too."""
+    if (found[0], *found[2:]) != (ample[0], *ample[2:]) or ORDER.sub(b"", found[1]) != ORDER.sub(b"", ample[1]):
+        return False
+    lines = found[1].split(b"\n")
+    for place, line in enumerate(lines):
+        if line.startswith(b"outcome "):
+            order = ORDER.search(line)[1].decode()
+            recorded = run(["record", words.split()[1], "order.trc", "--order", order], folder).stdout.split(b"\n")
+            (folder / "order.trc").unlink()
+            ends = [b" ".join(each.split()[:6]) for each in recorded if each.startswith(b"thread ")]
+            if ends != [b" ".join(each.split()[:6]) for each in lines[place + 1:place + 1 + len(ends)]]:
+                return False
+    return True
+
+
 def explored_run(folder, row, ample, lines, number, lasts):
     """A run of `ir explore` with one refusal or with all from there on: what was refused first, and what became of it."""
     _, words, _, files = row
@@ -370,6 +391,8 @@ def explored_run(folder, row, ample, lines, number, lasts):
         return met, "done as with ample memory"
     if met != "m" and not lasts:
         raise Wrong(f"{met!r} {found[:3]!r}")
+    if has_longer_orders(folder, words, found, ample):
+        return met, "done with longer orders"
     if (status, error.count(b"\n")) == (1, 1) and (ample[1].startswith(out) or lines.startswith(out)) and not written:
         return met, "ended with status 1"
     if (status, error, written) == (6, b"", {}) and is_cut(out, lines):
