@@ -5,7 +5,7 @@ from importlib.machinery import SourceFileLoader
 sys.path.insert(0, "/opt/rattle/bin")
 import functools
 rtlib = SourceFileLoader("rtlib", "/opt/rattle/bin/rtlib.py").load_module()
-for name in ("below",):
+for name in ("below", "stamp", "is_built"):
     f = getattr(rtlib.Crate, name)
     cache = {}
     def g(self, f=f, cache=cache):
