@@ -57,8 +57,8 @@ class Claim:
 
 
 CLAIMS = [
-    Claim("Exploring", "`ir explore` lists outcomes, and says how its search ended.", {"ir_explore_run/src/run.rt": ["explore_run"]}, [
-        ("ir_sources", "Sources", "`given`: what answers CLOCK, RANDOM and INPUT"),
+    Claim("Exploring", "`ir explore` lists outcomes, and says how its search ended.", {"ir_explore/src/run.rt": ["explore_run"]}, [
+        ("ir_world", "Sources", "`given`: what answers CLOCK, RANDOM and INPUT"),
         ("ir_graph", "Setup", "`Setup`, `IsCountedOf`: which complete runs count"),
         ("ir_seen", "Seen", "`IsCounted`"),
         ("ir_graph", "Outcomes", "`RunOutcome`, `run_outcome`"),
@@ -66,26 +66,26 @@ CLAIMS = [
         ("ir_outcomes", "Shown", "`IsShown`: what LIST leads to"),
         ("ir_graph", "Hangs", "`IsCounting`, `CanEnd`, `IsHangOf`"),
         ("ir_graph", "Times", "`HasTimedRun`: where `clock counted` is said"),
-        ("ir_explore_run", "Texts", "`AreKnown`, `IsAnswerAbout`: what is printed of it"),
+        ("ir_explore", "Texts", "`AreKnown`, `IsAnswerAbout`: what is printed of it"),
     ], (2510, 720)),
     Claim("Recordings of an explored guest", "What the lists of `ir explore` say of recordings, by real threads too.", {
-        "ir_explore_run/src/laws.rt": ["recordings_have_outcomes", "recordings_are_listed", "recordings_are_untimed", "untimed_recordings_are_listed",
+        "ir_explore/src/laws.rt": ["recordings_have_outcomes", "recordings_are_listed", "recordings_are_untimed", "untimed_recordings_are_listed",
                                        "recordings_never_fulfil", "hangs_never_complete"],
     }, [
-        ("ir_record_run", "Recording", "`IsRecordedOf`: what a recording is"),
+        ("ir_record_command", "Recording", "`IsRecordedOf`: what a recording is"),
         ("ir_order", "Recording", "`IsOfRun`: the run that a trace and outputs are of"),
-        ("ir_explore_run", "Recorded", "the laws"),
+        ("ir_explore", "Recorded", "the laws"),
     ], (420, 155)),
     Claim("Exploring up to conditions", "`ir explore --until` records an outcome that fulfils them, or a hang.", {
-        "ir_explore_run/src/until.rt": ["explore_until"],
-        "ir_explore_run/src/hang.rt": ["explore_hang"],
+        "ir_explore/src/until.rt": ["explore_until"],
+        "ir_explore/src/hang.rt": ["explore_hang"],
     }, [
-        ("ir_explore_run", "Conditions", "`IsFirst`, `NeverFulfils`"),
-        ("ir_explore_run", "Until", "`IsSought`, `IsVain`"),
-        ("ir_explore_run", "Hang", "`FindsHang`, `IsHangTold`"),
+        ("ir_explore", "Conditions", "`IsFirst`, `NeverFulfils`"),
+        ("ir_explore", "Until", "`IsSought`, `IsVain`"),
+        ("ir_explore", "Hang", "`FindsHang`, `IsHangTold`"),
     ], (411, 267)),
     Claim("Hunting", "`ir hunt` says which seeds it tried, and which is the lowest that it found.", {"ir_hunt/src/hunting.rt": ["hunt_run"]}, [
-        ("ir_chaos", "Schedules", "`IsSchedule`: the run by a chooser"),
+        ("ir_schedule", "Schedules", "`IsSchedule`: the run by a chooser"),
         ("ir_hunt", "Hunt", "`Hunt`: what is hunted"),
         ("ir_hunt", "Finding", "`IsOfSeed`, `IsFound`"),
         ("ir_hunt", "Tried", "`Fails`, `AreTried`, `IsLowestSeed`, `IsTriedLast`"),
@@ -107,7 +107,7 @@ CLAIMS = [
     ], (2387, 1250)),
     Claim("Insight", "The lines of `ir stale`, `who`, `why`, `diff`, `view`, `events` and `list`.", {
         "ir_past/src/run.rt": ["stale_run"],
-        "ir_rests/src/run.rt": ["rests_run"],
+        "ir_stale_run/src/run.rt": ["rests_run"],
         "ir_who/src/run.rt": ["who_run"],
         "ir_who/src/fit_run.rt": ["who_fit_run"],
         "ir_word/src/run.rt": ["word_fit_run"],
@@ -117,21 +117,21 @@ CLAIMS = [
         "ir_diff/src/run.rt": ["diff_run"],
         "ir_picture/src/run.rt": ["view_run"],
         "ir_picture/src/laws.rt": ["needs_are_left", "runs_have_no_circle"],
-        "ir_picture_run/src/run.rt": ["view_fit_run"],
-        "ir_picture_run/src/laws.rt": ["behind_comes_first", "behind_is_in_cut", "behind_is_left", "left_is_consistent", "left_is_cut", "right_is_an_order",
+        "ir_run_picture/src/run.rt": ["view_fit_run"],
+        "ir_run_picture/src/laws.rt": ["behind_comes_first", "behind_is_in_cut", "behind_is_left", "left_is_consistent", "left_is_cut", "right_is_an_order",
                                        "rows_do_not_overlap"],
         "ir_listing/src/events.rt": ["events_run"],
         "ir_listing/src/code.rt": ["list_report"],
     }, [
         ("ir_past", "Past", "`event_at`, `IsMadeBy`: what made a version"),
-        ("ir_rests", "Rests", "when a write rests on what was read"),
+        ("ir_stale_run", "Rests", "when a write rests on what was read"),
         ("ir_why", "Needed", "`AreNeeds`: what an event needs"),
         ("ir_why", "Waits", "`AreWaits`: the chain of a run"),
         ("ir_why", "FitAnswers", "`IsReasonIn`"),
         ("ir_diff", "Common", "`AreCommon`, `IsReady`"),
         ("ir_picture", "Places", "`AreBoxesPlaced`: where boxes stand"),
         ("ir_holds", "Held", "`IsHeld`: where boxes of holds stand"),
-        ("ir_picture_run", "Laws", "`IsMoment`, `GoesRight`: what left to right means"),
+        ("ir_run_picture", "Laws", "`IsMoment`, `GoesRight`: what left to right means"),
         ("ir_events", "Lines", "the lines of events"),
     ], (3310, 1450)),
 ]

@@ -2,7 +2,7 @@
 
 use crate::values::UNTIL;
 use clap::ArgMatches;
-use ir_chaos::{Condition, Fact, condition_of};
+use ir_schedule::{Condition, Fact, condition_of};
 use std::alloc::{AllocError, Global};
 
 // Whether a condition asks for a stale write that rests on what was read, or for none; nothing, if it is another condition.

@@ -9,8 +9,8 @@ use crate::recording::{
 };
 use crate::values::{IMAGE, TRACE, UNTIL, given_text, image_arg, text_of};
 use clap::{Arg, ArgAction, ArgMatches, Command};
-use ir_explore_run::ExplorePlan;
-use ir_record_run::number_within;
+use ir_explore::ExplorePlan;
+use ir_record_command::number_within;
 use ir_thread::Profile;
 use std::alloc::{AllocError, Global};
 

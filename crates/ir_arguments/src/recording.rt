@@ -5,7 +5,7 @@ ghost use Rattle.ir_thread.specs.State.{most_budget};
 
 use crate::values::given_text;
 use clap::{Arg, ArgMatches, Command};
-use ir_record_run::{RecordPlan, number_within};
+use ir_record_command::{RecordPlan, number_within};
 use ir_thread::{MOST_BUDGET, Profile};
 use std::alloc::{AllocError, Global};
 

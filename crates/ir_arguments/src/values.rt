@@ -1,7 +1,7 @@
 //! Arguments that more than one subcommand has, and how their values are read.
 
 use clap::{Arg, ArgMatches};
-use ir_record_run::number_within;
+use ir_record_command::number_within;
 use std::alloc::{AllocError, Global};
 
 /// The file of an image.

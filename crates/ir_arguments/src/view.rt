@@ -4,7 +4,7 @@ use crate::asked::{Asked, Print};
 use crate::recording::no_number;
 use crate::values::{FROM_IMAGE, TRACE, file_arg, from_image_arg, given_text, number_in, text_of};
 use clap::{Arg, ArgAction, ArgMatches, Command};
-use ir_record_run::number_within;
+use ir_record_command::number_within;
 use std::alloc::{AllocError, Global};
 
 /// What follows the help of `ir view`.

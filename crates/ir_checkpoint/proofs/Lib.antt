@@ -1,4 +1,9 @@
-mod Brought
-mod Keepers
-mod Lower
-mod Ways
+mod Laid
+mod Places
+mod Whole
+mod Again
+mod Found
+mod Dropped
+mod Counted
+mod Calls
+mod Rebuilt

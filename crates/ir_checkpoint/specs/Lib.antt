@@ -1,3 +1,4 @@
-pub mod Below
-pub mod Checkpoints
-pub mod Parts
+pub mod Pages
+pub mod Keeping
+pub mod Store
+pub mod Gathered

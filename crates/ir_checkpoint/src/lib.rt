@@ -1,10 +1,12 @@
-//! Moves of a replay in both directions: threads and objects are brought to any consistent cut, from the checkpoint that is nearest.
+//! Checkpoints: states of a replay that are kept by the pages that changed.
 #![tactic(auto)]
 
-mod below;
-mod bringing;
-mod checkpoints;
-mod parts;
-mod passed;
+mod counting;
+mod entry;
+mod finding;
+mod gathering;
+mod keeper;
+mod page;
+mod store;
 
-pub use checkpoints::Checkpoints;
+pub use keeper::{KeepErr, Keeper, MOST_STATES};

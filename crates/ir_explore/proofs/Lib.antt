@@ -1,9 +1,8 @@
-mod Opens
-mod Reached
-mod TurnSoFar
-mod Rows
-mod Gone
-mod Between
-mod Marked
-mod Meant
-pub mod CallerLemmas
+mod Answered
+mod Fulfilled
+mod Hits
+mod Joined
+mod Sought
+mod Printed
+mod Recorded
+mod Untimed

@@ -1,7 +1,9 @@
-pub mod Following
-pub mod Meaning
-pub mod Origins
-pub mod Levels
-pub mod Ways
-pub mod TurnSoFar
-pub mod Searching
+pub mod Plan
+pub mod Lines
+pub mod Texts
+pub mod Printed
+pub mod Faults
+pub mod Conditions
+pub mod Until
+pub mod Recorded
+pub mod Hang

@@ -1,24 +1,33 @@
-//! A search over numbered nodes, level by level: in a level each thread goes on alone as far as it can, by each of its two ways.
+//! What `ir explore` does: the outcomes of a guest are found, and printed in lines, and one that fulfils conditions is recorded.
 #![tactic(auto)]
 
-mod alone;
-mod found;
-mod level;
-mod observer;
-mod origin;
-mod search;
-mod stop;
-mod successors;
-mod turn;
-mod ways;
+mod answer;
+mod bytes;
+mod conditions;
+mod fault;
+mod hang;
+mod hang_order;
+mod known;
+mod laws;
+mod levels;
+mod lines;
+mod outcome;
+mod plan;
+mod run;
+mod seek;
+mod started;
+mod states;
+mod texts;
+mod until;
 
-pub use alone::go_alone;
-pub use found::{Found, Pending};
-pub use level::take_level;
-pub use observer::{Observer, Unobserved};
-pub use origin::{Level, Origin, Refusal};
-pub use search::{Ended, Search};
-pub use stop::Stop;
-pub use successors::Successors;
-pub use turn::take_turn;
-pub use ways::mark_ways;
+pub use conditions::outcomes_decide;
+pub use fault::ExploreFault;
+pub use hang::explore_hang;
+pub use hang_order::HangOrder;
+pub use laws::{
+    hangs_never_complete, recordings_are_listed, recordings_are_untimed, recordings_have_outcomes,
+    recordings_never_fulfil, untimed_recordings_are_listed,
+};
+pub use plan::{ExplorePlan, HangPlan, UntilPlan};
+pub use run::explore_run;
+pub use until::explore_until;

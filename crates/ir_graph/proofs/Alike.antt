@@ -6,8 +6,8 @@ use Rattle.std.proofs.lemmas.Bool.{cases_lt}
 use Rattle.ir_object.specs.Cell.{Cell}
 use Rattle.ir_object.specs.Empty.{empty}
 use Rattle.ir_flat.specs.Flat.{IsFlat, thread_of, cell_of, idle}
-use Rattle.ir_sources.specs.Sources.{given}
-use Rattle.ir_states.specs.Looks.{Looks}
+use Rattle.ir_world.specs.Sources.{given}
+use Rattle.ir_search_laws.specs.Looks.{Looks}
 use Rattle.ir_seen.specs.Seen.{view, Same}
 use Rattle.ir_seen.proofs.CallerLemmas.{look_same}
 use Rattle.ir_store.specs.Nodes.{SourcedFlat, source_of, AreSameLooks}

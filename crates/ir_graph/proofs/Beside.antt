@@ -6,9 +6,9 @@ use Rattle.std.proofs.lemmas.Option.{get_or_from_slice_get, slice_get_within, sl
 use Rattle.std.proofs.Common.{length-set}
 use Rattle.ir_runs.specs.Run.{Can, after}
 use Rattle.ir_runs.proofs.CallerLemmas.{thread_after_step_of_other}
-use Rattle.ir_states.specs.Sources.{answer_of, left_of}
+use Rattle.ir_search_laws.specs.Sources.{answer_of, left_of}
 use Rattle.ir_thread.specs.State.{ask_of, shared_ask}
-use Rattle.ir_sources.specs.Sources.{Source, given}
+use Rattle.ir_world.specs.Sources.{Source, given}
 use Rattle.ir_flat.specs.Alone.{WentAlone}
 use Rattle.ir_flat.specs.Flat.{Flat, tables, machine, thread_of}
 use Rattle.ir_store.specs.Nodes.{source_of}
@@ -17,8 +17,8 @@ use Rattle.ir_graph.specs.Plain.{sourced_flat, IsFair, GoesPlain, OthersStay}
 use Rattle.ir_graph.specs.Turn.{GoesAlone}
 use Rattle.ir_graph.specs.Stops.{IsNotFollowed, IsSpent, StopsFollowing}
 use Rattle.ir_graph.proofs.Stops.{stops_at_refused_ask}
-use Rattle.ir_explore.specs.declared.stop.Stop.{Stop}
-use Rattle.ir_explore.specs.declared.stop.Stop.TheVariants.{Log}
+use Rattle.ir_search.specs.declared.stop.Stop.{Stop}
+use Rattle.ir_search.specs.declared.stop.Stop.TheVariants.{Log}
 use Rattle.ir_thread.specs.declared.ask.Ask.{Ask}
 use Rattle.ir_graph.proofs.Plain.{TakesStep, ask_is_answered_by_its_source, takes_step_beside_source_if_tables_step, goes_plain_reflexive, goes_plain_transitive, goes_plain_by_private_steps, goes_plain_by_fair_step, others_stay_after_private_steps, others_stay_transitive}
 use Rattle.ir_graph.proofs.Turn.{goes_alone_no_steps, goes_alone_append, goes_alone_by_private_steps, goes_alone_by_fair_step}

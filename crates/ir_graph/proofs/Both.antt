@@ -4,7 +4,7 @@ use Rattle.std.specs.Prelude.{slice_get}
 use Rattle.std.specs.List.{AllByRecursion, slice_index_or}
 use Rattle.ir_thread.specs.State.{ask_of}
 use Rattle.ir_object.specs.Cell.{Cell}
-use Rattle.ir_sources.specs.Sources.{Source}
+use Rattle.ir_world.specs.Sources.{Source}
 use Rattle.ir_thread.specs.State.{ThreadState}
 use Rattle.ir_flat.specs.Flat.{thread_of, cell_of}
 use Rattle.ir_object.specs.Empty.{empty}

@@ -3,8 +3,8 @@ use Rattle.std.proofs.Common.{◌≡◌, ℕ, ◌+◌, ◌<◌, Bool, true, fals
 use Rattle.std.specs.Prelude.{slice_get}
 use Rattle.std.proofs.lemmas.Bool.{cases_lt}
 use Rattle.std.proofs.lemmas.Option.{same_Some}
-use Rattle.ir_explore.specs.Following.{IsOpen}
-use Rattle.ir_explore.proofs.CallerLemmas.{slice_get_after_push_cases, slice_get_kept_by_append}
+use Rattle.ir_search.specs.Following.{IsOpen}
+use Rattle.ir_search.proofs.CallerLemmas.{slice_get_after_push_cases, slice_get_kept_by_append}
 use Rattle.ir_runs.specs.Run.{IsDone}
 use Rattle.ir_flat.specs.Flat.{machine, tables}
 use Rattle.ir_store.specs.Nodes.{SourcedFlat}

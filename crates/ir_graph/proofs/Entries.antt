@@ -4,7 +4,7 @@ use Rattle.std.specs.Prelude.{replicate, slice_set}
 use Rattle.std.specs.Global.{Vec}
 use Rattle.std.specs.List.{slice_index_or}
 use Rattle.std.proofs.lemmas.Bool.{cases_eq, cases_lt}
-use Rattle.ir_explore.specs.Following.{Keeps}
+use Rattle.ir_search.specs.Following.{Keeps}
 use Rattle.ir_graph.specs.Notes.{noted_in}
 
 abbrev pub NotedLead : Type 0

@@ -5,7 +5,7 @@ use Rattle.ir_lemmas.proofs.CallerLemmas.{get_or_element_satisfies_all_by_recurs
 use Rattle.ir_image.specs.Guest.{Guest}
 use Rattle.ir_image.specs.declared.form.ImageForm.{ImageForm}
 use Rattle.ir_thread.specs.State.{ThreadState, most_budget}
-use Rattle.ir_sources.specs.Sources.{source, seed_of}
+use Rattle.ir_world.specs.Sources.{source, seed_of}
 use Rattle.ir_flat.proofs.CallerLemmas.{length_of_start_threads}
 use Rattle.ir_graph.specs.Setup.{Setup, setup_start, first_sources}
 use Rattle.ir_thread.specs.declared.profile.Profile.{Profile}

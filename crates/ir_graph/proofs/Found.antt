@@ -3,9 +3,9 @@ use Rattle.std.proofs.Common.{◌≡◌, ℕ, ◌<◌, Bool, true, Some, None, L
 use Rattle.std.specs.Prelude.{slice_get}
 use Rattle.std.proofs.lemmas.Bool.{cases_eq}
 use Rattle.std.proofs.lemmas.Option.{same_Some}
-use Rattle.ir_explore.proofs.CallerLemmas.{slice_get_after_push_cases, index_of_element_is_below_length}
+use Rattle.ir_search.proofs.CallerLemmas.{slice_get_after_push_cases, index_of_element_is_below_length}
 use Rattle.ir_runs.specs.Run.{Step, Can}
-use Rattle.ir_states.specs.Nodes.{LeadsTo}
+use Rattle.ir_search_laws.specs.Nodes.{LeadsTo}
 use Rattle.ir_thread.specs.State.{ask_of}
 use Rattle.ir_flat.specs.Flat.{tables, machine, thread_of}
 use Rattle.ir_store.specs.Nodes.{SourcedFlat}

@@ -5,12 +5,12 @@ use Rattle.std.proofs.lemmas.List.{get_or-set_same, get_or-set_other}
 use Rattle.ir_runs.specs.Machine.{Machine, upd, target, reply, acted}
 use Rattle.ir_runs.specs.Run.{State, Step, asked, act, after, end}
 use Rattle.ir_runs.proofs.CallerLemmas.{upd_at_own_place, upd_at_other_place, upd_with_old_value}
-use Rattle.ir_states.specs.Counting.{RunCounts, is_own, GoesAhead, entering}
-use Rattle.ir_states.specs.Sources.{Giving, answer_of, left_of, sourced, plain}
-use Rattle.ir_states.specs.Views.{IsView, viewed, IsLiveRun, beside}
-use Rattle.ir_states.proofs.CallerLemmas.{run_that_goes_ahead_counts, counts_append, goes_ahead_append, plain_end, sourced_view_is_view, viewed_end, viewed_entering, viewed_counts}
+use Rattle.ir_search_laws.specs.Counting.{RunCounts, is_own, GoesAhead, entering}
+use Rattle.ir_search_laws.specs.Sources.{Giving, answer_of, left_of, sourced, plain}
+use Rattle.ir_search_laws.specs.Views.{IsView, viewed, IsLiveRun, beside}
+use Rattle.ir_search_laws.proofs.CallerLemmas.{run_that_goes_ahead_counts, counts_append, goes_ahead_append, plain_end, sourced_view_is_view, viewed_end, viewed_entering, viewed_counts}
 use Rattle.ir_thread.specs.State.{ThreadState, thread_machine}
-use Rattle.ir_sources.specs.Sources.{Source, given}
+use Rattle.ir_world.specs.Sources.{Source, given}
 use Rattle.ir_seen.specs.Seen.{view, seen_machine, IsLive}
 use Rattle.ir_seen.proofs.CallerLemmas.{seen_machine_is_view}
 use Rattle.ir_flat.specs.Flat.{tables, machine}

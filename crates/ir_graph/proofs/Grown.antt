@@ -7,9 +7,9 @@ use Rattle.std.proofs.lemmas.Bool.{cases_lt}
 use Rattle.std.proofs.lemmas.Option.{same_Some}
 use Rattle.ir_lemmas.proofs.CallerLemmas.{element_below_length_exists}
 use Rattle.ir_image.specs.Guest.{Guest}
-use Rattle.ir_explore.specs.Following.{BothWays}
-use Rattle.ir_states.specs.Outcomes.{Begins}
-use Rattle.ir_states.specs.Views.{beside}
+use Rattle.ir_search.specs.Following.{BothWays}
+use Rattle.ir_search_laws.specs.Outcomes.{Begins}
+use Rattle.ir_search_laws.specs.Views.{beside}
 use Rattle.ir_thread.specs.Permitted.{Permits}
 use Rattle.ir_thread.specs.State.{ask_of, most_budget}
 use Rattle.ir_thread.specs.declared.ask.Ask.{Ask}

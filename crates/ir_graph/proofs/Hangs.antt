@@ -3,25 +3,25 @@ use Rattle.std.proofs.Common.{◌≡◌, ◌↔◌, ℕ, ◌<◌, ◌≤◌, Boo
 use Rattle.std.specs.Prelude.{slice_get}
 use Rattle.std.proofs.lemmas.Option.{same_Some, slice_get-get_or}
 use Rattle.std.specs.List.{slice_index_or}
-use Rattle.ir_explore.specs.declared.origin.Origin.{Origin}
-use Rattle.ir_explore.specs.declared.origin.Refusal.{Refusal}
-use Rattle.ir_explore.specs.Following.{BothWays, IsOpen}
-use Rattle.ir_explore.specs.Levels.{AreAsked, AreGoneOver}
-use Rattle.ir_explore.specs.Meaning.{Steps}
-use Rattle.ir_explore.specs.Origins.{first_origin, AreReached}
-use Rattle.ir_explore.proofs.CallerLemmas.{asked_finished, marked_way, way_to_marked, index_of_element_is_below_length}
+use Rattle.ir_search.specs.declared.origin.Origin.{Origin}
+use Rattle.ir_search.specs.declared.origin.Refusal.{Refusal}
+use Rattle.ir_search.specs.Following.{BothWays, IsOpen}
+use Rattle.ir_search.specs.Levels.{AreAsked, AreGoneOver}
+use Rattle.ir_search.specs.Meaning.{Steps}
+use Rattle.ir_search.specs.Origins.{first_origin, AreReached}
+use Rattle.ir_search.proofs.CallerLemmas.{asked_finished, marked_way, way_to_marked, index_of_element_is_below_length}
 use Rattle.ir_runs.specs.Machine.{Machine}
 use Rattle.ir_runs.specs.Lawful.{IsLawful}
 use Rattle.ir_runs.specs.Run.{State, Step, asked, after, end, IsDone}
 use Rattle.ir_runs.proofs.CallerLemmas.{StateInvariant, end_append}
-use Rattle.ir_states.specs.Counting.{Answers, IsAnswered, IsAtRest, RunCounts, entering}
-use Rattle.ir_states.specs.Nodes.{TellsNothing, Path}
-use Rattle.ir_states.specs.Outcomes.{switches, IsFinished, HasWay}
-use Rattle.ir_states.specs.Views.{beside}
-use Rattle.ir_states.proofs.CallerLemmas.{Completes, back, finds, found, nothing_goes_ahead_if_at_rest, is_done_from_alike_state, run_is_live_if_its_end_is_unspoilt, state_stays_unspoilt_after_live_run, looks_alike, real_seen, seen_good, sourced_counts, sourced_entering, sourced_machine_is_lawful, sourced_live}
+use Rattle.ir_search_laws.specs.Counting.{Answers, IsAnswered, IsAtRest, RunCounts, entering}
+use Rattle.ir_search_laws.specs.Nodes.{TellsNothing, Path}
+use Rattle.ir_search_laws.specs.Outcomes.{switches, IsFinished, HasWay}
+use Rattle.ir_search_laws.specs.Views.{beside}
+use Rattle.ir_search_laws.proofs.CallerLemmas.{Completes, back, finds, found, nothing_goes_ahead_if_at_rest, is_done_from_alike_state, run_is_live_if_its_end_is_unspoilt, state_stays_unspoilt_after_live_run, looks_alike, real_seen, seen_good, sourced_counts, sourced_entering, sourced_machine_is_lawful, sourced_live}
 use Rattle.ir_thread.specs.State.{most_budget, thread_machine}
 use Rattle.ir_thread.specs.State as thread
-use Rattle.ir_sources.specs.Sources.{Source, given}
+use Rattle.ir_world.specs.Sources.{Source, given}
 use Rattle.ir_seen.specs.Seen.{view, seen_machine, IsLive, IsSpoilt, seen_start, Same}
 use Rattle.ir_seen.proofs.CallerLemmas.{seen_machine_is_lawful, seen_machine_is_view, thread_is_live_or_next_step_spoils_it, look_same, start_view_ignores_budget, state_invariant_at_start, start_state_is_unspoilt}
 use Rattle.ir_flat.specs.Flat.{tables, start_flat}

@@ -6,7 +6,7 @@ use Rattle.std.proofs.lemmas.Bool.{true≢false}
 use Rattle.std.proofs.lemmas.Option.{same_Some, slice_get_within}
 use Rattle.std.specs.List.{slice_index_or}
 use Rattle.ir_object.specs.Cell.{Cell}
-use Rattle.ir_sources.specs.Sources.{Source}
+use Rattle.ir_world.specs.Sources.{Source}
 use Rattle.ir_thread.specs.State.{ThreadState, ask_of}
 use Rattle.ir_object.specs.Empty.{empty}
 use Rattle.ir_store.specs.declared.spot.Spot.{Spot}

@@ -4,16 +4,16 @@ use Rattle.std.proofs.lemmas.Bool.{cases_lt}
 use Rattle.ir_runs.specs.Machine as machines
 use Rattle.ir_runs.specs.Machine.{act_of, Never, Admits, target}
 use Rattle.ir_runs.specs.Run.{State, Step, act, Can, after, end}
-use Rattle.ir_states.specs.Counting.{IsAnswered, is_own, IsAtRest, GoesAhead}
-use Rattle.ir_states.specs.Nodes.{LeadsTo}
-use Rattle.ir_states.specs.Orders.{is_refusal}
-use Rattle.ir_states.specs.Outcomes.{Begins}
-use Rattle.ir_states.specs.Sources.{answer_of}
-use Rattle.ir_states.proofs.CallerLemmas.{leads_to_by_equal_act}
+use Rattle.ir_search_laws.specs.Counting.{IsAnswered, is_own, IsAtRest, GoesAhead}
+use Rattle.ir_search_laws.specs.Nodes.{LeadsTo}
+use Rattle.ir_search_laws.specs.Orders.{is_refusal}
+use Rattle.ir_search_laws.specs.Outcomes.{Begins}
+use Rattle.ir_search_laws.specs.Sources.{answer_of}
+use Rattle.ir_search_laws.proofs.CallerLemmas.{leads_to_by_equal_act}
 use Rattle.ir_thread.specs.State.{ThreadState, ask_of, shared_ask}
 use Rattle.ir_thread.specs.declared.ask.Ask.{Ask}
 use Rattle.ir_thread.specs.declared.ask.Ask.TheVariants as ask
-use Rattle.ir_sources.specs.Sources.{Source, given}
+use Rattle.ir_world.specs.Sources.{Source, given}
 use Rattle.ir_seen.proofs.CallerLemmas.{seen_machine_is_view}
 use Rattle.ir_flat.specs.Flat.{Flat, tables, machine, thread_of, idle}
 use Rattle.ir_store.specs.Nodes.{SourcedFlat, source_of}

@@ -3,15 +3,15 @@ use Rattle.std.proofs.Common.{◌≡◌, ℕ, zero, suc, ◌+◌, ◌<◌, ◌�
 use Rattle.std.specs.Prelude.{slice_get}
 use Rattle.std.proofs.lemmas.Bool.{cases_eq, cases_lt}
 use Rattle.std.proofs.lemmas.Option.{same_Some}
-use Rattle.ir_explore.specs.declared.origin.Origin.{Origin}
-use Rattle.ir_explore.specs.Following.{Leading, BothWays, GoesTo}
-use Rattle.ir_explore.specs.Levels.{Covered, AreGoneOver}
-use Rattle.ir_explore.specs.Meaning.{Steps}
+use Rattle.ir_search.specs.declared.origin.Origin.{Origin}
+use Rattle.ir_search.specs.Following.{Leading, BothWays, GoesTo}
+use Rattle.ir_search.specs.Levels.{Covered, AreGoneOver}
+use Rattle.ir_search.specs.Meaning.{Steps}
 use Rattle.ir_runs.specs.Machine.{Machine}
 use Rattle.ir_runs.specs.Run.{State, Step, act, Can}
-use Rattle.ir_states.specs.Nodes.{Path}
-use Rattle.ir_states.specs.Orders.{is_refusal}
-use Rattle.ir_states.specs.Outcomes.{changes, switches}
+use Rattle.ir_search_laws.specs.Nodes.{Path}
+use Rattle.ir_search_laws.specs.Orders.{is_refusal}
+use Rattle.ir_search_laws.specs.Outcomes.{changes, switches}
 
 module _ {T : Type 0} (m : Machine T) (state_of : ℕ → State T) (noted : ℕ → BothWays) (threads size : ℕ)
     (idle : (v : ℕ) → v < size → (e : Step) → threads ≤ e.0 → Can m (state_of v) e → ⊥) (origins : List Origin) where

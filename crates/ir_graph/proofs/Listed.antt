@@ -3,23 +3,23 @@ use Rattle.std.proofs.Common.{◌≡◌, ℕ, ◌<◌, ◌≤◌, Bool, Some, No
 use Rattle.std.specs.Prelude.{slice_get}
 use Rattle.std.proofs.lemmas.Bool.{cases_lt}
 use Rattle.std.proofs.lemmas.Option.{slice_get-get_or}
-use Rattle.ir_explore.specs.declared.origin.Origin.{Origin}
-use Rattle.ir_explore.specs.declared.origin.Refusal.{Refusal}
-use Rattle.ir_explore.specs.Following.{BothWays}
-use Rattle.ir_explore.specs.Levels.{AreAsked, Covered}
-use Rattle.ir_explore.specs.Meaning.{Means, Steps}
-use Rattle.ir_explore.specs.Origins.{first_origin, AreReached}
-use Rattle.ir_explore.proofs.CallerLemmas.{asked_finished, covered_covers, index_of_element_is_below_length}
+use Rattle.ir_search.specs.declared.origin.Origin.{Origin}
+use Rattle.ir_search.specs.declared.origin.Refusal.{Refusal}
+use Rattle.ir_search.specs.Following.{BothWays}
+use Rattle.ir_search.specs.Levels.{AreAsked, Covered}
+use Rattle.ir_search.specs.Meaning.{Means, Steps}
+use Rattle.ir_search.specs.Origins.{first_origin, AreReached}
+use Rattle.ir_search.proofs.CallerLemmas.{asked_finished, covered_covers, index_of_element_is_below_length}
 use Rattle.ir_runs.specs.Machine as machines
 use Rattle.ir_runs.specs.Run as run
 use Rattle.ir_runs.specs.Run.{Step, act, Can}
-use Rattle.ir_states.specs.Counting.{IsAtRest}
-use Rattle.ir_states.specs.Nodes.{LeadsTo}
-use Rattle.ir_states.specs.Orders.{is_refusal}
-use Rattle.ir_states.specs.Outcomes.{IsFinished, Covers}
-use Rattle.ir_states.specs.Sources.{plain}
+use Rattle.ir_search_laws.specs.Counting.{IsAtRest}
+use Rattle.ir_search_laws.specs.Nodes.{LeadsTo}
+use Rattle.ir_search_laws.specs.Orders.{is_refusal}
+use Rattle.ir_search_laws.specs.Outcomes.{IsFinished, Covers}
+use Rattle.ir_search_laws.specs.Sources.{plain}
 use Rattle.ir_thread.specs.State.{ThreadState, thread_machine}
-use Rattle.ir_sources.specs.Sources.{Source, given}
+use Rattle.ir_world.specs.Sources.{Source, given}
 use Rattle.ir_seen.specs.Seen.{seen_start}
 use Rattle.ir_seen.proofs.CallerLemmas.{seen_machine_is_view, guest_all, guest_outcome_within_switches_is_of_done_node}
 use Rattle.ir_flat.specs.Flat.{machine, tables, thread_of}

@@ -3,7 +3,7 @@ use Rattle.std.proofs.Common.{◌≡◌, ℕ, suc, ◌<◌, List, [], ◌∷◌,
 use Rattle.std.specs.Prelude.{slice_get}
 use Rattle.std.proofs.lemmas.Bool.{cases_lt}
 use Rattle.std.proofs.lemmas.Option.{same_Some}
-use Rattle.ir_explore.proofs.CallerLemmas.{slice_get_after_push_cases, slice_get_kept_by_append, index_of_element_is_below_length}
+use Rattle.ir_search.proofs.CallerLemmas.{slice_get_after_push_cases, slice_get_kept_by_append, index_of_element_is_below_length}
 use Rattle.ir_runs.specs.Run.{IsDone}
 use Rattle.ir_flat.specs.Flat.{machine, tables}
 use Rattle.ir_store.specs.Nodes.{SourcedFlat}

@@ -8,16 +8,16 @@ use Rattle.ir_object.specs.Standing.{Admitted, CanLeave}
 use Rattle.ir_object.specs.Word.{IsFields, entered, left_by}
 use Rattle.ir_object.specs.declared.fields.Fields.{Fields}
 use Rattle.ir_runs.specs.Run.{Can, after}
-use Rattle.ir_states.specs.Counting.{IsAnswered}
-use Rattle.ir_states.specs.Sources.{answer_of, left_of}
-use Rattle.ir_states.specs.Views.{beside}
+use Rattle.ir_search_laws.specs.Counting.{IsAnswered}
+use Rattle.ir_search_laws.specs.Sources.{answer_of, left_of}
+use Rattle.ir_search_laws.specs.Views.{beside}
 use Rattle.ir_thread.specs.Permitted.{run_of, step_of, Permits}
 use Rattle.ir_thread.specs.Private.{PrivateSteps}
 use Rattle.ir_thread.specs.State.{ThreadState, held_at, ask_of, after_reply, after_ask, shared_ask, thread_machine}
 use Rattle.ir_thread.specs.declared.ask.Ask.{Ask}
 use Rattle.ir_thread.specs.declared.ask.Ask.TheVariants as ask
 use Rattle.ir_thread.specs.declared.ask.Reply.TheVariants.{Go, Value}
-use Rattle.ir_sources.specs.Sources.{Source, given}
+use Rattle.ir_world.specs.Sources.{Source, given}
 use Rattle.ir_flat.specs.Flat.{Flat, IsFlat, thread_of, cell_of, tables, machine, idle}
 use Rattle.ir_flat.specs.Next.{with_thread, with_object, next, MayStep, MayTry}
 use Rattle.ir_flat.proofs.CallerLemmas.{next_is_flat, tables_of_next_are_after, may_step_iff_can_for_ask, entered_fields_fit, left_fields_fit, flat_inside_thread_can_leave}

@@ -5,7 +5,7 @@ use Rattle.ir_runs.specs.Run.{IsDone}
 use Rattle.ir_flat.specs.Flat.{Flat, machine, tables, thread_of}
 use Rattle.ir_seen.specs.Seen.{Same, view}
 use Rattle.ir_seen.proofs.CallerLemmas.{look_same, seen_machine_is_view}
-use Rattle.ir_sources.specs.Sources.{given}
+use Rattle.ir_world.specs.Sources.{given}
 use Rattle.ir_store.specs.Nodes.{SourcedFlat, source_of}
 use Rattle.ir_thread.specs.State.{ask_of, shared_ask}
 use Rattle.ir_graph.specs.Nodes.{LookAlike}

@@ -5,9 +5,9 @@ use Rattle.ir_runs.specs.Machine as machine
 use Rattle.ir_runs.specs.Machine.{target, reply, upd}
 use Rattle.ir_runs.specs.Run.{State, Step, act, Can, after, end, IsRun}
 use Rattle.ir_runs.proofs.CallerLemmas.{property_of_upd_by_cases, upd_with_old_value, thread_after_step_of_other, end_append}
-use Rattle.ir_states.specs.Counting.{IsAnswered, is_own}
-use Rattle.ir_states.specs.Sources.{answer_of, left_of}
-use Rattle.ir_states.specs.Views.{beside}
+use Rattle.ir_search_laws.specs.Counting.{IsAnswered, is_own}
+use Rattle.ir_search_laws.specs.Sources.{answer_of, left_of}
+use Rattle.ir_search_laws.specs.Views.{beside}
 use Rattle.ir_thread.specs.State.{ask_of, after_ask, after_reply, held_after_try, thread_machine, shared_ask, reply_of}
 use Rattle.ir_thread.specs.State as thread
 use Rattle.ir_thread.specs.declared.ask.Ask.{Ask}
@@ -15,7 +15,7 @@ use Rattle.ir_thread.specs.declared.ask.Ask.TheVariants as ask
 use Rattle.ir_thread.specs.declared.ask.Reply.{Reply}
 use Rattle.ir_thread.specs.declared.ask.Reply.TheVariants.{Go, Value}
 use Rattle.ir_runs.specs.declared.access.Access.TheVariants.{Writing}
-use Rattle.ir_sources.specs.Sources.{Source, given}
+use Rattle.ir_world.specs.Sources.{Source, given}
 use Rattle.ir_freeze.specs.Twins.{AreTwins}
 use Rattle.ir_seen.specs.Seen.{IsLive}
 use Rattle.ir_seen.proofs.CallerLemmas.{view_asks_same_or_spent}

@@ -1,12 +1,12 @@
 -- Runs that lead to the states of a guest's graph.
 use Rattle.std.proofs.Common.{◌≡◌, ℕ, List, [], ◌∷◌, ◌++◌, inl, inr, sym, ap, ◌∙◌, subst}
-use Rattle.ir_explore.proofs.CallerLemmas.{slice_get_after_push_cases}
+use Rattle.ir_search.proofs.CallerLemmas.{slice_get_after_push_cases}
 use Rattle.ir_runs.specs.Run.{State, Step, end, IsRun, IsDone}
 use Rattle.ir_runs.proofs.CallerLemmas.{end_append}
-use Rattle.ir_states.specs.Sources.{plain}
-use Rattle.ir_states.proofs.CallerLemmas.{sourced_counts, state_stays_unspoilt_after_live_run}
+use Rattle.ir_search_laws.specs.Sources.{plain}
+use Rattle.ir_search_laws.proofs.CallerLemmas.{sourced_counts, state_stays_unspoilt_after_live_run}
 use Rattle.ir_thread.specs.State.{ThreadState, ask_of, most_budget, thread_machine}
-use Rattle.ir_sources.specs.Sources.{Source, given}
+use Rattle.ir_world.specs.Sources.{Source, given}
 use Rattle.ir_seen.specs.Seen.{IsLive, IsSpoilt}
 use Rattle.ir_seen.proofs.CallerLemmas.{thread_is_live_or_next_step_spoils_it, start_state_is_unspoilt}
 use Rattle.ir_flat.specs.Flat.{tables, thread_of}

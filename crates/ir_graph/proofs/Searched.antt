@@ -2,11 +2,11 @@
 use Rattle.std.proofs.Common.{◌≡◌, ◌↔◌, ℕ, Bool, true, Option, List, length, subst}
 use Rattle.std.specs.Global.{Vec}
 use Rattle.std.specs.Prelude.{Result, Ok, Err, IfOk, IfErr}
-use Rattle.ir_explore.specs.declared.origin.Origin.{Origin}
-use Rattle.ir_explore.specs.declared.origin.Refusal.{Refusal}
-use Rattle.ir_explore.specs.Levels.{AreAsked, AreGoneOver, Covered}
-use Rattle.ir_explore.specs.Searching.{HasGone}
-use Rattle.ir_explore.proofs.CallerLemmas.{covered_below_gone_over_level}
+use Rattle.ir_search.specs.declared.origin.Origin.{Origin}
+use Rattle.ir_search.specs.declared.origin.Refusal.{Refusal}
+use Rattle.ir_search.specs.Levels.{AreAsked, AreGoneOver, Covered}
+use Rattle.ir_search.specs.Searching.{HasGone}
+use Rattle.ir_search.proofs.CallerLemmas.{covered_below_gone_over_level}
 use Rattle.ir_store.specs.Nodes.{SourcedFlat}
 use Rattle.ir_graph.specs.Setup.{Setup}
 use Rattle.ir_graph.specs.Graph.{IsGraph}

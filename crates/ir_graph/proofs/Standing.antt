@@ -3,19 +3,19 @@ use Rattle.std.proofs.Common.{◌≡◌, ℕ, ◌<◌, ◌≤◌, Some, List, le
 use Rattle.std.specs.Prelude.{slice_get}
 use Rattle.std.proofs.lemmas.Bool.{cases_lt}
 use Rattle.std.proofs.lemmas.Option.{same_Some}
-use Rattle.ir_explore.specs.declared.origin.Origin.{Origin}
-use Rattle.ir_explore.specs.Following.{BothWays}
-use Rattle.ir_explore.specs.Levels.{Covered}
-use Rattle.ir_explore.specs.Origins.{first_origin}
-use Rattle.ir_explore.proofs.CallerLemmas.{covered_covers, index_of_element_is_below_length}
+use Rattle.ir_search.specs.declared.origin.Origin.{Origin}
+use Rattle.ir_search.specs.Following.{BothWays}
+use Rattle.ir_search.specs.Levels.{Covered}
+use Rattle.ir_search.specs.Origins.{first_origin}
+use Rattle.ir_search.proofs.CallerLemmas.{covered_covers, index_of_element_is_below_length}
 use Rattle.ir_runs.specs.Machine.{Machine}
 use Rattle.ir_runs.specs.Run.{State, end}
 use Rattle.ir_runs.proofs.CallerLemmas.{StateInvariant}
-use Rattle.ir_states.specs.Counting.{IsAtRest, is_own}
-use Rattle.ir_states.specs.Outcomes.{switches}
-use Rattle.ir_states.proofs.CallerLemmas.{run_within_switches_arrives_at_open_node, nothing_goes_ahead_if_at_rest, seen_good, sourced_machine_is_lawful}
+use Rattle.ir_search_laws.specs.Counting.{IsAtRest, is_own}
+use Rattle.ir_search_laws.specs.Outcomes.{switches}
+use Rattle.ir_search_laws.proofs.CallerLemmas.{run_within_switches_arrives_at_open_node, nothing_goes_ahead_if_at_rest, seen_good, sourced_machine_is_lawful}
 use Rattle.ir_thread.specs.State.{ThreadState, thread_machine}
-use Rattle.ir_sources.specs.Sources.{Source, given}
+use Rattle.ir_world.specs.Sources.{Source, given}
 use Rattle.ir_seen.specs.Seen.{view, seen_machine, seen_start, IsLive, IsSpoilt}
 use Rattle.ir_seen.proofs.CallerLemmas.{seen_machine_is_lawful, seen_machine_is_view, thread_is_live_or_next_step_spoils_it, state_invariant_at_start}
 use Rattle.ir_flat.specs.Flat.{tables, start_flat}

@@ -1,7 +1,7 @@
 -- Why a search stops.
 use Rattle.std.proofs.Common.{◌≡◌, ℕ, List, sym, subst, length}
-use Rattle.ir_explore.specs.declared.stop.Stop.{Stop}
-use Rattle.ir_explore.specs.declared.stop.Stop.TheVariants.{Nodes, Private, Log, World, Memory}
+use Rattle.ir_search.specs.declared.stop.Stop.{Stop}
+use Rattle.ir_search.specs.declared.stop.Stop.TheVariants.{Nodes, Private, Log, World, Memory}
 use Rattle.ir_thread.specs.State.{ask_of}
 use Rattle.ir_flat.specs.Flat.{thread_of}
 use Rattle.ir_store.specs.Nodes.{SourcedFlat, source_of}

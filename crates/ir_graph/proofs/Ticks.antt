@@ -8,9 +8,9 @@ use Rattle.ir_runs.specs.declared.access.Access.TheVariants.{Reading, Writing}
 use Rattle.ir_runs.specs.declared.env_kind.EnvKind.TheVariants.{Clock, Random, Input}
 use Rattle.ir_runs.specs.Run.{State, Step, asked, act, after, label, end, join_if, trail, events, log}
 use Rattle.ir_runs.proofs.CallerLemmas.{upd_at_own_place, upd_at_other_place}
-use Rattle.ir_states.specs.Sources.{left_of, sourced}
-use Rattle.ir_states.specs.Views.{beside}
-use Rattle.ir_sources.specs.Sources.{Source, source, given, seed_of}
+use Rattle.ir_search_laws.specs.Sources.{left_of, sourced}
+use Rattle.ir_search_laws.specs.Views.{beside}
+use Rattle.ir_world.specs.Sources.{Source, source, given, seed_of}
 use Rattle.ir_store.specs.Table.{no_source}
 use Rattle.ir_graph.specs.Setup.{Setup, first_source, first_sources}
 use Rattle.ir_graph.specs.Times.{HasTime}

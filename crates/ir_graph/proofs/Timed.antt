@@ -3,9 +3,9 @@ use Rattle.std.proofs.Common.{◌≡◌, ℕ, ◌<◌, ◌≤◌, Bool, true, fa
 use Rattle.std.specs.Global.{Vec}
 use Rattle.std.proofs.lemmas.Bool.{cases_lt}
 use Rattle.std.proofs.lemmas.Option.{same_Some}
-use Rattle.ir_explore.specs.Following.{BothWays}
-use Rattle.ir_states.specs.Outcomes.{Begins}
-use Rattle.ir_states.specs.Views.{beside}
+use Rattle.ir_search.specs.Following.{BothWays}
+use Rattle.ir_search_laws.specs.Outcomes.{Begins}
+use Rattle.ir_search_laws.specs.Views.{beside}
 use Rattle.ir_thread.specs.State.{most_budget}
 use Rattle.ir_seen.specs.Seen.{seen_start}
 use Rattle.ir_seen.proofs.CallerLemmas.{start_view_ignores_budget}

@@ -1,20 +1,20 @@
 -- A search over a guest's graph knows whether some run of the guest answers a call for the time.
 use Rattle.std.proofs.Common.{◌≡◌, ◌≢◌, ◌↔◌, ◌⊎◌, ℕ, ◌<◌, Bool, true, false, Some, List, [], ◌∷◌, length, inl, inr, refl, sym, ap, ◌∙◌, subst, arith}
 use Rattle.std.proofs.lemmas.Bool.{cases_eq, cases_lt}
-use Rattle.ir_explore.specs.Following.{BothWays}
-use Rattle.ir_explore.specs.Levels.{AreAsked}
+use Rattle.ir_search.specs.Following.{BothWays}
+use Rattle.ir_search.specs.Levels.{AreAsked}
 use Rattle.ir_runs.specs.Machine.{Machine, Done, Admits, act_of, target}
 use Rattle.ir_runs.specs.Lawful.{IsLawful}
 use Rattle.ir_runs.specs.Run.{State, Step, asked, act, Can, after, end, log}
 use Rattle.ir_runs.proofs.CallerLemmas.{StateInvariant, upd_at_own_place, thread_after_step_of_other}
-use Rattle.ir_states.specs.Counting.{Answers, is_own, RunCounts, GoesAhead, entering}
-use Rattle.ir_states.specs.Nodes.{LeadsTo, Noted, IsClosed, Chain}
-use Rattle.ir_states.specs.Orders.{is_refusal}
-use Rattle.ir_states.specs.Sources.{left_of}
-use Rattle.ir_states.specs.Views.{beside}
-use Rattle.ir_states.proofs.CallerLemmas.{counting_run_arrives_along_chain_of_its_entries, equality_of_states_tells_nothing, goes_ahead_from_alike_state_to_alike_end, run_is_live_if_its_end_is_unspoilt, sourced_live, seen_good, sourced_machine_is_lawful}
+use Rattle.ir_search_laws.specs.Counting.{Answers, is_own, RunCounts, GoesAhead, entering}
+use Rattle.ir_search_laws.specs.Nodes.{LeadsTo, Noted, IsClosed, Chain}
+use Rattle.ir_search_laws.specs.Orders.{is_refusal}
+use Rattle.ir_search_laws.specs.Sources.{left_of}
+use Rattle.ir_search_laws.specs.Views.{beside}
+use Rattle.ir_search_laws.proofs.CallerLemmas.{counting_run_arrives_along_chain_of_its_entries, equality_of_states_tells_nothing, goes_ahead_from_alike_state_to_alike_end, run_is_live_if_its_end_is_unspoilt, sourced_live, seen_good, sourced_machine_is_lawful}
 use Rattle.ir_thread.specs.State.{ThreadState, thread_machine}
-use Rattle.ir_sources.specs.Sources.{Source, given}
+use Rattle.ir_world.specs.Sources.{Source, given}
 use Rattle.ir_flat.specs.Flat.{tables, start_flat}
 use Rattle.ir_seen.specs.Seen.{view, seen_machine, seen_start, IsLive, IsSpoilt}
 use Rattle.ir_seen.proofs.CallerLemmas.{seen_machine_is_lawful, seen_machine_is_view, thread_is_live_or_next_step_spoils_it, start_view_ignores_budget, state_invariant_at_start}

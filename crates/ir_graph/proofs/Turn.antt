@@ -7,13 +7,13 @@ use Rattle.ir_runs.specs.Machine as machines
 use Rattle.ir_runs.specs.Machine.{Machine, Admits, target, act_of}
 use Rattle.ir_runs.specs.Run.{State, Step, asked, act, Can, after, end, IsRun}
 use Rattle.ir_runs.proofs.CallerLemmas.{end_append}
-use Rattle.ir_states.specs.Counting.{Answers, IsAnswered, is_own, GoesAhead, entering}
-use Rattle.ir_states.specs.Views.{beside}
-use Rattle.ir_states.specs.Orders.{IsAlone, is_refusal}
-use Rattle.ir_states.specs.Sources.{Giving, answer_of, sourced, plain}
-use Rattle.ir_states.proofs.CallerLemmas.{counting_run_is_run, plain_end}
+use Rattle.ir_search_laws.specs.Counting.{Answers, IsAnswered, is_own, GoesAhead, entering}
+use Rattle.ir_search_laws.specs.Views.{beside}
+use Rattle.ir_search_laws.specs.Orders.{IsAlone, is_refusal}
+use Rattle.ir_search_laws.specs.Sources.{Giving, answer_of, sourced, plain}
+use Rattle.ir_search_laws.proofs.CallerLemmas.{counting_run_is_run, plain_end}
 use Rattle.ir_thread.specs.State.{ask_of, shared_ask}
-use Rattle.ir_sources.specs.Sources.{Source, given}
+use Rattle.ir_world.specs.Sources.{Source, given}
 use Rattle.ir_flat.specs.Alone.{WentAlone}
 use Rattle.ir_flat.specs.Flat.{Flat, tables, machine, thread_of}
 use Rattle.ir_store.specs.Nodes.{SourcedFlat, source_of}

@@ -1,7 +1,7 @@
 -- The graph of a guest.
 use Rattle.std.specs.Prelude.{◌≡◌, ◌⊎◌, ℕ, ◌<◌, ◌≤◌, Bool, true, List, length, Option, Some, None, slice_get}
-use Rattle.ir_explore.specs.Following.{BothWays}
-use Rattle.ir_states.specs.Outcomes.{Begins}
+use Rattle.ir_search.specs.Following.{BothWays}
+use Rattle.ir_search_laws.specs.Outcomes.{Begins}
 use Rattle.ir_thread.specs.declared.profile.Profile.TheVariants.{One}
 use Rattle.ir_seen.specs.Seen.{seen_start}
 use Rattle.ir_store.specs.Nodes.{SourcedFlat}

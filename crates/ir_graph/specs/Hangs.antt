@@ -1,15 +1,15 @@
 -- Runs that can't be brought to an end any more.
 use Rattle.std.specs.Prelude.{◌≡◌, ◌↔◌, ℕ, ◌≤◌, Bool, List, Some, length, slice_get}
-use Rattle.ir_explore.specs.declared.origin.Origin.{Origin}
-use Rattle.ir_explore.specs.Following.{BothWays, IsOpen}
-use Rattle.ir_explore.specs.Ways.{HasMarked}
+use Rattle.ir_search.specs.declared.origin.Origin.{Origin}
+use Rattle.ir_search.specs.Following.{BothWays, IsOpen}
+use Rattle.ir_search.specs.Ways.{HasMarked}
 use Rattle.ir_runs.specs.Run.{Step, IsRun, IsDone, end, log}
-use Rattle.ir_states.specs.Counting.{RunCounts, entering}
-use Rattle.ir_states.specs.Outcomes.{switches}
-use Rattle.ir_states.specs.Sources.{Gives}
-use Rattle.ir_states.specs.Views.{IsUnspoilt}
+use Rattle.ir_search_laws.specs.Counting.{RunCounts, entering}
+use Rattle.ir_search_laws.specs.Outcomes.{switches}
+use Rattle.ir_search_laws.specs.Sources.{Gives}
+use Rattle.ir_search_laws.specs.Views.{IsUnspoilt}
 use Rattle.ir_thread.specs.State.{thread_machine}
-use Rattle.ir_sources.specs.Sources.{given}
+use Rattle.ir_world.specs.Sources.{given}
 use Rattle.ir_flat.specs.Flat.{machine, tables, start_flat}
 use Rattle.ir_seen.specs.Seen.{IsSpoilt, seen_start}
 use Rattle.ir_store.specs.Nodes.{SourcedFlat}

@@ -2,14 +2,14 @@
 use Rattle.std.specs.Prelude.{◌≡◌, ℕ, ◌<◌, Bool, List, length, Option, Some, None, slice_get}
 use Rattle.ir_runs.specs.Machine.{Machine}
 use Rattle.ir_runs.specs.Run as run
-use Rattle.ir_states.specs.Counting.{Answers}
-use Rattle.ir_states.specs.Looks.{Looks}
-use Rattle.ir_states.specs.Nodes.{LeadsTo}
-use Rattle.ir_states.specs.Orders.{is_refusal}
-use Rattle.ir_states.specs.Sources.{sourced, by_source}
-use Rattle.ir_states.specs.Views.{viewed, beside}
+use Rattle.ir_search_laws.specs.Counting.{Answers}
+use Rattle.ir_search_laws.specs.Looks.{Looks}
+use Rattle.ir_search_laws.specs.Nodes.{LeadsTo}
+use Rattle.ir_search_laws.specs.Orders.{is_refusal}
+use Rattle.ir_search_laws.specs.Sources.{sourced, by_source}
+use Rattle.ir_search_laws.specs.Views.{viewed, beside}
 use Rattle.ir_thread.specs.State.{ThreadState, ask_of}
-use Rattle.ir_sources.specs.Sources.{Source, given}
+use Rattle.ir_world.specs.Sources.{Source, given}
 use Rattle.ir_flat.specs.Flat.{Flat, tables, thread_of}
 use Rattle.ir_seen.specs.Seen.{view, seen_machine, Same}
 use Rattle.ir_store.specs.Nodes.{SourcedFlat, source_of}

@@ -1,9 +1,9 @@
 -- What the complete runs of a guest come to.
 use Rattle.std.specs.Prelude.{◌≡◌, ℕ, ◌≤◌, List, Option, Some, slice_get}
-use Rattle.ir_explore.specs.declared.origin.Origin.{Origin}
+use Rattle.ir_search.specs.declared.origin.Origin.{Origin}
 use Rattle.ir_runs.specs.Run as run
-use Rattle.ir_states.specs.Counting.{entering}
-use Rattle.ir_states.specs.Outcomes.{switches}
+use Rattle.ir_search_laws.specs.Counting.{entering}
+use Rattle.ir_search_laws.specs.Outcomes.{switches}
 use Rattle.ir_thread.specs.State.{ThreadState, most_budget, thread_machine}
 use Rattle.ir_thread.specs.declared.end.End.{End}
 use Rattle.ir_flat.specs.Flat.{machine, tables, start_flat}

@@ -2,14 +2,14 @@
 use Rattle.std.specs.Prelude.{◌≡◌, ◌≢◌, ℕ, Bool, true, false, List, length}
 use Rattle.ir_runs.specs.Machine.{Machine}
 use Rattle.ir_runs.specs.Run.{State, Step, end}
-use Rattle.ir_states.specs.Counting.{Answers, RunCounts, GoesAhead}
-use Rattle.ir_states.specs.Sources.{sourced, by_source}
-use Rattle.ir_states.specs.Views.{IsLiveRun, beside}
+use Rattle.ir_search_laws.specs.Counting.{Answers, RunCounts, GoesAhead}
+use Rattle.ir_search_laws.specs.Sources.{sourced, by_source}
+use Rattle.ir_search_laws.specs.Views.{IsLiveRun, beside}
 use Rattle.ir_thread.specs.State.{ThreadState, thread_machine}
 use Rattle.ir_thread.specs.declared.ask.Ask.{Ask}
 use Rattle.ir_thread.specs.declared.ask.Ask.TheVariants as ask
 use Rattle.ir_thread.specs.declared.end.End.TheVariants as ending
-use Rattle.ir_sources.specs.Sources.{Source, given}
+use Rattle.ir_world.specs.Sources.{Source, given}
 use Rattle.ir_freeze.specs.Twins.{AreTwins}
 use Rattle.ir_seen.specs.Seen.{IsLive}
 use Rattle.ir_flat.specs.Flat.{Flat, tables, thread_of}

@@ -1,9 +1,9 @@
 -- What a search over the states of a guest gives.
 use Rattle.std.specs.Prelude.{◌≡◌, ◌↔◌, true, ℕ, ◌<◌, ◌≤◌, List, Some, length, slice_get}
-use Rattle.ir_explore.specs.declared.origin.Origin.{Origin}
-use Rattle.ir_explore.specs.Levels.{rows}
-use Rattle.ir_explore.specs.Origins.{AreReached, AreRising}
-use Rattle.ir_explore.specs.Searching.{HasGone, IsBetween}
+use Rattle.ir_search.specs.declared.origin.Origin.{Origin}
+use Rattle.ir_search.specs.Levels.{rows}
+use Rattle.ir_search.specs.Origins.{AreReached, AreRising}
+use Rattle.ir_search.specs.Searching.{HasGone, IsBetween}
 use Rattle.ir_store.specs.Nodes.{SourcedFlat}
 use Rattle.ir_graph.specs.Setup.{Setup}
 use Rattle.ir_graph.specs.Ahead.{AreTurns}

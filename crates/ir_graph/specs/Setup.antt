@@ -5,7 +5,7 @@ use Rattle.ir_image.specs.Guest.{Guest}
 use Rattle.ir_runs.specs.Run.{Step}
 use Rattle.ir_thread.specs.State.{most_budget}
 use Rattle.ir_thread.specs.declared.profile.Profile.{Profile}
-use Rattle.ir_sources.specs.Sources.{Source, source, given, seed_of}
+use Rattle.ir_world.specs.Sources.{Source, source, given, seed_of}
 use Rattle.ir_flat.specs.Flat.{start_flat}
 use Rattle.ir_seen.specs.Seen.{IsCounted}
 use Rattle.ir_store.specs.Nodes.{SourcedFlat}

@@ -1,11 +1,11 @@
 -- Where the runs of a guest end that count.
 use Rattle.std.specs.Prelude.{◌≡◌, ℕ, ◌≤◌, List, Some, slice_get}
-use Rattle.ir_explore.specs.declared.origin.Origin.{Origin}
+use Rattle.ir_search.specs.declared.origin.Origin.{Origin}
 use Rattle.ir_runs.specs.Run.{State, Step, end}
-use Rattle.ir_states.specs.Counting.{IsAtRest, entering}
-use Rattle.ir_states.specs.Outcomes.{switches}
+use Rattle.ir_search_laws.specs.Counting.{IsAtRest, entering}
+use Rattle.ir_search_laws.specs.Outcomes.{switches}
 use Rattle.ir_thread.specs.State.{ThreadState, thread_machine}
-use Rattle.ir_sources.specs.Sources.{Source}
+use Rattle.ir_world.specs.Sources.{Source}
 use Rattle.ir_flat.specs.Flat.{tables, start_flat}
 use Rattle.ir_seen.specs.Seen.{seen_start}
 use Rattle.ir_store.specs.Nodes.{SourcedFlat}

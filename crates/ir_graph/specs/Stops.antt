@@ -1,13 +1,13 @@
 -- Why a search over the states of a guest stops.
 use Rattle.std.specs.Prelude.{◌≡◌, ℕ, ◌≤◌, ◌+◌, ◌^◌, false, List, length}
-use Rattle.ir_explore.specs.declared.stop.Stop.{Stop}
-use Rattle.ir_explore.specs.declared.stop.Stop.TheVariants.{Nodes, Private, Log, World, Memory}
+use Rattle.ir_search.specs.declared.stop.Stop.{Stop}
+use Rattle.ir_search.specs.declared.stop.Stop.TheVariants.{Nodes, Private, Log, World, Memory}
 use Rattle.ir_thread.specs.State.{ask_of}
 use Rattle.ir_runs.specs.declared.env_kind.EnvKind.TheVariants.{Clock}
 use Rattle.ir_thread.specs.declared.ask.Ask.{Ask}
 use Rattle.ir_thread.specs.declared.ask.Ask.TheVariants as ask
 use Rattle.ir_thread.specs.declared.end.End.TheVariants as ending
-use Rattle.ir_sources.specs.Sources.{Source}
+use Rattle.ir_world.specs.Sources.{Source}
 use Rattle.ir_flat.specs.Flat.{thread_of}
 use Rattle.ir_store.specs.Nodes.{SourcedFlat, source_of}
 use Rattle.ir_graph.specs.Setup.{Setup}

@@ -1,13 +1,13 @@
 -- Calls for the time in the runs of a guest.
 use Rattle.std.specs.Prelude.{◌≡◌, ℕ, Bool, true, false, List, [], ◌∷◌, Some, slice_get}
-use Rattle.ir_explore.specs.Following.{BothWays}
+use Rattle.ir_search.specs.Following.{BothWays}
 use Rattle.ir_runs.specs.Machine.{Label, Quiet, Answer, In, Refused, Out}
 use Rattle.ir_runs.specs.declared.env_kind.EnvKind.TheVariants.{Clock, Random, Input}
 use Rattle.ir_runs.specs.Run.{State, Step, Can, log}
-use Rattle.ir_states.specs.Nodes.{LeadsTo}
-use Rattle.ir_states.specs.Outcomes.{Begins}
+use Rattle.ir_search_laws.specs.Nodes.{LeadsTo}
+use Rattle.ir_search_laws.specs.Outcomes.{Begins}
 use Rattle.ir_thread.specs.State.{ThreadState, thread_machine}
-use Rattle.ir_sources.specs.Sources.{Source}
+use Rattle.ir_world.specs.Sources.{Source}
 use Rattle.ir_flat.specs.Flat.{tables, start_flat}
 use Rattle.ir_seen.specs.Seen.{seen_start}
 use Rattle.ir_store.specs.Nodes.{SourcedFlat}

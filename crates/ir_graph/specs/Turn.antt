@@ -2,8 +2,8 @@
 use Rattle.std.specs.Prelude.{◌≡◌, ℕ, Bool, cond, List, [], ◌∷◌, length, replicate}
 use Rattle.ir_runs.specs.Machine.{Machine, Try}
 use Rattle.ir_runs.specs.Run.{State, Step, asked, act, after, end}
-use Rattle.ir_states.specs.Counting.{is_own}
-use Rattle.ir_states.specs.Orders.{IsAlone, is_refusal}
+use Rattle.ir_search_laws.specs.Counting.{is_own}
+use Rattle.ir_search_laws.specs.Orders.{IsAlone, is_refusal}
 use Rattle.ir_store.specs.Nodes.{SourcedFlat}
 use Rattle.ir_graph.specs.Plain.{full_by, full_of, IsAnsweredRun, result_by}
 

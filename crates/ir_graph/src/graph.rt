@@ -14,7 +14,7 @@ use crate::nodes::{Bounds, successor};
 use crate::notes::{Row, known, note_way};
 use crate::setup::Setup;
 use crate::way::Way;
-use ir_explore::{Stop, Successors};
+use ir_search::{Stop, Successors};
 use ir_store::Store;
 
 /// The graph of a guest: its states at rest, as the threads can tell them apart.

@@ -10,7 +10,7 @@ ghost use Rattle.ir_seen.specs.Seen.{Same, view};
 
 use ir_freeze::{Basis, freeze, over, tells_apart};
 use ir_object::Object;
-use ir_sources::Sources;
+use ir_world::Sources;
 use ir_store::{SourcedFlat, bounded};
 use ir_thread::Thread;
 use std::alloc::{AllocError, Global};

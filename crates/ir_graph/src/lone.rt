@@ -3,14 +3,14 @@
 ghost use Rattle.std.specs.Prelude.{◌≡◌, ◌<◌, ℕ, true, false, length, slice_index, IfSome};
 ghost use Rattle.ir_graph.specs.Lone.{IsAbout, IsGiven, answer_from, cell_after, GoesAmong, MayBegin, MustWait, TakesTurn, AreAmong, MayTake};
 ghost use Rattle.ir_graph.specs.Plain.{IsFair, Rests};
-ghost use Rattle.ir_sources.specs.Sources.{given};
-ghost use Rattle.ir_states.specs.Sources.{left_of};
+ghost use Rattle.ir_world.specs.Sources.{given};
+ghost use Rattle.ir_search_laws.specs.Sources.{left_of};
 ghost use Rattle.ir_thread.specs.State.{ask_of, after_ask, shared_ask};
 
 use ir_image::Code;
 use ir_object::Object;
 use ir_runs::Access;
-use ir_sources::Sources;
+use ir_world::Sources;
 use ir_store::SourcedThread;
 use ir_thread::{Ask, End, Reply, Thread};
 

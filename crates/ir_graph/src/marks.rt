@@ -1,7 +1,7 @@
 //! The states that can be brought to an end.
 
 ghost use Rattle.std.specs.Prelude.{◌≡◌, ℕ, Some, length, slice_get, IfOk};
-ghost use Rattle.ir_explore.specs.Following.{IsOpen};
+ghost use Rattle.ir_search.specs.Following.{IsOpen};
 ghost use Rattle.ir_flat.specs.Flat.{machine, tables};
 ghost use Rattle.ir_graph.specs.Hangs.{AreWays};
 ghost use Rattle.ir_graph.specs.Notes.{noted_by};
@@ -9,7 +9,7 @@ ghost use Rattle.ir_runs.specs.Run.{IsDone};
 ghost use Rattle.ir_store.specs.Nodes.{SourcedFlat};
 
 use crate::graph::Graph;
-use ir_explore::mark_ways;
+use ir_search::mark_ways;
 use ir_store::Store;
 use std::alloc::{AllocError, Global};
 

@@ -1,7 +1,7 @@
 //! The nodes that were found, and where threads lead from them.
 
 ghost use Rattle.std.specs.Prelude.{◌≡◌, ◌⊎◌, ℕ, suc, ◌<◌, ◌≤◌, true, false, Some, None, length, slice_get, IfOk, IfErr, IfSome, OnOk, OnErr, IsErrOf};
-ghost use Rattle.ir_explore.specs.declared.stop.Stop.TheVariants.{Nodes, Memory};
+ghost use Rattle.ir_search.specs.declared.stop.Stop.TheVariants.{Nodes, Memory};
 ghost use Rattle.ir_graph.specs.Ahead.{AreTurns, IsTurnOf};
 ghost use Rattle.ir_graph.specs.Nodes.{LookAlike, AllRest, AreNodes, NodesStay, LeadsFrom};
 ghost use Rattle.ir_graph.specs.Plain.{IsLike};
@@ -18,7 +18,7 @@ use crate::known::Turn;
 use crate::rest::run_to_rest;
 use crate::turns::{tries, turn_of};
 use crate::way::{Way, way_result};
-use ir_explore::Stop;
+use ir_search::Stop;
 use ir_image::Code;
 use ir_store::{Node, Store};
 

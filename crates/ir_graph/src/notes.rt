@@ -2,7 +2,7 @@
 
 ghost use Rattle.std.specs.Prelude.{◌≡◌, ◌⊎◌, ℕ, ◌<◌, Bool, Some, None, length, IfOk, OnOk, OnErr};
 ghost use Rattle.std.specs.List.{slice_index_or};
-ghost use Rattle.ir_explore.specs.Following.{Keeps};
+ghost use Rattle.ir_search.specs.Following.{Keeps};
 ghost use Rattle.ir_graph.specs.Notes.{noted_by, noted_in};
 
 use crate::way::Way;

@@ -6,14 +6,14 @@ ghost use Rattle.ir_graph.specs.Plain.{IsFair, GoesPlain, OthersStay, Rests, sou
 ghost use Rattle.ir_graph.specs.Lone.{IsGiven};
 ghost use Rattle.ir_graph.specs.Stops.{IsNotFollowed, IsSpent, StopsFollowing};
 ghost use Rattle.ir_graph.specs.Turn.{GoesAlone};
-ghost use Rattle.ir_sources.specs.Sources.{Source, given};
-ghost use Rattle.ir_states.specs.Sources.{answer_of, left_of};
-ghost use Rattle.ir_explore.specs.declared.stop.Stop.TheVariants.{Log};
+ghost use Rattle.ir_world.specs.Sources.{Source, given};
+ghost use Rattle.ir_search_laws.specs.Sources.{answer_of, left_of};
+ghost use Rattle.ir_search.specs.declared.stop.Stop.TheVariants.{Log};
 ghost use Rattle.ir_thread.specs.State.{ask_of, shared_ask};
 
-use ir_explore::Stop;
+use ir_search::Stop;
 use ir_flat::Flat;
-use ir_sources::Sources;
+use ir_world::Sources;
 use ir_store::SourcedFlat;
 use ir_thread::{Ask, End};
 

@@ -2,12 +2,12 @@
 
 ghost use Rattle.std.specs.Prelude.{◌≡◌, ℕ, IfOk, length};
 ghost use Rattle.ir_thread.specs.State.{IsAllowed};
-ghost use Rattle.ir_sources.specs.Sources.{seed_of, source};
+ghost use Rattle.ir_world.specs.Sources.{seed_of, source};
 ghost use Rattle.ir_graph.specs.Setup.{Setup, first_sources, setup_start};
 
 use ir_flat::Flat;
 use ir_image::{Code, Image};
-use ir_sources::Sources;
+use ir_world::Sources;
 use ir_store::SourcedFlat;
 use ir_thread::{MOST_BUDGET, Profile};
 use std::alloc::{AllocError, Global};

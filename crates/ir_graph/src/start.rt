@@ -1,7 +1,7 @@
 //! The graph at first: the node where a guest comes to rest.
 
 ghost use Rattle.std.specs.Prelude.{◌≡◌, ◌⊎◌, ℕ, ◌<◌, ◌≤◌, [], ◌∷◌, None, length, vec_len, IfOk, IfErr, OnOk};
-ghost use Rattle.ir_explore.specs.declared.stop.Stop.TheVariants.{Memory};
+ghost use Rattle.ir_search.specs.declared.stop.Stop.TheVariants.{Memory};
 ghost use Rattle.ir_flat.specs.Flat.{IsFlat};
 ghost use Rattle.ir_graph.specs.Graph.{IsGraph};
 ghost use Rattle.ir_graph.specs.Nodes.{AllRest};
@@ -20,7 +20,7 @@ use crate::nodes::Bounds;
 use crate::notes::Row;
 use crate::rest::run_to_rest;
 use crate::setup::Setup;
-use ir_explore::Stop;
+use ir_search::Stop;
 use ir_freeze::Basis;
 use ir_image::Image;
 use ir_store::{SourcedFlat, Store};

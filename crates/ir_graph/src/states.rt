@@ -1,9 +1,9 @@
 //! The states of a guest that its runs lead over, found level by level.
 
 ghost use Rattle.std.specs.Prelude.{◌≡◌, ◌⊎◌, ℕ, suc, ◌≤◌, ◌<◌, true, false, length, IfOk, IfErr, OnErr, OnOk};
-ghost use Rattle.ir_explore.specs.declared.stop.Stop.TheVariants.{Memory};
-ghost use Rattle.ir_explore.specs.Following.{Stay};
-ghost use Rattle.ir_explore.specs.Origins.{Adds};
+ghost use Rattle.ir_search.specs.declared.stop.Stop.TheVariants.{Memory};
+ghost use Rattle.ir_search.specs.Following.{Stay};
+ghost use Rattle.ir_search.specs.Origins.{Adds};
 ghost use Rattle.ir_graph.specs.Hangs.{AreMarked};
 ghost use Rattle.ir_graph.specs.Searched.{AreSearched, IsSearch, StandsBetween, IsWhole};
 ghost use Rattle.ir_graph.specs.Stops.{IsStop, MayStop};
@@ -14,7 +14,7 @@ use crate::marks::mark_states;
 use crate::nodes::Bounds;
 use crate::setup::Setup;
 use crate::start::start_graph;
-use ir_explore::{Observer, Search, Stop};
+use ir_search::{Observer, Search, Stop};
 use std::alloc::{AllocError, Global};
 
 /// The states that were found, and how.

@@ -1,7 +1,7 @@
 //! How many states guests have, and their outcomes.
 
 use crate::guests::{LOST_UPDATE, OWN_OBJECTS, explored, guest};
-use ir_explore::Ended;
+use ir_search::Ended;
 use ir_flat::Flat;
 use ir_store::Store;
 use std::test::Fail;

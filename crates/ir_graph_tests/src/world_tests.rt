@@ -2,8 +2,8 @@
 
 use crate::explore_tests::printed;
 use crate::guests::guest;
-use ir_explore::{Ended, Unobserved};
-use ir_explore_run::ExplorePlan;
+use ir_search::{Ended, Unobserved};
+use ir_explore::ExplorePlan;
 use ir_graph::{Bounds, Setup};
 use ir_outcomes::explore;
 use ir_thread::Profile;

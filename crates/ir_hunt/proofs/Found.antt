@@ -10,18 +10,18 @@ use Rattle.ir_runs.specs.Orders.{IsByOrder}
 use Rattle.ir_trace.specs.Recorded.{Recorded}
 use Rattle.ir_record.specs.Worlds.{answers_at, AnsweredCall, answers_in}
 use Rattle.ir_record.specs.Recording.{order_of_turns}
-use Rattle.ir_sources.specs.Sources.{origin_of, IsAnsweredFrom}
-use Rattle.ir_record_run.specs.Plan.{Plan}
-use Rattle.ir_record_run.specs.Recording.{IsRecordedOf}
+use Rattle.ir_world.specs.Sources.{origin_of, IsAnsweredFrom}
+use Rattle.ir_record_command.specs.Plan.{Plan}
+use Rattle.ir_record_command.specs.Recording.{IsRecordedOf}
 use Rattle.ir_order.specs.Recording.{IsPlanned}
 use Rattle.ir_order.specs.Spelling.{Spells}
 use Rattle.ir_order.proofs.CallerLemmas.{complete_runs_have_steps, recordings_by_plain_list_are_of_the_run}
-use Rattle.ir_chaos.proofs.CallerLemmas.{schedules_are_orders, schedules_are_of_threads}
-use Rattle.ir_chaos.specs.Conditions.{fulfils, end_state}
-use Rattle.ir_chaos.specs.Moments.{Moment}
-use Rattle.ir_chaos.specs.Schedules.{IsSchedule, chosen_threads}
-use Rattle.ir_chaos.specs.Choices.{chooser_of}
-use Rattle.ir_chaos.specs.declared.chooser.Chooser.{Chooser}
+use Rattle.ir_schedule.proofs.CallerLemmas.{schedules_are_orders, schedules_are_of_threads}
+use Rattle.ir_schedule.specs.Conditions.{fulfils, end_state}
+use Rattle.ir_schedule.specs.Moments.{Moment}
+use Rattle.ir_schedule.specs.Schedules.{IsSchedule, chosen_threads}
+use Rattle.ir_schedule.specs.Choices.{chooser_of}
+use Rattle.ir_schedule.specs.declared.chooser.Chooser.{Chooser}
 use Rattle.ir_hunt.specs.Finding.{has_tries, first_flat, IsJudged, IsFound, by_list}
 use Rattle.ir_hunt.specs.Hunt.{Hunt}
 use Rattle.ir_hunt.specs.Hunted.{IsFoundIn, IsFinding}

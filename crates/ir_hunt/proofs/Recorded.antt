@@ -11,10 +11,10 @@ use Rattle.ir_record.specs.Recording.{IsTraceOf}
 use Rattle.ir_record.specs.Recordings.{IsRecordingByTurns}
 use Rattle.ir_record.specs.Refusing.{plain_turns}
 use Rattle.ir_record.specs.Worlds.{AnsweredCall}
-use Rattle.ir_record_run.specs.Plan.{Plan}
-use Rattle.ir_sources.specs.Sources.{origin_of, IsAnsweredFrom}
+use Rattle.ir_record_command.specs.Plan.{Plan}
+use Rattle.ir_world.specs.Sources.{origin_of, IsAnsweredFrom}
 use Rattle.ir_order.proofs.CallerLemmas.{recording_in_turns_is_of_run}
-use Rattle.ir_rests.specs.Stale.{HasRests}
+use Rattle.ir_stale_run.specs.Stale.{HasRests}
 use Rattle.ir_hunt.specs.Stale.{HasStaleBy, IsTraceBy}
 
 -- the trace of a run has that run

@@ -2,8 +2,8 @@
 use Rattle.std.proofs.Common.{◌≡◌, length, ap, ◌∙◌}
 use Rattle.ir_image.specs.Guest.{Guest}
 use Rattle.ir_flat.proofs.CallerLemmas.{length_of_start_threads}
-use Rattle.ir_record_run.specs.Plan.{Plan}
-use Rattle.ir_chaos.specs.Moments.{Moment}
+use Rattle.ir_record_command.specs.Plan.{Plan}
+use Rattle.ir_schedule.specs.Moments.{Moment}
 use Rattle.ir_hunt.specs.Seeking.{fresh}
 
 -- it has as many threads as the image

@@ -4,8 +4,8 @@ use Rattle.std.specs.Prelude.{Option, Some, None, Result, Ok, Err, OnOk, OnErr, 
 use Rattle.std.specs.Result.{is_err}
 use Rattle.ir_files.specs.Writers.{Writer, Reports, fault_text}
 use Rattle.ir_image.specs.Guest.{Guest, guest_at}
-use Rattle.ir_record_run.specs.Plan.{Plan}
-use Rattle.ir_chaos.specs.declared.way.Way.{Way}
+use Rattle.ir_record_command.specs.Plan.{Plan}
+use Rattle.ir_schedule.specs.declared.way.Way.{Way}
 use Rattle.ir_hunt.specs.declared.plan.HuntPlan.{HuntPlan}
 use Rattle.ir_hunt.specs.Finding.{IsFound, IsOrderOfSeed}
 use Rattle.ir_hunt.specs.Hunt.{Hunt, hunt_of}

@@ -5,15 +5,15 @@ use Rattle.ir_image.specs.Guest.{Guest, guest_at}
 use Rattle.ir_runs.specs.Run.{Step, end}
 use Rattle.ir_flat.specs.Flat.{Flat, tables, machine, start_flat}
 use Rattle.ir_record.specs.Refusing.{plain_turns}
-use Rattle.ir_record_run.specs.Order.{order_of}
-use Rattle.ir_record_run.specs.Plan.{Plan}
+use Rattle.ir_record_command.specs.Order.{order_of}
+use Rattle.ir_record_command.specs.Plan.{Plan}
 use Rattle.ir_order.specs.Recording.{IsPlanned}
 use Rattle.ir_thread.specs.declared.profile.Profile.{Profile}
 use Rattle.ir_thread.specs.declared.profile.Profile.TheVariants.{One, Two}
-use Rattle.ir_chaos.specs.Choices.{chooser_of}
-use Rattle.ir_chaos.specs.Schedules.{IsSchedule}
-use Rattle.ir_chaos.specs.declared.way.Way.{Way}
-use Rattle.ir_chaos.specs.Conditions.{fulfils, end_state}
+use Rattle.ir_schedule.specs.Choices.{chooser_of}
+use Rattle.ir_schedule.specs.Schedules.{IsSchedule}
+use Rattle.ir_schedule.specs.declared.way.Way.{Way}
+use Rattle.ir_schedule.specs.Conditions.{fulfils, end_state}
 use Rattle.ir_hunt.specs.Hunt.{Hunt}
 use Rattle.ir_hunt.specs.Stale.{FulfilsStale}
 

@@ -1,9 +1,9 @@
 -- What is hunted.
 use Rattle.std.specs.Prelude.{ℕ, Bool, List, Option, map}
 use Rattle.ir_image.specs.Guest.{Guest}
-use Rattle.ir_record_run.specs.Plan.{Plan}
-use Rattle.ir_chaos.specs.Conditions.{Condition, as_condition}
-use Rattle.ir_chaos.specs.declared.way.Way.{Way}
+use Rattle.ir_record_command.specs.Plan.{Plan}
+use Rattle.ir_schedule.specs.Conditions.{Condition, as_condition}
+use Rattle.ir_schedule.specs.declared.way.Way.{Way}
 use Rattle.ir_hunt.specs.declared.plan.HuntPlan.{HuntPlan}
 
 pub record Hunt : Type 0 where

@@ -1,9 +1,9 @@
 -- A guest that is run by one seed after another.
 use Rattle.std.specs.Prelude.{[], length, replicate}
 use Rattle.ir_image.specs.Guest.{Guest}
-use Rattle.ir_record_run.specs.Plan.{Plan}
-use Rattle.ir_chaos.specs.Moments.{Moment, RanToEnd}
-use Rattle.ir_chaos.specs.declared.chooser.Chooser.{Chooser}
+use Rattle.ir_record_command.specs.Plan.{Plan}
+use Rattle.ir_schedule.specs.Moments.{Moment, RanToEnd}
+use Rattle.ir_schedule.specs.declared.chooser.Chooser.{Chooser}
 use Rattle.ir_hunt.specs.Finding.{first_flat, has_tries}
 
 -- before the first step: no turns, and no world has answered

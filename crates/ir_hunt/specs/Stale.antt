@@ -4,9 +4,9 @@ use Rattle.ir_image.specs.Guest.{Guest}
 use Rattle.ir_runs.specs.Run.{Step}
 use Rattle.ir_trace.specs.Recorded.{Recorded}
 use Rattle.ir_fit.specs.Fit.{FittedTrace, HasRun}
-use Rattle.ir_record_run.specs.Plan.{Plan}
+use Rattle.ir_record_command.specs.Plan.{Plan}
 use Rattle.ir_order.specs.Recording.{IsPlanned, IsOfRun}
-use Rattle.ir_rests.specs.Stale.{HasRests}
+use Rattle.ir_stale_run.specs.Stale.{HasRests}
 
 -- whether one does, by the guest and the run's trace
 pub record HasStale (guest : Guest) (plan : Plan) (run : List Step) (has : Bool) : Type 0 where

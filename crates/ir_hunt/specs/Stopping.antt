@@ -3,10 +3,10 @@ use Rattle.std.specs.Prelude.{◌≡◌, ◌≢◌, ℕ, zero, suc, Bool, true, 
 use Rattle.ir_files.specs.Writers.{Writer, Reports, fault_text}
 use Rattle.ir_files.specs.declared.exit_status.ExitStatus.{ExitStatus}
 use Rattle.ir_files.specs.declared.exit_status.ExitStatus.TheVariants.{NotSo, GaveUp}
-use Rattle.ir_record_run.specs.Faults.{record_fault_words, RefusesRecord}
-use Rattle.ir_record_run.specs.Plan.{Plan}
-use Rattle.ir_record_run.specs.declared.record_fault.RecordFault.{RecordFault}
-use Rattle.ir_record_run.specs.declared.record_fault.RecordFault.TheVariants.{Clock, Order}
+use Rattle.ir_record_command.specs.Faults.{record_fault_words, RefusesRecord}
+use Rattle.ir_record_command.specs.Plan.{Plan}
+use Rattle.ir_record_command.specs.declared.record_fault.RecordFault.{RecordFault}
+use Rattle.ir_record_command.specs.declared.record_fault.RecordFault.TheVariants.{Clock, Order}
 use Rattle.ir_hunt.specs.Hunted.{IsFoundIn, IsNoneIn}
 use Rattle.ir_hunt.specs.Lines.{found_line, left_out_words, none_lines}
 use Rattle.ir_hunt.specs.declared.plan.HuntPlan.{HuntPlan}

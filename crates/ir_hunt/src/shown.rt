@@ -1,7 +1,7 @@
 //! How many seeds were tried, on standard error.
 
 use crate::plan::Seeds;
-use ir_sources::millis_since;
+use ir_world::millis_since;
 use std::time::{Clock, Instant};
 
 /// Erases the terminal's row from the cursor on (EL of ECMA-48).

@@ -8,7 +8,7 @@ ghost use Rattle.ir_thread.specs.State.{IsAllowed};
 use crate::part::Part;
 use crate::plan::{HuntPlan, Seeds};
 use crate::seeker::{Lost, Seeker};
-use ir_chaos::Choices;
+use ir_schedule::Choices;
 use ir_image::Image;
 use std::alloc::{AllocError, Global};
 use std::marker::Model;

@@ -8,7 +8,7 @@ use Rattle.ir_list.specs.Listing.{listing_text}
 use Rattle.ir_files.specs.Writers.{Writer, Reports, fault_text}
 use Rattle.ir_files.specs.declared.exit_status.ExitStatus.{ExitStatus}
 use Rattle.ir_files.specs.declared.exit_status.ExitStatus.TheVariants as status
-use Rattle.ir_record_run.specs.Faults.{record_fault_words, of_image}
+use Rattle.ir_record_command.specs.Faults.{record_fault_words, of_image}
 
 -- the listing of the guest whose image the bytes are, with these names
 pub record IsCodeListing (image : List ℕ) (symbols : List Symbol) (answered : ExitStatus) (text : List ℕ) : Type 0 where

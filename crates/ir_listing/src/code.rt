@@ -13,7 +13,7 @@ use ir_files::{ExitStatus, tell};
 use ir_image::{Image, ImageErr, read_image};
 use ir_list::{ListErr, list_run};
 use ir_past::PastErr;
-use ir_record_run::RecordFault;
+use ir_record_command::RecordFault;
 use ir_stream::Sink;
 use ir_symbols::SymbolTable;
 use std::alloc::Global;

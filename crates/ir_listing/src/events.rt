@@ -5,14 +5,14 @@ ghost use Rattle.ir_files.specs.Writers.{writer_of, Reports, fault_text};
 ghost use Rattle.ir_files.specs.declared.exit_status.ExitStatus.TheVariants as status;
 ghost use Rattle.ir_past.specs.Answers.{Answered, NotAnswered, fault_words};
 ghost use Rattle.ir_past.specs.declared.past_err.PastErr.{PastErr};
-ghost use Rattle.ir_fit_run.specs.Opened.{IsFit};
-ghost use Rattle.ir_fit_run.specs.Answers.{IsFitAnswerOf};
+ghost use Rattle.ir_opened.specs.Opened.{IsFit};
+ghost use Rattle.ir_opened.specs.Answers.{IsFitAnswerOf};
 ghost use Rattle.ir_listing.specs.Events.{AreEventLines};
 
 use ir_events::{events_text, pcs};
 use ir_files::{ExitStatus, tell};
 use ir_fit::Fitted;
-use ir_fit_run::{Opened, open_fit, refuse};
+use ir_opened::{Opened, open_fit, refuse};
 use ir_past::PastErr;
 use ir_stream::{Sink, write_all};
 use ir_symbols::SymbolTable;

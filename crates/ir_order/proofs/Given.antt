@@ -6,7 +6,7 @@ use Rattle.ir_runs.specs.Run.{State, Step, asked, act, after, events, log}
 use Rattle.ir_runs.proofs.CallerLemmas.{property_of_upd_by_cases, trail_of_cons_own_thread, trail_of_cons_other_thread}
 use Rattle.ir_record.specs.Refusing.{Tries}
 use Rattle.ir_record.specs.Worlds.{answers_in}
-use Rattle.ir_sources.specs.Sources.{Source, given, Gave}
+use Rattle.ir_world.specs.Sources.{Source, given, Gave}
 
 -- the act has the answer that comes next
 abbrev pub TakesNextAnswer : Act → Source → Type 0

@@ -9,9 +9,9 @@ use Rattle.std.proofs.lemmas.Fmt.{decimal_nonempty, digits_decimal, digits_value
 use Rattle.std.proofs.lemmas.List.{get_or_default}
 use Rattle.std.proofs.lemmas.List.Splits.{slice_split_none, slice_split_at}
 use Rattle.std.proofs.lemmas.Str.Parse.{IsNumeralModel, numerals_by_value, tells_all_ascii_digits, not_in_digits}
-use Rattle.ir_record_run.specs.Numerals.{number_within}
+use Rattle.ir_record_command.specs.Numerals.{number_within}
 use Rattle.ir_record.specs.Refusing.{Turn}
-use Rattle.ir_record_run.specs.Order.{most_turns, turn, turn_by, turn_of, turns, item_by, item_of}
+use Rattle.ir_record_command.specs.Order.{most_turns, turn, turn_by, turn_of, turns, item_by, item_of}
 use Rattle.ir_order.specs.Spelling.{item_text}
 
 decimal_digits_are_numeral_model : IsNumeralModel (λ ds. all_ascii_digits ds ≡ true) (digits_value 10)

@@ -10,7 +10,7 @@ use Rattle.ir_record.specs.Refusing.{Turn, plain_turns}
 use Rattle.ir_record.specs.declared.item.Item.{Item}
 use Rattle.ir_record.proofs.CallerLemmas.{plain_turns_of_append}
 use Rattle.ir_record.specs.declared.turns.Turns.{Turns}
-use Rattle.ir_record_run.specs.Order.{most_turns, items_joined, item_of, items_of, order_of}
+use Rattle.ir_record_command.specs.Order.{most_turns, items_joined, item_of, items_of, order_of}
 use Rattle.ir_order.specs.Spelling.{item_text, with_item, SpellsTurns, Spells, IsListOf}
 use Rattle.ir_order.proofs.Items.{item_of_item_text_is_repeated_turn, split_of_item_text_is_itself, item_text_is_not_empty}
 

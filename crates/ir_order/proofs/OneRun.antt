@@ -14,7 +14,7 @@ use Rattle.ir_thread.specs.declared.profile.Profile.{Profile}
 use Rattle.ir_record.specs.Refusing.{Turn, plain_turns, InTurns, IsByTurns}
 use Rattle.ir_record.specs.Worlds.{answers_in}
 use Rattle.ir_record.proofs.CallerLemmas.{plain_turns_of_append, by_plain_turns_if_by_order, by_order_if_by_plain_turns}
-use Rattle.ir_sources.specs.Sources.{MadeWith, Source, source, from_sources, Gave}
+use Rattle.ir_world.specs.Sources.{MadeWith, Source, source, from_sources, Gave}
 use Rattle.ir_order.specs.OneRun.{AreSame, AreAnswered, IsAnsweredByOrder, IsAnsweredByTurns, OneRunByAnOrder, OneRunByTurns, PlainTurnsAreOrders}
 use Rattle.ir_order.proofs.Given.{source_left_by, AreGiven, first_step_of_given_run_takes_next_answer, rest_of_given_run_is_given_after_first_step, enters_if_it_can_if_tries, act_taken_from_source_is_unique}
 use Rattle.ir_order.proofs.Alike.{Alike, acted_by, alike_if_equal, alike_step, same_runs_if_alike}

@@ -14,10 +14,10 @@ use Rattle.ir_record.specs.Recordings.{IsRecordingByTurns}
 use Rattle.ir_record.specs.Refusing.{Turn, plain_turns}
 use Rattle.ir_record.proofs.CallerLemmas.{is_run_if_in_turns}
 use Rattle.ir_record.specs.Worlds.{AnsweredCall, answers_in}
-use Rattle.ir_record_run.specs.Order.{order_of}
-use Rattle.ir_record_run.specs.Plan.{Plan}
-use Rattle.ir_record_run.specs.Recording.{unasked, IsRecordedBy, IsRecordedOf}
-use Rattle.ir_sources.specs.Sources.{origin_of, IsAnsweredFrom}
+use Rattle.ir_record_command.specs.Order.{order_of}
+use Rattle.ir_record_command.specs.Plan.{Plan}
+use Rattle.ir_record_command.specs.Recording.{unasked, IsRecordedBy, IsRecordedOf}
+use Rattle.ir_world.specs.Sources.{origin_of, IsAnsweredFrom}
 use Rattle.ir_order.specs.OneRun.{AreSame, IsAnsweredByTurns}
 use Rattle.ir_order.specs.Recording.{IsPlanned, IsPlannedInTurns, IsOfRun, RecordingsAreOfTheRun, OneRecordingByAList}
 use Rattle.ir_order.proofs.OneRun.{one_run_by_turns, answered_by_turns_if_answered_by_order}

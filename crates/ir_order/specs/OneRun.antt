@@ -10,7 +10,7 @@ use Rattle.ir_flat.specs.Flat.{start_flat, tables, machine}
 use Rattle.ir_thread.specs.State as thread
 use Rattle.ir_record.specs.Refusing.{Turn, plain_turns, IsByTurns}
 use Rattle.ir_record.specs.Worlds.{answers_in}
-use Rattle.ir_sources.specs.Sources.{MadeWith, IsAnsweredFrom}
+use Rattle.ir_world.specs.Sources.{MadeWith, IsAnsweredFrom}
 
 -- of each step of a run its thread and its act
 abbrev pub acts : {T : Type 0} → Machine T → State T → List Step → List (ℕ × Act)

@@ -6,10 +6,10 @@ use Rattle.ir_thread.specs.declared.profile.Profile.{Profile}
 use Rattle.ir_trace.specs.Recorded.{Recorded}
 use Rattle.ir_record.specs.Recording.{IsTraceOf, AreOutputs}
 use Rattle.ir_record.specs.Refusing.{Turn}
-use Rattle.ir_record_run.specs.Order.{order_of}
-use Rattle.ir_record_run.specs.Plan.{Plan}
-use Rattle.ir_record_run.specs.Recording.{IsRecordedOf}
-use Rattle.ir_sources.specs.Sources.{origin_of}
+use Rattle.ir_record_command.specs.Order.{order_of}
+use Rattle.ir_record_command.specs.Plan.{Plan}
+use Rattle.ir_record_command.specs.Recording.{IsRecordedOf}
+use Rattle.ir_world.specs.Sources.{origin_of}
 use Rattle.ir_order.specs.OneRun.{IsAnsweredByOrder, IsAnsweredByTurns}
 
 -- a run of a guest by an order, whose threads were answered by the plan's random words, its bytes and a count

@@ -2,7 +2,7 @@
 use Rattle.std.specs.Prelude.{◌≡◌, ◌≢◌, ◌<◌, ◌==◌, if◌then◌else◌, ℕ, Bool, true, false, List, [], ◌∷◌, ◌++◌, decimal, Some}
 use Rattle.std.specs.List.{AllByRecursion}
 use Rattle.ir_record.specs.Refusing.{Turn, plain_turns}
-use Rattle.ir_record_run.specs.Order.{order_of}
+use Rattle.ir_record_command.specs.Order.{order_of}
 
 -- count turns of a thread, as an item, with a mark if tries in them are refused
 abbrev pub item_text : ℕ → Bool → ℕ → List ℕ

@@ -3,23 +3,23 @@ use Rattle.std.proofs.Common.{◌≡◌, inl, inr, ℕ, zero, suc, List, [], ◌
 use Rattle.ir_runs.specs.Machine.{Machine}
 use Rattle.ir_runs.specs.Run.{State, Step, after, end}
 use Rattle.ir_runs.proofs.CallerLemmas.{end_append}
-use Rattle.ir_states.specs.Outcomes.{switches}
-use Rattle.ir_states.specs.Orders.{IsAlone}
+use Rattle.ir_search_laws.specs.Outcomes.{switches}
+use Rattle.ir_search_laws.specs.Orders.{IsAlone}
 use Rattle.ir_store.specs.Nodes.{SourcedFlat}
 use Rattle.ir_graph.specs.Plain.{full_by, full_of, IsAnsweredRun}
 use Rattle.ir_graph.specs.Reached.{beginning}
 use Rattle.ir_graph.specs.Setup.{Setup, setup_start}
 use Rattle.ir_graph.specs.Turn.{GoesAlone, ways_taken}
 use Rattle.ir_graph.proofs.CallerLemmas.{ways_taken-append, like_reflexive, like_transitive, flat_after_going_alone_is_like_flat_before, answered_run_append, run_of_going_alone_is_in_turns_of_its_thread}
-use Rattle.ir_explore.specs.declared.origin.Origin.{Origin}
-use Rattle.ir_explore.specs.declared.origin.Refusal.{Refusal}
-use Rattle.ir_explore.specs.Origins.{AreWaysOf}
-use Rattle.ir_explore.proofs.CallerLemmas.{repeated_turn_adds_one_switch_at_most, switches_of_replicated_thread_are_zero}
+use Rattle.ir_search.specs.declared.origin.Origin.{Origin}
+use Rattle.ir_search.specs.declared.origin.Refusal.{Refusal}
+use Rattle.ir_search.specs.Origins.{AreWaysOf}
+use Rattle.ir_search.proofs.CallerLemmas.{repeated_turn_adds_one_switch_at_most, switches_of_replicated_thread_are_zero}
 use Rattle.ir_record.specs.Recording.{turns_of_items}
 use Rattle.ir_record.specs.Refusing.{Turn, InTurns}
 use Rattle.ir_record.specs.declared.item.Item.{Item}
 use Rattle.ir_flat.proofs.CallerLemmas.{length_of_start_threads}
-use Rattle.ir_sources.specs.Sources.{source, seed_of}
+use Rattle.ir_world.specs.Sources.{source, seed_of}
 use Rattle.ir_thread.specs.State.{most_budget}
 use Rattle.std.proofs.lemmas.List.{flat_map_more, append-nil, map-append}
 use Rattle.std.proofs.lemmas.List.FromFn.{length-map-range_with_len}

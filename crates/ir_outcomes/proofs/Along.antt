@@ -2,11 +2,11 @@
 use Rattle.std.proofs.Common.{◌≡◌, ℕ, zero, suc, ◌-◌, ◌<◌, ◌≤◌, Bool, false, true, Some, List, [], ◌∷◌, ◌++◌, append_assoc, append-nil, replicate, length, drop, refl, sym, ap, ◌∙◌, subst, arith}
 use Rattle.std.specs.Prelude.{slice_get}
 use Rattle.std.proofs.lemmas.Option.{same_Some}
-use Rattle.ir_explore.specs.declared.origin.Origin.{Origin}
-use Rattle.ir_explore.specs.declared.origin.Refusal.{Refusal}
-use Rattle.ir_explore.specs.Following.{BothWays}
-use Rattle.ir_explore.specs.Origins.{AreReached, AreWaysOf, BeginsAt}
-use Rattle.ir_explore.proofs.CallerLemmas.{ways_under_number_are_one}
+use Rattle.ir_search.specs.declared.origin.Origin.{Origin}
+use Rattle.ir_search.specs.declared.origin.Refusal.{Refusal}
+use Rattle.ir_search.specs.Following.{BothWays}
+use Rattle.ir_search.specs.Origins.{AreReached, AreWaysOf, BeginsAt}
+use Rattle.ir_search.proofs.CallerLemmas.{ways_under_number_are_one}
 use Rattle.ir_lemmas.proofs.CallerLemmas.{element_below_length_exists}
 use Rattle.ir_store.specs.Nodes.{SourcedFlat}
 use Rattle.ir_graph.specs.Graph.{IsGraph}

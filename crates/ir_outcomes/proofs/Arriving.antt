@@ -3,13 +3,13 @@ use Rattle.std.proofs.Common.{◌≡◌, ℕ, zero, suc, ◌+◌, ◌-◌, ◌<�
 use Rattle.std.specs.Prelude.{slice_get}
 use Rattle.std.proofs.lemmas.Bool.{cases_lt}
 use Rattle.ir_lemmas.proofs.CallerLemmas.{element_below_length_exists}
-use Rattle.ir_explore.specs.declared.stop.Stop.{Stop}
-use Rattle.ir_explore.specs.Following.{BothWays}
-use Rattle.ir_explore.specs.Origins.{Goes}
+use Rattle.ir_search.specs.declared.stop.Stop.{Stop}
+use Rattle.ir_search.specs.Following.{BothWays}
+use Rattle.ir_search.specs.Origins.{Goes}
 use Rattle.ir_runs.specs.Run.{Step, Can, end}
-use Rattle.ir_states.specs.Counting.{IsAtRest}
-use Rattle.ir_states.specs.Nodes.{LeadsTo}
-use Rattle.ir_states.proofs.CallerLemmas.{nothing_goes_ahead_if_at_rest}
+use Rattle.ir_search_laws.specs.Counting.{IsAtRest}
+use Rattle.ir_search_laws.specs.Nodes.{LeadsTo}
+use Rattle.ir_search_laws.proofs.CallerLemmas.{nothing_goes_ahead_if_at_rest}
 use Rattle.ir_thread.specs.State.{ask_of, most_budget}
 use Rattle.ir_flat.specs.Flat.{tables, machine, thread_of}
 use Rattle.ir_flat.proofs.CallerLemmas.{length_of_start_threads}

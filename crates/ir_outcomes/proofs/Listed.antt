@@ -4,8 +4,8 @@ use Rattle.std.specs.Prelude.{slice_get}
 use Rattle.std.proofs.lemmas.Bool.{cases_lt}
 use Rattle.std.proofs.lemmas.Option.{same_Some}
 use Rattle.ir_lemmas.proofs.CallerLemmas.{element_below_length_exists}
-use Rattle.ir_explore.specs.declared.origin.Origin.{Origin}
-use Rattle.ir_explore.proofs.CallerLemmas.{slice_get_after_push_cases, slice_get_kept_by_append, index_of_element_is_below_length}
+use Rattle.ir_search.specs.declared.origin.Origin.{Origin}
+use Rattle.ir_search.proofs.CallerLemmas.{slice_get_after_push_cases, slice_get_kept_by_append, index_of_element_is_below_length}
 use Rattle.ir_runs.specs.Run.{Step}
 use Rattle.ir_record.specs.Recording.{turns_of_items}
 use Rattle.ir_thread.specs.State.{most_budget}
@@ -15,7 +15,7 @@ use Rattle.ir_graph.specs.Listing.{HasOutcome, AreOutcomes}
 use Rattle.ir_graph.specs.Outcomes.{run_outcome, AllListed}
 use Rattle.ir_graph.specs.Searched.{AreSearched}
 use Rattle.ir_graph.specs.Setup.{Setup, IsCountedOf}
-use Rattle.ir_explore.specs.Following.{Stay}
+use Rattle.ir_search.specs.Following.{Stay}
 use Rattle.ir_outcomes.specs.Exploring.{HasShown}
 use Rattle.ir_outcomes.specs.Explored.{ShowsState, IsIn, AreExplored, AreAll, AreOutcomesShown}
 use Rattle.ir_outcomes.specs.Shown.{outcome_by, switches_by, IsShown}

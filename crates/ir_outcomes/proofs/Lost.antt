@@ -4,15 +4,15 @@ use Rattle.std.specs.Prelude.{slice_get}
 use Rattle.std.proofs.lemmas.Bool.{cases_lt}
 use Rattle.std.proofs.lemmas.Option.{same_Some, slice_get_within}
 use Rattle.ir_lemmas.proofs.CallerLemmas.{element_below_length_exists}
-use Rattle.ir_explore.specs.declared.origin.Origin.{Origin}
-use Rattle.ir_explore.specs.declared.origin.Refusal.{Refusal}
-use Rattle.ir_explore.specs.Following.{IsOpen}
-use Rattle.ir_explore.specs.Origins.{AreRising}
-use Rattle.ir_explore.specs.Ways.{shut}
+use Rattle.ir_search.specs.declared.origin.Origin.{Origin}
+use Rattle.ir_search.specs.declared.origin.Refusal.{Refusal}
+use Rattle.ir_search.specs.Following.{IsOpen}
+use Rattle.ir_search.specs.Origins.{AreRising}
+use Rattle.ir_search.specs.Ways.{shut}
 use Rattle.ir_record.specs.Recording.{turns_of_items}
 use Rattle.ir_record.specs.Refusing.{Turn}
 use Rattle.ir_runs.specs.Run.{Step}
-use Rattle.ir_sources.specs.Sources.{given}
+use Rattle.ir_world.specs.Sources.{given}
 use Rattle.ir_thread.specs.State.{most_budget, thread_machine}
 use Rattle.ir_store.specs.Nodes.{SourcedFlat}
 use Rattle.ir_graph.specs.Hangs.{CanEndFrom, IsHangOf, AreMarked, AllStand}

@@ -1,19 +1,19 @@
 -- From states that look the same, threads lead to states that look the same.
 use Rattle.std.proofs.Common.{◌≡◌, ℕ, Bool, false, Some, List, refl, sym, ap, ◌∙◌, subst}
 use Rattle.std.specs.Prelude.{slice_get}
-use Rattle.ir_explore.specs.Following.{BothWays}
+use Rattle.ir_search.specs.Following.{BothWays}
 use Rattle.ir_runs.specs.Machine.{Done, act_of}
 use Rattle.ir_runs.specs.Lawful.{IsLawful}
 use Rattle.ir_runs.specs.Run.{State, Step, IsDone, asked, act, Can, after, end}
 use Rattle.ir_runs.proofs.CallerLemmas.{StateInvariant, state_invariant_after_step}
-use Rattle.ir_states.specs.Counting.{is_own, IsAtRest, GoesAhead}
-use Rattle.ir_states.specs.Nodes.{LeadsTo}
-use Rattle.ir_states.specs.Orders.{is_refusal}
-use Rattle.ir_states.specs.Outcomes.{Begins}
-use Rattle.ir_states.specs.Views.{beside}
-use Rattle.ir_states.proofs.CallerLemmas.{ComesToRest, goes_ahead_from_alike_state_to_alike_end, ends_of_two_runs_to_rest_are_equal, state_invariant_after_counting_run, seen_good, sourced_machine_is_lawful}
+use Rattle.ir_search_laws.specs.Counting.{is_own, IsAtRest, GoesAhead}
+use Rattle.ir_search_laws.specs.Nodes.{LeadsTo}
+use Rattle.ir_search_laws.specs.Orders.{is_refusal}
+use Rattle.ir_search_laws.specs.Outcomes.{Begins}
+use Rattle.ir_search_laws.specs.Views.{beside}
+use Rattle.ir_search_laws.proofs.CallerLemmas.{ComesToRest, goes_ahead_from_alike_state_to_alike_end, ends_of_two_runs_to_rest_are_equal, state_invariant_after_counting_run, seen_good, sourced_machine_is_lawful}
 use Rattle.ir_thread.specs.State.{ThreadState, ask_of, shared_ask, most_budget, thread_machine}
-use Rattle.ir_sources.specs.Sources.{Source, given}
+use Rattle.ir_world.specs.Sources.{Source, given}
 use Rattle.ir_seen.specs.Seen.{view, seen_machine, seen_start, IsLive, IsSpoilt}
 use Rattle.ir_seen.proofs.CallerLemmas.{seen_machine_is_lawful, seen_machine_is_view, thread_is_live_or_next_step_spoils_it, state_invariant_at_start, start_view_ignores_budget}
 use Rattle.ir_flat.specs.Flat.{tables, machine, thread_of, start_flat}

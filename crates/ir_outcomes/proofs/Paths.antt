@@ -3,10 +3,10 @@ use Rattle.std.proofs.Common.{◌≡◌, ℕ, suc, ◌+◌, ◌-◌, ◌<◌, �
 use Rattle.std.specs.Prelude.{slice_get, replicate}
 use Rattle.std.proofs.lemmas.List.{at_drop_more, drop_all}
 use Rattle.std.proofs.lemmas.Option.{same_Some, slice_get-get_or, slice_get_within}
-use Rattle.ir_explore.specs.declared.origin.Origin.{Origin}
-use Rattle.ir_explore.specs.declared.origin.Refusal.{Refusal}
-use Rattle.ir_explore.specs.Origins.{first_origin, AreWaysUnder, Refused}
-use Rattle.ir_explore.proofs.CallerLemmas.{ways_under_number_are}
+use Rattle.ir_search.specs.declared.origin.Origin.{Origin}
+use Rattle.ir_search.specs.declared.origin.Refusal.{Refusal}
+use Rattle.ir_search.specs.Origins.{first_origin, AreWaysUnder, Refused}
+use Rattle.ir_search.proofs.CallerLemmas.{ways_under_number_are}
 use Rattle.ir_outcomes.specs.Path.{FallInLevel, IsPathTo, ways_of}
 
 -- a turn above level 0 began at a node of a lower level

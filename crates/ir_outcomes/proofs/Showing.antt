@@ -1,14 +1,14 @@
 -- A run by turns that shows an outcome.
 use Rattle.std.proofs.Common.{◌≡◌, ℕ, suc, ◌-◌, ◌≤◌, List, length, map, sym, ap, ◌∙◌, subst, arith}
 use Rattle.std.proofs.lemmas.List.{append-nil}
-use Rattle.ir_explore.specs.declared.origin.Origin.{Origin}
-use Rattle.ir_explore.specs.declared.origin.Refusal.{Refusal}
+use Rattle.ir_search.specs.declared.origin.Origin.{Origin}
+use Rattle.ir_search.specs.declared.origin.Refusal.{Refusal}
 use Rattle.ir_record.specs.Refusing.{Turn, InTurns}
 use Rattle.ir_runs.specs.Run.{IsDone, end}
-use Rattle.ir_sources.specs.Sources.{given}
-use Rattle.ir_states.specs.Outcomes.{switches}
-use Rattle.ir_states.specs.Sources.{plain}
-use Rattle.ir_states.proofs.CallerLemmas.{plain_end, sourced_entering}
+use Rattle.ir_world.specs.Sources.{given}
+use Rattle.ir_search_laws.specs.Outcomes.{switches}
+use Rattle.ir_search_laws.specs.Sources.{plain}
+use Rattle.ir_search_laws.proofs.CallerLemmas.{plain_end, sourced_entering}
 use Rattle.ir_thread.specs.State.{most_budget, thread_machine}
 use Rattle.ir_flat.specs.Flat.{machine, start_flat, tables}
 use Rattle.ir_store.specs.Nodes.{SourcedFlat}

@@ -1,7 +1,7 @@
 -- What follows from how calls end.
 use Rattle.std.proofs.Common.{◌≡◌, ℕ, suc, ◌-◌, ◌≤◌, ◌<◌, Option, Some, None, refl, sym, subst, arith}
 use Rattle.std.specs.Prelude.{Result, Ok, Err, OnOk, OnErr, IfErr, IsErrOf}
-use Rattle.ir_explore.specs.declared.stop.Stop.{Stop}
+use Rattle.ir_search.specs.declared.stop.Stop.{Stop}
 use Rattle.ir_outcomes.specs.Exploring.{levels_left}
 
 -- what is so on success, where there is no error

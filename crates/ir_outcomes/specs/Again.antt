@@ -1,8 +1,8 @@
 -- Runs of a guest by turns of its threads.
 use Rattle.std.specs.Prelude.{◌≡◌, ℕ, Bool, List, [], ◌∷◌, ◌++◌, length, map}
-use Rattle.ir_explore.specs.declared.origin.Origin.{Origin}
-use Rattle.ir_explore.specs.declared.origin.Refusal.{Refusal}
-use Rattle.ir_explore.specs.Origins.{AreWaysOf}
+use Rattle.ir_search.specs.declared.origin.Origin.{Origin}
+use Rattle.ir_search.specs.declared.origin.Refusal.{Refusal}
+use Rattle.ir_search.specs.Origins.{AreWaysOf}
 use Rattle.ir_record.specs.Refusing.{Turn, InTurns}
 use Rattle.ir_runs.specs.Run.{Step, end}
 use Rattle.ir_store.specs.Nodes.{SourcedFlat}

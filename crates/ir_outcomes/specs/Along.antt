@@ -1,9 +1,9 @@
 -- States that are brought along a path to a node of a guest's graph.
 use Rattle.std.specs.Prelude.{◌≡◌, ℕ, Bool, List, Some, length, slice_get}
-use Rattle.ir_explore.specs.declared.origin.Origin.{Origin}
-use Rattle.ir_explore.specs.declared.origin.Refusal.{Refusal}
-use Rattle.ir_explore.specs.Following.{BothWays}
-use Rattle.ir_explore.specs.Origins.{AreReached, AreWaysOf, Goes}
+use Rattle.ir_search.specs.declared.origin.Origin.{Origin}
+use Rattle.ir_search.specs.declared.origin.Refusal.{Refusal}
+use Rattle.ir_search.specs.Following.{BothWays}
+use Rattle.ir_search.specs.Origins.{AreReached, AreWaysOf, Goes}
 use Rattle.ir_store.specs.Nodes.{SourcedFlat}
 use Rattle.ir_graph.specs.Graph.{IsGraph}
 use Rattle.ir_graph.specs.Nodes.{LookAlike, AllRest}

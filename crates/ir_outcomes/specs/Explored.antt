@@ -1,9 +1,9 @@
 -- The outcomes of a guest, listed.
 use Rattle.std.specs.Prelude.{◌≡◌, ◌↔◌, ℕ, suc, ◌<◌, ◌≤◌, Bool, true, List, Option, Some, None, length, slice_get}
-use Rattle.ir_explore.specs.declared.origin.Origin.{Origin}
-use Rattle.ir_explore.specs.declared.search.Ended.TheVariants.{Finished, Covered, Stopped}
-use Rattle.ir_explore.specs.declared.stop.Stop.{Stop}
-use Rattle.ir_explore.specs.Ways.{shut}
+use Rattle.ir_search.specs.declared.origin.Origin.{Origin}
+use Rattle.ir_search.specs.declared.search.Ended.TheVariants.{Finished, Covered, Stopped}
+use Rattle.ir_search.specs.declared.stop.Stop.{Stop}
+use Rattle.ir_search.specs.Ways.{shut}
 use Rattle.ir_record.specs.Recording.{turns_of_items}
 use Rattle.ir_runs.specs.Run.{Step}
 use Rattle.ir_flat.specs.Flat.{tables}

@@ -1,7 +1,7 @@
 -- The outcomes of a guest while a search for them goes on, level by level.
 use Rattle.std.specs.Prelude.{◌≡◌, ℕ, suc, ◌<◌, ◌≤◌, List, Option, Some, None, length}
-use Rattle.ir_explore.specs.declared.origin.Origin.{Origin}
-use Rattle.ir_explore.specs.declared.stop.Stop.{Stop}
+use Rattle.ir_search.specs.declared.origin.Origin.{Origin}
+use Rattle.ir_search.specs.declared.stop.Stop.{Stop}
 use Rattle.ir_store.specs.Nodes.{SourcedFlat}
 use Rattle.ir_graph.specs.Listing.{AreOutcomes}
 use Rattle.ir_graph.specs.Searched.{AreSearched, IsSearch, StandsBetween}

@@ -1,7 +1,7 @@
 -- How a search came to a node, backwards.
 use Rattle.std.specs.Prelude.{◌≡◌, ◌<◌, ℕ, Bool, true, false, List, [], ◌∷◌, ◌++◌, replicate, Some, slice_get}
-use Rattle.ir_explore.specs.declared.origin.Origin.{Origin}
-use Rattle.ir_explore.specs.declared.origin.Refusal.{Refusal}
+use Rattle.ir_search.specs.declared.origin.Origin.{Origin}
+use Rattle.ir_search.specs.declared.origin.Refusal.{Refusal}
 
 -- the turns that led to node v, the last first: each began where the one after it in this list led to, and the first of all in level 0
 abbrev pub IsPathTo : List Origin → ℕ → List Origin → Type 0

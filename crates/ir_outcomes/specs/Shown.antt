@@ -2,8 +2,8 @@
 use Rattle.std.specs.Prelude.{◌≡◌, ℕ, ◌≤◌, List, ◌++◌, length}
 use Rattle.ir_record.specs.Refusing.{Turn, InTurns, IsByTurns}
 use Rattle.ir_runs.specs.Run.{Step, end}
-use Rattle.ir_states.specs.Counting.{entering}
-use Rattle.ir_states.specs.Outcomes.{switches}
+use Rattle.ir_search_laws.specs.Counting.{entering}
+use Rattle.ir_search_laws.specs.Outcomes.{switches}
 use Rattle.ir_thread.specs.State.{most_budget, thread_machine}
 use Rattle.ir_flat.specs.Flat.{tables, start_flat}
 use Rattle.ir_store.specs.Nodes.{SourcedFlat}

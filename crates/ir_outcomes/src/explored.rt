@@ -1,14 +1,14 @@
 //! All outcomes of a guest.
 
 ghost use Rattle.std.specs.Prelude.{◌≡◌, ◌⊎◌, ◌≤◌, IfOk, IfErr};
-ghost use Rattle.ir_explore.specs.declared.stop.Stop.TheVariants.{Memory};
+ghost use Rattle.ir_search.specs.declared.stop.Stop.TheVariants.{Memory};
 ghost use Rattle.ir_graph.specs.Stops.{IsStop};
 ghost use Rattle.ir_outcomes.specs.Explored.{IsExplored};
 ghost use Rattle.ir_thread.specs.State.{IsAllowed};
 
 use crate::exploring::Exploring;
 use crate::shown::Shown;
-use ir_explore::{Ended, Observer, Stop};
+use ir_search::{Ended, Observer, Stop};
 use ir_graph::{Bounds, Setup, States};
 use std::alloc::Global;
 

@@ -1,10 +1,10 @@
 //! The outcomes of a guest, found level by level.
 
 ghost use Rattle.std.specs.Prelude.{◌≡◌, ◌⊎◌, ℕ, suc, ◌<◌, ◌≤◌, true, false, length, Some, None, IfOk, IfErr, IsErrOf, OnErr};
-ghost use Rattle.ir_explore.specs.declared.search.Ended.TheVariants.{Finished, Covered, Stopped};
-ghost use Rattle.ir_explore.specs.declared.stop.Stop.{Stop};
-ghost use Rattle.ir_explore.specs.declared.stop.Stop.TheVariants.{Memory};
-ghost use Rattle.ir_explore.specs.Following.{Stay};
+ghost use Rattle.ir_search.specs.declared.search.Ended.TheVariants.{Finished, Covered, Stopped};
+ghost use Rattle.ir_search.specs.declared.stop.Stop.{Stop};
+ghost use Rattle.ir_search.specs.declared.stop.Stop.TheVariants.{Memory};
+ghost use Rattle.ir_search.specs.Following.{Stay};
 ghost use Rattle.ir_graph.specs.Searched.{IsWhole};
 ghost use Rattle.ir_graph.specs.Stops.{IsStop, MayStop};
 ghost use Rattle.ir_outcomes.specs.Explored.{AreHangs, IsExplored};
@@ -15,7 +15,7 @@ use crate::explored::Explored;
 use crate::hang::{count_lost, find_hang};
 use crate::listing::{Listing, show_new};
 use crate::shown::Shown;
-use ir_explore::{Ended, Observer, Stop};
+use ir_search::{Ended, Observer, Stop};
 use ir_graph::{Bounds, Setup, States};
 use std::alloc::Global;
 

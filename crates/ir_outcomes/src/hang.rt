@@ -1,9 +1,9 @@
 //! A state that can't be brought to an end, with turns that lead to it.
 
 ghost use Rattle.std.specs.Prelude.{◌≡◌, ℕ, ◌<◌, ◌≤◌, false, Some, None, length, slice_get, IfOk, IfErr};
-ghost use Rattle.ir_explore.specs.declared.origin.Origin.{Origin};
-ghost use Rattle.ir_explore.specs.Following.{IsOpen};
-ghost use Rattle.ir_explore.specs.Ways.{shut};
+ghost use Rattle.ir_search.specs.declared.origin.Origin.{Origin};
+ghost use Rattle.ir_search.specs.Following.{IsOpen};
+ghost use Rattle.ir_search.specs.Ways.{shut};
 ghost use Rattle.ir_graph.specs.Searched.{IsSearch};
 ghost use Rattle.ir_graph.specs.Stops.{MayStop};
 ghost use Rattle.ir_record.specs.Recording.{turns_of_items};
@@ -16,7 +16,7 @@ ghost use Rattle.ir_outcomes.specs.declared.shown.Shown.{Shown};
 use crate::path::path_to;
 use crate::rerun::run_to_node;
 use crate::shown::Shown;
-use ir_explore::Stop;
+use ir_search::Stop;
 use ir_graph::States;
 use std::alloc::Global;
 

@@ -1,7 +1,7 @@
 //! The outcomes among the states that were found.
 
 ghost use Rattle.std.specs.Prelude.{◌≡◌, suc, ◌<◌, ◌≤◌, length, IfErr, OnErr, OnOk};
-ghost use Rattle.ir_explore.specs.Following.{Stay};
+ghost use Rattle.ir_search.specs.Following.{Stay};
 ghost use Rattle.ir_graph.specs.Searched.{AreSearched, IsSearch};
 ghost use Rattle.ir_graph.specs.Stops.{MayStop};
 ghost use Rattle.ir_outcomes.specs.Explored.{AreExplored};
@@ -9,7 +9,7 @@ ghost use Rattle.ir_outcomes.specs.Exploring.{HasShown};
 ghost use Rattle.ir_thread.specs.State.{IsAllowed};
 
 use crate::shown::{Shown, show};
-use ir_explore::Stop;
+use ir_search::Stop;
 use ir_graph::{States, has_new_outcome};
 use std::alloc::Global;
 

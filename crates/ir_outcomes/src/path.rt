@@ -1,11 +1,11 @@
 //! How a search came to a node.
 
 ghost use Rattle.std.specs.Prelude.{◌≡◌, ℕ, Bool, List, suc, ◌<◌, ◌≤◌, Some, length, slice_get, IfOk};
-ghost use Rattle.ir_explore.specs.declared.origin.Origin.{Origin};
-ghost use Rattle.ir_explore.specs.Origins.{AreWaysUnder};
+ghost use Rattle.ir_search.specs.declared.origin.Origin.{Origin};
+ghost use Rattle.ir_search.specs.Origins.{AreWaysUnder};
 ghost use Rattle.ir_outcomes.specs.Path.{FallInLevel, IsPathTo, ways_of};
 
-use ir_explore::{Origin, Refusal};
+use ir_search::{Origin, Refusal};
 use std::alloc::{AllocError, Global};
 
 /// The turns that led to a node, the last first: one more at most than its level says.

@@ -1,8 +1,8 @@
 //! A guest that is run once more, turn by turn.
 
 ghost use Rattle.std.specs.Prelude.{◌≡◌, ℕ, Bool, true, false, ◌<◌, ◌^◌, ◌++◌, List, [], ◌∷◌, Some, length, replicate, slice_get, All, IfOk, IfErr, OnErr, OnOk};
-ghost use Rattle.ir_explore.specs.Following.{BothWays};
-ghost use Rattle.ir_explore.specs.Origins.{AreReached, AreWaysOf};
+ghost use Rattle.ir_search.specs.Following.{BothWays};
+ghost use Rattle.ir_search.specs.Origins.{AreReached, AreWaysOf};
 ghost use Rattle.ir_flat.specs.Flat.{thread_of};
 ghost use Rattle.ir_graph.specs.Graph.{IsGraph};
 ghost use Rattle.ir_graph.specs.Nodes.{AllRest, LookAlike};
@@ -21,7 +21,7 @@ ghost use Rattle.ir_outcomes.specs.declared.rerun_error.RerunError.TheVariants.{
 
 use crate::path::refusals_to;
 use crate::rerun_error::RerunError;
-use ir_explore::{Origin, Refusal, Stop};
+use ir_search::{Origin, Refusal, Stop};
 use ir_graph::{States, run_to_rest, same_state, way_result};
 use ir_record::Item;
 use ir_store::SourcedFlat;

@@ -3,7 +3,7 @@
 ghost use Rattle.std.specs.Prelude.{◌≡◌};
 ghost use Rattle.ir_outcomes.specs.declared.rerun_error.RerunError.TheVariants.{NoMemory};
 
-use ir_explore::Stop;
+use ir_search::Stop;
 use std::alloc::{AllocError, AllocFailed};
 
 /// Why a guest doesn't go by a path once more.

@@ -1,7 +1,7 @@
 //! An outcome with turns that lead to it.
 
 ghost use Rattle.std.specs.Prelude.{◌≡◌, ◌<◌, Some, length, slice_get, IfOk, IfErr};
-ghost use Rattle.ir_explore.specs.declared.origin.Origin.{Origin};
+ghost use Rattle.ir_search.specs.declared.origin.Origin.{Origin};
 ghost use Rattle.ir_flat.specs.Flat.{machine, tables};
 ghost use Rattle.ir_graph.specs.Searched.{IsSearch};
 ghost use Rattle.ir_graph.specs.Stops.{MayStop};
@@ -13,7 +13,7 @@ ghost use Rattle.ir_outcomes.specs.Shown.{IsShown};
 
 use crate::path::path_to;
 use crate::rerun::run_to_node;
-use ir_explore::Stop;
+use ir_search::Stop;
 use ir_graph::States;
 use ir_record::Item;
 use std::alloc::Global;

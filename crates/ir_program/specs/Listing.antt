@@ -8,7 +8,7 @@ use Rattle.ir_trace.specs.Recorded.{RecordedThread, Recorded}
 use Rattle.ir_trace.specs.declared.trace_err.TraceErr.{TraceErr}
 use Rattle.ir_text.specs.Texts.{log_text}
 use Rattle.ir_debug.specs.Machine.{TraceRefused, opening_text}
-use Rattle.ir_record_run.specs.Recording.{recorded_thread_line}
+use Rattle.ir_record_command.specs.Recording.{recorded_thread_line}
 use Rattle.ir_files.specs.Writers.{Writer, Failed}
 use Rattle.ir_files.specs.declared.exit_status.ExitStatus.{ExitStatus}
 use Rattle.ir_files.specs.declared.exit_status.ExitStatus.TheVariants as status

@@ -1,7 +1,7 @@
 //! The commands, a file each, and what they share: files that are read, and places that are written.
 
 ghost use Rattle.std.specs.Prelude.{◌≡◌, OnSome, OnOk, IfSome, IfOk, Ok, false};
-ghost use Rattle.ir_image_run.specs.Opening.{image_bytes};
+ghost use Rattle.ir_make.specs.Opening.{image_bytes};
 
 pub mod assemble;
 pub mod conditions;
@@ -20,7 +20,7 @@ pub mod until;
 
 use ir_elf::ElfErr;
 use ir_files::{ExitStatus, Folder, MOST_BYTES, WholeSink, loses, read_file, tell_of};
-use ir_image_run::image_bytes;
+use ir_make::image_bytes;
 use ir_stream::Sink;
 use std::alloc::Global;
 

@@ -19,7 +19,7 @@ use crate::ends_once::EndsOnce;
 use crate::prompting::Prompting;
 use ir_arguments::{Asked, Make, Print, parsed};
 use ir_debug::{Sink, Source};
-use ir_explore::Observer;
+use ir_search::Observer;
 use ir_files::{ExitStatus, Folder};
 use ir_object::{Gate, Given, Hands};
 use ir_stream::write_all;

@@ -9,7 +9,7 @@ ghost use Rattle.ir_files.specs.Writers.{writer_of};
 
 use crate::print_err::PrintErr;
 use ir_debug::Sink;
-use ir_record_run::thread_line;
+use ir_record_command::thread_line;
 use ir_stream::write_all;
 use ir_text::write_log;
 use ir_thread::Profile;

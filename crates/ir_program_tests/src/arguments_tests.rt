@@ -2,7 +2,7 @@
 
 use crate::device_tests::{ENDLESS, empty_page};
 use ir_arguments::{ASM_AFTER, Asked, parsed};
-use ir_image_run::asm_run;
+use ir_make::asm_run;
 use ir_thread::{Call, Profile};
 use std::test::Fail;
 

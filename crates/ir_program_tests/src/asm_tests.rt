@@ -4,7 +4,7 @@ use crate::device_tests::{ENDLESS, Page, empty_page};
 use ir_arguments::ASM_AFTER;
 use ir_asm::Labels;
 use ir_files::ExitStatus;
-use ir_image_run::asm_run;
+use ir_make::asm_run;
 use std::alloc::{AllocError, Global};
 use std::test::Fail;
 

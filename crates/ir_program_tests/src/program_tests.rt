@@ -3,7 +3,7 @@
 
 use crate::device_tests::{Bytes, ENDLESS, Page, empty_page};
 use crate::shelf::Shelf;
-use ir_explore::Observer;
+use ir_search::Observer;
 use ir_object::Gate;
 use ir_program::{Invocation, Surroundings, Terminals, program};
 use ir_runs::Access;

@@ -2,7 +2,7 @@
 //! fails at each of its calls.
 
 use crate::device_tests::{ENDLESS, Page, empty_page};
-use ir_rests::rests_run;
+use ir_stale_run::rests_run;
 use std::test::Fail;
 
 // A lost update: each of two threads reads a word in one entry, and puts one more in another.

@@ -2,7 +2,7 @@
 
 use ir_record::{World, WorldErr};
 use ir_runs::EnvKind;
-use ir_sources::{ProgramWorld, Time};
+use ir_world::{ProgramWorld, Time};
 use std::io;
 use std::test::Fail;
 use std::time::{Clock, Duration, Instant};

@@ -11,13 +11,13 @@ use Rattle.ir_thread.specs.State.{ThreadState, thread_machine}
 use Rattle.ir_thread.specs.declared.profile.Profile.{Profile}
 use Rattle.ir_flat.specs.Flat.{start_flat, start_threads, tables, idle}
 use Rattle.ir_flat.proofs.CallerLemmas.{no_thread_inside_at_start}
-use Rattle.ir_states.specs.Looks.{Looks}
-use Rattle.ir_states.specs.Nodes.{LeadsTo, Noted, Path}
-use Rattle.ir_states.specs.Counting.{is_own, IsAtRest, entering}
-use Rattle.ir_states.specs.Outcomes.{IsFinished, Begins, Covers, switches}
-use Rattle.ir_states.specs.Sources.{Giving, sourced, by_source, plain}
-use Rattle.ir_states.specs.Views.{viewed, beside, IsLiveRun, IsUnspoilt}
-use Rattle.ir_states.proofs.CallerLemmas.{sourced_machine_is_lawful, looks_alike, seen_good, real_seen, real_all, real_shown, outcome_within_switches_is_of_done_node, told}
+use Rattle.ir_search_laws.specs.Looks.{Looks}
+use Rattle.ir_search_laws.specs.Nodes.{LeadsTo, Noted, Path}
+use Rattle.ir_search_laws.specs.Counting.{is_own, IsAtRest, entering}
+use Rattle.ir_search_laws.specs.Outcomes.{IsFinished, Begins, Covers, switches}
+use Rattle.ir_search_laws.specs.Sources.{Giving, sourced, by_source, plain}
+use Rattle.ir_search_laws.specs.Views.{viewed, beside, IsLiveRun, IsUnspoilt}
+use Rattle.ir_search_laws.proofs.CallerLemmas.{sourced_machine_is_lawful, looks_alike, seen_good, real_seen, real_all, real_shown, outcome_within_switches_is_of_done_node, told}
 use Rattle.ir_seen.specs.Seen.{view, seen_machine, IsLive, IsSpoilt, Same, seen_start, IsCounted}
 use Rattle.ir_seen.proofs.Same.{look_same}
 use Rattle.ir_seen.proofs.Start.{start_view_ignores_budget}

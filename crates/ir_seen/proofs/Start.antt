@@ -7,7 +7,7 @@ use Rattle.ir_thread.specs.State.{held_at}
 use Rattle.ir_thread.specs.declared.profile.Profile.{Profile}
 use Rattle.ir_flat.specs.Flat.{start_flat, start_threads, tables, thread_of, idle, cell_of}
 use Rattle.ir_flat.specs.Room.{object_with}
-use Rattle.ir_states.specs.Views.{viewed}
+use Rattle.ir_search_laws.specs.Views.{viewed}
 use Rattle.ir_seen.specs.Seen.{view}
 
 start_thread_view_ignores_budget : (guest : Guest) (b c : ℕ) (profile : Profile) (from n t : ℕ)

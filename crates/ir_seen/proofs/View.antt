@@ -20,7 +20,7 @@ use Rattle.ir_thread.specs.declared.call.Call.TheVariants as call
 use Rattle.ir_thread.specs.declared.end.End.{End}
 use Rattle.ir_thread.specs.declared.end.End.TheVariants as end
 use Rattle.ir_seen.specs.Seen.{view, seen_machine, IsLive, IsSpoilt}
-use Rattle.ir_states.specs.Views.{IsView, Spoils}
+use Rattle.ir_search_laws.specs.Views.{IsView, Spoils}
 
 pub seen_machine_is_lawful : (code : List ℕ) → IsLawful (seen_machine code)
 seen_machine_is_lawful code = record { holds = (thread_machine_is_lawful code).holds; takes = (thread_machine_is_lawful code).takes }

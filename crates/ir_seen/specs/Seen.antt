@@ -9,8 +9,8 @@ use Rattle.ir_live.specs.Agreement.{DifferInDead}
 use Rattle.ir_runs.specs.Run as run
 use Rattle.ir_runs.specs.Bounds as bounds
 use Rattle.ir_flat.specs.Flat.{start_flat, tables}
-use Rattle.ir_states.specs.Sources.{Giving, Gives}
-use Rattle.ir_states.specs.Views.{viewed, beside, IsUnspoilt}
+use Rattle.ir_search_laws.specs.Sources.{Giving, Gives}
+use Rattle.ir_search_laws.specs.Views.{viewed, beside, IsUnspoilt}
 
 -- a thread that has taken no step and logged nothing, and may take one
 abbrev pub view : ThreadState → ThreadState

@@ -9,7 +9,7 @@ use Rattle.ir_freeze.specs.Frozen.{frozen, is_over}
 use Rattle.ir_freeze.specs.Twins.{AreTwins, TellsApart, KeepsBounds}
 use Rattle.ir_freeze.proofs.CallerLemmas.{over_if_shared_ask_done, over_together_if_frozen_bytes_equal}
 use Rattle.ir_seen.specs.Seen.{view}
-use Rattle.ir_sources.specs.Sources.{Source}
+use Rattle.ir_world.specs.Sources.{Source}
 use Rattle.ir_thread.specs.State.{ThreadState}
 use Rattle.ir_store.specs.Hashes.{empty_hash, after_numbers, IsFoundBy, KeepsFound, PassesOver, place_of, number_at, most_steps}
 use Rattle.ir_store.specs.Nodes.{MomentsLookSame}

@@ -9,7 +9,7 @@ use Rattle.ir_freeze.specs.Frozen.{end_bytes, going_bytes, frozen, is_over}
 use Rattle.ir_freeze.specs.Twins.{AreTwins, TellsApart, KeepsBounds}
 use Rattle.ir_freeze.proofs.CallerLemmas.{over_together_if_frozen_bytes_equal}
 use Rattle.ir_seen.specs.Seen.{Same, view}
-use Rattle.ir_sources.specs.Sources.{Source}
+use Rattle.ir_world.specs.Sources.{Source}
 use Rattle.ir_thread.specs.State.{ThreadState}
 use Rattle.ir_object.specs.Empty.{empty}
 use Rattle.ir_store.specs.declared.spot.Spot.{Spot}

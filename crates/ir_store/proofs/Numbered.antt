@@ -6,7 +6,7 @@ use Rattle.std.proofs.lemmas.Option.{slice_get-get_or, get_or_from_slice_get}
 use Rattle.ir_lemmas.proofs.CallerLemmas.{slice_get_element_satisfies_all_by_recursion, get_or_element_satisfies_all_by_recursion, length_of_map}
 use Rattle.ir_freeze.specs.Basis.{IsBasis}
 use Rattle.ir_freeze.specs.Twins.{AreTwins, TellsApart, KeepsBounds}
-use Rattle.ir_sources.specs.Sources.{Source}
+use Rattle.ir_world.specs.Sources.{Source}
 use Rattle.ir_thread.specs.State.{ThreadState}
 use Rattle.ir_store.specs.declared.spot.Spot.{Spot}
 use Rattle.ir_object.specs.Cell.{Cell}

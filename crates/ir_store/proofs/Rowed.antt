@@ -7,7 +7,7 @@ use Rattle.std.proofs.lemmas.List.{map_push}
 use Rattle.std.proofs.lemmas.Option.{slice_get-map, slice_get_read, slice_get_within, get_or_from_slice_get}
 use Rattle.ir_lemmas.proofs.CallerLemmas.{all_by_recursion_after_push, slice_get_after_push_cases, added_element_is_last, length_of_map}
 use Rattle.ir_freeze.specs.Basis.{Basis}
-use Rattle.ir_sources.specs.Sources.{Source}
+use Rattle.ir_world.specs.Sources.{Source}
 use Rattle.ir_thread.specs.State.{ThreadState}
 use Rattle.ir_store.specs.Table.{KeepsNumbers, LooksLike, AreLooks}
 use Rattle.ir_store.proofs.Lists.{push_keeps_old_elements}

@@ -1,6 +1,6 @@
 -- A thread without the private memory that is as at the start, beside what answers it.
 use Rattle.std.specs.Prelude.{◌≡◌, ℕ, Bool, List, [], ◌++◌, length, take, if◌then◌else◌}
-use Rattle.ir_sources.specs.Sources.{Source}
+use Rattle.ir_world.specs.Sources.{Source}
 use Rattle.ir_thread.specs.Frames.{ThreadFrame}
 use Rattle.ir_thread.specs.State.{ThreadState}
 use Rattle.ir_freeze.specs.Basis.{Basis}

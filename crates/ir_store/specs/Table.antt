@@ -3,7 +3,7 @@ use Rattle.std.specs.Prelude.{◌≡◌, ◌<◌, ◌&&◌, ℕ, Bool, true, fal
 use Rattle.std.specs.List.{slice_index_or, AllByRecursion}
 use Rattle.ir_image.specs.declared.form.ImageForm.{ImageForm}
 use Rattle.ir_thread.specs.State.{ThreadState}
-use Rattle.ir_sources.specs.Sources.{Source, source}
+use Rattle.ir_world.specs.Sources.{Source, source}
 use Rattle.ir_flat.specs.Flat.{idle}
 use Rattle.ir_freeze.specs.Basis.{Basis}
 use Rattle.ir_freeze.specs.Frozen.{frozen, is_over}

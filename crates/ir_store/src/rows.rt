@@ -8,7 +8,7 @@ ghost use Rattle.ir_freeze.specs.Twins.{KeepsBounds};
 ghost use Rattle.ir_store.specs.Rows.{beside_in, look_of, packed_of, HasOwnBytes};
 ghost use Rattle.ir_store.specs.Table.{idle_beside, LooksLike, AreLooks};
 ghost use Rattle.ir_store.specs.Table as table;
-ghost use Rattle.ir_sources.specs.Sources.{Source};
+ghost use Rattle.ir_world.specs.Sources.{Source};
 ghost use Rattle.ir_thread.specs.State.{ThreadState};
 
 use crate::bounds::bounded;
@@ -17,7 +17,7 @@ use crate::put::put;
 use crate::row::Row;
 use ir_freeze::{Basis, comes_back};
 use ir_image::ImageForm;
-use ir_sources::Sources;
+use ir_world::Sources;
 use ir_thread::Thread;
 use std::alloc::{AllocError, Global};
 use std::marker::Model;

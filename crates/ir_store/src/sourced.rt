@@ -1,11 +1,11 @@
 //! States and threads beside what answers them.
 
-ghost use Rattle.ir_sources.specs.Sources.{Source};
+ghost use Rattle.ir_world.specs.Sources.{Source};
 ghost use Rattle.ir_store.specs.Nodes as nodes;
 ghost use Rattle.ir_thread.specs.State.{ThreadState};
 
 use ir_flat::Flat;
-use ir_sources::Sources;
+use ir_world::Sources;
 use ir_thread::Thread;
 use std::marker::Model;
 

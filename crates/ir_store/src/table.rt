@@ -11,7 +11,7 @@ ghost use Rattle.ir_store.specs.Hashes as hashes;
 ghost use Rattle.ir_store.specs.Rows.{packed_of};
 ghost use Rattle.ir_store.specs.Table.{HaveForm, idle_beside, threads_at, sources_at, all_over, AreIn, HaveTicks, HaveNoTicks, KeepsNumbers, LooksLike, AreLike, AreOnce, HaveOneLook, StandsFor};
 ghost use Rattle.ir_store.specs.Table as table;
-ghost use Rattle.ir_sources.specs.Sources.{Source};
+ghost use Rattle.ir_world.specs.Sources.{Source};
 ghost use Rattle.ir_thread.specs.State.{ThreadState};
 
 use crate::hash::{after_bytes, after_number, empty_hash};
@@ -22,7 +22,7 @@ use crate::rows::Rows;
 use crate::sourced::SourcedThread;
 use ir_freeze::{Basis, over, tells_apart};
 use ir_image::ImageForm;
-use ir_sources::Sources;
+use ir_world::Sources;
 use ir_thread::Thread;
 use std::alloc::{AllocError, Global};
 use std::marker::Model;

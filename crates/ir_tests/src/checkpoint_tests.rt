@@ -1,12 +1,12 @@
 //! A guest of two threads that is brought back and forth, and what is kept of it.
 
 ghost use Rattle.std.specs.Prelude.{◌<◌, length, IfOk};
-ghost use Rattle.ir_checkpoint.specs.Checkpoints.{AreCheckpoints, Stands};
+ghost use Rattle.ir_moves.specs.Checkpoints.{AreCheckpoints, Stands};
 
 use crate::guests::COUNTDOWN;
 use crate::replays::{fitted, is_cut};
 use crate::traces::{Ran, TraceRow};
-use ir_checkpoint::Checkpoints;
+use ir_moves::Checkpoints;
 use ir_cut::Cut;
 use ir_fit::Fitted;
 use ir_object::{Given, OpenGate};

@@ -6,7 +6,7 @@ use crate::states::same_state;
 use crate::traces::{SECOND_FIRST, TWICE_STORED};
 use ir_cut::Cut;
 use ir_fit::Fitted;
-use ir_keep::Keeper;
+use ir_checkpoint::Keeper;
 use ir_replay::State;
 use std::alloc::Global;
 use std::process::Abort;

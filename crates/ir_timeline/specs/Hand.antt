@@ -1,6 +1,6 @@
 -- Threads and objects in hand, and states that are kept beside them.
 use Rattle.ir_fit.specs.Fit.{FittedTrace}
-use Rattle.ir_checkpoint.specs.Checkpoints.{AreCheckpoints, Stands}
+use Rattle.ir_moves.specs.Checkpoints.{AreCheckpoints, Stands}
 use Rattle.ir_timeline.specs.declared.hand.InHand.{InHand}
 use Rattle.std.specs.Prelude.{◌≡◌, ℕ, List, length}
 use Rattle.ir_cut.specs.Positions.{IsConsistentCut, threads_of}

@@ -3,7 +3,7 @@ use Rattle.std.specs.Prelude.{ℕ, List}
 use Rattle.ir_fit.specs.Fit.{FittedTrace, HasRun}
 use Rattle.ir_cut.specs.Positions.{cut_of}
 use Rattle.ir_weave.specs.Standing.{Standing, StandsAt}
-use Rattle.ir_checkpoint.specs.Checkpoints.{Stands}
+use Rattle.ir_moves.specs.Checkpoints.{Stands}
 
 -- the trace, and the threads and objects in hand
 pub record Replaying : Type 0 where

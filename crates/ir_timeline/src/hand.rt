@@ -1,6 +1,6 @@
 //! What a move along a run changes.
 
-use ir_checkpoint::Checkpoints;
+use ir_moves::Checkpoints;
 use ir_replay::State;
 
 /// The threads and objects in hand, and the states that are kept for moves and searches to begin at.

@@ -1,7 +1,7 @@
 //! A recorded run in hand.
 
 ghost use Rattle.std.specs.Prelude.{◌≡◌};
-ghost use Rattle.ir_checkpoint.specs.Checkpoints.{AreCheckpoints};
+ghost use Rattle.ir_moves.specs.Checkpoints.{AreCheckpoints};
 ghost use Rattle.ir_fit.specs.Fit.{HasRun};
 ghost use Rattle.ir_fit.specs.Passed.{ArePassed};
 ghost use Rattle.ir_timeline.specs.Hand.{IsInHand};
@@ -9,7 +9,7 @@ ghost use Rattle.ir_timeline.specs.Replaying.{Replaying, IsReplaying};
 
 use crate::hand::InHand;
 use crate::searching::{hit_above, hit_below, hit_up_to};
-use ir_checkpoint::Checkpoints;
+use ir_moves::Checkpoints;
 use ir_command::{Direction, Hit};
 use ir_cut::Cut;
 use ir_fit::{Fitted, PassedState};

@@ -7,8 +7,8 @@ use Rattle.ir_fit.specs.Fit.{FittedTrace, HasRun}
 use Rattle.ir_past.specs.Answers.{AreCoherent}
 use Rattle.ir_past.specs.Past.{AreReaders, IsMadeBy, IsOverwriter}
 use Rattle.ir_past.specs.declared.place.Place.{Place}
-use Rattle.ir_fit_run.specs.Positions.{IsInside}
-use Rattle.ir_fit_run.proofs.CallerLemmas.{recorded_event_is_inside, run_trace_is_coherent}
+use Rattle.ir_opened.specs.Positions.{IsInside}
+use Rattle.ir_opened.proofs.CallerLemmas.{recorded_event_is_inside, run_trace_is_coherent}
 use Rattle.ir_who.specs.Versions.{AreVersions}
 use Rattle.ir_who.specs.declared.version.Version.{Version}
 

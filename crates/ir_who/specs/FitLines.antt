@@ -9,10 +9,10 @@ use Rattle.ir_past.specs.declared.place.Place.{Place}
 use Rattle.ir_past.specs.Past.{AreReaders, IsOverwriter}
 use Rattle.ir_past.specs.Naming.{place_text, maker_text}
 use Rattle.ir_events.specs.Events.{entry_of}
-use Rattle.ir_fit_run.specs.Answers.{IsFitAnswerOf}
-use Rattle.ir_fit_run.specs.Opened.{IsFit}
-use Rattle.ir_fit_run.specs.Paired.{ArePaired}
-use Rattle.ir_fit_run.specs.Positions.{IsLeft, step_part, step_if}
+use Rattle.ir_opened.specs.Answers.{IsFitAnswerOf}
+use Rattle.ir_opened.specs.Opened.{IsFit}
+use Rattle.ir_opened.specs.Paired.{ArePaired}
+use Rattle.ir_opened.specs.Positions.{IsLeft, step_part, step_if}
 use Rattle.ir_who.specs.Lines.{object_line, LacksAsked}
 use Rattle.ir_who.specs.Versions.{AreVersions}
 use Rattle.ir_who.specs.declared.version.Version.{Version}

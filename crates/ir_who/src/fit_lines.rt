@@ -3,13 +3,13 @@
 ghost use Rattle.std.specs.Prelude.{◌≡◌, ◌++◌, ℕ, slice_get, Some, IfOk, OnOk};
 ghost use Rattle.std.specs.String.{string_bytes};
 ghost use Rattle.ir_past.specs.declared.place.Place as place;
-ghost use Rattle.ir_fit_run.specs.Positions.{IsInside};
+ghost use Rattle.ir_opened.specs.Positions.{IsInside};
 ghost use Rattle.ir_who.specs.FitLines.{dated_line, dated_text, step_place, fit_read_line, fit_read_lines, fit_over_line, fit_version_text};
 
 use crate::dated::Dated;
 use crate::lines::object_line;
 use ir_fit::Fitted;
-use ir_fit_run::{step_of, step_text};
+use ir_opened::{step_of, step_text};
 use ir_past::{Place, maker_text, place_text};
 use std::alloc::{AllocError, Global};
 

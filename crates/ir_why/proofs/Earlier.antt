@@ -18,8 +18,8 @@ use Rattle.ir_past.specs.declared.place.Place.{Place}
 use Rattle.ir_picture.specs.Needs.{Needs}
 use Rattle.ir_picture.specs.declared.placed_box.PlacedBox.{PlacedBox}
 use Rattle.ir_events.specs.Events.{entry_of}
-use Rattle.ir_fit_run.specs.Positions.{IsInside, IsLeaveOf, EntryLeaves}
-use Rattle.ir_fit_run.proofs.CallerLemmas.{slice_get_is_get_or_below_length, recorded_event_is_inside}
+use Rattle.ir_opened.specs.Positions.{IsInside, IsLeaveOf, EntryLeaves}
+use Rattle.ir_opened.proofs.CallerLemmas.{slice_get_is_get_or_below_length, recorded_event_is_inside}
 use Rattle.ir_why.specs.Waits.{IsWaitFrom, AreWaits}
 use Rattle.ir_why.specs.declared.wait.Wait.{Wait}
 

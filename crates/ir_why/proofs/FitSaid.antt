@@ -5,8 +5,8 @@ use Rattle.ir_files.specs.Writers.{Writer}
 use Rattle.ir_files.specs.declared.exit_status.ExitStatus.{ExitStatus}
 use Rattle.ir_files.specs.declared.exit_status.ExitStatus.TheVariants as status
 use Rattle.ir_past.specs.Answers.{Answered}
-use Rattle.ir_fit_run.specs.Answers.{IsFitAnswerOf}
-use Rattle.ir_fit_run.proofs.CallerLemmas.{refusal_status_is_no_failure}
+use Rattle.ir_opened.specs.Answers.{IsFitAnswerOf}
+use Rattle.ir_opened.proofs.CallerLemmas.{refusal_status_is_no_failure}
 
 answer_status_is_no_failure : (P : FittedTrace → List ℕ → Type 0) (image trace : List ℕ) (s : ExitStatus) (text : List ℕ) → IsFitAnswerOf P image trace s text
     → (s ≡ status.Failed) ⊎ (s ≡ status.BadArguments) → ⊥

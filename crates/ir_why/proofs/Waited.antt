@@ -15,8 +15,8 @@ use Rattle.ir_cut.specs.Positions.{cut_of}
 use Rattle.ir_past.specs.declared.place.Place.{Place}
 use Rattle.ir_picture.specs.declared.placed_box.PlacedBox.{PlacedBox}
 use Rattle.ir_events.specs.Events.{entries_of, entry_of}
-use Rattle.ir_fit_run.specs.Positions.{IsInside, IsLeaveOf}
-use Rattle.ir_fit_run.proofs.CallerLemmas.{entering_event_has_leave, leave_is_past_event}
+use Rattle.ir_opened.specs.Positions.{IsInside, IsLeaveOf}
+use Rattle.ir_opened.proofs.CallerLemmas.{entering_event_has_leave, leave_is_past_event}
 use Rattle.ir_why.specs.Chain.{IsLink, WaitsForNone}
 use Rattle.ir_why.specs.Needed.{NeedsOther}
 use Rattle.ir_why.specs.Waits.{AreBefore, IsLastBefore, IsWait, IsWaitFrom, AreWaits, itself}

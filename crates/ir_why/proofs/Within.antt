@@ -14,7 +14,7 @@ use Rattle.ir_cut.proofs.CallerLemmas.{no_trail_of_missing_thread}
 use Rattle.ir_past.specs.declared.place.Place.{Place}
 use Rattle.ir_picture.specs.Needs.{HasNoCircle, IsCircleAt}
 use Rattle.ir_picture.specs.Runs.{RunsHaveNoCircle}
-use Rattle.ir_fit_run.specs.Positions.{IsInside}
+use Rattle.ir_opened.specs.Positions.{IsInside}
 use Rattle.ir_why.specs.FitAnswers.{AreEventsInside}
 use Rattle.ir_why.specs.Tables.{AreThere}
 

@@ -19,14 +19,14 @@ use Rattle.ir_picture.specs.declared.placed_box.PlacedBox.{PlacedBox}
 use Rattle.ir_picture.specs.declared.placed_box.Point.{Point}
 use Rattle.ir_picture.specs.declared.view_err.Absent.TheVariants as absent
 use Rattle.ir_events.specs.Events.{entry_of}
-use Rattle.ir_fit_run.specs.Answers.{IsFitAnswerOf}
-use Rattle.ir_fit_run.specs.Opened.{IsFit}
-use Rattle.ir_fit_run.specs.Positions.{IsInside, IsLeft}
+use Rattle.ir_opened.specs.Answers.{IsFitAnswerOf}
+use Rattle.ir_opened.specs.Opened.{IsFit}
+use Rattle.ir_opened.specs.Positions.{IsInside, IsLeft}
 use Rattle.ir_why.specs.Answers.{event_asked, HasAsked, LacksEvent}
 use Rattle.ir_why.specs.FitLines.{here_line, fit_text}
 use Rattle.ir_why.specs.Needed.{AreNeeds}
 use Rattle.ir_why.specs.Waits.{AreWaits, IsPastIn}
-use Rattle.ir_fit_run.specs.Paired.{ArePaired}
+use Rattle.ir_opened.specs.Paired.{ArePaired}
 use Rattle.ir_why.specs.declared.fit_question.FitQuestion.{FitQuestion}
 use Rattle.ir_why.specs.declared.need.Need.{Need}
 use Rattle.ir_why.specs.declared.wait.Wait.{Wait}

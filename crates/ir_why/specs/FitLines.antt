@@ -6,7 +6,7 @@ use Rattle.ir_text.specs.Texts.{event_text}
 use Rattle.ir_cut.specs.Positions.{cut_of}
 use Rattle.ir_past.specs.Naming.{place_text}
 use Rattle.ir_past.specs.declared.place.Place.{Place}
-use Rattle.ir_fit_run.specs.Positions.{step_part}
+use Rattle.ir_opened.specs.Positions.{step_part}
 use Rattle.ir_why.specs.Lines.{past_line}
 use Rattle.ir_why.specs.declared.need.Need.{Need}
 use Rattle.ir_why.specs.declared.wait.Wait.{Wait}

@@ -6,7 +6,7 @@ use Rattle.ir_cut.specs.Positions.{cut_of, IsConsistentCut}
 use Rattle.ir_picture.specs.Needs.{Needs}
 use Rattle.ir_picture.specs.declared.placed_box.PlacedBox.{PlacedBox}
 use Rattle.ir_events.specs.Events.{entry_of}
-use Rattle.ir_fit_run.specs.Positions.{IsInside, IsLeaveOf}
+use Rattle.ir_opened.specs.Positions.{IsInside, IsLeaveOf}
 use Rattle.ir_why.specs.Waits.{AreWaits}
 use Rattle.ir_why.specs.declared.wait.Wait.{Wait}
 

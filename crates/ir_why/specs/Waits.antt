@@ -6,7 +6,7 @@ use Rattle.ir_cut.specs.Positions.{cut_of}
 use Rattle.ir_past.specs.declared.place.Place.{Place}
 use Rattle.ir_picture.specs.declared.placed_box.PlacedBox.{PlacedBox}
 use Rattle.ir_events.specs.Events.{entries_of, entry_of}
-use Rattle.ir_fit_run.specs.Positions.{IsInside, IsLeaveOf}
+use Rattle.ir_opened.specs.Positions.{IsInside, IsLeaveOf}
 use Rattle.ir_why.specs.Chain.{IsLink, WaitsForNone}
 use Rattle.ir_why.specs.declared.link.Link.{Link}
 use Rattle.ir_why.specs.declared.wait.Wait.{Wait}

@@ -4,7 +4,7 @@ ghost use Rattle.std.specs.Prelude.{◌≡◌, ◌<◌, ◌≤◌, ◌+◌, ℕ,
 ghost use Rattle.std.specs.List.Sorted.{IsNonDecreasingBy, IsPartitionPoint};
 ghost use Rattle.ir_cut.specs.Positions.{cut_of};
 ghost use Rattle.ir_events.specs.Events.{entry_of};
-ghost use Rattle.ir_fit_run.specs.Positions.{IsInside};
+ghost use Rattle.ir_opened.specs.Positions.{IsInside};
 ghost use Rattle.ir_why.specs.Waits.{AreBefore, IsPastIn, itself};
 
 use ir_cut::Cut;

@@ -4,7 +4,7 @@ ghost use Rattle.std.specs.Prelude.{◌≡◌, ◌++◌, flat_map, IfOk, OnOk};
 ghost use Rattle.std.specs.String.{string_bytes};
 ghost use Rattle.ir_log.specs.Logging.{label_of};
 ghost use Rattle.ir_text.specs.Texts.{event_text};
-ghost use Rattle.ir_fit_run.specs.Positions.{IsInside};
+ghost use Rattle.ir_opened.specs.Positions.{IsInside};
 ghost use Rattle.ir_why.specs.FitAnswers.{IsHereLine};
 ghost use Rattle.ir_why.specs.FitLines.{met_part, left_part, here_line, fit_need_line, least_line, wait_line};
 
@@ -12,7 +12,7 @@ use crate::need::Need;
 use crate::wait::Wait;
 use ir_cut::Cut;
 use ir_fit::Fitted;
-use ir_fit_run::step_of;
+use ir_opened::step_of;
 use ir_log::Event;
 use ir_past::{Place, event_of, place_text};
 use ir_text::{Text, put_event_text};

@@ -5,7 +5,7 @@ ghost use Rattle.ir_picture.specs.Boxes.{AreBoxes};
 ghost use Rattle.ir_picture.specs.Placing.{events_of_all};
 ghost use Rattle.ir_picture.specs.Places.{AreBoxesPlaced};
 ghost use Rattle.ir_picture.specs.declared.placed_box.Point.{Point};
-ghost use Rattle.ir_fit_run.specs.Positions.{IsInside};
+ghost use Rattle.ir_opened.specs.Positions.{IsInside};
 ghost use Rattle.ir_why.specs.FitAnswers.{IsReasonIn};
 
 use crate::fit_before::past_in;

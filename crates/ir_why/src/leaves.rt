@@ -1,17 +1,17 @@
 //! Where what is needed is among the steps of a run.
 
 ghost use Rattle.std.specs.Prelude.{◌≡◌, IfOk};
-ghost use Rattle.ir_fit_run.specs.Positions.{IsInside, IsLeft};
+ghost use Rattle.ir_opened.specs.Positions.{IsInside, IsLeft};
 ghost use Rattle.ir_cut.specs.Positions.{first_cut, IsConsistentCut};
 ghost use Rattle.ir_why.specs.FitAnswers.{AreEventsInside, IsNeed, AreNeedsOf, IsLeastFor};
-ghost use Rattle.ir_fit_run.specs.Paired.{ArePaired};
+ghost use Rattle.ir_opened.specs.Paired.{ArePaired};
 ghost use Rattle.ir_why.specs.Tables.{HasTables};
 
 use crate::need::Need;
 use crate::tables::Tables;
 use ir_cut::{Cut, least};
 use ir_fit::Fitted;
-use ir_fit_run::{leave_of, step_of};
+use ir_opened::{leave_of, step_of};
 use ir_past::{Place, event_of};
 use std::alloc::{AllocError, Global};
 

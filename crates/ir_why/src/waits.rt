@@ -2,7 +2,7 @@
 
 ghost use Rattle.std.specs.Prelude.{◌≡◌, ◌<◌, ℕ, IfOk};
 ghost use Rattle.ir_events.specs.Events.{entry_of};
-ghost use Rattle.ir_fit_run.specs.Positions.{IsInside, IsLeaveOf};
+ghost use Rattle.ir_opened.specs.Positions.{IsInside, IsLeaveOf};
 ghost use Rattle.ir_picture.specs.Boxes.{AreBoxes};
 ghost use Rattle.ir_picture.specs.Placing.{events_of_all};
 ghost use Rattle.ir_why.specs.Tables.{HasTables};
@@ -14,7 +14,7 @@ use crate::link::Link;
 use crate::tables::Tables;
 use crate::wait::Wait;
 use ir_fit::Fitted;
-use ir_fit_run::{leave_of, step_of};
+use ir_opened::{leave_of, step_of};
 use ir_past::Place;
 use ir_picture::PlacedBox;
 use std::alloc::{AllocError, Global};

@@ -9,8 +9,8 @@ use Rattle.ir_fit.specs.Fit.{FittedTrace, HasRun}
 use Rattle.ir_past.specs.Past.{IsWriteAt, IsMadeBy}
 use Rattle.ir_past.specs.declared.place.Place.{Place}
 use Rattle.ir_events.specs.Events.{entry_of}
-use Rattle.ir_fit_run.specs.Positions.{IsInside, LeavesFrom, EntryLeaves, LeavesAfter, IsLeaveOf}
-use Rattle.ir_fit_run.proofs.CallerLemmas.{entering_event_has_leave, recorded_event_is_inside, leave_is_past_event, leave_is_within_thread}
+use Rattle.ir_opened.specs.Positions.{IsInside, LeavesFrom, EntryLeaves, LeavesAfter, IsLeaveOf}
+use Rattle.ir_opened.proofs.CallerLemmas.{entering_event_has_leave, recorded_event_is_inside, leave_is_past_event, leave_is_within_thread}
 use Rattle.ir_who.specs.Versions.{AreVersions}
 use Rattle.ir_who.specs.declared.version.Version.{Version}
 use Rattle.ir_word.specs.Track.{IsHold}

@@ -11,7 +11,7 @@ use Rattle.ir_fit.specs.Fit.{FittedTrace, HasRun}
 use Rattle.ir_weave.specs.Standing.{Standing, flat_in, positions}
 use Rattle.ir_past.specs.declared.place.Place.{Place}
 use Rattle.ir_events.specs.Walk.{IsFurther}
-use Rattle.ir_fit_run.specs.Paired.{ArePaired}
+use Rattle.ir_opened.specs.Paired.{ArePaired}
 use Rattle.ir_who.specs.declared.version.Version.{Version}
 use Rattle.ir_walk.specs.Calls.{AreCalls}
 use Rattle.ir_walk.specs.declared.exchange.Exchange.{Exchange}

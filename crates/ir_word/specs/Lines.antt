@@ -11,10 +11,10 @@ use Rattle.ir_past.specs.Answers.{NotAnswered, fault_words as unwritten_words}
 use Rattle.ir_past.specs.Naming.{maker_text}
 use Rattle.ir_past.specs.declared.past_err.PastErr.TheVariants.{NoMem}
 use Rattle.ir_text.specs.Texts.{hex_word}
-use Rattle.ir_fit_run.specs.Answers.{IsFitAnswerOf}
-use Rattle.ir_fit_run.specs.Opened.{IsFit}
-use Rattle.ir_fit_run.specs.Paired.{ArePaired}
-use Rattle.ir_fit_run.specs.Positions.{step_if}
+use Rattle.ir_opened.specs.Answers.{IsFitAnswerOf}
+use Rattle.ir_opened.specs.Opened.{IsFit}
+use Rattle.ir_opened.specs.Paired.{ArePaired}
+use Rattle.ir_opened.specs.Positions.{step_if}
 use Rattle.ir_who.specs.Lines.{object_line}
 use Rattle.ir_who.specs.Versions.{AreVersions}
 use Rattle.ir_who.specs.declared.version.Version.{Version}

@@ -13,7 +13,7 @@ use Rattle.ir_cut.specs.Positions.{EachRun, machine_of, start_of}
 use Rattle.ir_weave.specs.Standing.{Standing, flat_in, positions}
 use Rattle.ir_past.specs.declared.place.Place.{Place}
 use Rattle.ir_events.specs.Events.{entry_of}
-use Rattle.ir_fit_run.specs.Positions.{IsInside, IsLeaveOf}
+use Rattle.ir_opened.specs.Positions.{IsInside, IsLeaveOf}
 use Rattle.ir_who.specs.Versions.{AreVersions}
 use Rattle.ir_who.specs.declared.version.Version.{Version}
 use Rattle.ir_walk.specs.Route.{IsRoute}

@@ -8,7 +8,7 @@ use Rattle.ir_cut.specs.Positions.{EachRun}
 use Rattle.ir_weave.specs.Ahead.{ask_at}
 use Rattle.ir_past.specs.declared.place.Place.{Place}
 use Rattle.ir_events.specs.Events.{entry_of}
-use Rattle.ir_fit_run.specs.Positions.{IsLeaveOf}
+use Rattle.ir_opened.specs.Positions.{IsLeaveOf}
 use Rattle.ir_who.specs.declared.version.Version.{Version}
 use Rattle.ir_walk.specs.Words.{AreWordsAt}
 use Rattle.ir_word.specs.declared.object_word.ObjectWord.{ObjectWord}

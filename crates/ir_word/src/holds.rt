@@ -2,12 +2,12 @@
 
 ghost use Rattle.std.specs.Prelude.{◌≡◌, ℕ, IfSome, IfNone};
 ghost use Rattle.ir_past.specs.Past.{IsWriteAt};
-ghost use Rattle.ir_fit_run.specs.Positions.{IsInside, LeavesAfter};
+ghost use Rattle.ir_opened.specs.Positions.{IsInside, LeavesAfter};
 ghost use Rattle.ir_word.specs.Track.{IsHold};
 
 use crate::hold::Hold;
 use ir_fit::Fitted;
-use ir_fit_run::{leave_of, step_of};
+use ir_opened::{leave_of, step_of};
 use ir_past::Place;
 
 // The positions of the write entry of an object that made a version, and of its leave; none, if it is never left.

@@ -5,7 +5,7 @@ ghost use Rattle.std.specs.String.{string_bytes};
 ghost use Rattle.ir_word.specs.Lines.{changed_word_line, is_other, word_text};
 
 use crate::worded::Worded;
-use ir_fit_run::step_text;
+use ir_opened::step_text;
 use ir_past::maker_text;
 use ir_who::object_line;
 use std::alloc::{AllocError, Global};

@@ -4,8 +4,8 @@ ghost use Rattle.std.specs.Prelude.{◌≡◌, ◌≢◌, ◌⊎◌, ℕ, List, 
 ghost use Rattle.ir_files.specs.Writers.{writer_of, Reports, fault_text};
 ghost use Rattle.ir_files.specs.declared.exit_status.ExitStatus.TheVariants as status;
 ghost use Rattle.ir_past.specs.Answers.{Answered};
-ghost use Rattle.ir_fit_run.specs.Answers.{IsFitAnswerOf};
-ghost use Rattle.ir_fit_run.specs.Opened.{IsFit};
+ghost use Rattle.ir_opened.specs.Answers.{IsFitAnswerOf};
+ghost use Rattle.ir_opened.specs.Opened.{IsFit};
 ghost use Rattle.ir_word.specs.Lines.{IsWordAnswer, IsWordUnanswered, word_status, word_fault_words};
 ghost use Rattle.ir_word.specs.declared.word_err.WordErr.{WordErr};
 
@@ -14,7 +14,7 @@ use crate::question::Question;
 use crate::word_err::WordErr;
 use ir_files::{ExitStatus, tell};
 use ir_fit::Fitted;
-use ir_fit_run::{Opened, open_fit, refuse};
+use ir_opened::{Opened, open_fit, refuse};
 use ir_past::put_bytes;
 use ir_stream::Sink;
 use std::alloc::Global;

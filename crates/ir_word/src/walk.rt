@@ -5,7 +5,7 @@ ghost use Rattle.ir_image.specs.Guest.{object_count};
 ghost use Rattle.ir_trace.specs.Recorded.{recorded_thread};
 ghost use Rattle.ir_weave.specs.Standing.{flat_in, positions};
 ghost use Rattle.ir_events.specs.Walk.{IsOnWay, IsPass};
-ghost use Rattle.ir_fit_run.specs.Paired.{ArePaired};
+ghost use Rattle.ir_opened.specs.Paired.{ArePaired};
 ghost use Rattle.ir_who.specs.Versions.{AreVersions};
 ghost use Rattle.ir_word.specs.Words.{IsWorded};
 ghost use Rattle.ir_word.specs.Track.{IsGuide, AreTracked};

@@ -1,7 +1,7 @@
 //! Which items turns are printed as.
 
 use super::{Item, Turns, list_of, list_of_items};
-use ir_record_run::read_order;
+use ir_record_command::read_order;
 use std::alloc::AllocError;
 
 #[test]

@@ -2,14 +2,14 @@
 
 ghost use Rattle.std.specs.Prelude.{◌≡◌, false};
 ghost use Rattle.std.specs.List.{All};
-ghost use Rattle.ir_image_run.specs.Mapping.{IsNamed};
+ghost use Rattle.ir_make.specs.Mapping.{IsNamed};
 
 use crate::commands::maps::labels_into;
 use crate::commands::{bytes_of, is_lost, put_in_place, shown_path};
 use ir_arguments::AssembleArguments;
 use ir_asm::Labels;
 use ir_files::{ExitStatus, Folder, MOST_BYTES, WholeFile};
-use ir_image_run::asm_run;
+use ir_make::asm_run;
 use ir_stream::Sink;
 use std::alloc::Global;
 

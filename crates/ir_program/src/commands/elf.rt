@@ -6,7 +6,7 @@ use crate::commands::{bytes_of, is_lost, put_in_place, say, shown_path};
 use ir_arguments::ElfArguments;
 use ir_elf::own_bytes;
 use ir_files::{ExitStatus, Folder, MOST_BYTES, WholeFile};
-use ir_image_run::elf_run;
+use ir_make::elf_run;
 use ir_stream::Sink;
 use std::alloc::Global;
 

@@ -6,8 +6,8 @@ use crate::commands::image_in;
 use crate::commands::recording::input_of;
 use crate::dispatch::Surroundings;
 use ir_arguments::ExploreArguments;
-use ir_explore::Observer;
-use ir_explore_run::explore_run;
+use ir_search::Observer;
+use ir_explore::explore_run;
 use ir_files::{ExitStatus, Folder};
 use ir_stream::Sink;
 

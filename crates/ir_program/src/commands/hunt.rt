@@ -12,7 +12,7 @@ use crate::ends::tell_ends;
 use ir_arguments::HuntArguments;
 use ir_files::{ExitStatus, Folder};
 use ir_hunt::{HuntPlan, hunt_run};
-use ir_record_run::ParsedImage;
+use ir_record_command::ParsedImage;
 use ir_stream::Sink;
 use ir_trace::Trace;
 use std::thread::Threads;

@@ -4,14 +4,14 @@ ghost use Rattle.std.specs.Prelude.{◌≡◌, [], OnOk, IfOk, false, if◌then�
 ghost use Rattle.std.specs.List.{All};
 ghost use Rattle.ir_symbols.specs.Tables.{IsSortOf};
 ghost use Rattle.ir_elf_symbols.specs.Symbols.{elf_symbols};
-ghost use Rattle.ir_image_run.specs.Mapping.{IsNamed};
-ghost use Rattle.ir_image_run.specs.Opening.{is_elf};
+ghost use Rattle.ir_make.specs.Mapping.{IsNamed};
+ghost use Rattle.ir_make.specs.Opening.{is_elf};
 
 use crate::commands::{bytes_of, put_in_place, say};
 use ir_asm::Labels;
 use ir_elf_symbols::elf_symbols;
 use ir_files::{ExitStatus, Folder, MOST_BYTES, WholeFile};
-use ir_image_run::{is_elf, map_run};
+use ir_make::{is_elf, map_run};
 use ir_stream::Sink;
 use ir_symbols::{MapErr, SymbolTable, read_map};
 use std::alloc::Global;

@@ -12,7 +12,7 @@ use ir_arguments::{Chaos, RecordArguments};
 use ir_files::{ExitStatus, Folder, MOST_BYTES};
 use ir_hunt::order_of_seed;
 use ir_object::Gate;
-use ir_record_run::{ParsedImage, RecordPlan, Recording, record_run};
+use ir_record_command::{ParsedImage, RecordPlan, Recording, record_run};
 use ir_stream::Sink;
 use ir_trace::Trace;
 use std::alloc::Global;

@@ -4,7 +4,7 @@ ghost use Rattle.std.specs.Prelude.{◌≡◌, OnSome, OnOk, false};
 
 use crate::commands::{bytes_of, is_lost, say};
 use ir_files::{ExitStatus, Folder, MOST_INPUT, OutputFiles, WholeFile, output_paths};
-use ir_record_run::{ParsedImage, RecordFiles};
+use ir_record_command::{ParsedImage, RecordFiles};
 use ir_stream::Sink;
 use std::alloc::{AllocError, Global};
 

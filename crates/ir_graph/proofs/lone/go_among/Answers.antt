@@ -2,7 +2,7 @@ use Rattle.std.proofs.Common.{◌<◌, ◌+◌, false, length, get_or, refl, sym
 use Rattle.std.proofs.lemmas.List.{get_or_default}
 use Rattle.ir_object.specs.Cell.{Cell}
 use Rattle.ir_object.specs.Empty.{empty}
-use Rattle.ir_sources.specs.Sources.{Source}
+use Rattle.ir_world.specs.Sources.{Source}
 use Rattle.ir_thread.specs.State.{ThreadState, after_ask}
 use Rattle.ir_graph.specs.Lone.{GoesAmong, MayTake, answer_from, cell_after}
 use Rattle.ir_graph.specs.Plain.{Rests}

@@ -2,7 +2,7 @@ use Rattle.std.proofs.Common.{◌<◌, length, get_or, sym, ap, ◌∙◌, subst
 use Rattle.std.proofs.lemmas.List.{get_or_default}
 use Rattle.ir_object.specs.Cell.{Cell}
 use Rattle.ir_object.specs.Empty.{empty}
-use Rattle.ir_sources.specs.Sources.{Source}
+use Rattle.ir_world.specs.Sources.{Source}
 use Rattle.ir_thread.specs.State.{ThreadState, after_ask}
 use Rattle.ir_graph.specs.Lone.{AreAmong, MayBegin, MayTake, TakesTurn, answer_from, cell_after}
 use Rattle.ir_graph.proofs.LoneSteps.{are_among_after_turn_begins, beside_at_place, cells_as_many, may_take_ask_if_it_begins_turn, takes_turn_by_beginning_and_run}

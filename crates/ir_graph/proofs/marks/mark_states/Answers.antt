@@ -1,7 +1,7 @@
 use Rattle.std.proofs.Common.{◌≡◌, ◌↔◌, ℕ, length, sym, ap, ◌∙◌, subst}
 use Rattle.std.proofs.lemmas.List.{with_items_is}
-use Rattle.ir_explore.specs.Following.{IsOpen}
-use Rattle.ir_explore.specs.Ways.{HasMarked}
+use Rattle.ir_search.specs.Following.{IsOpen}
+use Rattle.ir_search.specs.Ways.{HasMarked}
 use Rattle.ir_graph.specs.Hangs.{AreWays}
 use Rattle.ir_graph.specs.Notes.{noted_by}
 use Rattle.ir_graph.proofs.marks.mark_states.Goals as goal

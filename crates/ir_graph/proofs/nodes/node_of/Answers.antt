@@ -1,6 +1,6 @@
 use Rattle.std.proofs.Common.{◌≡◌, Some, sym, subst, [], ◌∷◌}
 use Rattle.std.specs.Prelude.{slice_get}
-use Rattle.ir_explore.proofs.CallerLemmas.{slice_get_kept_by_append}
+use Rattle.ir_search.proofs.CallerLemmas.{slice_get_kept_by_append}
 use Rattle.ir_store.specs.Nodes.{AreSameLooks, sourced_in}
 use Rattle.ir_graph.specs.Nodes.{AreNodes}
 use Rattle.ir_graph.specs.Reached.{AllReached}

@@ -1,7 +1,7 @@
 use Rattle.std.proofs.Common.{◌≡◌, Some, sym, ◌∙◌, subst}
 use Rattle.std.specs.Prelude.{slice_get}
 use Rattle.ir_lemmas.proofs.CallerLemmas.{element_below_length_exists}
-use Rattle.ir_explore.specs.declared.stop.Stop.{Stop}
+use Rattle.ir_search.specs.declared.stop.Stop.{Stop}
 use Rattle.ir_graph.specs.Setup.{Setup}
 use Rattle.ir_graph.specs.Ahead.{IsTurnOf}
 use Rattle.ir_graph.specs.Reached.{AllReached}

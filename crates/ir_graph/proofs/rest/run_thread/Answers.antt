@@ -1,7 +1,7 @@
 use Rattle.std.proofs.Common.{◌+◌, false, refl, sym, ap, ◌∙◌, subst, arith}
-use Rattle.ir_states.specs.Sources.{answer_of, left_of}
+use Rattle.ir_search_laws.specs.Sources.{answer_of, left_of}
 use Rattle.ir_thread.specs.State.{shared_ask}
-use Rattle.ir_sources.specs.Sources.{given}
+use Rattle.ir_world.specs.Sources.{given}
 use Rattle.ir_graph.specs.Plain.{sourced_flat, IsFair}
 use Rattle.std.specs.Prelude.{slice_set}
 use Rattle.ir_graph.specs.Stops.{IsNotFollowed}

@@ -5,7 +5,7 @@ use Rattle.std.proofs.KnownBytes.{Appends-trans}
 use Rattle.std.proofs.lemmas.Result.{err_from_is_err_and}
 use Rattle.ir_stream.specs.Answers.{AppendsPrefix}
 use Rattle.ir_files.proofs.CallerLemmas.{if_err_holds_if_holds_of_handed_on_error}
-use Rattle.ir_record_run.specs.declared.record_fault.RecordFault.TheVariants.{Lines}
+use Rattle.ir_record_command.specs.declared.record_fault.RecordFault.TheVariants.{Lines}
 use Rattle.ir_files.specs.Writers.{writer_of}
 use Rattle.ir_hunt.specs.Stopping.{TellsLeftOut}
 use Rattle.ir_hunt.proofs.Found.{recording_of_found_is_finding}

@@ -1,7 +1,7 @@
 use Rattle.std.proofs.Common.{◌<◌, length, ◌∙◌, ap, arith}
 use Rattle.std.proofs.lemmas.List.{length-set}
 use Rattle.std.proofs.Math.Seq.{map-set_same}
-use Rattle.ir_sources.specs.Sources.{made_with}
+use Rattle.ir_world.specs.Sources.{made_with}
 use Rattle.ir_hunt.proofs.Restarting.{take_of_map_is_replicate_step_after_set}
 use Rattle.ir_hunt.proofs.seeker.restart_all.Goals as goal
 

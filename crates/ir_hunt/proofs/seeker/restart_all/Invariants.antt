@@ -1,6 +1,6 @@
 use Rattle.std.proofs.Common.{◌≡◌, [], map, take, false, length}
 use Rattle.std.specs.Prelude.{replicate}
-use Rattle.ir_sources.specs.Sources.{made_with}
+use Rattle.ir_world.specs.Sources.{made_with}
 use Rattle.ir_hunt.proofs.seeker.restart_all.Given as goal
 
 abbrev pub invariant-loop-place : goal.invariant-loop-place

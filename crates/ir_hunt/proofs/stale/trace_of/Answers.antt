@@ -1,9 +1,9 @@
 use Rattle.std.proofs.Common.{length, map, true, ◌∙◌, subst}
 use Rattle.std.specs.Prelude.{option_map}
 use Rattle.ir_record.specs.Recording.{order_of_turns}
-use Rattle.ir_record_run.specs.Plan.{Plan}
-use Rattle.ir_sources.specs.Sources.{made_with}
-use Rattle.ir_sources.proofs.CallerLemmas.{worlds_answered_by_own_origins}
+use Rattle.ir_record_command.specs.Plan.{Plan}
+use Rattle.ir_world.specs.Sources.{made_with}
+use Rattle.ir_world.proofs.CallerLemmas.{worlds_answered_by_own_origins}
 use Rattle.ir_hunt.specs.Stale.{IsTraceBy}
 use Rattle.ir_hunt.proofs.Recorded.{fresh_recording_is_trace_by_order}
 use Rattle.ir_hunt.proofs.stale.trace_of.Goals as goal

@@ -1,4 +1,4 @@
-use Rattle.ir_fit_run.proofs.CallerLemmas.{answered_status_is_not_failed}
+use Rattle.ir_opened.proofs.CallerLemmas.{answered_status_is_not_failed}
 use Rattle.ir_listing.specs.Events.{AreEventLines}
 use Rattle.ir_listing.proofs.events.events_run.Goals as goal
 

@@ -1,7 +1,7 @@
 use Rattle.std.proofs.Common.{subst}
-use Rattle.ir_fit_run.specs.Opened.{IsFitOpened}
-use Rattle.ir_fit_run.specs.declared.opened.Opened.TheVariants.{Refused}
-use Rattle.ir_fit_run.proofs.CallerLemmas.{refusal_is_answered_or_stopped}
+use Rattle.ir_opened.specs.Opened.{IsFitOpened}
+use Rattle.ir_opened.specs.declared.opened.Opened.TheVariants.{Refused}
+use Rattle.ir_opened.proofs.CallerLemmas.{refusal_is_answered_or_stopped}
 use Rattle.ir_listing.specs.Events.{AreEventLines}
 use Rattle.ir_listing.proofs.events.show.Goals as goal
 

@@ -4,7 +4,7 @@ use Rattle.ir_files.specs.declared.exit_status.ExitStatus.TheVariants as status
 use Rattle.ir_files.proofs.CallerLemmas.{if_err_holds_if_holds_of_handed_on_error}
 use Rattle.ir_past.specs.declared.past_err.PastErr.TheVariants.{Write}
 use Rattle.ir_past.proofs.CallerLemmas.{not_answered_if_stopped}
-use Rattle.ir_fit_run.specs.Answers.{IsFitAnswerOf}
+use Rattle.ir_opened.specs.Answers.{IsFitAnswerOf}
 use Rattle.ir_listing.specs.Events.{AreEventLines}
 use Rattle.ir_listing.proofs.events.show_fitted.Goals as goal
 

@@ -1,6 +1,6 @@
 use Rattle.std.proofs.Common.{◌≡◌, ◌+◌, suc, false, take, sym, ap, ◌∙◌, subst, arith}
 use Rattle.std.proofs.lemmas.List.{take_all}
-use Rattle.ir_explore.specs.Ways.{shut}
+use Rattle.ir_search.specs.Ways.{shut}
 use Rattle.ir_outcomes.proofs.Lost.{shut_of_empty, shut_of_take_one_more_is_unchanged_if_marked, shut_of_take_one_more_adds_one_if_unmarked}
 use Rattle.ir_outcomes.proofs.hang.count_lost.Goals as goal
 use Rattle.ir_outcomes.proofs.hang.count_lost.Goals.{then-not-marks-v, else-not-marks-v}

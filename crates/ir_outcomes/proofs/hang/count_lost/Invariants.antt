@@ -1,5 +1,5 @@
 use Rattle.std.proofs.Common.{◌≡◌, ◌≤◌, take}
-use Rattle.ir_explore.specs.Ways.{shut}
+use Rattle.ir_search.specs.Ways.{shut}
 use Rattle.ir_outcomes.proofs.hang.count_lost.Given as goal
 
 abbrev pub invariant-loop-v : goal.invariant-loop-v

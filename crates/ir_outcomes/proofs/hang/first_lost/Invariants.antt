@@ -1,5 +1,5 @@
 use Rattle.std.proofs.Common.{ℕ, ◌<◌}
-use Rattle.ir_explore.specs.Following.{IsOpen}
+use Rattle.ir_search.specs.Following.{IsOpen}
 use Rattle.ir_outcomes.proofs.hang.first_lost.Given as goal
 
 abbrev pub invariant-loop-v : goal.invariant-loop-v

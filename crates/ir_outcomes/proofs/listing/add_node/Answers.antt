@@ -1,7 +1,7 @@
 use Rattle.std.proofs.Common.{◌≡◌, ◌++◌, [], ◌∷◌, suc, Some, length, sym, subst}
 use Rattle.std.specs.Prelude.{slice_get}
 use Rattle.ir_lemmas.proofs.CallerLemmas.{added_element_is_last}
-use Rattle.ir_explore.proofs.CallerLemmas.{slice_get_kept_by_append}
+use Rattle.ir_search.proofs.CallerLemmas.{slice_get_kept_by_append}
 use Rattle.ir_graph.specs.Listing.{AreOutcomes}
 use Rattle.ir_outcomes.specs.Exploring.{HasShown}
 use Rattle.ir_outcomes.proofs.Listed.{has_shown_step}

@@ -1,5 +1,5 @@
 use Rattle.std.proofs.Common.{◌≤◌, length}
-use Rattle.ir_explore.specs.Following.{Stay}
+use Rattle.ir_search.specs.Following.{Stay}
 use Rattle.ir_outcomes.specs.Exploring.{HasShown}
 use Rattle.ir_outcomes.proofs.listing.show_new.Given as goal
 

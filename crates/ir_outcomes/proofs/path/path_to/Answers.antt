@@ -2,8 +2,8 @@ use Rattle.std.proofs.Common.{◌≡◌, ◌++◌, [], ◌∷◌, Some, length, 
 use Rattle.std.specs.Prelude.{slice_get}
 use Rattle.std.specs.List.{slice_index_or}
 use Rattle.std.proofs.lemmas.Option.{same_Some, slice_get-get_or}
-use Rattle.ir_explore.specs.declared.origin.Origin.{Origin}
-use Rattle.ir_explore.specs.Origins.{first_origin}
+use Rattle.ir_search.specs.declared.origin.Origin.{Origin}
+use Rattle.ir_search.specs.Origins.{first_origin}
 use Rattle.ir_outcomes.specs.Path.{IsPathTo}
 use Rattle.ir_outcomes.proofs.Paths.{path_prefix_to_node_step_with_origin_pushed, turn_before_is_lower}
 use Rattle.ir_outcomes.proofs.path.path_to.Goals as goal

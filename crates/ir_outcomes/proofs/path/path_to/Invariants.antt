@@ -1,7 +1,7 @@
 use Rattle.std.proofs.Common.{◌≡◌, ◌+◌, ◌++◌, ◌<◌, ◌≤◌, List, Some, length, get_or}
 use Rattle.std.specs.Prelude.{slice_get}
-use Rattle.ir_explore.specs.declared.origin.Origin.{Origin}
-use Rattle.ir_explore.specs.Origins.{first_origin}
+use Rattle.ir_search.specs.declared.origin.Origin.{Origin}
+use Rattle.ir_search.specs.Origins.{first_origin}
 use Rattle.ir_outcomes.specs.Path.{IsPathTo}
 use Rattle.ir_outcomes.proofs.path.path_to.Given as goal
 

@@ -1,7 +1,7 @@
 use Rattle.std.proofs.Common.{◌≡◌, ◌-◌, ◌++◌, suc, [], sym, subst, arith}
 use Rattle.std.specs.List.{slice_index_or}
-use Rattle.ir_explore.specs.declared.origin.Refusal.{Refusal}
-use Rattle.ir_explore.specs.Origins.{AreWaysUnder, Whole}
+use Rattle.ir_search.specs.declared.origin.Refusal.{Refusal}
+use Rattle.ir_search.specs.Origins.{AreWaysUnder, Whole}
 use Rattle.ir_outcomes.specs.Path.{ways_of}
 use Rattle.ir_outcomes.proofs.Paths.{refusal_at_number, ways_under_number_step_with_refusal_pushed}
 use Rattle.ir_outcomes.proofs.path.refusals_to.Goals as goal

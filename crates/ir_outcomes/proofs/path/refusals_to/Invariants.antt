@@ -1,5 +1,5 @@
 use Rattle.std.proofs.Common.{Bool, List, ◌++◌}
-use Rattle.ir_explore.specs.Origins.{AreWaysUnder}
+use Rattle.ir_search.specs.Origins.{AreWaysUnder}
 use Rattle.ir_outcomes.specs.Path.{ways_of}
 use Rattle.ir_outcomes.proofs.path.refusals_to.Given as goal
 

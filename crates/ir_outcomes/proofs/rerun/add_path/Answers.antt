@@ -1,6 +1,6 @@
 use Rattle.std.proofs.Common.{◌≡◌, ◌+◌, ◌-◌, [], ◌∷◌, length, get_or, refl, sym, ap, ◌∙◌, subst, arith}
-use Rattle.ir_explore.specs.declared.origin.Origin.{Origin}
-use Rattle.ir_explore.specs.Origins.{first_origin}
+use Rattle.ir_search.specs.declared.origin.Origin.{Origin}
+use Rattle.ir_search.specs.Origins.{first_origin}
 use Rattle.ir_record.specs.Recording.{turns_of_items}
 use Rattle.ir_outcomes.specs.Again.{IsAgainBy}
 use Rattle.ir_outcomes.proofs.Again.{is_again_by_path_with_turn_added}

@@ -1,5 +1,5 @@
 use Rattle.std.proofs.Common.{◌≡◌, ◌<◌, ◌+◌, ◌-◌, ◌++◌, [], ◌∷◌, true, false, length, get_or, replicate, refl, sym, ap, ◌∙◌, subst, arith, append_assoc}
-use Rattle.ir_explore.specs.declared.origin.Refusal.{Refusal}
+use Rattle.ir_search.specs.declared.origin.Refusal.{Refusal}
 use Rattle.ir_record.specs.Recording.{turns_of_items}
 use Rattle.ir_outcomes.specs.Again.{IsAgain, ways_by}
 use Rattle.ir_outcomes.specs.Along.{ArrivesBy, FailsBy}

@@ -1,6 +1,6 @@
 use Rattle.std.proofs.Common.{sym, subst, inr}
 use Rattle.std.specs.Prelude.{IfSome}
-use Rattle.ir_sources.specs.Sources.{Source}
+use Rattle.ir_world.specs.Sources.{Source}
 use Rattle.ir_thread.specs.State.{ThreadState}
 use Rattle.ir_store.specs.Hashes.{IsFoundBy}
 use Rattle.ir_store.specs.Table.{LooksLike}

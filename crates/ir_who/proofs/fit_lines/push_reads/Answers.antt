@@ -2,7 +2,7 @@ use Rattle.std.proofs.Common.{◌∙◌, ◌++◌, get_or}
 use Rattle.std.specs.String.{string_bytes}
 use Rattle.ir_lemmas.proofs.CallerLemmas.{prefix_is_whole_if_rest_is_empty, append_of_written_and_left_step}
 use Rattle.ir_past.specs.declared.place.Place.{Place}
-use Rattle.ir_fit_run.proofs.CallerLemmas.{slice_get_is_get_or_below_length}
+use Rattle.ir_opened.proofs.CallerLemmas.{slice_get_is_get_or_below_length}
 use Rattle.ir_who.specs.FitLines.{fit_read_lines}
 use Rattle.ir_who.proofs.Shown.{fit_read_lines_begin_with_line, no_fit_read_lines_past_end}
 use Rattle.ir_who.proofs.fit_lines.push_reads.Goals as goal

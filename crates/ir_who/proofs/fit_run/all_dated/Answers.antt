@@ -1,5 +1,5 @@
 use Rattle.std.proofs.Common.{◌+◌, None, get_or, sym, subst, List}
-use Rattle.ir_fit_run.proofs.CallerLemmas.{slice_get_is_get_or_below_length, ArePairedTo, paired_to_no_element, paired_to_next_element, paired_if_all_paired_to}
+use Rattle.ir_opened.proofs.CallerLemmas.{slice_get_is_get_or_below_length, ArePairedTo, paired_to_no_element, paired_to_next_element, paired_if_all_paired_to}
 use Rattle.ir_who.specs.FitLines.{IsDated}
 use Rattle.ir_who.specs.declared.dated.Dated.{Dated}
 use Rattle.ir_who.specs.declared.version.Version.{Version}

@@ -1,4 +1,4 @@
-use Rattle.ir_fit_run.proofs.CallerLemmas.{ArePairedTo}
+use Rattle.ir_opened.proofs.CallerLemmas.{ArePairedTo}
 use Rattle.ir_who.specs.FitLines.{IsDated}
 use Rattle.ir_who.proofs.fit_run.all_dated.Given as goal
 

@@ -2,9 +2,9 @@ use Rattle.std.proofs.Common.{inr, refl, subst}
 use Rattle.std.proofs.lemmas.Result.{err_from_is_err_and}
 use Rattle.ir_files.proofs.CallerLemmas.{if_err_holds_if_holds_of_handed_on_error}
 use Rattle.ir_past.proofs.CallerLemmas.{not_answered_if_stopped}
-use Rattle.ir_fit_run.specs.Answers.{IsFitAnswerOf}
-use Rattle.ir_fit_run.specs.Opened.{IsFitOpened, unfit_status, unfit_text}
-use Rattle.ir_fit_run.specs.declared.opened.Opened.TheVariants.{Refused}
+use Rattle.ir_opened.specs.Answers.{IsFitAnswerOf}
+use Rattle.ir_opened.specs.Opened.{IsFitOpened, unfit_status, unfit_text}
+use Rattle.ir_opened.specs.declared.opened.Opened.TheVariants.{Refused}
 use Rattle.ir_why.specs.FitAnswers.{IsFitReason}
 use Rattle.ir_why.specs.declared.why_err.WhyErr.TheVariants.{Unwritten}
 use Rattle.ir_why.proofs.fit_run.show.Goals as goal

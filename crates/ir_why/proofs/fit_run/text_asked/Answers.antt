@@ -1,7 +1,7 @@
 use Rattle.std.proofs.Common.{sym, subst}
 use Rattle.ir_trace.specs.Recorded.{Recorded}
 use Rattle.ir_past.specs.declared.place.Place.{Place}
-use Rattle.ir_fit_run.specs.Positions.{IsInside}
+use Rattle.ir_opened.specs.Positions.{IsInside}
 use Rattle.ir_why.specs.Answers.{HasAsked}
 use Rattle.ir_why.proofs.Within.{trace_event_is_inside}
 use Rattle.ir_why.proofs.fit_run.text_asked.Goals as goal

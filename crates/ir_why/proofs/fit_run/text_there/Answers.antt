@@ -9,7 +9,7 @@ use Rattle.ir_picture.specs.Placing.{events_of_all}
 use Rattle.ir_picture.specs.declared.circle.Circle.{Circle}
 use Rattle.ir_picture.specs.declared.picture.Picture.{Picture}
 use Rattle.ir_picture.specs.declared.placed_box.PlacedBox.{PlacedBox}
-use Rattle.ir_fit_run.proofs.CallerLemmas.{run_trace_is_coherent}
+use Rattle.ir_opened.proofs.CallerLemmas.{run_trace_is_coherent}
 use Rattle.ir_why.proofs.Within.{run_trace_has_no_circle}
 use Rattle.ir_why.proofs.fit_run.text_there.Goals as goal
 

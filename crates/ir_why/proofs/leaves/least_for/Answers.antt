@@ -1,6 +1,6 @@
 use Rattle.std.proofs.Common.{arith}
 use Rattle.ir_fit.proofs.CallerLemmas.{event_position_below_steps}
-use Rattle.ir_fit_run.proofs.CallerLemmas.{entry_position_plus_one_fits_64_bits}
+use Rattle.ir_opened.proofs.CallerLemmas.{entry_position_plus_one_fits_64_bits}
 use Rattle.ir_why.proofs.leaves.least_for.Goals as goal
 
 pub overflow_add-behind : goal.overflow_add-behind

@@ -1,4 +1,4 @@
-use Rattle.ir_fit_run.proofs.CallerLemmas.{inside_event_number_is_below_event_count}
+use Rattle.ir_opened.proofs.CallerLemmas.{inside_event_number_is_below_event_count}
 use Rattle.ir_why.proofs.leaves.need_of.Goals as goal
 
 pub event_of-event-requires-clause-event : goal.event_of-event-requires-clause-event

@@ -2,7 +2,7 @@ use Rattle.std.proofs.Common.{◌+◌, get_or, sym, subst, List}
 use Rattle.ir_past.specs.declared.place.Place.{Place}
 use Rattle.ir_why.specs.FitAnswers.{IsNeed}
 use Rattle.ir_why.specs.declared.need.Need.{Need}
-use Rattle.ir_fit_run.proofs.CallerLemmas.{slice_get_is_get_or_below_length, ArePairedTo, paired_to_no_element, paired_to_next_element, paired_if_all_paired_to}
+use Rattle.ir_opened.proofs.CallerLemmas.{slice_get_is_get_or_below_length, ArePairedTo, paired_to_no_element, paired_to_next_element, paired_if_all_paired_to}
 use Rattle.ir_why.proofs.leaves.needs_left.Goals as goal
 
 pub need_of-requires : goal.need_of-requires

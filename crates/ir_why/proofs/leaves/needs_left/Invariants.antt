@@ -1,5 +1,5 @@
 use Rattle.ir_why.specs.FitAnswers.{IsNeed}
-use Rattle.ir_fit_run.proofs.CallerLemmas.{ArePairedTo}
+use Rattle.ir_opened.proofs.CallerLemmas.{ArePairedTo}
 use Rattle.ir_why.proofs.leaves.needs_left.Given as goal
 
 abbrev pub invariant-loop-place : goal.invariant-loop-place

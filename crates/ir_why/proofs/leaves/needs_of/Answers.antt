@@ -2,7 +2,7 @@ use Rattle.std.proofs.Common.{List, sym, subst}
 use Rattle.ir_trace.specs.Recorded.{Recorded}
 use Rattle.ir_past.specs.Answers.{AreCoherent}
 use Rattle.ir_past.specs.declared.place.Place.{Place}
-use Rattle.ir_fit_run.proofs.CallerLemmas.{run_trace_is_coherent, inside_event_number_is_below_event_count}
+use Rattle.ir_opened.proofs.CallerLemmas.{run_trace_is_coherent, inside_event_number_is_below_event_count}
 use Rattle.ir_why.specs.FitAnswers.{AreEventsInside}
 use Rattle.ir_why.specs.Tables.{AreThere}
 use Rattle.ir_why.proofs.Within.{trace_events_are_inside}

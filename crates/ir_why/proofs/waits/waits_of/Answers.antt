@@ -1,8 +1,8 @@
 use Rattle.std.proofs.Common.{◌+◌, ◌-◌, ◌<◌, inl, inr, List, length, sym, subst, arith}
 use Rattle.ir_trace.specs.Recorded.{Recorded}
 use Rattle.ir_past.specs.Answers.{AreCoherent}
-use Rattle.ir_fit_run.specs.Positions.{IsInside}
-use Rattle.ir_fit_run.proofs.CallerLemmas.{run_trace_is_coherent, inside_event_number_is_below_event_count}
+use Rattle.ir_opened.specs.Positions.{IsInside}
+use Rattle.ir_opened.proofs.CallerLemmas.{run_trace_is_coherent, inside_event_number_is_below_event_count}
 use Rattle.ir_why.specs.Chain.{IsLink}
 use Rattle.ir_why.specs.declared.wait.Wait.{Wait}
 use Rattle.ir_why.proofs.Within.{inside_event_is_of_trace}

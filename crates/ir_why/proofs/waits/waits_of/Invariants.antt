@@ -1,5 +1,5 @@
 use Rattle.std.proofs.Common.{◌-◌}
-use Rattle.ir_fit_run.specs.Positions.{IsInside}
+use Rattle.ir_opened.specs.Positions.{IsInside}
 use Rattle.ir_why.proofs.Waited.{WaitsGoOn}
 use Rattle.ir_why.proofs.waits.waits_of.Given as goal
 

@@ -1,9 +1,9 @@
 use Rattle.std.proofs.Common.{Err, subst}
 use Rattle.std.proofs.lemmas.Result.{err_from_is_err_and}
 use Rattle.ir_files.proofs.CallerLemmas.{if_err_holds_if_holds_of_handed_on_error}
-use Rattle.ir_fit_run.specs.Opened.{IsFitOpened}
-use Rattle.ir_fit_run.specs.declared.opened.Opened.TheVariants.{Refused}
-use Rattle.ir_fit_run.proofs.CallerLemmas.{refusal_is_answered_or_stopped}
+use Rattle.ir_opened.specs.Opened.{IsFitOpened}
+use Rattle.ir_opened.specs.declared.opened.Opened.TheVariants.{Refused}
+use Rattle.ir_opened.proofs.CallerLemmas.{refusal_is_answered_or_stopped}
 use Rattle.ir_word.specs.Lines.{IsWordAnswer}
 use Rattle.ir_word.specs.declared.word_err.WordErr.TheVariants.{Unwritten}
 use Rattle.ir_word.proofs.run.show.Goals as goal

@@ -3,7 +3,7 @@ use Rattle.std.proofs.lemmas.Result.{err_from_is_err_and}
 use Rattle.ir_files.specs.declared.exit_status.ExitStatus.TheVariants as status
 use Rattle.ir_files.proofs.CallerLemmas.{if_err_holds_if_holds_of_handed_on_error}
 use Rattle.ir_past.proofs.CallerLemmas.{not_answered_if_stopped}
-use Rattle.ir_fit_run.specs.Answers.{IsFitAnswerOf}
+use Rattle.ir_opened.specs.Answers.{IsFitAnswerOf}
 use Rattle.ir_word.specs.Lines.{IsWordAnswer}
 use Rattle.ir_word.specs.declared.word_err.WordErr.TheVariants.{Unwritten}
 use Rattle.ir_word.proofs.run.show_fitted.Goals as goal

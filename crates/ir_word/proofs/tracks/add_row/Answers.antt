@@ -2,7 +2,7 @@ use Rattle.std.proofs.Common.{◌<◌, None, length, refl, arith}
 use Rattle.std.specs.List.{slice_index_or}
 use Rattle.std.proofs.lemmas.Result.{on_ok_weaker}
 use Rattle.std.proofs.lemmas.Option.{slice_get-get_or}
-use Rattle.ir_fit_run.specs.Positions.{IsInside}
+use Rattle.ir_opened.specs.Positions.{IsInside}
 use Rattle.ir_who.specs.declared.version.Version.{Version}
 use Rattle.ir_word.proofs.Built.{built_after_own_version, all_built_after_track_set}
 use Rattle.ir_word.proofs.Holding.{version_maker_is_write, version_maker_is_inside, write_entry_is_left}

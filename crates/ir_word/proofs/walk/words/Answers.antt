@@ -2,7 +2,7 @@ use Rattle.std.proofs.Common.{◌≡◌, ◌∙◌, List, length, sym, subst}
 use Rattle.std.specs.Vec.{with_items}
 use Rattle.std.proofs.lemmas.List.{with_items_is}
 use Rattle.ir_weave.specs.Standing.{flat_in, positions}
-use Rattle.ir_fit_run.specs.Paired.{ArePaired}
+use Rattle.ir_opened.specs.Paired.{ArePaired}
 use Rattle.ir_word.specs.Words.{IsWorded}
 use Rattle.ir_word.specs.Track.{AreTracked}
 use Rattle.ir_word.specs.declared.track.Track.{Track}

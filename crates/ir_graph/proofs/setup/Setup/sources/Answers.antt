@@ -2,7 +2,7 @@ use Rattle.std.proofs.Common.{◌≡◌, ℕ, ◌+◌, [], ◌∷◌, ◌++◌, 
 use Rattle.std.specs.Prelude.{map}
 use Rattle.std.specs.List.{range_with_len}
 use Rattle.std.proofs.lemmas.List.FromFn.{map-range_with_len_more}
-use Rattle.ir_sources.specs.Sources.{Source, seed_of, source}
+use Rattle.ir_world.specs.Sources.{Source, seed_of, source}
 use Rattle.ir_graph.proofs.setup.Setup.sources.Goals as goal
 
 pub loop-thread-preserved : goal.loop-thread-preserved

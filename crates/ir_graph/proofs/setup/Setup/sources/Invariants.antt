@@ -1,7 +1,7 @@
 use Rattle.std.proofs.Common.{◌≡◌}
 use Rattle.std.specs.Prelude.{map}
 use Rattle.std.specs.List.{range_with_len}
-use Rattle.ir_sources.specs.Sources.{seed_of, source}
+use Rattle.ir_world.specs.Sources.{seed_of, source}
 use Rattle.ir_graph.proofs.setup.Setup.sources.Given as goal
 
 abbrev pub invariant-loop-thread : goal.invariant-loop-thread

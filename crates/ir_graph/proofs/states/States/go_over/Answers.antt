@@ -1,6 +1,6 @@
 use Rattle.std.proofs.Common.{◌≡◌, inl, inr, length, sym, ap, ◌∙◌}
 use Rattle.ir_lemmas.proofs.CallerLemmas.{on_ok_of_implied}
-use Rattle.ir_explore.specs.Levels.{rows}
+use Rattle.ir_search.specs.Levels.{rows}
 use Rattle.ir_graph.proofs.Searched.{searched_by, if_err_of_implied}
 use Rattle.ir_graph.proofs.Stops.{may_stop_by_memory}
 use Rattle.ir_graph.proofs.states.States.go_over.Goals as goal

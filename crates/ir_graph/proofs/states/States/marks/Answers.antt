@@ -1,6 +1,6 @@
 use Rattle.std.proofs.Common.{length}
-use Rattle.ir_explore.specs.Levels.{rows}
-use Rattle.ir_explore.proofs.CallerLemmas.{all_are_asked_if_next_level_is_empty}
+use Rattle.ir_search.specs.Levels.{rows}
+use Rattle.ir_search.proofs.CallerLemmas.{all_are_asked_if_next_level_is_empty}
 use Rattle.ir_graph.specs.Notes.{noted_by}
 use Rattle.ir_graph.proofs.Searched.{marked_by, if_ok_of_implied}
 use Rattle.ir_graph.proofs.states.States.marks.Goals as goal

@@ -1,6 +1,6 @@
 use Rattle.std.proofs.Common.{length, sym, ap, ◌∙◌, subst, arith}
-use Rattle.ir_explore.specs.Levels.{rows}
-use Rattle.ir_explore.specs.Searching.{IsBetween}
+use Rattle.ir_search.specs.Levels.{rows}
+use Rattle.ir_search.specs.Searching.{IsBetween}
 use Rattle.ir_graph.specs.Ahead.{AreTurns}
 use Rattle.ir_graph.specs.Graph.{IsGraph}
 use Rattle.ir_graph.specs.Notes.{noted_by}

@@ -1,7 +1,7 @@
 use Rattle.std.proofs.Common.{◌≡◌, false, sym, ◌∙◌, subst, inl}
 use Rattle.std.specs.List.{list_all}
-use Rattle.ir_chaos.specs.Conditions.{as_condition, fulfils, end_state}
-use Rattle.ir_chaos.specs.Moments.{moment_of}
+use Rattle.ir_schedule.specs.Conditions.{as_condition, fulfils, end_state}
+use Rattle.ir_schedule.specs.Moments.{moment_of}
 use Rattle.ir_hunt.proofs.Found.{turns_are_not_empty}
 use Rattle.ir_hunt.proofs.seeker.Seeker.fulfils.Goals as goal
 

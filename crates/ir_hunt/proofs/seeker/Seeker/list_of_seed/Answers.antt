@@ -4,11 +4,11 @@ use Rattle.std.specs.String.{string_bytes}
 use Rattle.std.proofs.lemmas.List.Folds.{list_all-map}
 use Rattle.ir_record.specs.Recording.{order_of_turns}
 use Rattle.ir_record.specs.declared.turns.Turns.{Turns}
-use Rattle.ir_sources.specs.Sources.{made_with, origins}
-use Rattle.ir_sources.proofs.CallerLemmas.{worlds_answered_by_own_origins}
+use Rattle.ir_world.specs.Sources.{made_with, origins}
+use Rattle.ir_world.proofs.CallerLemmas.{worlds_answered_by_own_origins}
 use Rattle.ir_order.specs.Spelling.{Spells}
-use Rattle.ir_chaos.specs.Conditions.{as_condition, fulfils, end_state}
-use Rattle.ir_chaos.specs.Moments.{moment_of}
+use Rattle.ir_schedule.specs.Conditions.{as_condition, fulfils, end_state}
+use Rattle.ir_schedule.specs.Moments.{moment_of}
 use Rattle.ir_hunt.specs.Hunt.{hunt_of}
 use Rattle.ir_hunt.specs.Stale.{IsWanted}
 use Rattle.ir_hunt.proofs.Found.{is_found_if_seed_run_fulfils, fails_if_seed_run_does}

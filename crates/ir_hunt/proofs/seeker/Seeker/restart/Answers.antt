@@ -1,9 +1,9 @@
 use Rattle.std.proofs.Common.{[], length, true, ap, ◌∙◌}
 use Rattle.std.specs.Prelude.{replicate}
 use Rattle.ir_flat.specs.Flat.{start_flat}
-use Rattle.ir_record_run.specs.Plan.{Plan}
-use Rattle.ir_sources.specs.Sources.{made_with}
-use Rattle.ir_sources.proofs.CallerLemmas.{world_count_is_thread_count}
+use Rattle.ir_record_command.specs.Plan.{Plan}
+use Rattle.ir_world.specs.Sources.{made_with}
+use Rattle.ir_world.proofs.CallerLemmas.{world_count_is_thread_count}
 use Rattle.ir_hunt.proofs.seeker.Seeker.restart.Goals as goal
 
 pub returns-clause-fresh : goal.returns-clause-fresh

@@ -1,8 +1,8 @@
 use Rattle.std.proofs.Common.{◌≡◌, length, true, sym, ap, ◌∙◌, subst}
-use Rattle.ir_sources.specs.Sources.{made_with}
-use Rattle.ir_sources.proofs.CallerLemmas.{world_count_is_thread_count}
-use Rattle.ir_chaos.specs.Choices.{CanChoose}
-use Rattle.ir_chaos.specs.Moments.{moment_of}
+use Rattle.ir_world.specs.Sources.{made_with}
+use Rattle.ir_world.proofs.CallerLemmas.{world_count_is_thread_count}
+use Rattle.ir_schedule.specs.Choices.{CanChoose}
+use Rattle.ir_schedule.specs.Moments.{moment_of}
 use Rattle.ir_hunt.proofs.Seeking.{thread_count_of_fresh_moment}
 use Rattle.ir_hunt.proofs.seeker.Seeker.run.Given.{Over}
 use Rattle.ir_hunt.proofs.seeker.Seeker.run.Goals as goal

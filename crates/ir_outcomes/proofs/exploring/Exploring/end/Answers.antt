@@ -2,8 +2,8 @@ use Rattle.std.proofs.Common.{◌≡◌, ◌<◌, ◌≤◌, suc, length, Some, 
 use Rattle.std.specs.Prelude.{slice_get}
 use Rattle.std.specs.List.{slice_index_or}
 use Rattle.std.proofs.lemmas.Option.{slice_get-get_or}
-use Rattle.ir_explore.specs.Origins.{first_origin, BeginsAt}
-use Rattle.ir_explore.proofs.CallerLemmas.{index_of_element_is_below_length}
+use Rattle.ir_search.specs.Origins.{first_origin, BeginsAt}
+use Rattle.ir_search.proofs.CallerLemmas.{index_of_element_is_below_length}
 use Rattle.ir_store.specs.Nodes.{SourcedFlat}
 use Rattle.ir_graph.specs.Setup.{setup_start}
 use Rattle.ir_graph.specs.Standing.{NeedsSwitches}

@@ -1,6 +1,6 @@
 use Rattle.std.proofs.Common.{◌≤◌, suc, inl, inr, sym, subst, arith}
 use Rattle.ir_lemmas.proofs.CallerLemmas.{on_ok_of_implied}
-use Rattle.ir_explore.specs.declared.origin.Level.{Level}
+use Rattle.ir_search.specs.declared.origin.Level.{Level}
 use Rattle.ir_graph.specs.Searched.{AreSearched}
 use Rattle.ir_graph.specs.Setup.{Setup}
 use Rattle.ir_graph.specs.Stops.{MayStop}

@@ -1,6 +1,6 @@
 use Rattle.std.proofs.Common.{◌≡◌, ℕ, ◌<◌, Some, None, length, sym, ap, ◌∙◌, subst, arith}
-use Rattle.ir_explore.specs.Following.{IsOpen}
-use Rattle.ir_explore.specs.Ways.{shut}
+use Rattle.ir_search.specs.Following.{IsOpen}
+use Rattle.ir_search.specs.Ways.{shut}
 use Rattle.ir_outcomes.specs.Explored.{AreHangs}
 use Rattle.ir_outcomes.specs.Hang.{IsFirst}
 use Rattle.ir_outcomes.specs.declared.shown.Shown.{Shown}

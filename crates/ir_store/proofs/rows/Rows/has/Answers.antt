@@ -2,7 +2,7 @@ use Rattle.std.proofs.Common.{◌≡◌, ap, ◌∙◌, sym, subst, arith, lengt
 use Rattle.std.specs.Prelude.{slice_get}
 use Rattle.std.proofs.lemmas.Option.{same_Some, slice_get-get_or, slice_get_within}
 use Rattle.ir_lemmas.proofs.CallerLemmas.{slice_get_element_satisfies_all_by_recursion, length_of_map}
-use Rattle.ir_sources.specs.Sources.{Source}
+use Rattle.ir_world.specs.Sources.{Source}
 use Rattle.ir_thread.specs.Frames.{frame_of}
 use Rattle.ir_thread.specs.State.{ThreadState}
 use Rattle.ir_store.specs.Rows.{Row, packed_of, thread_in, beside_in, HasOwnBytes}

@@ -2,7 +2,7 @@ use Rattle.std.proofs.Common.{◌<◌, ap, ◌∙◌, sym, subst, get_or, length
 use Rattle.std.proofs.lemmas.Option.{slice_get-get_or}
 use Rattle.ir_lemmas.proofs.CallerLemmas.{slice_get_element_satisfies_all_by_recursion, length_of_map}
 use Rattle.ir_freeze.specs.Frozen.{is_over}
-use Rattle.ir_sources.specs.Sources.{Source}
+use Rattle.ir_world.specs.Sources.{Source}
 use Rattle.ir_thread.specs.State.{ThreadState}
 use Rattle.ir_store.specs.Rows.{Packed, beside_in, HasOwnBytes}
 use Rattle.ir_store.specs.Table.{idle_beside}

@@ -2,7 +2,7 @@ use Rattle.std.proofs.Common.{◌≡◌, ◌⊎◌, ◌++◌, [], ◌∷◌, ap,
 use Rattle.std.proofs.lemmas.List.{map_push}
 use Rattle.std.proofs.lemmas.Result.{on_ok_weaker, on_err_weaker}
 use Rattle.ir_freeze.specs.Twins.{KeepsBounds}
-use Rattle.ir_sources.specs.Sources.{Source}
+use Rattle.ir_world.specs.Sources.{Source}
 use Rattle.ir_thread.specs.State.{ThreadState}
 use Rattle.ir_store.specs.Rows.{Row, packed_of, thread_in, beside_in, look_of, HasOwnBytes}
 use Rattle.ir_store.specs.Table.{LooksLike}

@@ -1,6 +1,6 @@
 use Rattle.std.proofs.Common.{◌≡◌, ap, ◌∙◌, sym, subst, get_or, length, ◌<◌}
 use Rattle.ir_lemmas.proofs.CallerLemmas.{slice_get_element_satisfies_all_by_recursion}
-use Rattle.ir_sources.specs.Sources.{Source}
+use Rattle.ir_world.specs.Sources.{Source}
 use Rattle.ir_thread.specs.State.{ThreadState}
 use Rattle.ir_store.specs.Rows.{thread_in, beside_in}
 use Rattle.ir_store.specs.Table.{idle_beside}

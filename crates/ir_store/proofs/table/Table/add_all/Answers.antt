@@ -2,7 +2,7 @@ use Rattle.std.proofs.Common.{◌≡◌, ◌<◌, ◌∙◌, sym, ap, subst, len
 use Rattle.std.specs.Prelude.{slice_get, Some}
 use Rattle.std.proofs.lemmas.Option.{slice_get_within, get_or_from_slice_get}
 use Rattle.ir_lemmas.proofs.CallerLemmas.{all_by_recursion_after_push}
-use Rattle.ir_sources.specs.Sources.{Source}
+use Rattle.ir_world.specs.Sources.{Source}
 use Rattle.ir_thread.specs.State.{ThreadState}
 use Rattle.ir_store.specs.Table.{idle_beside, AreIn, threads_at, sources_at}
 use Rattle.ir_store.proofs.Lists.{all_by_recursion_weaker, kept_element_is_equal, index_below_length_kept_if_elements_kept, map_equal_if_functions_equal_on_property_of_all, map_of_push_is_take_of_one_more}

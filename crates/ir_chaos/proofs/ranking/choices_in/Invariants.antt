@@ -1,6 +1,0 @@
-use Rattle.std.proofs.Common.{◌≡◌, drop}
-use Rattle.ir_chaos.specs.Ranking.{choices_from}
-use Rattle.ir_chaos.proofs.ranking.choices_in.Given as goal
-
-abbrev pub invariant-threads : goal.invariant-threads
-invariant-threads l = choices_from l.total (drop l.count-index l.choices) ≡ choices_from 0 l.choices

@@ -1,6 +1,0 @@
-use Rattle.std.proofs.Common.{◌≡◌, ◌+◌, drop}
-use Rattle.ir_chaos.specs.Spelling.{word_length}
-use Rattle.ir_chaos.proofs.text.word_length.Given as goal
-
-abbrev pub invariant-bytes : goal.invariant-bytes
-invariant-bytes l = l.index + word_length (drop l.index l.text) ≡ word_length l.text

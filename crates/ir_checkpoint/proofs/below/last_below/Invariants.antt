@@ -1,6 +1,0 @@
-use Rattle.std.specs.Prelude.{IfSome}
-use Rattle.ir_checkpoint.specs.Below.{IsBelow}
-use Rattle.ir_checkpoint.proofs.below.last_below.Given as goal
-
-abbrev pub invariant-loop-place : goal.invariant-loop-place
-invariant-loop-place l = IfSome l.best (IsBelow l.keeper.kept l.t l.position)

@@ -1,5 +1,0 @@
-use Rattle.std.proofs.Common.{◌≡◌, take, map}
-use Rattle.ir_checkpoint.proofs.parts.own_cut.Given as goal
-
-abbrev pub invariant-loop-thread : goal.invariant-loop-thread
-invariant-loop-thread l = l.positions.items ≡ map (λ t. t.steps) (take l.thread-index l.threads)

@@ -1,0 +1,45 @@
+use Rattle.std.proofs.Common.{map, subst, inr}
+use Rattle.std.specs.String.{string_bytes}
+use Rattle.std.proofs.KnownBytes.{Appends-trans}
+use Rattle.std.proofs.lemmas.Result.{err_from_is_err_and}
+use Rattle.ir_files.proofs.CallerLemmas.{if_err_holds_if_holds_of_handed_on_error}
+use Rattle.ir_schedule.specs.Conditions.{as_condition}
+use Rattle.ir_explore.specs.Until.{IsUntil, found_bytes}
+use Rattle.ir_explore.proofs.Hits.{recording_of_hit_is_finding}
+use Rattle.ir_explore.proofs.until.explore_until.Goals as goal
+
+pub returns-in_err-recorded-clause-stopped : goal.returns-in_err-recorded-clause-stopped
+returns-in_err-recorded-clause-stopped g c =
+    let p = err_from_is_err_and c.from_residual.result c.from_residual.ensures.1 in
+    let told = c.in-Ok-Ok.ensures.told in
+    let says = subst (λ z. IsUntil c.args.plan.now.image.now c.args.plan.now.explore (map as_condition c.args.plan.now.conditions.now) (found_bytes z) told.0)
+    c.in-Ok-Ok.field-0-is told.1 in
+    let stopped = rw c.as_str-list.ensures.value at (rw c.recording-how.ensures at c.in_err-recorded.ensures.stopped) in
+    if_err_holds_if_holds_of_handed_on_error _ c.from_residual.result c.in_err-recorded.field-0.0 p.0 p.1 p.2 (inr (inr (
+      stopped.0,
+      stopped.1,
+      told.0,
+      string_bytes c.in-Ok-Ok.list,
+      c.tell_sought.new.out,
+      says,
+      told.2,
+      stopped.2,
+      stopped.3,
+    )))
+
+pub returns-clause-found : goal.returns-clause-found
+returns-clause-found g c =
+    let list = string_bytes c.in-Ok-Ok.list in
+    let told = c.in-Ok-Ok.ensures.told in
+    let says = subst (λ z. IsUntil c.args.plan.now.image.now c.args.plan.now.explore (map as_condition c.args.plan.now.conditions.now) (found_bytes z) told.0)
+    c.in-Ok-Ok.field-0-is told.1 in
+    let done = rw c.as_str-list.ensures.value at (rw c.recording-how.ensures at c.in_ok-recorded.ensures.done) in (
+      told.0,
+      list,
+      done.0,
+      recording_of_hit_is_finding c.args.plan.now.image.now c.args.plan.now.explore (map as_condition c.args.plan.now.conditions.now) list told.0 c.in_ok-recorded.recorded done.0 says.guest says.is
+          says.says done.1,
+      done.2,
+      done.3,
+      Appends-trans (g.O.Sink.written c.args.out.now) (g.O.Sink.written c.tell_sought.new.out) (g.O.Sink.written c.record_by_list.new.out) _ _ told.2 done.4,
+    )

@@ -1,6 +1,0 @@
-use Rattle.std.proofs.Common.{◌≡◌, ℕ, Bool, ◌<◌, Some}
-use Rattle.ir_explore.specs.Following.{IsOpen}
-use Rattle.ir_explore.proofs.ways.is_before.Given as goal
-
-abbrev pub invariant-loop-thread : goal.invariant-loop-thread
-invariant-loop-thread g l = (t : ℕ) (refused : Bool) (w : ℕ) → t < l.thread → g.S.Successors.noted l.graph t refused l.node ≡ Some (Some w) → IsOpen l.marks w → ⊥

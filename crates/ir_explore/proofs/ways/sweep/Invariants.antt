@@ -1,5 +1,0 @@
-use Rattle.ir_explore.proofs.Marked.{Sweeping}
-use Rattle.ir_explore.proofs.ways.sweep.Given as goal
-
-abbrev pub invariant-loop-k : goal.invariant-loop-k
-invariant-loop-k g l = Sweeping (g.S.Successors.noted l.graph) l.threads l.fn.marks l.marks l.changed l.k

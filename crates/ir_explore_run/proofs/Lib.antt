@@ -1,8 +1,0 @@
-mod Answered
-mod Fulfilled
-mod Hits
-mod Joined
-mod Sought
-mod Printed
-mod Recorded
-mod Untimed

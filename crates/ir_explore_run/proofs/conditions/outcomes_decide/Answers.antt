@@ -1,5 +1,0 @@
-use Rattle.ir_explore_run.proofs.Fulfilled.{outcomes_decide}
-use Rattle.ir_explore_run.proofs.conditions.outcomes_decide.Goals as goal
-
-pub returns : goal.returns
-returns c = outcomes_decide

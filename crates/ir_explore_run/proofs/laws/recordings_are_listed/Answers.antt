@@ -1,5 +1,0 @@
-use Rattle.ir_explore_run.proofs.Recorded.{recordings_are_listed}
-use Rattle.ir_explore_run.proofs.laws.recordings_are_listed.Goals as goal
-
-pub returns : goal.returns
-returns c = recordings_are_listed

@@ -1,5 +1,0 @@
-use Rattle.ir_explore_run.proofs.Recorded.{recordings_have_outcomes}
-use Rattle.ir_explore_run.proofs.laws.recordings_have_outcomes.Goals as goal
-
-pub returns : goal.returns
-returns c = recordings_have_outcomes

@@ -1,5 +1,0 @@
-use Rattle.ir_explore_run.proofs.Recorded.{recordings_never_fulfil}
-use Rattle.ir_explore_run.proofs.laws.recordings_never_fulfil.Goals as goal
-
-pub returns : goal.returns
-returns c = recordings_never_fulfil

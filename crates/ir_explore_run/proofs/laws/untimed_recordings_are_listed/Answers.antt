@@ -1,5 +1,0 @@
-use Rattle.ir_explore_run.proofs.Recorded.{untimed_recordings_are_listed}
-use Rattle.ir_explore_run.proofs.laws.untimed_recordings_are_listed.Goals as goal
-
-pub returns : goal.returns
-returns c = untimed_recordings_are_listed

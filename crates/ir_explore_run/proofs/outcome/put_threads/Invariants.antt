@@ -1,6 +1,0 @@
-use Rattle.std.proofs.Common.{◌≡◌, ◌++◌}
-use Rattle.ir_explore_run.specs.Texts.{outcome_threads_text}
-use Rattle.ir_explore_run.proofs.outcome.put_threads.Given as goal
-
-abbrev pub invariant-loop-t : goal.invariant-loop-t
-invariant-loop-t l = l.text.items ≡ l.fn.text.items ++ outcome_threads_text l.threads l.t

@@ -1,5 +1,0 @@
-use Rattle.ir_fit_run.proofs.Left.{entering_event_has_leave}
-use Rattle.ir_fit_run.proofs.laws.events_left.Goals as goal
-
-pub returns : goal.returns
-returns c = entering_event_has_leave

@@ -1,6 +1,0 @@
-use Rattle.std.proofs.Common.{◌≡◌, take}
-use Rattle.ir_image_run.specs.Mapping.{label_symbols}
-use Rattle.ir_image_run.proofs.mapping.label_symbols.Given as goal
-
-abbrev pub invariant-loop-index : goal.invariant-loop-index
-invariant-loop-index l = l.symbols.items ≡ label_symbols (take l.index l.labels)

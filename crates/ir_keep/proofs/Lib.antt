@@ -1,9 +1,0 @@
-mod Laid
-mod Places
-mod Whole
-mod Again
-mod Found
-mod Dropped
-mod Counted
-mod Calls
-mod Rebuilt

@@ -1,6 +1,0 @@
-use Rattle.std.proofs.Common.{◌≡◌, ◌+◌, drop}
-use Rattle.ir_keep.specs.Store.{stored}
-use Rattle.ir_keep.proofs.counting.stored.Given as goal
-
-abbrev pub invariant-loop-entry : goal.invariant-loop-entry
-invariant-loop-entry l = l.all + stored (drop l.entry-index l.entries) ≡ stored l.entries

@@ -1,4 +1,0 @@
-pub mod Pages
-pub mod Keeping
-pub mod Store
-pub mod Gathered

@@ -1,0 +1,4 @@
+mod Brought
+mod Keepers
+mod Lower
+mod Ways

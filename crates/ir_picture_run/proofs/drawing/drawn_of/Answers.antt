@@ -1,5 +1,0 @@
-use Rattle.ir_picture_run.proofs.Lasts.{box_first_event_is_inside}
-use Rattle.ir_picture_run.proofs.drawing.drawn_of.Goals as goal
-
-pub last_step-last-requires : goal.last_step-last-requires
-last_step-last-requires c = record { inside = box_first_event_is_inside c.args.fitted.now c.known.ensures.run c.args.own.now.events c.requires }

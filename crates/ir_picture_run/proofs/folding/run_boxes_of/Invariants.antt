@@ -1,5 +1,0 @@
-use Rattle.ir_picture_run.specs.Boxing.{RunBoxedBefore}
-use Rattle.ir_picture_run.proofs.folding.run_boxes_of.Given as goal
-
-abbrev pub invariant-loop-thread : goal.invariant-loop-thread
-invariant-loop-thread l = RunBoxedBefore l.fitted l.thread 0 l.boxes.items

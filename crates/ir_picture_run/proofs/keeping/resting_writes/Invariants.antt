@@ -1,6 +1,0 @@
-use Rattle.std.proofs.Common.{◌≡◌}
-use Rattle.ir_picture_run.specs.Resting.{first_kept}
-use Rattle.ir_picture_run.proofs.keeping.resting_writes.Given as goal
-
-abbrev pub invariant-loop-i : goal.invariant-loop-i
-invariant-loop-i l = l.kept.items ≡ first_kept l.boxes l.rows l.rests l.i

@@ -1,6 +1,0 @@
-use Rattle.std.proofs.Common.{◌≡◌, take}
-use Rattle.ir_picture_run.specs.Resting.{stale_of_rests}
-use Rattle.ir_picture_run.proofs.keeping.writes_of.Given as goal
-
-abbrev pub invariant-loop-own : goal.invariant-loop-own
-invariant-loop-own l = l.writes.items ≡ stale_of_rests (take l.own-index l.kept)

@@ -1,5 +1,0 @@
-use Rattle.ir_picture_run.proofs.InCut.{behind_is_in_cut_with_event}
-use Rattle.ir_picture_run.proofs.laws.behind_is_in_cut.Goals as goal
-
-pub returns : goal.returns
-returns c = behind_is_in_cut_with_event

@@ -1,5 +1,0 @@
-use Rattle.ir_picture_run.proofs.Orders.{left_to_right_is_an_order}
-use Rattle.ir_picture_run.proofs.laws.right_is_an_order.Goals as goal
-
-pub returns : goal.returns
-returns c = left_to_right_is_an_order

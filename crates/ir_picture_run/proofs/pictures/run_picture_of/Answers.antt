@@ -1,5 +1,0 @@
-use Rattle.ir_fit_run.proofs.CallerLemmas.{run_trace_is_coherent}
-use Rattle.ir_picture_run.proofs.pictures.run_picture_of.Goals as goal
-
-pub picture_of_held-requires-clause-coherent : goal.picture_of_held-requires-clause-coherent
-picture_of_held-requires-clause-coherent c = run_trace_is_coherent c.args.fitted.now c.known.ensures.run

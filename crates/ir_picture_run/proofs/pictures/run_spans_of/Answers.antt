@@ -1,5 +1,0 @@
-use Rattle.ir_picture_run.proofs.Shown.{run_box_is_box}
-use Rattle.ir_picture_run.proofs.pictures.run_spans_of.Goals as goal
-
-pub spans_of-requires : goal.spans_of-requires
-spans_of-requires c = λ k b at. run_box_is_box c.args.fitted.now b (c.requires.each k b at)

@@ -1,9 +1,0 @@
-use Rattle.std.proofs.Common.{◌≡◌, ◌≤◌}
-use Rattle.ir_rests.specs.Lines.{kept_of}
-use Rattle.ir_rests.proofs.lines.kept_of.Given as goal
-
-abbrev pub invariant-loop-i : goal.invariant-loop-i
-invariant-loop-i l = record {
-  count : l.kept ≡ kept_of l.rests l.i;
-  few : l.kept ≤ l.i;
-}

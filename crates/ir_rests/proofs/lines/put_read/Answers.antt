@@ -1,5 +1,0 @@
-use Rattle.ir_rests.proofs.Leaving.{row_entries_are_placed}
-use Rattle.ir_rests.proofs.lines.put_read.Goals as goal
-
-pub step_of-requires : goal.step_of-requires
-step_of-requires c = (row_entries_are_placed c.args.fitted.now c.known.ensures.run c.args.row.now c.requires.row).read

@@ -1,0 +1,80 @@
+use Rattle.std.proofs.Common.{◌≡◌, ◌++◌, ◌∙◌, ℕ, List, length, inr, ap, sym, subst, arith}
+use Rattle.std.proofs.lemmas.Result.{err_from_is_err_and, IfErr-weaker}
+use Rattle.ir_files.proofs.CallerLemmas.{if_err_holds_if_holds_of_handed_on_error}
+use Rattle.ir_files.specs.Writers.{writer_of}
+use Rattle.ir_files.specs.declared.exit_status.ExitStatus.TheVariants.{Done}
+use Rattle.ir_past.specs.Answers.{NotAnswered, Stops}
+use Rattle.ir_past.specs.declared.past_err.PastErr.TheVariants.{NoMem}
+use Rattle.ir_past.proofs.CallerLemmas.{answered_if_written, not_answered_if_no_memory, not_answered_if_stopped}
+use Rattle.ir_picture.specs.Answers.{many_line}
+use Rattle.ir_picture.specs.Progress.{AreBoxesOf}
+use Rattle.ir_picture.specs.declared.asked.Form.TheVariants as form
+use Rattle.ir_picture.specs.declared.placed_box.PlacedBox.{PlacedBox}
+use Rattle.ir_run_picture.specs.Answers.{IsFormOfRun}
+use Rattle.ir_run_picture.specs.Numbers.{data_rows}
+use Rattle.ir_run_picture.specs.Steps.{AreDrawn}
+use Rattle.ir_run_picture.specs.declared.resting.Resting.{Resting}
+use Rattle.ir_run_picture.proofs.Shown.{framed_rows_are_page_form}
+use Rattle.ir_run_picture.proofs.run.write_page.Goals as goal
+
+pub all_drawn-requires : goal.all_drawn-requires
+all_drawn-requires g c = subst (AreBoxesOf c.args.fitted.now.recorded) (sym c.deref.ensures.value) c.requires.of_trace.boxes
+
+pub write_data-requires-clause-drawn : goal.write_data-requires-clause-drawn
+write_data-requires-clause-drawn g c =
+    let f = c.args.fitted.now in
+    let p = c.args.shown.now.picture in
+    subst (AreDrawn f p.boxes.items) (sym c.deref-2.ensures.value)
+    (subst (λ (bs : List PlacedBox). AreDrawn f bs c.in_ok-drawn.drawn.items) c.deref.ensures.value c.in_ok-drawn.ensures)
+
+pub returns-in_err-frame-clause-fails : goal.returns-in_err-frame-clause-fails
+returns-in_err-frame-clause-fails g c =
+    let p = err_from_is_err_and c.from_residual-in_err-frame.result c.from_residual-in_err-frame.ensures.1 in
+    if_err_holds_if_holds_of_handed_on_error _ c.from_residual-in_err-frame.result NoMem p.0 p.1 p.2
+    (not_answered_if_no_memory (IsFormOfRun form.Page c.args.fitted.now c.args.near.now c.args.shown.now.picture c.args.shown.now.kept.items)
+    (g.O.Sink.written c.args.out.now) (g.O.Sink.broken c.args.out.now) c.requires.works)
+
+pub returns-in_err-write_data-clause-fails : goal.returns-in_err-write_data-clause-fails
+returns-in_err-write_data-clause-fails g c =
+    let q = err_from_is_err_and c.from_residual-in_err-write_data.result c.from_residual-in_err-write_data.ensures.1 in
+    let e = c.in_err-write_data.field-0.0 in
+    let f = c.args.fitted.now in
+    let near = c.args.near.now in
+    let p = c.args.shown.now.picture in
+    let text : List ℕ = c.in_ok-frame.frame.before.items
+    ++ (data_rows f near p c.deref-2.result.now c.deref-3.result.now ++ c.in_ok-frame.frame.after.items) in
+    if_err_holds_if_holds_of_handed_on_error _ c.from_residual-in_err-write_data.result e q.0 q.1 q.2
+    (not_answered_if_stopped (IsFormOfRun form.Page f near p c.args.shown.now.kept.items) Done text e _
+    (subst (λ (ks : List Resting). IsFormOfRun form.Page f near p ks Done text) c.deref-3.ensures.value
+    (framed_rows_are_page_form f near p c.deref-2.result.now c.deref-3.result.now c.in_ok-frame.frame.before.items c.in_ok-frame.frame.after.items
+    (subst (AreDrawn f p.boxes.items) (sym c.deref-2.ensures.value)
+    (subst (λ (bs : List PlacedBox). AreDrawn f bs c.in_ok-drawn.drawn.items) c.deref.ensures.value c.in_ok-drawn.ensures)) (omega (arith, c.if-len-gt-MOST_BOXES.false))
+    c.in_ok-frame.ensures.before c.in_ok-frame.ensures.after))
+    c.in_err-write_data.ensures.fails)
+
+pub returns-clause-ok : goal.returns-clause-ok
+returns-clause-ok g c =
+    let f = c.args.fitted.now in
+    let near = c.args.near.now in
+    let p = c.args.shown.now.picture in
+    let text : List ℕ = c.in_ok-frame.frame.before.items
+    ++ (data_rows f near p c.deref-2.result.now c.deref-3.result.now ++ c.in_ok-frame.frame.after.items) in
+    answered_if_written (IsFormOfRun form.Page f near p c.args.shown.now.kept.items) Done (g.O.Sink.written c.args.out.now)
+    (g.O.Sink.written c.write_data.new.out) (g.O.Sink.broken c.write_data.new.out) text
+    (subst (λ (ks : List Resting). IsFormOfRun form.Page f near p ks Done text) c.deref-3.ensures.value
+    (framed_rows_are_page_form f near p c.deref-2.result.now c.deref-3.result.now c.in_ok-frame.frame.before.items c.in_ok-frame.frame.after.items
+    (subst (AreDrawn f p.boxes.items) (sym c.deref-2.ensures.value)
+    (subst (λ (bs : List PlacedBox). AreDrawn f bs c.in_ok-drawn.drawn.items) c.deref.ensures.value c.in_ok-drawn.ensures)) (omega (arith, c.if-len-gt-MOST_BOXES.false))
+    c.in_ok-frame.ensures.before c.in_ok-frame.ensures.after))
+    c.in_ok-write_data.ensures.ok c.in_ok-write_data.ensures.works
+
+pub returns-then-len-gt-MOST_BOXES-clause-fails : goal.returns-then-len-gt-MOST_BOXES-clause-fails
+returns-then-len-gt-MOST_BOXES-clause-fails g c =
+    let is = IsFormOfRun form.Page c.args.fitted.now c.args.near.now c.args.shown.now.picture c.args.shown.now.kept.items in
+    let a = c.in_ok-many_answer.field-0 in
+    let w = writer_of (g.O.Sink.written c.args.out.now) (g.O.Sink.written c.put_answer.new.out) (g.O.Sink.broken c.put_answer.new.out) in
+    let count : c.len-then-len-gt-MOST_BOXES.result ≡ length c.args.shown.now.picture.boxes.items = omega (arith, c.len-then-len-gt-MOST_BOXES.ensures) in
+    IfErr-weaker c.put_answer.result (λ e. Stops e w a.text.items) (λ e. NotAnswered is e w)
+    (λ e stops. not_answered_if_stopped is a.status a.text.items e w
+    (inr (omega (arith, c.if-len-gt-MOST_BOXES.true), c.in_ok-many_answer.ensures.0, c.in_ok-many_answer.ensures.1 ∙ ap many_line count)) stops)
+    c.put_answer.ensures.fails

@@ -1,0 +1,9 @@
+mod Opens
+mod Reached
+mod TurnSoFar
+mod Rows
+mod Gone
+mod Between
+mod Marked
+mod Meant
+pub mod CallerLemmas

@@ -1,0 +1,68 @@
+use Rattle.std.proofs.Common.{◌≤◌, ◌<◌, length, length-set, inl, inr, sym, ◌∙◌, subst, arith}
+use Rattle.std.proofs.lemmas.Bool.{cases_lt}
+use Rattle.ir_search.specs.Following.{IsFollowed, IsOpen}
+use Rattle.ir_search.proofs.Rows.{slice_get_of_rows_is_items_of_element, row_after_set_cases}
+use Rattle.ir_search.proofs.Reached.{adds_transitive, begins_at_if_nodes_kept}
+use Rattle.ir_search.proofs.Opens.{followed_if_notes_kept}
+use Rattle.ir_search.proofs.level.take_level.Goals as goal
+
+pub take_turn-requires-clause-row : goal.take_turn-requires-clause-row
+take_turn-requires-clause-row g c =
+    let l : c.loop-thread.thread < length c.loop-thread.opened =
+    (let a = c.loop-thread-test.true in let b = c.loop-thread.auto.opened in omega (arith, a, b)) in
+    c.loop-thread.invariant.within c.loop-thread.thread _ (slice_get_of_rows_is_items_of_element c.loop-thread.opened c.loop-thread.thread c.index-opened-thread.result l)
+
+pub returns-in_err-take_turn-clause-adds : goal.returns-in_err-take_turn-clause-adds
+returns-in_err-take_turn-clause-adds g c =
+    adds_transitive c.args.level.number c.args.found.now.nodes.items c.loop-thread.found.nodes.items c.take_turn.new.found.nodes.items c.loop-thread.invariant.adds
+    c.take_turn.ensures.adds
+
+pub loop-thread-preserved : goal.loop-thread-preserved
+loop-thread-preserved g c =
+    let l : c.loop-thread.thread < length c.loop-thread.opened =
+    (let a = c.loop-thread-test.true in let b = c.loop-thread.auto.opened in omega (arith, a, b)) in
+    let this = slice_get_of_rows_is_items_of_element c.loop-thread.opened c.loop-thread.thread c.index-opened-thread.result l in
+    let longer : length c.loop-thread.found.nodes.items ≤ length c.take_turn.new.found.nodes.items = c.take_turn.ensures.adds.longer in record {
+      followed = λ t row e. elim (row_after_set_cases c.loop-thread.opened c.loop-thread.thread t c.take_turn.new.opened row l e) [
+        | inl p ↦ subst (IsFollowed (g.S.Successors.noted c.take_turn.new.graph t)) p.1
+            (subst (λ u. IsFollowed (g.S.Successors.noted c.take_turn.new.graph u) c.take_turn.new.opened.items) (sym p.0)
+            c.in_ok-take_turn.ensures.followed)
+        | inr n ↦ followed_if_notes_kept (g.S.Successors.noted c.loop-thread.graph t) (g.S.Successors.noted c.take_turn.new.graph t) row
+            (c.take_turn.ensures.kept t) (c.loop-thread.invariant.followed t row n.1)
+      ];
+      before = λ t row few e v low less. elim (row_after_set_cases c.loop-thread.opened c.loop-thread.thread t c.take_turn.new.opened row l e) [
+        | inl p ↦ subst (λ r. IsOpen r v) p.1 (c.take_turn.ensures.stays v
+            (c.loop-thread.invariant.before c.loop-thread.thread _ (subst (λ z. z < length c.args.opened.now) p.0 few) this v low less))
+        | inr n ↦ c.loop-thread.invariant.before t row few n.1 v low less
+      ];
+      opens = λ t row few e v low less. elim (row_after_set_cases c.loop-thread.opened c.loop-thread.thread t c.take_turn.new.opened row l e) [
+        | inl p ↦ subst (λ r. IsOpen r v) p.1 (elim (cases_lt v c.args.level.first) [
+          | inl old ↦ c.take_turn.ensures.stays v
+              (c.loop-thread.invariant.before c.loop-thread.thread _
+              (let a = c.loop-thread.invariant.threads in omega (arith, a, l)) this v low old)
+          | inr new ↦ c.in_ok-take_turn.ensures.opens v new less
+        ])
+        | inr n ↦ c.loop-thread.invariant.opens t row (let a = n.0 in omega (arith, a, few)) n.1 v low less
+      ];
+      within = λ t row e. elim (row_after_set_cases c.loop-thread.opened c.loop-thread.thread t c.take_turn.new.opened row l e) [
+        | inl p ↦ subst (λ r. length r ≤ length c.take_turn.new.found.nodes.items) p.1
+            (let a = c.in_ok-take_turn.ensures.row in omega (arith, a))
+        | inr n ↦ let a = c.loop-thread.invariant.within t row n.1 in omega (arith, a, longer)
+      ];
+      threads = length-set c.loop-thread.opened c.loop-thread.thread c.take_turn.new.opened ∙ c.loop-thread.invariant.threads;
+      nodes = c.in_ok-take_turn.ensures.nodes;
+      until = let a = c.loop-thread.invariant.until in omega (arith, a, longer);
+      level = λ v low less.
+          begins_at_if_nodes_kept c.loop-thread.found.nodes.items c.take_turn.new.found.nodes.items c.take_turn.ensures.adds.stays c.args.level.number v
+          (c.loop-thread.invariant.level v low less);
+      reached = c.take_turn.ensures.reached;
+      adds =
+          adds_transitive c.args.level.number c.args.found.now.nodes.items c.loop-thread.found.nodes.items c.take_turn.new.found.nodes.items
+          c.loop-thread.invariant.adds c.take_turn.ensures.adds;
+      kept = λ t refused v to e. c.take_turn.ensures.kept t refused v to (c.loop-thread.invariant.kept t refused v to e);
+      stay = λ v x is. c.take_turn.ensures.stay v x (c.loop-thread.invariant.stay v x is);
+      sound = c.take_turn.ensures.sound;
+      origin = c.take_turn.ensures.origin ∙ c.loop-thread.invariant.origin;
+      room = c.take_turn.ensures.room;
+      limit = c.take_turn.ensures.limit ∙ c.loop-thread.invariant.limit;
+    }
