@@ -7,7 +7,7 @@ use Rattle.std.proofs.lemmas.List.{length-map}
 use Rattle.ir_lemmas.proofs.CallerLemmas.{get_or_element_satisfies_all_by_recursion}
 use Rattle.ir_thread.specs.State.{most_events}
 use Rattle.ir_thread.specs.declared.profile.Profile.{Profile}
-use Rattle.ir_runs.specs.Machine.{Label, In, Trace}
+use Rattle.ir_runs.specs.Machine.{Label, EnteredAt, Trace}
 use Rattle.ir_runs.specs.declared.access.Access.TheVariants.{Writing}
 use Rattle.ir_log.specs.Logging.{label_of}
 use Rattle.ir_log.specs.declared.event.Event.{Event}
@@ -105,9 +105,9 @@ cause_by_counts_is_trace_cause n emitted c all m = λ i. cause_by (λ o v. all.r
 
 -- what has a cause is in the trace
 cause_is_at_label : (n : ℕ) (emitted : Trace) (t i : ℕ) (d : Cause) → HasCause n emitted t i d → (m : Label) × At (emitted.logs t) i m
-cause_is_at_label n emitted t i Unmade has = (In has.object has.access (suc has.version) has.left, has.entry)
-cause_is_at_label n emitted t i Twice has = (In has.1.object Writing has.1.version has.1.left, has.1.entry)
-cause_is_at_label n emitted t i Readers has = (In has.2.object Writing has.2.version has.2.left, has.2.entry)
+cause_is_at_label n emitted t i Unmade has = (EnteredAt has.object has.access (suc has.version) has.left, has.entry)
+cause_is_at_label n emitted t i Twice has = (EnteredAt has.1.object Writing has.1.version has.1.left, has.1.entry)
+cause_is_at_label n emitted t i Readers has = (EnteredAt has.2.object Writing has.2.version has.2.left, has.2.entry)
 
 no_trace_cause_without_counted_cause : (r : Recorded) (c : EntryCounts) → CountsAll (length r.threads) (trace_of r) c → (t i : ℕ) (m : Label)
     → At ((trace_of r).logs t) i m → ((e : Event) → slice_get (recorded_thread r t).events i ≡ Some e

@@ -1,7 +1,7 @@
 -- The causes by counts are the causes.
 use Rattle.std.proofs.Common.{◌≡◌, ℕ, suc, zero, ◌-◌, ◌<◌, ◌≤◌, ◌⊎◌, inl, inr, Bool, true, false, nat_lt, ◌==◌, if◌then◌else◌, Option, Some, None, refl, sym, ap, ◌∙◌, subst, arith}
 use Rattle.std.proofs.lemmas.Bool.{cases_eq, cases_lt, and_parts, and_cases, ltb-true, ltb-false, eqb-true, eqb-false}
-use Rattle.ir_runs.specs.Machine.{Label, Quiet, Answer, In, Refused, Out, Trace}
+use Rattle.ir_runs.specs.Machine.{Label, Quiet, Answer, EnteredAt, FailedTry, LeftAt, Trace}
 use Rattle.ir_runs.specs.declared.access.Access.{Access}
 use Rattle.ir_runs.specs.declared.access.Access.TheVariants.{Reading, Writing}
 use Rattle.ir_runs.specs.Coherent.{IsCoherent}
@@ -13,7 +13,7 @@ use Rattle.ir_coherence.specs.declared.cause.Cause.{Cause}
 use Rattle.ir_coherence.specs.declared.cause.Cause.TheVariants.{Unmade, Twice, Readers}
 use Rattle.ir_coherence.proofs.Writes.{element_at_index_is_unique, HasLogsOfThreads, trace_has_write_if_counted, trace_write_is_counted, two_trace_writes_are_counted, other_trace_write_if_counted_twice}
 
-is_unmade_if_nobody_made : (n : ℕ) (emitted : Trace) → HasLogsOfThreads n emitted → (t i o v l : ℕ) (a : Access) → At (emitted.logs t) i (In o a v l)
+is_unmade_if_nobody_made : (n : ℕ) (emitted : Trace) → HasLogsOfThreads n emitted → (t i o v l : ℕ) (a : Access) → At (emitted.logs t) i (EnteredAt o a v l)
     → nobody_made (writes_in n emitted) o v ≡ true → IsUnmade emitted t i
 is_unmade_if_nobody_made n emitted of t i o zero l a at h = absurd
     (omega (arith, ltb-true 0 0 (and_parts (nat_lt 0 0) (writes_in n emitted o (zero - 1) == 0) h).0))
@@ -35,25 +35,25 @@ is_unmade_if_nobody_made n emitted of t i o (suc v) l a at h = record {
     before : suc v - 1 ≡ v
     before = omega arith
 
-not_unmade_if_somebody_made : (n : ℕ) (emitted : Trace) → (t i o v l : ℕ) (a : Access) → At (emitted.logs t) i (In o a v l)
+not_unmade_if_somebody_made : (n : ℕ) (emitted : Trace) → (t i o v l : ℕ) (a : Access) → At (emitted.logs t) i (EnteredAt o a v l)
     → nobody_made (writes_in n emitted) o v ≡ false → IsUnmade emitted t i → ⊥
 not_unmade_if_somebody_made n emitted t i o v l a at h un =
-    let same : In un.object un.access (suc un.version) un.left ≡ In o a v l = element_at_index_is_unique (emitted.logs t) i _ _ un.entry at in
+    let same : EnteredAt un.object un.access (suc un.version) un.left ≡ EnteredAt o a v l = element_at_index_is_unique (emitted.logs t) i _ _ un.entry at in
     let object : un.object ≡ o = cc in
     let version : suc un.version ≡ v = cc in
     elim (and_cases (nat_lt 0 v) (writes_in n emitted o (v - 1) == 0) h) [
       | inl first ↦ omega (arith, ltb-false 0 v first)
       | inr some ↦ let made = trace_has_write_if_counted n emitted o (v - 1) (positive (writes_in n emitted o (v - 1)) some) in
           let before : v - 1 ≡ un.version = omega arith in
-          let at_version = subst (λ z. At (emitted.logs made.0) made.1 (In o Writing z made.2)) before made.3 in
-          un.unmade made.0 made.1 made.2 (subst (λ z. At (emitted.logs made.0) made.1 (In z Writing un.version made.2)) (sym object)
+          let at_version = subst (λ z. At (emitted.logs made.0) made.1 (EnteredAt o Writing z made.2)) before made.3 in
+          un.unmade made.0 made.1 made.2 (subst (λ z. At (emitted.logs made.0) made.1 (EnteredAt z Writing un.version made.2)) (sym object)
           at_version)
     ]
   where
     positive : (k : ℕ) → (k == 0) ≡ false → 0 < k
     positive k e = let ne : k ≡ 0 → ⊥ = eqb-false k 0 e in omega arith
 
-is_twice_if_two_writes : (n : ℕ) (emitted : Trace) → HasLogsOfThreads n emitted → (t i o v l : ℕ) → At (emitted.logs t) i (In o Writing v l)
+is_twice_if_two_writes : (n : ℕ) (emitted : Trace) → HasLogsOfThreads n emitted → (t i o v l : ℕ) → At (emitted.logs t) i (EnteredAt o Writing v l)
     → nat_lt 1 (writes_in n emitted o v) ≡ true → IsTwice emitted t i
 is_twice_if_two_writes n emitted of t i o v l at h =
     let r = other_trace_write_if_counted_twice n emitted of o v t i l at (ltb-true 1 (writes_in n emitted o v) h) in
@@ -69,10 +69,10 @@ is_twice_if_two_writes n emitted of t i o v l at h =
       apart = r.4;
     }
 
-not_twice_unless_two_writes : (n : ℕ) (emitted : Trace) → HasLogsOfThreads n emitted → (t i o v l : ℕ) → At (emitted.logs t) i (In o Writing v l)
+not_twice_unless_two_writes : (n : ℕ) (emitted : Trace) → HasLogsOfThreads n emitted → (t i o v l : ℕ) → At (emitted.logs t) i (EnteredAt o Writing v l)
     → nat_lt 1 (writes_in n emitted o v) ≡ false → IsTwice emitted t i → ⊥
 not_twice_unless_two_writes n emitted of t i o v l at h two =
-    let same : In two.object Writing two.version two.left ≡ In o Writing v l = element_at_index_is_unique (emitted.logs t) i _ _ two.entry at in
+    let same : EnteredAt two.object Writing two.version two.left ≡ EnteredAt o Writing v l = element_at_index_is_unique (emitted.logs t) i _ _ two.entry at in
     let object : two.object ≡ o = cc in
     let version : two.version ≡ v = cc in
     let many = two_trace_writes_are_counted n emitted of two.object two.version t i two.left two.thread two.event two.others_left two.entry two.another two.apart in
@@ -85,14 +85,14 @@ not_twice_unless_two_writes n emitted of t i o v l at h two =
           (writes_in n emitted o v) h,
     )
 
-is_miscounted_if_readers_differ : (n : ℕ) (emitted : Trace) → (t i o v l : ℕ) → At (emitted.logs t) i (In o Writing v l) → (l == reads_in n emitted o v) ≡ false
+is_miscounted_if_readers_differ : (n : ℕ) (emitted : Trace) → (t i o v l : ℕ) → At (emitted.logs t) i (EnteredAt o Writing v l) → (l == reads_in n emitted o v) ≡ false
     → IsMiscounted n emitted t i
 is_miscounted_if_readers_differ n emitted t i o v l at h = record { object = o; version = v; left = l; entry = at; other = eqb-false l (reads_in n emitted o v) h }
 
-not_miscounted_if_readers_equal : (n : ℕ) (emitted : Trace) → (t i o v l : ℕ) → At (emitted.logs t) i (In o Writing v l) → (l == reads_in n emitted o v) ≡ true
+not_miscounted_if_readers_equal : (n : ℕ) (emitted : Trace) → (t i o v l : ℕ) → At (emitted.logs t) i (EnteredAt o Writing v l) → (l == reads_in n emitted o v) ≡ true
     → IsMiscounted n emitted t i → ⊥
 not_miscounted_if_readers_equal n emitted t i o v l at h mis =
-    let same : In mis.object Writing mis.version mis.left ≡ In o Writing v l = element_at_index_is_unique (emitted.logs t) i _ _ mis.entry at in
+    let same : EnteredAt mis.object Writing mis.version mis.left ≡ EnteredAt o Writing v l = element_at_index_is_unique (emitted.logs t) i _ _ mis.entry at in
     let object : mis.object ≡ o = cc in
     let version : mis.version ≡ v = cc in
     let left : mis.left ≡ l = cc in
@@ -154,7 +154,7 @@ first_of_three_if_has_cause n emitted t i Twice f = f
 first_of_three_if_has_cause n emitted t i Readers f = f
 
 -- a label that is no entry breaks nothing
-no_cause_unless_entry : (n : ℕ) (emitted : Trace) (t i : ℕ) (m : Label) → At (emitted.logs t) i m → ((o v l : ℕ) (a : Access) → In o a v l ≡ m → ⊥)
+no_cause_unless_entry : (n : ℕ) (emitted : Trace) (t i : ℕ) (m : Label) → At (emitted.logs t) i m → ((o v l : ℕ) (a : Access) → EnteredAt o a v l ≡ m → ⊥)
     → (c : Cause) → HasCause n emitted t i c → ⊥
 no_cause_unless_entry n emitted t i m at none Unmade f = none f.object (suc f.version) f.left f.access (element_at_index_is_unique (emitted.logs t) i _ _ f.entry at)
 no_cause_unless_entry n emitted t i m at none Twice f = none f.1.object f.1.version f.1.left Writing (element_at_index_is_unique (emitted.logs t) i _ _ f.1.entry at)
@@ -165,36 +165,36 @@ pub has_cause_if_named_by_counts : (n : ℕ) (emitted : Trace) → HasLogsOfThre
     → cause_by (reads_in n emitted) (writes_in n emitted) m ≡ Some c → HasCause n emitted t i c
 has_cause_if_named_by_counts n emitted of t i Quiet c at e = absurd (let bad : None ≡ Some c = e in cc)
 has_cause_if_named_by_counts n emitted of t i (Answer k x) c at e = absurd (let bad : None ≡ Some c = e in cc)
-has_cause_if_named_by_counts n emitted of t i (In o Reading v l) c at e =
+has_cause_if_named_by_counts n emitted of t i (EnteredAt o Reading v l) c at e =
     has_cause_if_first_of_three n emitted t i c (named_cause_of_read_is_first (IsUnmade emitted t i) (IsTwice emitted t i) (IsMiscounted n emitted t i) (nobody_made (writes_in n emitted) o v)
     (is_unmade_if_nobody_made n emitted of t i o v l Reading at) c e)
-has_cause_if_named_by_counts n emitted of t i (In o Writing v l) c at e =
+has_cause_if_named_by_counts n emitted of t i (EnteredAt o Writing v l) c at e =
     has_cause_if_first_of_three n emitted t i c (named_cause_of_write_is_first (IsUnmade emitted t i) (IsTwice emitted t i) (IsMiscounted n emitted t i) (nobody_made (writes_in n emitted) o v)
     (nat_lt 1 (writes_in n emitted o v)) (l == reads_in n emitted o v)
     (is_unmade_if_nobody_made n emitted of t i o v l Writing at) (not_unmade_if_somebody_made n emitted t i o v l Writing at)
     (is_twice_if_two_writes n emitted of t i o v l at) (not_twice_unless_two_writes n emitted of t i o v l at)
     (is_miscounted_if_readers_differ n emitted t i o v l at) c e)
-has_cause_if_named_by_counts n emitted of t i (Refused p) c at e = absurd (let bad : None ≡ Some c = e in cc)
-has_cause_if_named_by_counts n emitted of t i (Out p a w) c at e = absurd (let bad : None ≡ Some c = e in cc)
+has_cause_if_named_by_counts n emitted of t i (FailedTry p) c at e = absurd (let bad : None ≡ Some c = e in cc)
+has_cause_if_named_by_counts n emitted of t i (LeftAt p a w) c at e = absurd (let bad : None ≡ Some c = e in cc)
 
 -- where the counts name none, there is none
 pub no_cause_if_counts_give_no_cause : (n : ℕ) (emitted : Trace) → HasLogsOfThreads n emitted → (t i : ℕ) (m : Label) → At (emitted.logs t) i m
     → cause_by (reads_in n emitted) (writes_in n emitted) m ≡ None → (c : Cause) → HasCause n emitted t i c → ⊥
 no_cause_if_counts_give_no_cause n emitted of t i Quiet at e c f = no_cause_unless_entry n emitted t i Quiet at (λ o v l a q. cc) c f
 no_cause_if_counts_give_no_cause n emitted of t i (Answer k x) at e c f = no_cause_unless_entry n emitted t i (Answer k x) at (λ o v l a q. cc) c f
-no_cause_if_counts_give_no_cause n emitted of t i (In o Reading v l) at e c f =
+no_cause_if_counts_give_no_cause n emitted of t i (EnteredAt o Reading v l) at e c f =
     no_first_cause_of_unnamed_read (IsUnmade emitted t i) (IsTwice emitted t i) (IsMiscounted n emitted t i) (nobody_made (writes_in n emitted) o v)
     (not_unmade_if_somebody_made n emitted t i o v l Reading at)
-    (λ two. let bad : In two.object Writing two.version two.left ≡ In o Reading v l = element_at_index_is_unique (emitted.logs t) i _ _ two.entry at in cc)
-    (λ mis. let bad : In mis.object Writing mis.version mis.left ≡ In o Reading v l = element_at_index_is_unique (emitted.logs t) i _ _ mis.entry at in cc)
+    (λ two. let bad : EnteredAt two.object Writing two.version two.left ≡ EnteredAt o Reading v l = element_at_index_is_unique (emitted.logs t) i _ _ two.entry at in cc)
+    (λ mis. let bad : EnteredAt mis.object Writing mis.version mis.left ≡ EnteredAt o Reading v l = element_at_index_is_unique (emitted.logs t) i _ _ mis.entry at in cc)
     c e (first_of_three_if_has_cause n emitted t i c f)
-no_cause_if_counts_give_no_cause n emitted of t i (In o Writing v l) at e c f =
+no_cause_if_counts_give_no_cause n emitted of t i (EnteredAt o Writing v l) at e c f =
     no_first_cause_of_unnamed_write (IsUnmade emitted t i) (IsTwice emitted t i) (IsMiscounted n emitted t i) (nobody_made (writes_in n emitted) o v)
     (nat_lt 1 (writes_in n emitted o v)) (l == reads_in n emitted o v)
     (not_unmade_if_somebody_made n emitted t i o v l Writing at) (not_twice_unless_two_writes n emitted of t i o v l at) (not_miscounted_if_readers_equal n emitted t i o v l at) c e
     (first_of_three_if_has_cause n emitted t i c f)
-no_cause_if_counts_give_no_cause n emitted of t i (Refused p) at e c f = no_cause_unless_entry n emitted t i (Refused p) at (λ o v l a q. cc) c f
-no_cause_if_counts_give_no_cause n emitted of t i (Out p x w) at e c f = no_cause_unless_entry n emitted t i (Out p x w) at (λ o v l a q. cc) c f
+no_cause_if_counts_give_no_cause n emitted of t i (FailedTry p) at e c f = no_cause_unless_entry n emitted t i (FailedTry p) at (λ o v l a q. cc) c f
+no_cause_if_counts_give_no_cause n emitted of t i (LeftAt p x w) at e c f = no_cause_unless_entry n emitted t i (LeftAt p x w) at (λ o v l a q. cc) c f
 
 -- no cause of a trace's event, by decision
 cause_is_none_or_some : (x : Option Cause) → (x ≡ None) ⊎ ((c : Cause) × (x ≡ Some c))
@@ -225,10 +225,10 @@ coherent_if_no_cause_by_counts n emitted of none = record {
     broken : (t i : ℕ) (m : Label) → At (emitted.logs t) i m → (c : Cause) → HasCause n emitted t i c → ⊥
     broken t i m at = no_cause_if_counts_give_no_cause n emitted of t i m at (none t i m at)
 
-    made_by : (t i o v l : ℕ) (a : Access) → At (emitted.logs t) i (In o a (suc v) l) → (0 < writes_in n emitted o v) ⊎ (writes_in n emitted o v ≤ 0)
-        → (u j k : ℕ) × At (emitted.logs u) j (In o Writing v k)
+    made_by : (t i o v l : ℕ) (a : Access) → At (emitted.logs t) i (EnteredAt o a (suc v) l) → (0 < writes_in n emitted o v) ⊎ (writes_in n emitted o v ≤ 0)
+        → (u j k : ℕ) × At (emitted.logs u) j (EnteredAt o Writing v k)
     made_by t i o v l a at (inl some) = trace_has_write_if_counted n emitted o v some
-    made_by t i o v l a at (inr no_one) = absurd (broken t i (In o a (suc v) l) at Unmade record {
+    made_by t i o v l a at (inr no_one) = absurd (broken t i (EnteredAt o a (suc v) l) at Unmade record {
       object = o;
       access = a;
       version = v;
@@ -243,21 +243,21 @@ coherent_if_no_cause_by_counts n emitted of none = record {
     twice_not : (t i : ℕ) (m : Label) → At (emitted.logs t) i m → IsTwice emitted t i → ⊥
     twice_not t i m at two = broken t i m at Twice (unmade_not t i m at, two)
 
-    one_by : (t i u j o v l k : ℕ) → At (emitted.logs t) i (In o Writing v l) → At (emitted.logs u) j (In o Writing v k) → (t ≡ u) ⊎ (t ≡ u → ⊥)
+    one_by : (t i u j o v l k : ℕ) → At (emitted.logs t) i (EnteredAt o Writing v l) → At (emitted.logs u) j (EnteredAt o Writing v k) → (t ≡ u) ⊎ (t ≡ u → ⊥)
         → (i ≡ j) ⊎ (i ≡ j → ⊥) → (t ≡ u) × (i ≡ j)
     one_by t i u j o v l k at bt (inl e) (inl f) = (e, f)
     one_by t i u j o v l k at bt (inl e) (inr ne) =
-        absurd (twice_not t i (In o Writing v l) at
+        absurd (twice_not t i (EnteredAt o Writing v l) at
         record { object = o; version = v; left = l; entry = at; thread = u; event = j; others_left = k; another = bt; apart = λ _. ne })
-    one_by t i u j o v l k at bt (inr ne) f = absurd (twice_not t i (In o Writing v l) at
+    one_by t i u j o v l k at bt (inr ne) f = absurd (twice_not t i (EnteredAt o Writing v l) at
         record { object = o; version = v; left = l; entry = at; thread = u; event = j; others_left = k; another = bt; apart = λ e _. ne e })
 
-    readers_by : (t i o v l : ℕ) → At (emitted.logs t) i (In o Writing v l) → (l ≡ reads_in n emitted o v) ⊎ (l ≡ reads_in n emitted o v → ⊥)
+    readers_by : (t i o v l : ℕ) → At (emitted.logs t) i (EnteredAt o Writing v l) → (l ≡ reads_in n emitted o v) ⊎ (l ≡ reads_in n emitted o v → ⊥)
         → l ≡ reads_in n emitted o v
     readers_by t i o v l at (inl e) = e
-    readers_by t i o v l at (inr ne) = absurd (broken t i (In o Writing v l) at Readers (
-      unmade_not t i (In o Writing v l) at,
-      twice_not t i (In o Writing v l) at,
+    readers_by t i o v l at (inr ne) = absurd (broken t i (EnteredAt o Writing v l) at Readers (
+      unmade_not t i (EnteredAt o Writing v l) at,
+      twice_not t i (EnteredAt o Writing v l) at,
       record { object = o; version = v; left = l; entry = at; other = ne },
     ))
 

@@ -2,7 +2,7 @@
 use Rattle.std.proofs.Common.{◌≡◌, ℕ, suc, zero, ◌+◌, ◌*◌, ◌<◌, ◌≤◌, Bool, true, false, cond, eqb, List, [], ◌∷◌, ◌++◌, length, map, take, get_or, refl, sym, ap, ◌∙◌, subst, arith, add-one}
 use Rattle.std.proofs.lemmas.List.{take_more, map-append}
 use Rattle.ir_thread.specs.State.{most_events}
-use Rattle.ir_runs.specs.Machine.{Label, Quiet, Answer, In, Refused, Out}
+use Rattle.ir_runs.specs.Machine.{Label, Quiet, Answer, EnteredAt, FailedTry, LeftAt}
 use Rattle.ir_runs.specs.declared.access.Access.TheVariants.{Reading, Writing}
 use Rattle.ir_log.specs.Logging.{label_of}
 use Rattle.ir_log.specs.declared.event.Event.{Event}
@@ -26,18 +26,18 @@ nested_condition_at_most_one false d = omega arith
 reads_one_at_most_one : (o v : ℕ) (m : Label) → reads_one o v m ≤ 1
 reads_one_at_most_one o v Quiet = omega arith
 reads_one_at_most_one o v (Answer k x) = omega arith
-reads_one_at_most_one o v (In p Reading w l) = nested_condition_at_most_one (eqb p o) (eqb w v)
-reads_one_at_most_one o v (In p Writing w l) = omega arith
-reads_one_at_most_one o v (Refused p) = omega arith
-reads_one_at_most_one o v (Out p a w) = omega arith
+reads_one_at_most_one o v (EnteredAt p Reading w l) = nested_condition_at_most_one (eqb p o) (eqb w v)
+reads_one_at_most_one o v (EnteredAt p Writing w l) = omega arith
+reads_one_at_most_one o v (FailedTry p) = omega arith
+reads_one_at_most_one o v (LeftAt p a w) = omega arith
 
 writes_one_at_most_one : (o v : ℕ) (m : Label) → writes_one o v m ≤ 1
 writes_one_at_most_one o v Quiet = omega arith
 writes_one_at_most_one o v (Answer k x) = omega arith
-writes_one_at_most_one o v (In p Reading w l) = omega arith
-writes_one_at_most_one o v (In p Writing w l) = nested_condition_at_most_one (eqb p o) (eqb w v)
-writes_one_at_most_one o v (Refused p) = omega arith
-writes_one_at_most_one o v (Out p a w) = omega arith
+writes_one_at_most_one o v (EnteredAt p Reading w l) = omega arith
+writes_one_at_most_one o v (EnteredAt p Writing w l) = nested_condition_at_most_one (eqb p o) (eqb w v)
+writes_one_at_most_one o v (FailedTry p) = omega arith
+writes_one_at_most_one o v (LeftAt p a w) = omega arith
 
 pub reads_at_most_length : (o v : ℕ) (ks : List Label) → reads o v ks ≤ length ks
 reads_at_most_length o v [] = omega arith

@@ -1,6 +1,6 @@
 -- The events of a trace that break its coherence.
 use Rattle.std.specs.Prelude.{◌≡◌, ◌≢◌, ℕ, suc, ◌<◌, ◌⊎◌}
-use Rattle.ir_runs.specs.Machine.{In, Trace}
+use Rattle.ir_runs.specs.Machine.{EnteredAt, Trace}
 use Rattle.ir_runs.specs.declared.access.Access.{Access}
 use Rattle.ir_runs.specs.declared.access.Access.TheVariants.{Writing}
 use Rattle.ir_runs.specs.Verdicts.{reads, sum_below}
@@ -14,19 +14,19 @@ pub record IsUnmade (tr : Trace) (t i : ℕ) : Type 0 where
   pub access : Access
   pub version : ℕ
   pub left : ℕ
-  pub entry : At (tr.logs t) i (In object access (suc version) left)
-  pub unmade : (u j k : ℕ) → At (tr.logs u) j (In object Writing version k) → ⊥
+  pub entry : At (tr.logs t) i (EnteredAt object access (suc version) left)
+  pub unmade : (u j k : ℕ) → At (tr.logs u) j (EnteredAt object Writing version k) → ⊥
 
 -- event i of thread t is a write entry, and another write entry of the trace is at its version
 pub record IsTwice (tr : Trace) (t i : ℕ) : Type 0 where
   pub object : ℕ
   pub version : ℕ
   pub left : ℕ
-  pub entry : At (tr.logs t) i (In object Writing version left)
+  pub entry : At (tr.logs t) i (EnteredAt object Writing version left)
   pub thread : ℕ
   pub event : ℕ
   pub others_left : ℕ
-  pub another : At (tr.logs thread) event (In object Writing version others_left)
+  pub another : At (tr.logs thread) event (EnteredAt object Writing version others_left)
   pub apart : t ≡ thread → i ≡ event → ⊥
 
 -- event i of thread t is a write entry with another number of readers than there are read entries of its version in the n threads' logs
@@ -34,7 +34,7 @@ pub record IsMiscounted (n : ℕ) (tr : Trace) (t i : ℕ) : Type 0 where
   pub object : ℕ
   pub version : ℕ
   pub left : ℕ
-  pub entry : At (tr.logs t) i (In object Writing version left)
+  pub entry : At (tr.logs t) i (EnteredAt object Writing version left)
   pub other : left ≢ sum_below n (λ u. reads object version (tr.logs u))
 
 -- the first cause for which event i of thread t breaks coherence

@@ -3,7 +3,7 @@ use Rattle.std.specs.Prelude.{◌≡◌, ℕ, ◌+◌, ◌-◌, ◌^◌, ◌<◌
 use Rattle.std.specs.Option.{option_map_or}
 use Rattle.std.specs.List.{sum_by}
 use Rattle.std.specs.List.Sorted.{IsNonDecreasing}
-use Rattle.ir_runs.specs.Machine.{Label, Quiet, Answer, In, Refused, Out, Trace}
+use Rattle.ir_runs.specs.Machine.{Label, Quiet, Answer, EnteredAt, FailedTry, LeftAt, Trace}
 use Rattle.ir_runs.specs.declared.access.Access.TheVariants.{Reading, Writing}
 use Rattle.ir_log.specs.Logging.{label_of}
 use Rattle.ir_log.specs.declared.event.Event.{Event}
@@ -24,10 +24,10 @@ MayStand objects event = (profile : Profile) × IsEvent profile objects event
 abbrev pub writes_one : ℕ → ℕ → Label → ℕ
 writes_one o v Quiet = 0
 writes_one o v (Answer k x) = 0
-writes_one o v (In p Reading w l) = 0
-writes_one o v (In p Writing w l) = cond (eqb p o) (cond (eqb w v) 1 0) 0
-writes_one o v (Refused p) = 0
-writes_one o v (Out p a w) = 0
+writes_one o v (EnteredAt p Reading w l) = 0
+writes_one o v (EnteredAt p Writing w l) = cond (eqb p o) (cond (eqb w v) 1 0) 0
+writes_one o v (FailedTry p) = 0
+writes_one o v (LeftAt p a w) = 0
 
 -- how many of these are write entries of object o at version v
 abbrev pub writes_among : ℕ → ℕ → List Label → ℕ
@@ -51,13 +51,13 @@ nobody_made w o v = nat_lt 0 v && (w o (v - 1) == 0)
 abbrev pub cause_by : (ℕ → ℕ → ℕ) → (ℕ → ℕ → ℕ) → Label → Option Cause
 cause_by r w Quiet = None
 cause_by r w (Answer k x) = None
-cause_by r w (In o Reading v l) = if nobody_made w o v then Some Unmade else None
-cause_by r w (In o Writing v l) =
+cause_by r w (EnteredAt o Reading v l) = if nobody_made w o v then Some Unmade else None
+cause_by r w (EnteredAt o Writing v l) =
     if nobody_made w o v then Some Unmade else
     if nat_lt 1 (w o v) then Some Twice else
     if l == r o v then None else Some Readers
-cause_by r w (Refused o) = None
-cause_by r w (Out o a v) = None
+cause_by r w (FailedTry o) = None
+cause_by r w (LeftAt o a v) = None
 
 -- how often v occurs among these
 abbrev pub occurrences : ℕ → List ℕ → ℕ

@@ -9,7 +9,7 @@ use Rattle.ir_image.specs.Guest.{Guest, most_threads, object_count, object_words
 use Rattle.ir_image.specs.Bounds.{IsWord, IsGuest}
 use Rattle.ir_image.proofs.CallerLemmas.{guest_threads_at_most_limit, get_or_zero_of_padded_is_unchanged}
 use Rattle.ir_thread.specs.State.{most_events, thread_machine}
-use Rattle.ir_runs.specs.Machine.{Act, Silent, Result, Entry, Refusal, Exit, Load, Store, Never, Machine, Object, target, Admits, acted, emitted}
+use Rattle.ir_runs.specs.Machine.{Act, Silent, Replied, Entered, TryFailed, Left, Got, Stored, Never, Machine, Object, target, Admits, acted, emitted}
 use Rattle.ir_runs.specs.Run.{join_if}
 use Rattle.ir_runs.specs.declared.access.Access.{Access}
 use Rattle.ir_runs.specs.declared.access.Access.TheVariants.{Reading, Writing}
@@ -45,11 +45,11 @@ bit_of_true b e = ap bit_of e
 represents_within_after_act : {T : Type 0} (m : Machine T) (n k t : ℕ) (q : Act) (f : Fields) (b : Object) → t < n → Uses q (b.inside t) → Admits m q b
     → WriterIsAlone b.inside → RepresentsWithin n k f b → (g : Fields) × RepresentsWithin n (k + one_if_entry q) g (acted q t b)
 represents_within_after_act m n k t Silent f b lt use_is can alone l = absurd use_is
-represents_within_after_act m n k t (Result i v) f b lt use_is can alone l = absurd use_is
-represents_within_after_act m n k t (Refusal o) f b lt use_is can alone l = absurd use_is
+represents_within_after_act m n k t (Replied i v) f b lt use_is can alone l = absurd use_is
+represents_within_after_act m n k t (TryFailed o) f b lt use_is can alone l = absurd use_is
 represents_within_after_act m n k t Never f b lt use_is can alone l = absurd use_is
-represents_within_after_act m n k t (Load o i) f b lt use_is can alone l = (f, record { represents = l.represents; light = let w = l.light in omega (arith, w) })
-represents_within_after_act m n k t (Store o i w) f b lt use_is can alone l = (
+represents_within_after_act m n k t (Got o i) f b lt use_is can alone l = (f, record { represents = l.represents; light = let w = l.light in omega (arith, w) })
+represents_within_after_act m n k t (Stored o i w) f b lt use_is can alone l = (
   f,
   record {
     represents = record { version = l.represents.version; left = l.represents.left; inside = l.represents.inside };
@@ -57,7 +57,7 @@ represents_within_after_act m n k t (Store o i w) f b lt use_is can alone l = (
         omega (arith, z);
   },
 )
-represents_within_after_act m n k t (Entry o Reading v) f b lt use_is can alone l = (
+represents_within_after_act m n k t (Entered o Reading v) f b lt use_is can alone l = (
   entered Reading f,
   record {
     represents = record {
@@ -69,7 +69,7 @@ represents_within_after_act m n k t (Entry o Reading v) f b lt use_is can alone 
     light = let w = l.light in omega (arith, w);
   },
 )
-represents_within_after_act m n k t (Entry o Writing v) f b lt use_is can alone l = (
+represents_within_after_act m n k t (Entered o Writing v) f b lt use_is can alone l = (
   entered Writing f,
   record {
     represents = record {
@@ -81,7 +81,7 @@ represents_within_after_act m n k t (Entry o Writing v) f b lt use_is can alone 
     light = let w = l.light in let off = bit_of_false f.writer (writer_admitted_if_nobody_inside n f b.inside l.represents.inside can).0 in omega (arith, w, off);
   },
 )
-represents_within_after_act m n k t (Exit o Reading) f b lt use_is can alone l =
+represents_within_after_act m n k t (Left o Reading) f b lt use_is can alone l =
     let some_in : 0 < f.inside = inside_thread_can_leave n f b.inside t Reading lt use_is l.represents.inside in (
       left_by Reading f,
       record {
@@ -94,7 +94,7 @@ represents_within_after_act m n k t (Exit o Reading) f b lt use_is can alone l =
         light = let w = l.light in omega (arith, w, some_in);
       },
     )
-represents_within_after_act m n k t (Exit o Writing) f b lt use_is can alone l =
+represents_within_after_act m n k t (Left o Writing) f b lt use_is can alone l =
     let on = bit_of_true f.writer (inside_thread_can_leave n f b.inside t Writing lt use_is l.represents.inside) in (
       left_by Writing f,
       record {
@@ -150,13 +150,13 @@ HasSmallWords b = (i : ℕ) → b.words i < 2 ^ 32
 
 small_words_after_act : (q : Act) (t : ℕ) (b : Object) → Uses q (b.inside t) → HasSmallWords b → HasSmallWords (acted q t b)
 small_words_after_act Silent t b u h = h
-small_words_after_act (Result k v) t b u h = h
-small_words_after_act (Entry o a v) t b u h = h
-small_words_after_act (Refusal o) t b u h = h
-small_words_after_act (Exit o Reading) t b u h = h
-small_words_after_act (Exit o Writing) t b u h = h
-small_words_after_act (Load o i) t b u h = h
-small_words_after_act (Store o i w) t b u h = λ j. property_of_upd_by_cases b.words i w j (λ z. z < 2 ^ 32) (λ _. u.1) (λ _. h j)
+small_words_after_act (Replied k v) t b u h = h
+small_words_after_act (Entered o a v) t b u h = h
+small_words_after_act (TryFailed o) t b u h = h
+small_words_after_act (Left o Reading) t b u h = h
+small_words_after_act (Left o Writing) t b u h = h
+small_words_after_act (Got o i) t b u h = h
+small_words_after_act (Stored o i w) t b u h = λ j. property_of_upd_by_cases b.words i w j (λ z. z < 2 ^ 32) (λ _. u.1) (λ _. h j)
 small_words_after_act Never t b u h = h
 
 small_words_after_steps : {T : Type 0} (m : Machine T) (n count : ℕ) (f : ℕ → Object) (xs : List (ℕ × Shared)) → IsLegal m n count f xs
@@ -178,39 +178,39 @@ VersionWhileWriting t b v = b.inside t ≡ Some Writing → b.version ≡ v
 version_while_writing_after_own_act : {T : Type 0} (m : Machine T) (q : Act) (t v : ℕ) (b : Object) → Uses q (b.inside t) → VersionWhileWriting t b v
     → VersionWhileWriting t (acted q t b) (version_then (target q) (emitted q b) v)
 version_while_writing_after_own_act m Silent t v b u h = absurd u
-version_while_writing_after_own_act m (Result k w) t v b u h = absurd u
-version_while_writing_after_own_act m (Refusal o) t v b u h = absurd u
+version_while_writing_after_own_act m (Replied k w) t v b u h = absurd u
+version_while_writing_after_own_act m (TryFailed o) t v b u h = absurd u
 version_while_writing_after_own_act m Never t v b u h = absurd u
-version_while_writing_after_own_act m (Entry o Reading w) t v b u h = λ _. sym (ap (λ c. version_if c b.version v) (eq-eqb o o refl))
-version_while_writing_after_own_act m (Entry o Writing w) t v b u h = λ _. sym (ap (λ c. version_if c b.version v) (eq-eqb o o refl))
-version_while_writing_after_own_act m (Exit o Reading) t v b u h = λ is. absurd (cc (sym (upd_at_own_place b.inside t None) ∙ is))
-version_while_writing_after_own_act m (Exit o Writing) t v b u h = λ is. absurd (cc (sym (upd_at_own_place b.inside t None) ∙ is))
-version_while_writing_after_own_act m (Load o i) t v b u h = h
-version_while_writing_after_own_act m (Store o i w) t v b u h = h
+version_while_writing_after_own_act m (Entered o Reading w) t v b u h = λ _. sym (ap (λ c. version_if c b.version v) (eq-eqb o o refl))
+version_while_writing_after_own_act m (Entered o Writing w) t v b u h = λ _. sym (ap (λ c. version_if c b.version v) (eq-eqb o o refl))
+version_while_writing_after_own_act m (Left o Reading) t v b u h = λ is. absurd (cc (sym (upd_at_own_place b.inside t None) ∙ is))
+version_while_writing_after_own_act m (Left o Writing) t v b u h = λ is. absurd (cc (sym (upd_at_own_place b.inside t None) ∙ is))
+version_while_writing_after_own_act m (Got o i) t v b u h = h
+version_while_writing_after_own_act m (Stored o i w) t v b u h = h
 
 -- a step of another thread's on the object
 version_while_writing_after_other_act : {T : Type 0} (m : Machine T) (q : Act) (t u v : ℕ) (b : Object) → Uses q (b.inside u) → WriterIsAlone b.inside → t ≢ u → VersionWhileWriting t b v
     → VersionWhileWriting t (acted q u b) v
 version_while_writing_after_other_act m Silent t u v b s a ne h = absurd s
-version_while_writing_after_other_act m (Result k w) t u v b s a ne h = absurd s
-version_while_writing_after_other_act m (Refusal o) t u v b s a ne h = absurd s
+version_while_writing_after_other_act m (Replied k w) t u v b s a ne h = absurd s
+version_while_writing_after_other_act m (TryFailed o) t u v b s a ne h = absurd s
 version_while_writing_after_other_act m Never t u v b s a ne h = absurd s
-version_while_writing_after_other_act m (Entry o c w) t u v b s a ne h = λ is. h (sym (upd_at_other_place b.inside u t (Some c) ne) ∙ is)
-version_while_writing_after_other_act m (Exit o Reading) t u v b s a ne h = λ is. h (sym (upd_at_other_place b.inside u t None ne) ∙ is)
-version_while_writing_after_other_act m (Exit o Writing) t u v b s a ne h = λ is. absurd (cc (sym (upd_at_other_place b.inside u t None ne) ∙ is, a u t (λ e. ne (sym e)) s))
-version_while_writing_after_other_act m (Load o i) t u v b s a ne h = h
-version_while_writing_after_other_act m (Store o i w) t u v b s a ne h = h
+version_while_writing_after_other_act m (Entered o c w) t u v b s a ne h = λ is. h (sym (upd_at_other_place b.inside u t (Some c) ne) ∙ is)
+version_while_writing_after_other_act m (Left o Reading) t u v b s a ne h = λ is. h (sym (upd_at_other_place b.inside u t None ne) ∙ is)
+version_while_writing_after_other_act m (Left o Writing) t u v b s a ne h = λ is. absurd (cc (sym (upd_at_other_place b.inside u t None ne) ∙ is, a u t (λ e. ne (sym e)) s))
+version_while_writing_after_other_act m (Got o i) t u v b s a ne h = h
+version_while_writing_after_other_act m (Stored o i w) t u v b s a ne h = h
 
 -- what is reported of another object
 version_unchanged_by_other_object : (q : Act) (b : Object) (o v : ℕ) → o ≢ target q → version_then o (emitted q b) v ≡ v
 version_unchanged_by_other_object Silent b o v ne = refl
-version_unchanged_by_other_object (Result k w) b o v ne = refl
-version_unchanged_by_other_object (Entry p Reading w) b o v ne = ap (λ c. version_if c b.version v) (ne_eqb o p ne)
-version_unchanged_by_other_object (Entry p Writing w) b o v ne = ap (λ c. version_if c b.version v) (ne_eqb o p ne)
-version_unchanged_by_other_object (Refusal p) b o v ne = refl
-version_unchanged_by_other_object (Exit p a) b o v ne = refl
-version_unchanged_by_other_object (Load p i) b o v ne = refl
-version_unchanged_by_other_object (Store p i w) b o v ne = refl
+version_unchanged_by_other_object (Replied k w) b o v ne = refl
+version_unchanged_by_other_object (Entered p Reading w) b o v ne = ap (λ c. version_if c b.version v) (ne_eqb o p ne)
+version_unchanged_by_other_object (Entered p Writing w) b o v ne = ap (λ c. version_if c b.version v) (ne_eqb o p ne)
+version_unchanged_by_other_object (TryFailed p) b o v ne = refl
+version_unchanged_by_other_object (Left p a) b o v ne = refl
+version_unchanged_by_other_object (Got p i) b o v ne = refl
+version_unchanged_by_other_object (Stored p i w) b o v ne = refl
 version_unchanged_by_other_object Never b o v ne = refl
 
 version_while_writing_after_steps : {T : Type 0} (m : Machine T) (n count : ℕ) (f : ℕ → Object) (xs : List (ℕ × Shared)) (t o v : ℕ) → IsLegal m n count f xs

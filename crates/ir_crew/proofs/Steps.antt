@@ -11,7 +11,7 @@ use Rattle.atomic_table.specs.Table.{Step, step, stepped, keeps, Allows}
 use Rattle.atomic_table.proofs.Lists.{at_set, set_again}
 use Rattle.ir_image.specs.Guest.{Guest, most_threads, object_count, most_object_words}
 use Rattle.ir_thread.specs.State.{most_events, thread_machine}
-use Rattle.ir_runs.specs.Machine.{Entry, Exit, Store, upd, Object, target, Admits, acted, reply, emitted, Label}
+use Rattle.ir_runs.specs.Machine.{Entered, Left, Stored, upd, Object, target, Admits, acted, reply, emitted, Label}
 use Rattle.ir_runs.specs.declared.access.Access.TheVariants.{Reading, Writing}
 use Rattle.ir_object.specs.Standing.{Admitted}
 use Rattle.ir_object.specs.Layout.{word_place, content_place}
@@ -271,9 +271,9 @@ read_entry_is_allowed g slots id o old me alone lt room outside free =
         uses = out;
         admits = no_writer_if_reader_admitted n (fields_of old) b.inside a.represents.inside free;
         answers = refl;
-        represents = λ i. Rattle.ir_runs.specs.Machine.In o Reading (sym a.represents.version i) 0;
+        represents = λ i. Rattle.ir_runs.specs.Machine.EnteredAt o Reading (sym a.represents.version i) 0;
       };
-      represents = subst (λ f. Represents n f (acted (Entry o Reading 0) t b))
+      represents = subst (λ f. Represents n f (acted (Entered o Reading 0) t b))
           (sym (fields_after_reader_entry old free (let few = a.narrow in omega (arith, few))))
           (record {
             version = a.represents.version;
@@ -296,9 +296,9 @@ write_entry_is_allowed g slots id o old me alone lt room free =
         uses = nobody t;
         admits = nobody;
         answers = refl;
-        represents = λ i. Rattle.ir_runs.specs.Machine.In o Writing (sym a.represents.version i) (sym a.represents.left i);
+        represents = λ i. Rattle.ir_runs.specs.Machine.EnteredAt o Writing (sym a.represents.version i) (sym a.represents.left i);
       };
-      represents = subst (λ f. Represents n f (acted (Entry o Writing 0) t b)) (sym (fields_after_writer_entry old free))
+      represents = subst (λ f. Represents n f (acted (Entered o Writing 0) t b)) (sym (fields_after_writer_entry old free))
           (record {
             version = a.represents.version;
             left = a.represents.left;
@@ -320,9 +320,9 @@ try_exchange_is_allowed_if_writer_admitted g slots id o old me alone lt room fre
         uses = nobody t;
         admits = nobody;
         answers = refl;
-        represents = λ i. Rattle.ir_runs.specs.Machine.In o Writing (sym a.represents.version i) (sym a.represents.left i);
+        represents = λ i. Rattle.ir_runs.specs.Machine.EnteredAt o Writing (sym a.represents.version i) (sym a.represents.left i);
       };
-      represents = subst (λ f. Represents n f (acted (Entry o Writing 1) t b)) (sym (fields_after_writer_entry old free))
+      represents = subst (λ f. Represents n f (acted (Entered o Writing 1) t b)) (sym (fields_after_writer_entry old free))
           (record {
             version = a.represents.version;
             left = a.represents.left;
@@ -367,7 +367,7 @@ read_leave_is_allowed g slots id o me alone lt inside = word_change_is_allowed g
     let is : b.inside t ≡ Some Reading = a.inside ∙ inside in
     let some_in : 0 < (fields_of w).inside = inside_thread_can_leave n (fields_of w) b.inside t Reading a.thread is a.represents.inside in record {
       may = record { uses = is; admits = tt; answers = refl; represents = refl };
-      represents = subst (λ f. Represents n f (acted (Exit o Reading) t b))
+      represents = subst (λ f. Represents n f (acted (Left o Reading) t b))
           (sym (fields_after_reader_leave w some_in (left_below_limit_if_weight_is_bounded w a.light) (let v = version_within_weight_limit w a.light in omega (arith, v)))) (record {
             version = a.represents.version;
             left = let e = a.represents.left in omega (arith, e);
@@ -388,7 +388,7 @@ write_leave_is_allowed g slots id o v me alone lt inside version =
     let n : ℕ = length g.entries in
     let is : b.inside t ≡ Some Writing = a.inside ∙ inside in record {
       may = record { uses = is; admits = tt; answers = refl; represents = refl };
-      represents = subst (λ f. Represents n f (acted (Exit o Writing) t b))
+      represents = subst (λ f. Represents n f (acted (Left o Writing) t b))
           (sym (fields_after_writer_leave v (fields_of w) (a.represents.version ∙ a.version is ∙ sym version))) (record {
             version = let e = a.represents.version in omega (arith, e);
             left = refl;
@@ -454,7 +454,7 @@ put_is_allowed g slots id o i v (q ∷ [], c) alone lt small fit inside x k home
       kept_with_step_added g x k id q.thread o q.steps (Put i v) at lt
           (record { uses = (small, fit, a.inside ∙ inside); admits = tt; answers = refl; represents = refl }) (omega (arith, few))
           (set x.words (content_place o i) v) x.homes
-          (table_after_content_word_set (length g.entries) (object_count g) now x.words o i v (acted (Store o i v) q.thread b) k.table lt small
+          (table_after_content_word_set (length g.entries) (object_count g) now x.words o i v (acted (Stored o i v) q.thread b) k.table lt small
           (record { version = a.represents.version; left = a.represents.left; inside = a.represents.inside }) refl),
       (λ j. (did (q ∷ []) (sym (object_of_content_place o i small) j) (Put (sym (index_of_content_place o i small) j) v), c)),
     )

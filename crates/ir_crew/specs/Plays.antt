@@ -1,7 +1,7 @@
 -- What each step of the table emits the seat that takes it.
 use Rattle.std.specs.Prelude.{◌≡◌, ◌≢◌, ℕ, ◌-◌, ◌/◌, ◌%◌, ◌^◌, ◌<◌, Bool, true, false, eqb, List, [], ◌∷◌, ◌++◌, map, Option, Some, None}
 use Rattle.atomic_table.specs.Table.{Me, Step}
-use Rattle.ir_runs.specs.Machine.{Label, Quiet, Answer, In, Refused, Out}
+use Rattle.ir_runs.specs.Machine.{Label, Quiet, Answer, EnteredAt, FailedTry, LeftAt}
 use Rattle.ir_runs.specs.declared.access.Access.{Access}
 use Rattle.ir_runs.specs.declared.access.Access.TheVariants.{Reading, Writing}
 use Rattle.ir_object.specs.Layout.{apart, word_place, content_place}
@@ -40,9 +40,9 @@ version_if false w v = v
 abbrev pub version_then : ℕ → Label → ℕ → ℕ
 version_then o Quiet v = v
 version_then o (Answer k w) v = v
-version_then o (In p a w l) v = version_if (eqb o p) w v
-version_then o (Refused p) v = v
-version_then o (Out p a w) v = v
+version_then o (EnteredAt p a w l) v = version_if (eqb o p) w v
+version_then o (FailedTry p) v = v
+version_then o (LeftAt p a w) v = v
 
 -- the version at which a thread entered object o last, by its own labels
 abbrev pub entered_at : ℕ → ℕ → List Label → ℕ

@@ -6,7 +6,7 @@ use Rattle.atomic_table.specs.Table.{State}
 use Rattle.ir_image.specs.Guest.{Guest, object_count, most_object_words, first_words}
 use Rattle.ir_image.specs.Bounds.{IsGuest}
 use Rattle.ir_thread.specs.State.{most_events, thread_machine}
-use Rattle.ir_runs.specs.Machine.{Act, Silent, Result, Entry, Refusal, Exit, Load, Store, Never, Object, Label, Quiet, In, Out}
+use Rattle.ir_runs.specs.Machine.{Act, Silent, Replied, Entered, TryFailed, Left, Got, Stored, Never, Object, Label, Quiet, EnteredAt, LeftAt}
 use Rattle.ir_runs.specs.declared.access.Access.TheVariants.{Writing}
 use Rattle.ir_object.specs.Cell.{Counts}
 use Rattle.ir_object.specs.Layout.{word_place, content_place, table_length}
@@ -24,17 +24,17 @@ View = List Track
 
 -- what the deed does to object o, and its answer; a try that entered is answered 1
 abbrev pub shared_by : ℕ → Deed → Shared
-shared_by o (Enter a v l) = (Entry o a 0, 0)
-shared_by o (Try v l) = (Entry o Writing 1, 1)
-shared_by o (Leave a v) = (Exit o a, 0)
-shared_by o (Get i w) = (Load o i, w)
-shared_by o (Put i w) = (Store o i w, 0)
+shared_by o (Enter a v l) = (Entered o a 0, 0)
+shared_by o (Try v l) = (Entered o Writing 1, 1)
+shared_by o (Leave a v) = (Left o a, 0)
+shared_by o (Get i w) = (Got o i, w)
+shared_by o (Put i w) = (Stored o i w, 0)
 
 -- what it emits
 abbrev pub label_by : ℕ → Deed → Label
-label_by o (Enter a v l) = In o a v l
-label_by o (Try v l) = In o Writing v l
-label_by o (Leave a v) = Out o a v
+label_by o (Enter a v l) = EnteredAt o a v l
+label_by o (Try v l) = EnteredAt o Writing v l
+label_by o (Leave a v) = LeftAt o a v
 label_by o (Get i w) = Quiet
 label_by o (Put i w) = Quiet
 
@@ -47,12 +47,12 @@ label_of e = label_by e.object e.deed
 -- 1 for an entry
 abbrev pub one_if_entry : Act → ℕ
 one_if_entry Silent = 0
-one_if_entry (Result k v) = 0
-one_if_entry (Entry o a v) = 1
-one_if_entry (Refusal o) = 0
-one_if_entry (Exit o a) = 0
-one_if_entry (Load o i) = 0
-one_if_entry (Store o i w) = 0
+one_if_entry (Replied k v) = 0
+one_if_entry (Entered o a v) = 1
+one_if_entry (TryFailed o) = 0
+one_if_entry (Left o a) = 0
+one_if_entry (Got o i) = 0
+one_if_entry (Stored o i w) = 0
 one_if_entry Never = 0
 
 -- how many of the object steps are entries

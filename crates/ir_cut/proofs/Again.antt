@@ -1,7 +1,7 @@
 -- A guest with a trace has one run, up to the order of the steps.
 use Rattle.std.proofs.Common.{◌≡◌, ℕ, zero, suc, ◌<◌, ◌≤◌, ◌^◌, List, [], ◌∷◌, length, sym, ap, ◌∙◌, subst, arith, inl, inr}
 use Rattle.std.proofs.lemmas.Bool.{cases_lt}
-use Rattle.ir_runs.specs.Machine.{Label, Quiet, Answer, In, Refused, Out}
+use Rattle.ir_runs.specs.Machine.{Label, Quiet, Answer, EnteredAt, FailedTry, LeftAt}
 use Rattle.ir_runs.specs.declared.access.Access.{Access}
 use Rattle.ir_thread.proofs.CallerLemmas.{thread_machine_is_lawful}
 use Rattle.ir_runs.specs.Run.{Step, trail, count, events, At, Emits}
@@ -23,9 +23,9 @@ use Rattle.ir_cut.specs.Positions.{machine_of, start_of}
 abbrev version_of_label : Label → ℕ
 version_of_label Quiet = 0
 version_of_label (Answer k x) = 0
-version_of_label (In o a v l) = v
-version_of_label (Refused o) = 0
-version_of_label (Out o a v) = 0
+version_of_label (EnteredAt o a v l) = v
+version_of_label (FailedTry o) = 0
+version_of_label (LeftAt o a v) = 0
 
 -- what is kept of one run is kept of each
 unfoldable pub has_run_with_given_run_if_has_some_run : (f : FittedTrace) → HasRun f → (run : List Step) → IsRunOf f.guest f.recorded run → HasRun f
@@ -47,24 +47,24 @@ emitting_step_below_count f run t i k emitted = (get_or_is_item_if_at_index (tra
 
 -- ---- what is reported by an entry is in the trace
 
-entry_event_version_is_word : (profile : Profile) (objects : ℕ) (x : Event) (o : ℕ) (a : Access) (v l : ℕ) → IsEvent profile objects x → label_of x ≡ In o a v l → v < 2 ^ 32
+entry_event_version_is_word : (profile : Profile) (objects : ℕ) (x : Event) (o : ℕ) (a : Access) (v l : ℕ) → IsEvent profile objects x → label_of x ≡ EnteredAt o a v l → v < 2 ^ 32
 entry_event_version_is_word profile objects (Result kind value) o a v l h e = absurd (cc e)
 entry_event_version_is_word profile objects (Try p) o a v l h e = absurd (cc e)
 entry_event_version_is_word profile objects (Read p w) o a v l h e = subst (λ z. z < 2 ^ 32) (ap version_of_label e) h.1
 entry_event_version_is_word profile objects (Write p w n) o a v l h e = subst (λ z. z < 2 ^ 32) (ap version_of_label e) h.1
 
 listed_entry_event_version_is_word : (profile : Profile) (objects : ℕ) (es : List Event) → AllByRecursion (IsEvent profile objects) es → (e : ℕ) (x : Event) (o : ℕ) (a : Access) (v l : ℕ)
-    → At es e x → label_of x ≡ In o a v l → v < 2 ^ 32
+    → At es e x → label_of x ≡ EnteredAt o a v l → v < 2 ^ 32
 listed_entry_event_version_is_word profile objects [] all e x o a v l h is = absurd h
 listed_entry_event_version_is_word profile objects (y ∷ es) all zero x o a v l h is = entry_event_version_is_word profile objects y o a v l all.0 (ap label_of h ∙ is)
 listed_entry_event_version_is_word profile objects (y ∷ es) all (suc e) x o a v l h is = listed_entry_event_version_is_word profile objects es all.1 e x o a v l h is
 
 -- a version that is entered is a word
 pub entered_version_is_word : (f : FittedTrace) → HasRun f → IsRecorded f.recorded → (run : List Step) → IsRunOf f.guest f.recorded run
-    → (t i o : ℕ) (a : Access) (v l : ℕ) → Emits (machine_of f) (start_of f) run t i (In o a v l) → v < 2 ^ 32
+    → (t i o : ℕ) (a : Access) (v l : ℕ) → Emits (machine_of f) (start_of f) run t i (EnteredAt o a v l) → v < 2 ^ 32
 unfolding has_run_with_given_run_if_has_some_run
 entered_version_is_word f h recorded run is t i o a v l emitted =
-    let there : t < length f.guest.entries = emitting_thread_index_is_below_thread_count f h run is t i (In o a v l) emitted in
+    let there : t < length f.guest.entries = emitting_thread_index_is_below_thread_count f h run is t i (EnteredAt o a v l) emitted in
     let es : List Event = (recorded_thread f.recorded t).events in
     let e = entry_step_is_of_event f (has_run_with_given_run_if_has_some_run f h run is) t i o a v l emitted in
     let d : Event = Read 0 0 in

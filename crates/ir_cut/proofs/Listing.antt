@@ -9,7 +9,7 @@ use Rattle.ir_fit.proofs.CallerLemmas as kept
 use Rattle.ir_fit.proofs.CallerLemmas.{length_of_placed_is_threads, emitting_thread_is_guest_thread, event_positions_are_as_many_as_events, step_at_event_position_emits_event, entry_step_is_of_event, step_of_leave_emits_leave, emitted_leave_is_placed}
 use Rattle.ir_cut.proofs.Again.{has_run_with_given_run_if_has_some_run}
 use Rattle.std.specs.Prelude.{slice_get}
-use Rattle.ir_runs.specs.Machine.{In, Out}
+use Rattle.ir_runs.specs.Machine.{EnteredAt, LeftAt}
 use Rattle.ir_runs.specs.declared.access.Access.{Access}
 use Rattle.ir_runs.specs.Run.{Step, Emits}
 use Rattle.ir_log.specs.Logging.{label_of}
@@ -26,14 +26,14 @@ pub record IsListed (f : FittedTrace) (run : List Step) : Type 0 where
   pub sizes : (t : ℕ) → t < length f.guest.entries → length (placed_at (placed_of f) t).entries ≡ length (recorded_thread f.recorded t).events
   pub event : (t e i : ℕ) (x : Event) → t < length f.guest.entries → slice_get (recorded_thread f.recorded t).events e ≡ Some x
       → slice_get (placed_at (placed_of f) t).entries e ≡ Some i → Emits (machine_of f) (start_of f) run t i (label_of x)
-  pub entry : (t i o : ℕ) (a : Access) (v l : ℕ) → Emits (machine_of f) (start_of f) run t i (In o a v l) → (e : ℕ) × (x : Event)
+  pub entry : (t i o : ℕ) (a : Access) (v l : ℕ) → Emits (machine_of f) (start_of f) run t i (EnteredAt o a v l) → (e : ℕ) × (x : Event)
       × (slice_get (placed_at (placed_of f) t).entries e ≡ Some i) × (slice_get (recorded_thread f.recorded t).events e ≡ Some x)
-      × (label_of x ≡ In o a v l)
+      × (label_of x ≡ EnteredAt o a v l)
   pub rise : (t e d i j : ℕ) → t < length f.guest.entries → e < d → slice_get (placed_at (placed_of f) t).entries e ≡ Some i
       → slice_get (placed_at (placed_of f) t).entries d ≡ Some j → i < j
   pub left : (t e : ℕ) (l : Leave) → t < length f.guest.entries → slice_get (placed_at (placed_of f) t).leaves e ≡ Some l
-      → Emits (machine_of f) (start_of f) run t l.position (Out l.object l.access l.version)
-  pub leave : (t i o : ℕ) (a : Access) (v : ℕ) → Emits (machine_of f) (start_of f) run t i (Out o a v) → (e : ℕ)
+      → Emits (machine_of f) (start_of f) run t l.position (LeftAt l.object l.access l.version)
+  pub leave : (t i o : ℕ) (a : Access) (v : ℕ) → Emits (machine_of f) (start_of f) run t i (LeftAt o a v) → (e : ℕ)
       × (slice_get (placed_at (placed_of f) t).leaves e ≡ Some (record { position = i; object = o; access = a; version = v }))
   pub fall : (t e d : ℕ) (l r : Leave) → t < length f.guest.entries → e < d → slice_get (placed_at (placed_of f) t).leaves e ≡ Some l
       → slice_get (placed_at (placed_of f) t).leaves d ≡ Some r → l.position < r.position
@@ -51,7 +51,7 @@ run_of_trace_is_listed f h run is =
           (subst (λ j. Emits (machine_of f) (start_of f) run t j (label_of (slice_index_or (recorded_thread f.recorded t).events e x)))
           (get_or_from_slice_get (placed_at (placed_of f) t).entries e i 0 place) (step_at_event_position_emits_event f k t there e x inside));
       entry = λ t i o a v l emitted.
-          let there = emitting_thread_is_guest_thread f k t i (In o a v l) emitted in
+          let there = emitting_thread_is_guest_thread f k t i (EnteredAt o a v l) emitted in
           let d : Event = Read 0 0 in
           let e = entry_step_is_of_event f k t i o a v l emitted in
           let inside = e.1 in
@@ -70,7 +70,7 @@ run_of_trace_is_listed f h run is =
           omega (arith, up, low, high);
       left = λ t e l there at.
           let inside = slice_get_within (placed_at (placed_of f) t).leaves e l at in
-          subst (λ z. Emits (machine_of f) (start_of f) run t z.position (Out z.object z.access z.version))
+          subst (λ z. Emits (machine_of f) (start_of f) run t z.position (LeftAt z.object z.access z.version))
           (get_or_from_slice_get (placed_at (placed_of f) t).leaves e l l at) (step_of_leave_emits_leave f k t there e l inside);
       leave = λ t i o a v emitted.
           let e = emitted_leave_is_placed f k t i o a v emitted in

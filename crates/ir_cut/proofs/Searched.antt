@@ -5,7 +5,7 @@ use Rattle.std.specs.List.{slice_index_or}
 use Rattle.std.proofs.lemmas.Bool.{cases_eq, cases_lt}
 use Rattle.std.proofs.lemmas.List.{get_or_past}
 use Rattle.std.proofs.lemmas.Option.{slice_get_within, slice_get-get_or, get_or_from_slice_get}
-use Rattle.ir_runs.specs.Machine.{Label, Quiet, Answer, In, Refused, Out}
+use Rattle.ir_runs.specs.Machine.{Label, Quiet, Answer, EnteredAt, FailedTry, LeftAt}
 use Rattle.ir_runs.specs.declared.access.Access.{Access}
 use Rattle.ir_runs.specs.declared.access.Access.TheVariants.{Reading, Writing}
 use Rattle.ir_runs.specs.Run.{Step, count, Emits, IsNeededBy, Cut, IsCut, Consistent, IsLeast, IsGreatest}
@@ -27,38 +27,38 @@ pub record IsEntryLabel (k : Label) : Type 0 where
   pub access : Access
   pub version : ℕ
   pub left : ℕ
-  pub is : k ≡ In object access version left
+  pub is : k ≡ EnteredAt object access version left
 
 pub needing_label_is_entry : (b a : Label) → IsNeededBy b a → IsEntryLabel a
-needing_label_is_entry (Out o Writing w) (In p c v l) h = record { object = p; access = c; version = v; left = l; is = refl }
-needing_label_is_entry (Out o Writing w) Quiet h = absurd h
-needing_label_is_entry (Out o Writing w) (Answer k x) h = absurd h
-needing_label_is_entry (Out o Writing w) (Refused p) h = absurd h
-needing_label_is_entry (Out o Writing w) (Out p c v) h = absurd h
-needing_label_is_entry (Out o Reading w) (In p Writing v l) h = record { object = p; access = Writing; version = v; left = l; is = refl }
-needing_label_is_entry (Out o Reading w) (In p Reading v l) h = absurd h
-needing_label_is_entry (Out o Reading w) Quiet h = absurd h
-needing_label_is_entry (Out o Reading w) (Answer k x) h = absurd h
-needing_label_is_entry (Out o Reading w) (Refused p) h = absurd h
-needing_label_is_entry (Out o Reading w) (Out p c v) h = absurd h
+needing_label_is_entry (LeftAt o Writing w) (EnteredAt p c v l) h = record { object = p; access = c; version = v; left = l; is = refl }
+needing_label_is_entry (LeftAt o Writing w) Quiet h = absurd h
+needing_label_is_entry (LeftAt o Writing w) (Answer k x) h = absurd h
+needing_label_is_entry (LeftAt o Writing w) (FailedTry p) h = absurd h
+needing_label_is_entry (LeftAt o Writing w) (LeftAt p c v) h = absurd h
+needing_label_is_entry (LeftAt o Reading w) (EnteredAt p Writing v l) h = record { object = p; access = Writing; version = v; left = l; is = refl }
+needing_label_is_entry (LeftAt o Reading w) (EnteredAt p Reading v l) h = absurd h
+needing_label_is_entry (LeftAt o Reading w) Quiet h = absurd h
+needing_label_is_entry (LeftAt o Reading w) (Answer k x) h = absurd h
+needing_label_is_entry (LeftAt o Reading w) (FailedTry p) h = absurd h
+needing_label_is_entry (LeftAt o Reading w) (LeftAt p c v) h = absurd h
 needing_label_is_entry Quiet a h = absurd h
 needing_label_is_entry (Answer k x) a h = absurd h
-needing_label_is_entry (In p c v l) a h = absurd h
-needing_label_is_entry (Refused p) a h = absurd h
+needing_label_is_entry (EnteredAt p c v l) a h = absurd h
+needing_label_is_entry (FailedTry p) a h = absurd h
 
 -- and it needs a leave
 pub record IsLeaveLabel (k : Label) : Type 0 where
   pub object : ℕ
   pub access : Access
   pub version : ℕ
-  pub is : k ≡ Out object access version
+  pub is : k ≡ LeftAt object access version
 
 pub needed_label_is_leave : (b a : Label) → IsNeededBy b a → IsLeaveLabel b
-needed_label_is_leave (Out o c w) a h = record { object = o; access = c; version = w; is = refl }
+needed_label_is_leave (LeftAt o c w) a h = record { object = o; access = c; version = w; is = refl }
 needed_label_is_leave Quiet a h = absurd h
 needed_label_is_leave (Answer k x) a h = absurd h
-needed_label_is_leave (In p c v l) a h = absurd h
-needed_label_is_leave (Refused p) a h = absurd h
+needed_label_is_leave (EnteredAt p c v l) a h = absurd h
+needed_label_is_leave (FailedTry p) a h = absurd h
 
 -- ---- an element of a list
 
@@ -219,7 +219,7 @@ falling_at_start f run list ps qs next t k con there own rest each known =
       unmet = λ u e l past at.
           let less : u < length f.guest.entries = known u e l at in
           outside_smaller_cut_if_outside f run (Needing l) (cut_of ps) (cut_of qs) down
-          (steps_needing_step_outside_consistent_cut_are_outside f run (cut_of ps) con u l.position (Out l.object l.access l.version) (list.left u e l less at)
+          (steps_needing_step_outside_consistent_cut_are_outside f run (cut_of ps) con u l.position (LeftAt l.object l.access l.version) (list.left u e l less at)
           ((each u less).outside e l past at));
     }
 
@@ -233,7 +233,7 @@ falling_step f run list ps qs qs' next next' t k u x last r there was at far low
   reaches = let a = r.reaches in let b = lowered.below t in omega (arith, a, b);
   greatest = λ c cut con under reach.
       let high = r.greatest c cut con under reach in
-      lowered.greatest c high (steps_needing_step_outside_consistent_cut_are_outside f run c con u x.position (Out x.object x.access x.version) (list.left u last x there at)
+      lowered.greatest c high (steps_needing_step_outside_consistent_cut_are_outside f run c con u x.position (LeftAt x.object x.access x.version) (list.left u last x there at)
       (let a = high u in omega (arith, a, far)));
   unmet = λ w e l past says. elim (cases_eq w u) [
     | inr ne ↦ outside_smaller_cut_if_outside f run (Needing l) (cut_of qs) (cut_of qs') lowered.below (r.unmet w e l (omega (arith, past, rest w ne)) says)

@@ -3,7 +3,7 @@ use Rattle.std.proofs.Common.{◌≡◌, ℕ, ◌<◌, ◌⊎◌, ◌↔◌, Lis
 use Rattle.std.specs.Prelude.{slice_get}
 use Rattle.std.specs.List.{Contains}
 use Rattle.std.proofs.lemmas.Option.{slice_get_read, slice_get_within, get_or_from_slice_get}
-use Rattle.ir_runs.specs.Machine.{Label, In, Out}
+use Rattle.ir_runs.specs.Machine.{Label, EnteredAt, LeftAt}
 use Rattle.ir_runs.specs.declared.access.Access.{Access}
 use Rattle.ir_runs.specs.Run.{Step, count, Emits, Cut}
 use Rattle.ir_trace.specs.Bounds.{IsRecorded}
@@ -29,18 +29,18 @@ contains_place_if_slice_get_is_some ps i p e = (i, slice_get_within ps i p e, ge
 -- ---- the leaves and the entries of an object at a version
 
 pub places_are_of_leaves_if_only_and_all : (f : FittedTrace) → HasRun f → (o : ℕ) (a : Access) (v : ℕ) (ps : List Place) → OnlyLeaves f o a v ps
-    → AllLeaves f o a v ps → (run : List Step) → IsRunOf f.guest f.recorded run → ArePlacesOf f run (λ k. k ≡ Out o a v) ps
+    → AllLeaves f o a v ps → (run : List Step) → IsRunOf f.guest f.recorded run → ArePlacesOf f run (λ k. k ≡ LeftAt o a v) ps
 unfolding has_run_with_given_run_if_has_some_run
 places_are_of_leaves_if_only_and_all f h o a v ps only all run is = record {
-  only = λ p c. (Out o a v, refl, (only (has_run_with_given_run_if_has_some_run f h run is) p c).1);
+  only = λ p c. (LeftAt o a v, refl, (only (has_run_with_given_run_if_has_some_run f h run is) p c).1);
   all = λ t i k emits e. (v, all (has_run_with_given_run_if_has_some_run f h run is) t i (subst (Emits (machine_of f) (start_of f) run t i) e emits));
 }
 
 pub places_are_of_entries_if_only_and_all : (f : FittedTrace) → HasRun f → (o : ℕ) (a : Access) (v : ℕ) (ps : List Place) → OnlyEntries f o a v ps
-    → AllEntries f o a v ps → (run : List Step) → IsRunOf f.guest f.recorded run → ArePlacesOf f run (λ k. (l : ℕ) × (k ≡ In o a v l)) ps
+    → AllEntries f o a v ps → (run : List Step) → IsRunOf f.guest f.recorded run → ArePlacesOf f run (λ k. (l : ℕ) × (k ≡ EnteredAt o a v l)) ps
 unfolding has_run_with_given_run_if_has_some_run
 places_are_of_entries_if_only_and_all f h o a v ps only all run is = record {
-  only = λ p c. let e = (only (has_run_with_given_run_if_has_some_run f h run is) p c).1 in (In o a v e.0, (e.0, refl), e.1);
+  only = λ p c. let e = (only (has_run_with_given_run_if_has_some_run f h run is) p c).1 in (EnteredAt o a v e.0, (e.0, refl), e.1);
   all = λ t i k emits e. (v, all (has_run_with_given_run_if_has_some_run f h run is) t i e.0 (subst (Emits (machine_of f) (start_of f) run t i) e.1 emits));
 }
 
@@ -161,32 +161,32 @@ no_lowering_needed_if_no_step_emits_label f run P none xs = record {
 pub leave_places_are_placed : (f : FittedTrace) → IsFitted f → (o : ℕ) (a : Access) (v : ℕ) (ps : List Place) → OnlyLeaves f o a v ps
     → AllLeaves f o a v ps → (n : ℕ) → n ≡ length f.guest.entries → ArePlaced n ps
 leave_places_are_placed f k o a v ps only all n size =
-    subst (λ z. ArePlaced z ps) (sym size) (places_of_steps_are_placed f k.run k.run.run k.run.whole k.within (λ b. b ≡ Out o a v) ps
+    subst (λ z. ArePlaced z ps) (sym size) (places_of_steps_are_placed f k.run k.run.run k.run.whole k.within (λ b. b ≡ LeftAt o a v) ps
     (places_are_of_leaves_if_only_and_all f k.run o a v ps only all k.run.run k.run.whole))
 
 pub entry_places_are_placed : (f : FittedTrace) → IsFitted f → (o : ℕ) (a : Access) (v : ℕ) (ps : List Place) → OnlyEntries f o a v ps
     → AllEntries f o a v ps → (n : ℕ) → n ≡ length f.guest.entries → ArePlaced n ps
 entry_places_are_placed f k o a v ps only all n size =
-    subst (λ z. ArePlaced z ps) (sym size) (places_of_steps_are_placed f k.run k.run.run k.run.whole k.within (λ b. (l : ℕ) × (b ≡ In o a v l)) ps
+    subst (λ z. ArePlaced z ps) (sym size) (places_of_steps_are_placed f k.run k.run.run k.run.whole k.within (λ b. (l : ℕ) × (b ≡ EnteredAt o a v l)) ps
     (places_are_of_entries_if_only_and_all f k.run o a v ps only all k.run.run k.run.whole))
 
 pub places_inside_iff_leaves_inside : (f : FittedTrace) → IsFitted f → (o : ℕ) (a : Access) (v : ℕ) (ps : List Place) → OnlyLeaves f o a v ps
     → AllLeaves f o a v ps → (xs : List ℕ)
-    → EachPlace ps (length ps) (λ p. p.position < cut_of xs p.thread) ↔ EachRun f (λ run. AreInside f run (λ b. b ≡ Out o a v) (cut_of xs))
+    → EachPlace ps (length ps) (λ p. p.position < cut_of xs p.thread) ↔ EachRun f (λ run. AreInside f run (λ b. b ≡ LeftAt o a v) (cut_of xs))
 places_inside_iff_leaves_inside f k o a v ps only all xs = (
-  (λ each run is. steps_inside_if_places_inside f run (λ b. b ≡ Out o a v) ps (places_are_of_leaves_if_only_and_all f k.run o a v ps only all run is) (cut_of xs) each),
-  (λ inside. places_inside_if_steps_inside f k.run.run (λ b. b ≡ Out o a v) ps (places_are_of_leaves_if_only_and_all f k.run o a v ps only all k.run.run k.run.whole) (cut_of xs)
+  (λ each run is. steps_inside_if_places_inside f run (λ b. b ≡ LeftAt o a v) ps (places_are_of_leaves_if_only_and_all f k.run o a v ps only all run is) (cut_of xs) each),
+  (λ inside. places_inside_if_steps_inside f k.run.run (λ b. b ≡ LeftAt o a v) ps (places_are_of_leaves_if_only_and_all f k.run o a v ps only all k.run.run k.run.whole) (cut_of xs)
       (inside k.run.run k.run.whole)),
 )
 
 pub raised_for_leaves_if_places_raised : (f : FittedTrace) → IsFitted f → (o : ℕ) (a : Access) (v : ℕ) (ps : List Place) → OnlyLeaves f o a v ps
     → AllLeaves f o a v ps → (old new : List ℕ) → IsRaised old new ps (length ps)
-    → EachRun f (λ run. RaisedFor f run (λ b. b ≡ Out o a v) old new)
+    → EachRun f (λ run. RaisedFor f run (λ b. b ≡ LeftAt o a v) old new)
 raised_for_leaves_if_places_raised f k o a v ps only all old new r run is =
-    raised_for_steps_if_places_raised f run (λ b. b ≡ Out o a v) ps (places_are_of_leaves_if_only_and_all f k.run o a v ps only all run is) old new r
+    raised_for_steps_if_places_raised f run (λ b. b ≡ LeftAt o a v) ps (places_are_of_leaves_if_only_and_all f k.run o a v ps only all run is) old new r
 
 pub lowered_for_entries_if_places_lowered : (f : FittedTrace) → IsFitted f → (o : ℕ) (a : Access) (v : ℕ) (ps : List Place) → OnlyEntries f o a v ps
     → AllEntries f o a v ps → (old new : List ℕ) → IsLowered old new ps (length ps)
-    → EachRun f (λ run. LoweredFor f run (λ b. (l : ℕ) × (b ≡ In o a v l)) old new)
+    → EachRun f (λ run. LoweredFor f run (λ b. (l : ℕ) × (b ≡ EnteredAt o a v l)) old new)
 lowered_for_entries_if_places_lowered f k o a v ps only all old new r run is =
-    lowered_for_steps_if_places_lowered f run (λ b. (l : ℕ) × (b ≡ In o a v l)) ps (places_are_of_entries_if_only_and_all f k.run o a v ps only all run is) old new r
+    lowered_for_steps_if_places_lowered f run (λ b. (l : ℕ) × (b ≡ EnteredAt o a v l)) ps (places_are_of_entries_if_only_and_all f k.run o a v ps only all run is) old new r

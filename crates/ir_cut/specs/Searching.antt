@@ -1,6 +1,6 @@
 -- Positions on the way to the least and the greatest consistent cut.
 use Rattle.std.specs.Prelude.{◌≡◌, ℕ, suc, ◌-◌, ◌<◌, ◌≤◌, List, length, slice_get, Some}
-use Rattle.ir_runs.specs.Machine.{Label, In, Out}
+use Rattle.ir_runs.specs.Machine.{Label, EnteredAt, LeftAt}
 use Rattle.ir_runs.specs.declared.access.Access.{Access}
 use Rattle.ir_runs.specs.Run.{Step, Emits, IsNeededBy, Cut, IsCut, Consistent, IsLeast, IsGreatest}
 use Rattle.ir_log.specs.Logging.{label_of}
@@ -40,11 +40,11 @@ NeededBy k emitted = IsNeededBy emitted k
 
 -- what needs a leave
 abbrev pub Needing : Leave → Label → Type 0
-Needing l emitted = IsNeededBy (Out l.object l.access l.version) emitted
+Needing l emitted = IsNeededBy (LeftAt l.object l.access l.version) emitted
 
 -- an entry of object o at version v
 abbrev pub IsEntryAt : ℕ → ℕ → Label → Type 0
-IsEntryAt o v emitted = (a : Access) × (l : ℕ) × (emitted ≡ In o a v l)
+IsEntryAt o v emitted = (a : Access) × (l : ℕ) × (emitted ≡ EnteredAt o a v l)
 
 -- on the way from ps up to the least cut with thread t at k or more: no position is above that cut's, and what the events
 -- counted by next need is inside

@@ -1,7 +1,7 @@
 //! What the entries of a cut need, and what needs its leaves.
 
 ghost use Rattle.std.specs.Prelude.{◌≡◌, ◌<◌, ℕ, length, IsTrue, ◌↔◌};
-ghost use Rattle.ir_runs.specs.Machine.{In};
+ghost use Rattle.ir_runs.specs.Machine.{EnteredAt};
 ghost use Rattle.ir_runs.specs.declared.access.Access.TheVariants.{Reading};
 ghost use Rattle.ir_log.specs.Logging.{label_of};
 ghost use Rattle.ir_cut.specs.Positions.{EachRun, cut_of};
@@ -17,7 +17,7 @@ use ir_runs::Access;
 fn is_made(fitted: &Fitted, positions: &[u64], object: u8, version: u32) -> bool
     requires fitted { IsFitted fitted.now }
     requires size { length positions.now ≡ length fitted.now.guest.entries }
-    ensures { IsTrue result ↔ EachRun fitted.now (λ run. AreInside fitted.now run (NeededBy (In object Reading version 0)) (cut_of positions.now)) }
+    ensures { IsTrue result ↔ EachRun fitted.now (λ run. AreInside fitted.now run (NeededBy (EnteredAt object Reading version 0)) (cut_of positions.now)) }
 {
     match version.checked_sub(1) {
         None => true,
@@ -52,7 +52,7 @@ pub fn are_met(fitted: &Fitted, positions: &[u64], event: Event) -> bool
 fn raise_to_maker(fitted: &Fitted, positions: &mut Vec<u64>, object: u8, version: u32)
     requires fitted { IsFitted fitted.now }
     requires size { length positions.old.items ≡ length fitted.now.guest.entries }
-    ensures raised { EachRun fitted.now (λ run. RaisedFor fitted.now run (NeededBy (In object Reading version 0)) positions.old.items positions.new.items) }
+    ensures raised { EachRun fitted.now (λ run. RaisedFor fitted.now run (NeededBy (EnteredAt object Reading version 0)) positions.old.items positions.new.items) }
     ensures size { length positions.new.items ≡ length positions.old.items }
 {
     if let Some(before) = version.checked_sub(1) {

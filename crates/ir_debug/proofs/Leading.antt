@@ -16,7 +16,7 @@ use Rattle.ir_debug.specs.Debugging.{ToPosition, ToLeast, ToGreatest}
 use Rattle.ir_mach.specs.Execution.{memory_word}
 use Rattle.ir_thread.specs.State as thread
 use Rattle.ir_runs.specs.declared.access.Access.TheVariants.{Writing}
-use Rattle.ir_runs.specs.Machine.{Out}
+use Rattle.ir_runs.specs.Machine.{LeftAt}
 use Rattle.ir_fit.proofs.CallerLemmas.{get_or_is_item_if_at_index}
 use Rattle.ir_weave.proofs.CallerLemmas.{thread_in_past_length_is_last}
 use Rattle.ir_command.specs.declared.command.Point.{Point}
@@ -113,7 +113,7 @@ hit_position_at_most_steps f run t k (Watch u address) (same, (j, is, inl change
 ]
 hit_position_at_most_steps f run t k (Watch u address) (same, (j, is, inr puts)) = let l = puts.0 in omega (arith, is, l)
 hit_position_at_most_steps f run t k (WatchObject object) (j, is, (version, emitted)) =
-    let within = (get_or_is_item_if_at_index (trail (machine_of f) (start_of f) run t) j (emitted.0, Out object Writing version) emitted.1).0 in
+    let within = (get_or_is_item_if_at_index (trail (machine_of f) (start_of f) run t) j (emitted.0, LeftAt object Writing version) emitted.1).0 in
     omega (arith, is, within)
 
 stop_in_run_at_most_last : (f : FittedTrace) (run : List Step) (d : Desk) (t : ℕ) (direction : Direction) (hit : Option Hit) → d.fitted ≡ f

@@ -4,7 +4,7 @@ use Rattle.std.specs.Prelude.{slice_get, flat_map}
 use Rattle.std.proofs.lemmas.List.{length_push, flat_map_more}
 use Rattle.std.proofs.lemmas.Option.{same_Some, none-some}
 use Rattle.ir_lemmas.proofs.CallerLemmas.{slice_get_after_push_cases}
-use Rattle.ir_runs.specs.Machine.{In}
+use Rattle.ir_runs.specs.Machine.{EnteredAt}
 use Rattle.ir_runs.specs.Run.{At}
 use Rattle.ir_runs.specs.declared.access.Access.{Access}
 use Rattle.ir_runs.specs.declared.access.Access.TheVariants.{Reading, Writing}
@@ -23,9 +23,9 @@ use Rattle.ir_diff.proofs.Told.{no_write_if_none_noted}
 
 -- what is noted made the version that an entry finds
 pub noted_maker_made_version : (r : Recorded) (m : Makers) (o v w t i l : ℕ) (a : Access) (made : Option Place) → AreMakersOf r m → v ≡ suc w
-    → made ≡ maker_in m o w → At ((trace_of r).logs t) i (In o a v l) → IsMadeBy r o v made
+    → made ≡ maker_in m o w → At ((trace_of r).logs t) i (EnteredAt o a v l) → IsMadeBy r o v made
 noted_maker_made_version r m o v w t i l a None are is noted at =
-    let made = entered_version_was_made r are.coherent t i o w a l (subst (λ z. At ((trace_of r).logs t) i (In o a z l)) is at) in
+    let made = entered_version_was_made r are.coherent t i o w a l (subst (λ z. At ((trace_of r).logs t) i (EnteredAt o a z l)) is at) in
     absurd (no_write_if_none_noted r m o w made.0 made.1 made.2 are (sym noted) made.3)
 noted_maker_made_version r m o v w t i l a (Some p) are is noted at = let there = are.makes.sound o w p (sym noted) in (w, there.0, is, there.1)
 
@@ -36,14 +36,14 @@ if_ok_weaker (Err e) P Q more p = tt
 
 -- what made the version that a read entry found
 pub by_text_says_maker_of_read_entry : (r : Recorded) (e : Event) (o v : ℕ) (made : Option Place) (text : List ℕ) → e ≡ variant.Read o v
-    → ((t i l : ℕ) (a : Access) → At ((trace_of r).logs t) i (In o a v l) → IsMadeBy r o v made)
+    → ((t i l : ℕ) (a : Access) → At ((trace_of r).logs t) i (EnteredAt o a v l) → IsMadeBy r o v made)
     → text ≡ codes " by " ++ maker_text made → (t i : ℕ) → event_at r t i ≡ Some e → NamesMaker r e text
 by_text_says_maker_of_read_entry r e o v made text is by said t i = subst (λ (x : Event). event_at r t i ≡ Some x → NamesMaker r x text) (sym is)
     (λ there. (made, by t i 0 Reading (label_of_event_is_at_its_place (recorded_thread r t).events i (variant.Read o v) there), said))
 
 -- what made the version that a write entry found
 pub by_text_says_maker_of_write_entry : (r : Recorded) (e : Event) (o v l : ℕ) (made : Option Place) (text : List ℕ) → e ≡ variant.Write o v l
-    → ((t i k : ℕ) (a : Access) → At ((trace_of r).logs t) i (In o a v k) → IsMadeBy r o v made)
+    → ((t i k : ℕ) (a : Access) → At ((trace_of r).logs t) i (EnteredAt o a v k) → IsMadeBy r o v made)
     → text ≡ codes " by " ++ maker_text made → (t i : ℕ) → event_at r t i ≡ Some e → NamesMaker r e text
 by_text_says_maker_of_write_entry r e o v l made text is by said t i = subst (λ (x : Event). event_at r t i ≡ Some x → NamesMaker r x text) (sym is)
     (λ there. (made, by t i l Writing (label_of_event_is_at_its_place (recorded_thread r t).events i (variant.Write o v l) there), said))

@@ -2,7 +2,7 @@
 
 ghost use Rattle.std.specs.Prelude.{◌≡◌, ◌<◌, ◌++◌, ℕ, List, codes, length, Some, IfOk};
 ghost use Rattle.std.specs.String.{string_bytes};
-ghost use Rattle.ir_runs.specs.Machine.{In};
+ghost use Rattle.ir_runs.specs.Machine.{EnteredAt};
 ghost use Rattle.ir_runs.specs.Run.{At};
 ghost use Rattle.ir_runs.specs.declared.access.Access.{Access};
 ghost use Rattle.ir_trace.specs.Recorded.{trace_of};
@@ -33,7 +33,7 @@ pub struct Side<'a> {
 // What made a version of an object that a trace enters.
 fn made_by(side: Side<'_>, object: u8, version: u32) -> Option<Place>
     requires { AreMakersOf side.trace.now side.makers.now }
-    ensures { (t i l : ℕ) (a : Access) → At ((trace_of side.entry.trace.now).logs t) i (In object a version l) → IsMadeBy side.entry.trace.now object version result }
+    ensures { (t i l : ℕ) (a : Access) → At ((trace_of side.entry.trace.now).logs t) i (EnteredAt object a version l) → IsMadeBy side.entry.trace.now object version result }
 {
     if version == 0 {
         return None;

@@ -1,7 +1,7 @@
 -- Logs, and what sources gave.
 use Rattle.std.proofs.Common.{ℕ, ◌<◌, true, List, [], ◌∷◌, length, refl, subst, arith}
 use Rattle.std.proofs.lemmas.List.FromFn.{get_or-map-range_with_len}
-use Rattle.ir_runs.specs.Machine.{Label, Quiet, Answer, In, Refused, Out}
+use Rattle.ir_runs.specs.Machine.{Label, Quiet, Answer, EnteredAt, FailedTry, LeftAt}
 use Rattle.ir_record.specs.Worlds.{answers_in}
 use Rattle.ir_world.specs.Sources.{Source, source, given, Gave, IsAnsweredFrom, origin_of, seed_of}
 use Rattle.ir_search_laws.specs.Sources.{Gives}
@@ -15,9 +15,9 @@ source_gave_answers_of_log s (Quiet ∷ log) all = source_gave_answers_of_log s 
 source_gave_answers_of_log s (Answer kind value ∷ log) all =
     let rest = source_gave_answers_of_log (given kind s).1 log all.1 in
     (rest.0, (all.0, rest.1))
-source_gave_answers_of_log s (In o a v l ∷ log) all = source_gave_answers_of_log s log all
-source_gave_answers_of_log s (Refused o ∷ log) all = source_gave_answers_of_log s log all
-source_gave_answers_of_log s (Out o a v ∷ log) all = source_gave_answers_of_log s log all
+source_gave_answers_of_log s (EnteredAt o a v l ∷ log) all = source_gave_answers_of_log s log all
+source_gave_answers_of_log s (FailedTry o ∷ log) all = source_gave_answers_of_log s log all
+source_gave_answers_of_log s (LeftAt o a v ∷ log) all = source_gave_answers_of_log s log all
 
 -- so does the thread's world in a recording, where calls for the time are counted
 pub log_is_answered_by_world : (setup : Setup) (t : ℕ) (log : List Label) → t < length setup.guest.entries → Gives given (first_source setup t) log

@@ -23,7 +23,7 @@ use Rattle.ir_record.specs.Worlds.{AnsweredCall, answers_in}
 use Rattle.ir_record_command.specs.Plan.{Plan}
 use Rattle.ir_record_command.specs.Recording.{unasked, IsRecordedBy, IsRecordedOf}
 use Rattle.ir_runs.specs.Bounds.{IsIdle}
-use Rattle.ir_runs.specs.Machine.{Machine, Label, Quiet, Answer, In, Refused, Out}
+use Rattle.ir_runs.specs.Machine.{Machine, Label, Quiet, Answer, EnteredAt, FailedTry, LeftAt}
 use Rattle.ir_runs.specs.Run.{State, Step, IsRun, IsWhole, after, end, trail, events, log}
 use Rattle.ir_runs.specs.declared.env_kind.EnvKind.TheVariants.{Clock, Random, Input}
 use Rattle.ir_runs.proofs.CallerLemmas.{step_below_idle_keeps_idle, thread_after_step_of_other, trail_of_cons_other_thread}
@@ -58,9 +58,9 @@ log_is_answered_if_source_gave_it : (s : Source) (es : List Label) (left : Sourc
 log_is_answered_if_source_gave_it s [] left h = tt
 log_is_answered_if_source_gave_it s (Quiet ∷ es) left h = log_is_answered_if_source_gave_it s es left h
 log_is_answered_if_source_gave_it s (Answer k v ∷ es) left h = (h.0, log_is_answered_if_source_gave_it (given k s).1 es left h.1)
-log_is_answered_if_source_gave_it s (In o a v l ∷ es) left h = log_is_answered_if_source_gave_it s es left h
-log_is_answered_if_source_gave_it s (Refused o ∷ es) left h = log_is_answered_if_source_gave_it s es left h
-log_is_answered_if_source_gave_it s (Out o a v ∷ es) left h = log_is_answered_if_source_gave_it s es left h
+log_is_answered_if_source_gave_it s (EnteredAt o a v l ∷ es) left h = log_is_answered_if_source_gave_it s es left h
+log_is_answered_if_source_gave_it s (FailedTry o ∷ es) left h = log_is_answered_if_source_gave_it s es left h
+log_is_answered_if_source_gave_it s (LeftAt o a v ∷ es) left h = log_is_answered_if_source_gave_it s es left h
 
 -- where no call for the time was answered, all answers come from the source
 untimed_answers_are_all : (es : List Event) → AllByRecursion IsUntimed es → untimed (answers_in (map label_of es)) ≡ answers_in (map label_of es)

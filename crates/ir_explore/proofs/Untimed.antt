@@ -11,7 +11,7 @@ use Rattle.ir_log.specs.Logging.{label_of}
 use Rattle.ir_log.specs.declared.event.Event.{Event}
 use Rattle.ir_log.specs.declared.event.Event.TheVariants as event
 use Rattle.ir_record.specs.Worlds.{answers_in}
-use Rattle.ir_runs.specs.Machine.{Machine, Admits, Ask, Private, Env, Enter, Try, Leave, Get, Put, Done, Object, act_of, emitted, target, logged, Label, Quiet, Answer, In, Refused, Out}
+use Rattle.ir_runs.specs.Machine.{Machine, Admits, Ask, Private, Env, Enter, Try, Leave, Get, Put, Done, Object, act_of, emitted, target, logged, Label, Quiet, Answer, EnteredAt, FailedTry, LeftAt}
 use Rattle.ir_runs.specs.Run.{State, Step, IsRun, asked, act, after, end, label, join_if, trail, events, log}
 use Rattle.ir_runs.specs.declared.access.Access.TheVariants.{Reading, Writing}
 use Rattle.ir_runs.specs.declared.env_kind.EnvKind.TheVariants.{Clock, Random, Input}
@@ -33,9 +33,9 @@ GivesUntilTime s (Quiet ∷ es) = GivesUntilTime s es
 GivesUntilTime s (Answer Clock v ∷ es) = Unit {0}
 GivesUntilTime s (Answer Random v ∷ es) = (v ≡ (given Random s).0) × GivesUntilTime (given Random s).1 es
 GivesUntilTime s (Answer Input v ∷ es) = (v ≡ (given Input s).0) × GivesUntilTime (given Input s).1 es
-GivesUntilTime s (In o a v l ∷ es) = GivesUntilTime s es
-GivesUntilTime s (Refused o ∷ es) = GivesUntilTime s es
-GivesUntilTime s (Out o a v ∷ es) = GivesUntilTime s es
+GivesUntilTime s (EnteredAt o a v l ∷ es) = GivesUntilTime s es
+GivesUntilTime s (FailedTry o ∷ es) = GivesUntilTime s es
+GivesUntilTime s (LeftAt o a v ∷ es) = GivesUntilTime s es
 
 gives_until_time_if_all_given : (s : Source) (es : List Label) (left : Source) → Gave s (answers_in es) left → GivesUntilTime s es
 gives_until_time_if_all_given s [] left h = tt
@@ -43,9 +43,9 @@ gives_until_time_if_all_given s (Quiet ∷ es) left h = gives_until_time_if_all_
 gives_until_time_if_all_given s (Answer Clock v ∷ es) left h = tt
 gives_until_time_if_all_given s (Answer Random v ∷ es) left h = (h.0, gives_until_time_if_all_given (given Random s).1 es left h.1)
 gives_until_time_if_all_given s (Answer Input v ∷ es) left h = (h.0, gives_until_time_if_all_given (given Input s).1 es left h.1)
-gives_until_time_if_all_given s (In o a v l ∷ es) left h = gives_until_time_if_all_given s es left h
-gives_until_time_if_all_given s (Refused o ∷ es) left h = gives_until_time_if_all_given s es left h
-gives_until_time_if_all_given s (Out o a v ∷ es) left h = gives_until_time_if_all_given s es left h
+gives_until_time_if_all_given s (EnteredAt o a v l ∷ es) left h = gives_until_time_if_all_given s es left h
+gives_until_time_if_all_given s (FailedTry o ∷ es) left h = gives_until_time_if_all_given s es left h
+gives_until_time_if_all_given s (LeftAt o a v ∷ es) left h = gives_until_time_if_all_given s es left h
 
 gives_until_time_if_untimed_given : (s : Source) (es : List Label) (left : Source) → Gave s (untimed (answers_in es)) left → GivesUntilTime s es
 gives_until_time_if_untimed_given s [] left h = tt
@@ -53,9 +53,9 @@ gives_until_time_if_untimed_given s (Quiet ∷ es) left h = gives_until_time_if_
 gives_until_time_if_untimed_given s (Answer Clock v ∷ es) left h = tt
 gives_until_time_if_untimed_given s (Answer Random v ∷ es) left h = (h.0, gives_until_time_if_untimed_given (given Random s).1 es left h.1)
 gives_until_time_if_untimed_given s (Answer Input v ∷ es) left h = (h.0, gives_until_time_if_untimed_given (given Input s).1 es left h.1)
-gives_until_time_if_untimed_given s (In o a v l ∷ es) left h = gives_until_time_if_untimed_given s es left h
-gives_until_time_if_untimed_given s (Refused o ∷ es) left h = gives_until_time_if_untimed_given s es left h
-gives_until_time_if_untimed_given s (Out o a v ∷ es) left h = gives_until_time_if_untimed_given s es left h
+gives_until_time_if_untimed_given s (EnteredAt o a v l ∷ es) left h = gives_until_time_if_untimed_given s es left h
+gives_until_time_if_untimed_given s (FailedTry o ∷ es) left h = gives_until_time_if_untimed_given s es left h
+gives_until_time_if_untimed_given s (LeftAt o a v ∷ es) left h = gives_until_time_if_untimed_given s es left h
 
 -- a world's answers come from its sources, whether it counts or has a clock, up to the first call for the time
 pub gives_until_time_if_given : (counted : Bool) (s : Source) (es : List Label) (left : Source) → Gave s (from_sources counted (answers_in es)) left

@@ -16,12 +16,12 @@ use crate::lines::found_line;
 use crate::plan::ExplorePlan;
 use crate::started::Started;
 use crate::texts::{Ending, end_line, hang_text, outcomes_text};
-use ir_search::{Ended, Stop};
 use ir_files::ExitStatus;
 use ir_flat::Flat;
 use ir_image::Image;
 use ir_order::list_of_items;
 use ir_outcomes::Explored;
+use ir_search::{Ended, Stop};
 use std::alloc::{AllocError, Global};
 
 // The exit status of a search that ended so, and knows so many states that can't be brought to an end.

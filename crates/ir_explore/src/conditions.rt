@@ -9,9 +9,9 @@ ghost use Rattle.ir_outcomes.specs.declared.shown.Shown.{Shown};
 ghost use Rattle.ir_explore.specs.Conditions.{OutcomesDecide, IsFirst};
 
 use crate::states::state_of;
-use ir_schedule::Condition;
 use ir_flat::Flat;
 use ir_outcomes::Shown;
+use ir_schedule::Condition;
 use ir_store::Store;
 use std::alloc::AllocError;
 

@@ -5,9 +5,9 @@ ghost use Rattle.ir_thread.specs.State.{IsAllowed};
 ghost use Rattle.ir_explore.specs.Texts.{IsStopReason, AreKnown, known_of};
 
 use crate::plan::ExplorePlan;
-use ir_search::{Observer, Stop};
 use ir_image::Image;
 use ir_outcomes::{Explored, explore};
+use ir_search::{Observer, Stop};
 use std::alloc::Global;
 
 /// The outcomes of a guest, as far as the plan says. The observer is told how far the search is.

@@ -14,8 +14,8 @@ ghost use Rattle.ir_explore.specs.declared.fault.ExploreFault.TheVariants.{NoMem
 use crate::fault::ExploreFault;
 use crate::started::Started;
 use crate::texts::outcomes_text;
-use ir_search::Observer;
 use ir_outcomes::Exploring;
+use ir_search::Observer;
 use ir_stream::{Sink, write_all};
 use std::alloc::Global;
 

@@ -3,10 +3,10 @@
 ghost use Rattle.std.specs.Prelude.{◌≡◌, ◌≤◌};
 ghost use Rattle.ir_explore.specs.Plan.{ExplorePlan, setup_of};
 
-use ir_schedule::Condition;
 use ir_graph::{Bounds, Setup};
 use ir_image::Image;
 use ir_record_command::ParsedImage;
+use ir_schedule::Condition;
 use ir_thread::Profile;
 use std::marker::Model;
 

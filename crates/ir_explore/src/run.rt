@@ -18,11 +18,11 @@ use crate::fault::ExploreFault;
 use crate::levels::print_levels;
 use crate::plan::ExplorePlan;
 use crate::started::Started;
-use ir_search::{Observer, Stop};
 use ir_files::{ExitStatus, tell};
 use ir_flat::Flat;
 use ir_image::{Image, read_image};
 use ir_outcomes::{Explored, Exploring};
+use ir_search::{Observer, Stop};
 use ir_stream::{Sink, write_all};
 use std::alloc::Global;
 

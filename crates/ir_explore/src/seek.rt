@@ -11,9 +11,9 @@ ghost use Rattle.ir_explore.specs.Until.{IsSought};
 use crate::conditions::first_fulfilling;
 use crate::known::known;
 use crate::plan::UntilPlan;
-use ir_search::{Ended, Observer, Stop};
 use ir_image::Image;
 use ir_outcomes::Explored;
+use ir_search::{Ended, Observer, Stop};
 use std::alloc::Global;
 
 // The most switches of the first search. Each further one goes over more than twice as many.

@@ -10,9 +10,9 @@ use crate::lines::{clock_text, counts_text, ended_text, hang_line, hangs_text, l
 use crate::outcome::outcome_text;
 use crate::started::Started;
 use crate::states::state_of;
-use ir_search::Ended;
 use ir_order::list_of_items;
 use ir_outcomes::Shown;
+use ir_search::Ended;
 use ir_store::Store;
 use std::alloc::{AllocError, Global};
 

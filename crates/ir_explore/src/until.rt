@@ -22,10 +22,12 @@ use crate::answer::{hit_text, known_text, stopped_text, vain_status_of};
 use crate::fault::ExploreFault;
 use crate::plan::{ExplorePlan, UntilPlan};
 use crate::seek::{Sought, seek};
-use ir_search::Observer;
 use ir_files::{ExitStatus, OutputSink, WholeSink, tell};
 use ir_image::Image;
-use ir_record_command::{ParsedImage, RecordFault, RecordFiles, RecordPlan, Recording, record_by_list};
+use ir_record_command::{
+    ParsedImage, RecordFault, RecordFiles, RecordPlan, Recording, record_by_list,
+};
+use ir_search::Observer;
 use ir_stream::{Sink, write_all};
 use ir_thread::MOST_BUDGET;
 use ir_trace::Trace;

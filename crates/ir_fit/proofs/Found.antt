@@ -5,7 +5,7 @@ use Rattle.std.proofs.lemmas.Bool.{cases_eq}
 use Rattle.std.proofs.lemmas.List.Elements.{Contains-append_left, Contains-append_right, Contains-append_cases}
 use Rattle.std.proofs.lemmas.List.Sorted.{Contains-permutation, IsPermutation-sym}
 use Rattle.ir_lemmas.proofs.CallerLemmas.{conjuncts_are_true}
-use Rattle.ir_runs.specs.Machine.{Label, In, Out}
+use Rattle.ir_runs.specs.Machine.{Label, EnteredAt, LeftAt}
 use Rattle.ir_runs.specs.declared.access.Access.{Access}
 use Rattle.ir_runs.specs.declared.access.Access.TheVariants.{Reading, Writing}
 use Rattle.ir_runs.specs.Run.{join_if, At}
@@ -112,16 +112,16 @@ leave_is_left_visit t (m ∷ ls) (suc i) l h = leave_is_left_visit t ls i l h
 -- event i at position k is this entry
 abbrev IsEntered : List Event → List ℕ → ℕ → Visit → Type 0
 IsEntered es ks t v = (i : ℕ) × (e : Event) × At es i e × At ks i v.2.position × (v.2.thread ≡ t)
-    × ((l : ℕ) × (label_of e ≡ In v.0 v.1 v.2.version l))
+    × ((l : ℕ) × (label_of e ≡ EnteredAt v.0 v.1 v.2.version l))
 
 visit_is_entered_by_later_event : (e : Event) (es : List Event) (k : ℕ) (ks : List ℕ) (t : ℕ) (v : Visit) → IsEntered es ks t v
     → IsEntered (e ∷ es) (k ∷ ks) t v
 visit_is_entered_by_later_event e es k ks t v (i, d, at, place, thread, label) = (suc i, d, at, place, thread, label)
 
-visit_is_entered_by_first_event : (e : Event) (es : List Event) (k : ℕ) (ks : List ℕ) (t o : ℕ) (a : Access) (w l : ℕ) (v : Visit) → label_of e ≡ In o a w l
+visit_is_entered_by_first_event : (e : Event) (es : List Event) (k : ℕ) (ks : List ℕ) (t o : ℕ) (a : Access) (w l : ℕ) (v : Visit) → label_of e ≡ EnteredAt o a w l
     → (o, a, record { position = k; version = w; thread = t }) ≡ v → IsEntered (e ∷ es) (k ∷ ks) t v
 visit_is_entered_by_first_event e es k ks t o a w l v is h =
-    (0, e, refl, ap (λ z. z.2.position) h, sym (ap (λ z. z.2.thread) h), (l, is ∙ ap (λ (z : Visit). In z.0 z.1 z.2.version l) h))
+    (0, e, refl, ap (λ z. z.2.position) h, sym (ap (λ z. z.2.thread) h), (l, is ∙ ap (λ (z : Visit). EnteredAt z.0 z.1 z.2.version l) h))
 
 entered_visit_is_of_event : (t : ℕ) (es : List Event) (ks : List ℕ) (j : ℕ) (v : Visit) → At (entered_by t es ks) j v → IsEntered es ks t v
 entered_visit_is_of_event t [] ks j v h = absurd h
@@ -135,11 +135,11 @@ entered_visit_is_of_event t (Write o w l ∷ es) (k ∷ ks) (suc j) v h = visit_
 
 -- the entry that an event emits of
 abbrev emitted_visit : ℕ → ℕ → Label → Visit
-emitted_visit t k (In o a w l) = (o, a, record { position = k; version = w; thread = t })
+emitted_visit t k (EnteredAt o a w l) = (o, a, record { position = k; version = w; thread = t })
 emitted_visit t k _ = (0, Reading, record { position = k; version = 0; thread = t })
 
 entry_event_is_entered_visit : (t : ℕ) (es : List Event) (ks : List ℕ) (i : ℕ) (e : Event) (k o : ℕ) (a : Access) (w l : ℕ) → At es i e → At ks i k
-    → label_of e ≡ In o a w l → Contains (entered_by t es ks) (o, a, record { position = k; version = w; thread = t })
+    → label_of e ≡ EnteredAt o a w l → Contains (entered_by t es ks) (o, a, record { position = k; version = w; thread = t })
 entry_event_is_entered_visit t [] ks i e k o a w l at place is = absurd at
 entry_event_is_entered_visit t (d ∷ es) [] i e k o a w l at place is = absurd place
 entry_event_is_entered_visit t (Answer kind value ∷ es) (q ∷ ks) zero e k o a w l at place is = absurd (cc (ap label_of at ∙ is))
@@ -186,11 +186,11 @@ listed_leaves_are_only_leaves f x is o a v ps found h p c =
     let at = contained_item_is_at_some_index (left_by t ls) (o, a, p) some.2 in
     let leave = left_visit_is_of_leave t ls at.0 (o, a, p) at.1 in
     let got = get_or_is_item_if_at_index ls at.0 leave.0 leave.1 in
-    let emitted = subst (λ (e : Leave). EmitsIn f h t e.position (Out e.object e.access e.version)) (got.1 leave.0)
+    let emitted = subst (λ (e : Leave). EmitsIn f h t e.position (LeftAt e.object e.access e.version)) (got.1 leave.0)
     (step_of_leave_emits_leave f h t (let lt = some.1 in let n = (placed_of_trace_are_of_run f h).each in omega (arith, lt, n)) at.0 leave.0 got.0) in (
       q.1,
-      subst (λ w. EmitsIn f h p.thread p.position (Out o a w)) q.1
-          (subst (λ (z : Visit). EmitsIn f h z.2.thread z.2.position (Out z.0 z.1 z.2.version)) leave.2 emitted),
+      subst (λ w. EmitsIn f h p.thread p.position (LeftAt o a w)) q.1
+          (subst (λ (z : Visit). EmitsIn f h z.2.thread z.2.position (LeftAt z.0 z.1 z.2.version)) leave.2 emitted),
     )
 
 pub listed_leaves_are_all_leaves : (f : FittedTrace) (x : Listing) → IsListing (all_left (placed_of f)) x → (o : ℕ)
@@ -198,7 +198,7 @@ pub listed_leaves_are_all_leaves : (f : FittedTrace) (x : Listing) → IsListing
     → AllLeaves f o a v ps
 listed_leaves_are_all_leaves f x is o a v ps found h t k emitted =
     let p : Place = record { position = k; version = v; thread = t } in
-    let below = emitting_thread_is_guest_thread f h t k (Out o a v) emitted in
+    let below = emitting_thread_is_guest_thread f h t k (LeftAt o a v) emitted in
     let ls : List Leave = (placed_at (placed_of f) t).leaves in
     let leave = emitted_leave_is_placed f h t k o a v emitted in
     let e : Leave = record { position = k; object = o; access = a; version = v } in
@@ -224,14 +224,14 @@ listed_entries_are_only_entries f x is o a v ps found h p c =
     let stands = get_or_is_item_if_at_index ks i p.position place in
     let emitted : EmitsIn f h t (get_or ks i 0) (label_of (get_or es i e)) =
     step_at_event_position_emits_event f h t (let lt = some.1 in let m = (placed_of_trace_are_of_run f h).each in omega (arith, lt, m)) i e got.0 in
-    let here : EmitsIn f h t p.position (In o a p.version n) =
-    subst (λ k. EmitsIn f h t k (In o a p.version n)) (stands.1 0)
+    let here : EmitsIn f h t p.position (EnteredAt o a p.version n) =
+    subst (λ k. EmitsIn f h t k (EnteredAt o a p.version n)) (stands.1 0)
     (subst (EmitsIn f h t (get_or ks i 0)) (ap label_of (got.1 e) ∙ label) emitted) in (
       q.1,
       (
         n,
-        subst (λ w. EmitsIn f h p.thread p.position (In o a w n)) q.1
-            (subst (λ u. EmitsIn f h u p.position (In o a p.version n)) (sym thread) here),
+        subst (λ w. EmitsIn f h p.thread p.position (EnteredAt o a w n)) q.1
+            (subst (λ u. EmitsIn f h u p.position (EnteredAt o a p.version n)) (sym thread) here),
       ),
     )
 
@@ -240,7 +240,7 @@ pub listed_entries_are_all_entries : (f : FittedTrace) (x : Listing) → IsListi
     → AllEntries f o a v ps
 listed_entries_are_all_entries f x is o a v ps found h t k n emitted =
     let p : Place = record { position = k; version = v; thread = t } in
-    let below = emitting_thread_is_guest_thread f h t k (In o a v n) emitted in
+    let below = emitting_thread_is_guest_thread f h t k (EnteredAt o a v n) emitted in
     let es : List Event = (recorded_thread f.recorded t).events in
     let ks : List ℕ = (placed_at (placed_of f) t).entries in
     let (i, li, place, label) = entry_step_is_of_event f h t k o a v n emitted in

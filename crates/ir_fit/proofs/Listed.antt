@@ -3,7 +3,7 @@ use Rattle.std.proofs.Common.{◌≡◌, ℕ, suc, zero, ◌+◌, ◌<◌, ◌�
 use Rattle.std.proofs.lemmas.Bool.{cases_lt}
 use Rattle.std.proofs.lemmas.List.{length-map, get_or-map}
 use Rattle.ir_thread.specs.State.{thread_machine}
-use Rattle.ir_runs.specs.Machine.{Label, Quiet, Answer, In, Refused, Out, logged}
+use Rattle.ir_runs.specs.Machine.{Label, Quiet, Answer, EnteredAt, FailedTry, LeftAt, logged}
 use Rattle.ir_thread.specs.State as thread
 use Rattle.ir_runs.specs.declared.access.Access.{Access}
 use Rattle.ir_runs.specs.declared.env_kind.EnvKind.{EnvKind}
@@ -35,9 +35,9 @@ record IsUnloggedLabel (m : Label) : Type 0 where
 label_is_logged_or_unlogged : (m : Label) → IsLoggedLabel m ⊎ IsUnloggedLabel m
 label_is_logged_or_unlogged Quiet = inr (record { place = λ k ks. refl; event = λ es. refl })
 label_is_logged_or_unlogged (Answer kind value) = inl (record { place = λ k ks. refl; event = λ es. refl })
-label_is_logged_or_unlogged (In o a v l) = inl (record { place = λ k ks. refl; event = λ es. refl })
-label_is_logged_or_unlogged (Refused o) = inl (record { place = λ k ks. refl; event = λ es. refl })
-label_is_logged_or_unlogged (Out o a v) = inr (record { place = λ k ks. refl; event = λ es. refl })
+label_is_logged_or_unlogged (EnteredAt o a v l) = inl (record { place = λ k ks. refl; event = λ es. refl })
+label_is_logged_or_unlogged (FailedTry o) = inl (record { place = λ k ks. refl; event = λ es. refl })
+label_is_logged_or_unlogged (LeftAt o a v) = inr (record { place = λ k ks. refl; event = λ es. refl })
 
 -- ---- events and their positions
 
@@ -115,34 +115,34 @@ abbrev leave_at : ℕ → ℕ → Access → ℕ → Leave
 leave_at k o a v = record { position = k; object = o; access = a; version = v }
 
 -- a leave, or a step that is none
-label_is_leave_or_not : (m : Label) → ((o : ℕ) × (a : Access) × (v : ℕ) × (m ≡ Out o a v)) ⊎ ((k : ℕ) (ls : List Leave) → leave_if m k ls ≡ ls)
+label_is_leave_or_not : (m : Label) → ((o : ℕ) × (a : Access) × (v : ℕ) × (m ≡ LeftAt o a v)) ⊎ ((k : ℕ) (ls : List Leave) → leave_if m k ls ≡ ls)
 label_is_leave_or_not Quiet = inr (λ k ls. refl)
 label_is_leave_or_not (Answer kind value) = inr (λ k ls. refl)
-label_is_leave_or_not (In o a v l) = inr (λ k ls. refl)
-label_is_leave_or_not (Refused o) = inr (λ k ls. refl)
-label_is_leave_or_not (Out o a v) = inl (o, a, v, refl)
+label_is_leave_or_not (EnteredAt o a v l) = inr (λ k ls. refl)
+label_is_leave_or_not (FailedTry o) = inr (λ k ls. refl)
+label_is_leave_or_not (LeftAt o a v) = inl (o, a, v, refl)
 
 step_at_place_of_leave : {T : Type 0} (n : ℕ) (xs : List (T × Label)) (i : ℕ) (l : Leave) → At (leaves_from n xs) i l
-    → StepAt n xs l.position (Out l.object l.access l.version)
+    → StepAt n xs l.position (LeftAt l.object l.access l.version)
 step_at_place_of_leave n [] i l h = absurd h
 step_at_place_of_leave n (x ∷ xs) zero l h = elim (label_is_leave_or_not x.1) [
   | inl (o, a, v, is) ↦
       let same : leave_at n o a v ≡ l = subst (λ m. At (leave_if m n (leaves_from (suc n) xs)) 0 l) is h in (
         0,
         ap (λ z. z.position) (sym same) ∙ (let q : n ≡ n + 0 = omega arith in q),
-        (x.0, ap (λ m. (x.0, m)) is ∙ ap (λ z. (x.0, Out z.object z.access z.version)) same),
+        (x.0, ap (λ m. (x.0, m)) is ∙ ap (λ z. (x.0, LeftAt z.object z.access z.version)) same),
       )
-  | inr p ↦ cons_keeps_step_at n x xs l.position (Out l.object l.access l.version)
+  | inr p ↦ cons_keeps_step_at n x xs l.position (LeftAt l.object l.access l.version)
       (step_at_place_of_leave (suc n) xs 0 l (subst (λ ls. At ls 0 l) (p n (leaves_from (suc n) xs)) h))
 ]
 step_at_place_of_leave n (x ∷ xs) (suc i) l h = elim (label_is_leave_or_not x.1) [
-  | inl (o, a, v, is) ↦ cons_keeps_step_at n x xs l.position (Out l.object l.access l.version)
+  | inl (o, a, v, is) ↦ cons_keeps_step_at n x xs l.position (LeftAt l.object l.access l.version)
       (step_at_place_of_leave (suc n) xs i l (subst (λ m. At (leave_if m n (leaves_from (suc n) xs)) (suc i) l) is h))
-  | inr p ↦ cons_keeps_step_at n x xs l.position (Out l.object l.access l.version)
+  | inr p ↦ cons_keeps_step_at n x xs l.position (LeftAt l.object l.access l.version)
       (step_at_place_of_leave (suc n) xs (suc i) l (subst (λ ls. At ls (suc i) l) (p n (leaves_from (suc n) xs)) h))
 ]
 
-leave_of_step : {T : Type 0} (n : ℕ) (xs : List (T × Label)) (j : ℕ) (x : T) (o : ℕ) (a : Access) (v : ℕ) → At xs j (x, Out o a v) → (i : ℕ)
+leave_of_step : {T : Type 0} (n : ℕ) (xs : List (T × Label)) (j : ℕ) (x : T) (o : ℕ) (a : Access) (v : ℕ) → At xs j (x, LeftAt o a v) → (i : ℕ)
     × At (leaves_from n xs) i (leave_at (n + j) o a v)
 leave_of_step n [] j x o a v at = absurd at
 leave_of_step n (y ∷ ys) zero x o a v at = (
@@ -288,10 +288,10 @@ logged_step_is_of_event f h t k e logs emitted =
     )
 
 -- each entry is an event's
-pub entry_step_is_of_event : (f : FittedTrace) (h : HasRun f) (t k o : ℕ) (a : Access) (v n : ℕ) → EmitsIn f h t k (In o a v n)
+pub entry_step_is_of_event : (f : FittedTrace) (h : HasRun f) (t k o : ℕ) (a : Access) (v n : ℕ) → EmitsIn f h t k (EnteredAt o a v n)
     → (i : ℕ) × (i < length (recorded_thread f.recorded t).events) × (get_or (placed_at (placed_of f) t).entries i 0 ≡ k)
-    × ((d : Event) → label_of (get_or (recorded_thread f.recorded t).events i d) ≡ In o a v n)
-entry_step_is_of_event f h t k o a v n emitted = logged_step_is_of_event f h t k (In o a v n) (λ es. refl) emitted
+    × ((d : Event) → label_of (get_or (recorded_thread f.recorded t).events i d) ≡ EnteredAt o a v n)
+entry_step_is_of_event f h t k o a v n emitted = logged_step_is_of_event f h t k (EnteredAt o a v n) (λ es. refl) emitted
 
 -- so is each answer
 pub answer_step_is_of_event : (f : FittedTrace) (h : HasRun f) (t k : ℕ) (kind : EnvKind) (value : ℕ) → EmitsIn f h t k (Answer kind value)
@@ -316,19 +316,19 @@ event_position_below_steps f h t l i li =
 pub step_of_leave_emits_leave : (f : FittedTrace) (h : HasRun f) (t : ℕ) → t < length f.guest.entries → (i : ℕ) (d : Leave)
     → i < length (placed_at (placed_of f) t).leaves
     → EmitsIn f h t (get_or (placed_at (placed_of f) t).leaves i d).position
-    (Out (get_or (placed_at (placed_of f) t).leaves i d).object (get_or (placed_at (placed_of f) t).leaves i d).access
+    (LeftAt (get_or (placed_at (placed_of f) t).leaves i d).object (get_or (placed_at (placed_of f) t).leaves i d).access
     (get_or (placed_at (placed_of f) t).leaves i d).version)
 step_of_leave_emits_leave f h t l i d li =
     let e : Leave = get_or (placed_at (placed_of f) t).leaves i d in
-    step_at_trail_is_emitted f h t e.position (Out e.object e.access e.version)
+    step_at_trail_is_emitted f h t e.position (LeftAt e.object e.access e.version)
     (step_at_place_of_leave 0 (trail_in f h t) i e (subst (λ xs. At xs i e) (placed_leaves_are_leaves_of_run f h t l) (get_or_is_at_index_if_below_length (placed_at (placed_of f) t).leaves i d li)))
 
 -- each leave is one of these
-pub emitted_leave_is_placed : (f : FittedTrace) (h : HasRun f) (t k o : ℕ) (a : Access) (v : ℕ) → EmitsIn f h t k (Out o a v)
+pub emitted_leave_is_placed : (f : FittedTrace) (h : HasRun f) (t k o : ℕ) (a : Access) (v : ℕ) → EmitsIn f h t k (LeftAt o a v)
     → (i : ℕ) × (i < length (placed_at (placed_of f) t).leaves)
     × ((d : Leave) → get_or (placed_at (placed_of f) t).leaves i d ≡ record { position = k; object = o; access = a; version = v })
 emitted_leave_is_placed f h t k o a v emitted =
-    let l = emitting_thread_is_guest_thread f h t k (Out o a v) emitted in
+    let l = emitting_thread_is_guest_thread f h t k (LeftAt o a v) emitted in
     let g = leave_of_step 0 (trail_in f h t) k emitted.0 o a v emitted.1 in
     let at : At (placed_at (placed_of f) t).leaves g.0 (leave_at (0 + k) o a v) =
     subst (λ xs. At xs g.0 (leave_at (0 + k) o a v)) (sym (placed_leaves_are_leaves_of_run f h t l)) g.1 in
@@ -354,4 +354,4 @@ pub leave_position_below_steps : (f : FittedTrace) (h : HasRun f) (t : ℕ) → 
     → i < length (placed_at (placed_of f) t).leaves → (get_or (placed_at (placed_of f) t).leaves i d).position < (recorded_thread f.recorded t).steps
 leave_position_below_steps f h t l i d li =
     let e : Leave = get_or (placed_at (placed_of f) t).leaves i d in
-    emitting_step_below_recorded_steps f h t e.position (Out e.object e.access e.version) (step_of_leave_emits_leave f h t l i d li)
+    emitting_step_below_recorded_steps f h t e.position (LeftAt e.object e.access e.version) (step_of_leave_emits_leave f h t l i d li)

@@ -11,7 +11,7 @@ use Rattle.ir_thread.specs.declared.ask.Ask.{Ask}
 use Rattle.ir_thread.specs.declared.ask.Ask.TheVariants.{Private, Env, Enter, Try, Leave as Leaves, Get, Put, Print, End, Done}
 use Rattle.ir_thread.specs.declared.ask.Reply.{Reply}
 use Rattle.ir_thread.specs.declared.ask.Reply.TheVariants.{Go, Value}
-use Rattle.ir_runs.specs.Machine.{act_of, target, Admits, Label, Quiet, Answer, In, Refused, Out}
+use Rattle.ir_runs.specs.Machine.{act_of, target, Admits, Label, Quiet, Answer, EnteredAt, FailedTry, LeftAt}
 use Rattle.ir_thread.proofs.CallerLemmas.{held_count_after_leave, held_is_unchanged_by_other_try_answer}
 use Rattle.ir_flat.specs.Flat.{Flat, thread_of, tables, machine}
 use Rattle.ir_fit.proofs.Seen.{label_of_step}
@@ -23,16 +23,16 @@ use Rattle.ir_fit.specs.declared.leave.Leave.{Leave}
 conditional_cons_place_if_of_append : (k : Label) (i : ℕ) (ps qs : List ℕ) → place_if k i (ps ++ qs) ≡ place_if k i ps ++ qs
 conditional_cons_place_if_of_append Quiet i ps qs = refl
 conditional_cons_place_if_of_append (Answer a v) i ps qs = refl
-conditional_cons_place_if_of_append (In o a v l) i ps qs = refl
-conditional_cons_place_if_of_append (Refused o) i ps qs = refl
-conditional_cons_place_if_of_append (Out o a v) i ps qs = refl
+conditional_cons_place_if_of_append (EnteredAt o a v l) i ps qs = refl
+conditional_cons_place_if_of_append (FailedTry o) i ps qs = refl
+conditional_cons_place_if_of_append (LeftAt o a v) i ps qs = refl
 
 conditional_cons_leave_if_of_append : (k : Label) (i : ℕ) (ps qs : List Leave) → leave_if k i (ps ++ qs) ≡ leave_if k i ps ++ qs
 conditional_cons_leave_if_of_append Quiet i ps qs = refl
 conditional_cons_leave_if_of_append (Answer a v) i ps qs = refl
-conditional_cons_leave_if_of_append (In o a v l) i ps qs = refl
-conditional_cons_leave_if_of_append (Refused o) i ps qs = refl
-conditional_cons_leave_if_of_append (Out o a v) i ps qs = refl
+conditional_cons_leave_if_of_append (EnteredAt o a v l) i ps qs = refl
+conditional_cons_leave_if_of_append (FailedTry o) i ps qs = refl
+conditional_cons_leave_if_of_append (LeftAt o a v) i ps qs = refl
 
 pub places_from_of_append : {T : Type 0} (i : ℕ) (xs ys : List (T × Label))
     → places_from i (xs ++ ys) ≡ places_from i xs ++ places_from (i + length xs) ys

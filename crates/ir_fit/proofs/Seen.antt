@@ -228,8 +228,8 @@ open_entry_is_admitted_and_logs f t v o a (Read p w) es rest is suits h =
     let access : ◌≡◌ {A = Access} Reading a = cc asked in
     subst (λ z. (Admitted z (cell_of f o).fields) × (logged (label_of_step f (Enter o z) v) (unlogged (label_of_step f (Enter o z) v) es) ≡ es)) access (
       h.1,
-      ap (λ z. machine.In o Reading (cell_of f o).fields.version 0 ∷ unlogged (machine.In o Reading (cell_of f o).fields.version 0) z) is
-          ∙ (λ i. machine.In (object i) Reading (h.0 i) 0 ∷ rest) ∙ sym is,
+      ap (λ z. machine.EnteredAt o Reading (cell_of f o).fields.version 0 ∷ unlogged (machine.EnteredAt o Reading (cell_of f o).fields.version 0) z) is
+          ∙ (λ i. machine.EnteredAt (object i) Reading (h.0 i) 0 ∷ rest) ∙ sym is,
     )
 open_entry_is_admitted_and_logs f t v o a (Write p w l) es rest is suits h =
     let asked = entry_asked o a (Write p w l) suits in
@@ -237,9 +237,9 @@ open_entry_is_admitted_and_logs f t v o a (Write p w l) es rest is suits h =
     let access : ◌≡◌ {A = Access} Writing a = cc asked in
     subst (λ z. (Admitted z (cell_of f o).fields) × (logged (label_of_step f (Enter o z) v) (unlogged (label_of_step f (Enter o z) v) es) ≡ es)) access (
       h.2,
-      ap (λ z. machine.In o Writing (cell_of f o).fields.version (cell_of f o).fields.left
-          ∷ unlogged (machine.In o Writing (cell_of f o).fields.version (cell_of f o).fields.left) z) is
-          ∙ (λ i. machine.In (object i) Writing (h.0 i) (h.1 i) ∷ rest) ∙ sym is,
+      ap (λ z. machine.EnteredAt o Writing (cell_of f o).fields.version (cell_of f o).fields.left
+          ∷ unlogged (machine.EnteredAt o Writing (cell_of f o).fields.version (cell_of f o).fields.left) z) is
+          ∙ (λ i. machine.EnteredAt (object i) Writing (h.0 i) (h.1 i) ∷ rest) ∙ sym is,
     )
 
 admitted_entry_that_logs_is_open : (f : Flat) (t v o : ℕ) (a : Access) (e : Event) (es rest : List Label) → es ≡ label_of e ∷ rest → Suits (Enter o a) e
@@ -249,16 +249,16 @@ admitted_entry_that_logs_is_open f t v o a (Refused p) es rest is suits can h = 
 admitted_entry_that_logs_is_open f t v o a (Read p w) es rest is suits can h =
     let asked = entry_asked o a (Read p w) suits in
     let access : ◌≡◌ {A = Access} a Reading = sym (let e : ◌≡◌ {A = Access} Reading a = cc asked in e) in
-    let emits_read : machine.In o Reading (cell_of f o).fields.version 0
-    ∷ unlogged (machine.In o Reading (cell_of f o).fields.version 0) es ≡ es =
+    let emits_read : machine.EnteredAt o Reading (cell_of f o).fields.version 0
+    ∷ unlogged (machine.EnteredAt o Reading (cell_of f o).fields.version 0) es ≡ es =
     subst (λ z. logged (label_of_step f (Enter o z) v) (unlogged (label_of_step f (Enter o z) v) es) ≡ es) access h in
     let both = emits_read ∙ is in
     ((let e : ◌≡◌ {A = ℕ} (cell_of f o).fields.version w = cc both in e), subst (λ z. Admitted z (cell_of f o).fields) access can)
 admitted_entry_that_logs_is_open f t v o a (Write p w l) es rest is suits can h =
     let asked = entry_asked o a (Write p w l) suits in
     let access : ◌≡◌ {A = Access} a Writing = sym (let e : ◌≡◌ {A = Access} Writing a = cc asked in e) in
-    let emits_write : machine.In o Writing (cell_of f o).fields.version (cell_of f o).fields.left
-    ∷ unlogged (machine.In o Writing (cell_of f o).fields.version (cell_of f o).fields.left) es ≡ es =
+    let emits_write : machine.EnteredAt o Writing (cell_of f o).fields.version (cell_of f o).fields.left
+    ∷ unlogged (machine.EnteredAt o Writing (cell_of f o).fields.version (cell_of f o).fields.left) es ≡ es =
     subst (λ z. logged (label_of_step f (Enter o z) v) (unlogged (label_of_step f (Enter o z) v) es) ≡ es) access h in
     let both = emits_write ∙ is in (
       (let e : ◌≡◌ {A = ℕ} (cell_of f o).fields.version w = cc both in e),
@@ -320,12 +320,12 @@ pub refused_try_can_follow : (r : Recorded) (f : Flat) (t o p : ℕ) → ask_of 
 refused_try_can_follow r f t o p is steps next suits =
     let rest = drop (suc (thread_of f t).events) (map label_of (recorded_thread r t).events) in
     let same : ◌≡◌ {A = ℕ} p o = label_suits_try_if_event_does (Refused p) rest o suits in
-    let es : log_ahead r f t ≡ machine.Refused o ∷ rest =
-    drop_of_mapped_labels_is_label_then_drop (recorded_thread r t).events (thread_of f t).events (Refused p) next ∙ ap (λ z. machine.Refused z ∷ rest) same in
+    let es : log_ahead r f t ≡ machine.FailedTry o ∷ rest =
+    drop_of_mapped_labels_is_label_then_drop (recorded_thread r t).events (thread_of f t).events (Refused p) next ∙ ap (λ z. machine.FailedTry z ∷ rest) same in
     can_follow_if_follows_as_asked r f t 0 (Try o) is (record {
       can = tt;
       steps = steps;
-      logs = ap (λ z. machine.Refused o ∷ unlogged (machine.Refused o) z) es ∙ sym es;
+      logs = ap (λ z. machine.FailedTry o ∷ unlogged (machine.FailedTry o) z) es ∙ sym es;
       ends = tt;
     })
 

@@ -2,7 +2,7 @@
 use Rattle.std.specs.Prelude.{◌≡◌, ℕ, eqb, List, [], ◌++◌, map}
 use Rattle.std.specs.List.{Contains, slice_index_or}
 use Rattle.std.specs.List.Sorted.{IsPermutation, IsNonDecreasingBy}
-use Rattle.ir_runs.specs.Machine.{Label, In, Out}
+use Rattle.ir_runs.specs.Machine.{Label, EnteredAt, LeftAt}
 use Rattle.ir_runs.specs.declared.access.Access.{Access}
 use Rattle.ir_flat.specs.Flat.{start_flat, tables, machine}
 use Rattle.ir_runs.specs.Run.{join_if, Emits}
@@ -17,21 +17,21 @@ EmitsIn f h t k emitted = Emits (machine (start_flat f.guest f.recorded.budget f
 
 -- each of these is a step by which object o was left after such access at version v
 abbrev pub OnlyLeaves : FittedTrace → ℕ → Access → ℕ → List Place → Type 0
-OnlyLeaves f o a v ps = (h : HasRun f) (p : Place) → Contains ps p → (p.version ≡ v) × EmitsIn f h p.thread p.position (Out o a v)
+OnlyLeaves f o a v ps = (h : HasRun f) (p : Place) → Contains ps p → (p.version ≡ v) × EmitsIn f h p.thread p.position (LeftAt o a v)
 
 -- each such step is one of these
 abbrev pub AllLeaves : FittedTrace → ℕ → Access → ℕ → List Place → Type 0
-AllLeaves f o a v ps = (h : HasRun f) (t k : ℕ) → EmitsIn f h t k (Out o a v)
+AllLeaves f o a v ps = (h : HasRun f) (t k : ℕ) → EmitsIn f h t k (LeftAt o a v)
     → Contains ps (record { position = k; version = v; thread = t })
 
 -- each of these is a step by which object o was entered for such access at version v
 abbrev pub OnlyEntries : FittedTrace → ℕ → Access → ℕ → List Place → Type 0
 OnlyEntries f o a v ps = (h : HasRun f) (p : Place) → Contains ps p → (p.version ≡ v)
-    × ((l : ℕ) × EmitsIn f h p.thread p.position (In o a v l))
+    × ((l : ℕ) × EmitsIn f h p.thread p.position (EnteredAt o a v l))
 
 -- each such step is one of these
 abbrev pub AllEntries : FittedTrace → ℕ → Access → ℕ → List Place → Type 0
-AllEntries f o a v ps = (h : HasRun f) (t k l : ℕ) → EmitsIn f h t k (In o a v l)
+AllEntries f o a v ps = (h : HasRun f) (t k l : ℕ) → EmitsIn f h t k (EnteredAt o a v l)
     → Contains ps (record { position = k; version = v; thread = t })
 
 -- each object has the same steps

@@ -5,7 +5,7 @@ use Rattle.std.specs.List.Sorted.{IsPermutation, IsNonDecreasingBy}
 use Rattle.std.proofs.Common.{ap, arith}
 use Rattle.ir_thread.proofs.CallerLemmas.{thread_machine_is_lawful}
 use Rattle.ir_thread.specs.State.{thread_machine}
-use Rattle.ir_runs.specs.Machine.{Label, Quiet, Out}
+use Rattle.ir_runs.specs.Machine.{Label, Quiet, LeftAt}
 use Rattle.ir_runs.specs.Run.{Step, trail, join_if}
 use Rattle.ir_runs.specs.Bounds.{IsStart}
 use Rattle.ir_runs.specs.Verdicts.{sum_below}
@@ -26,7 +26,7 @@ use Rattle.ir_fit.specs.declared.place.Place.{Place}
 -- the position of a step that is logged, and those after it
 abbrev pub place_if : Label → ℕ → List ℕ → List ℕ
 place_if Quiet k ps = ps
-place_if (Out o a v) k ps = ps
+place_if (LeftAt o a v) k ps = ps
 place_if event k ps = k ∷ ps
 
 -- the positions of the steps that are logged, in order, where the first step is at k: how many steps were taken before
@@ -36,7 +36,7 @@ places_from k (x ∷ xs) = place_if x.1 k (places_from (suc k) xs)
 
 -- a step that is a leave, and those after it
 abbrev pub leave_if : Label → ℕ → List Leave → List Leave
-leave_if (Out o a v) k ls = record { position = k; object = o; access = a; version = v } ∷ ls
+leave_if (LeftAt o a v) k ls = record { position = k; object = o; access = a; version = v } ∷ ls
 leave_if other k ls = ls
 
 -- the leaves among the steps, where the first step is at k

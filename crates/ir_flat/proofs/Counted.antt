@@ -3,7 +3,7 @@ use Rattle.std.proofs.Common.{◌≡◌, ◌≢◌, ℕ, zero, suc, ◌+◌, Lis
 use Rattle.std.proofs.lemmas.Bool.{cases_eq}
 use Rattle.ir_thread.specs.State.{ask_of, after_ask, after_reply, shared_ask, reply_of, thread_machine}
 use Rattle.ir_runs.specs.Machine as machine
-use Rattle.ir_runs.specs.Machine.{act_of, upd, Object, target, reply, emitted, Admits, Label, Quiet, Answer, In, Refused, Out, logged}
+use Rattle.ir_runs.specs.Machine.{act_of, upd, Object, target, reply, emitted, Admits, Label, Quiet, Answer, EnteredAt, FailedTry, LeftAt, logged}
 use Rattle.ir_thread.specs.State as thread
 use Rattle.ir_runs.specs.declared.access.Access.TheVariants.{Reading, Writing}
 use Rattle.ir_thread.specs.declared.ask.Ask.{Ask}
@@ -59,9 +59,9 @@ emitted_length_is_events_added code Done r b can = refl
 length_of_logged : (k : Label) (xs : List Label) → length (logged k xs) ≡ length (logged k []) + length xs
 length_of_logged Quiet xs = omega arith
 length_of_logged (Answer i v) xs = omega arith
-length_of_logged (In o a v l) xs = omega arith
-length_of_logged (Refused o) xs = omega arith
-length_of_logged (Out o a v) xs = omega arith
+length_of_logged (EnteredAt o a v l) xs = omega arith
+length_of_logged (FailedTry o) xs = omega arith
+length_of_logged (LeftAt o a v) xs = omega arith
 
 steps_after_ask : (code : List ℕ) (x : thread.ThreadState) (q : Ask) (r : Reply) → q ≢ Done → (after_ask code x q r).steps ≡ x.steps + 1
 steps_after_ask code x Private r ne = refl

@@ -6,7 +6,7 @@ use Rattle.std.proofs.lemmas.Bool.{cases_eq}
 use Rattle.ir_image.specs.Guest.{most_object_words}
 use Rattle.ir_thread.specs.Permitted.{Permits}
 use Rattle.ir_thread.specs.State.{held_at, ask_of, after_ask, after_reply, shared_ask, reply_of}
-use Rattle.ir_runs.specs.Machine.{act_of, upd, Exit, Store, Object, target, acted, reply}
+use Rattle.ir_runs.specs.Machine.{act_of, upd, Left, Stored, Object, target, acted, reply}
 use Rattle.ir_thread.specs.State as thread
 use Rattle.ir_runs.specs.declared.access.Access.{Access}
 use Rattle.ir_runs.specs.declared.access.Access.TheVariants.{Reading, Writing}
@@ -148,18 +148,18 @@ tables_of_next_are_moved_by f t r (Leave o a) flat l p may =
     (exit_with a (cell_of f o) (inside_of f o) t (get_or-set_same (thread_of f t).held o None None p.1))
   where
     exit_with : (a : Access) (c : Cell) (g : ℕ → Option Access) (t : ℕ) {h : Option Access} → h ≡ None
-        → object_with (record c { fields = left_by a c.fields }) (upd g t h) ≡ acted (Exit o a) t (object_with c g)
+        → object_with (record c { fields = left_by a c.fields }) (upd g t h) ≡ acted (Left o a) t (object_with c g)
     exit_with Reading c g t {h} e = objects_equal_if_parts_equal (object_with (record c { fields = left_by Reading c.fields }) (upd g t h))
-        (acted (Exit o Reading) t (object_with c g)) refl (omega arith) (ap (upd g t) e) refl
+        (acted (Left o Reading) t (object_with c g)) refl (omega arith) (ap (upd g t) e) refl
     exit_with Writing c g t {h} e = objects_equal_if_parts_equal (object_with (record c { fields = left_by Writing c.fields }) (upd g t h))
-        (acted (Exit o Writing) t (object_with c g)) (omega arith) refl (ap (upd g t) e) refl
+        (acted (Left o Writing) t (object_with c g)) (omega arith) refl (ap (upd g t) e) refl
 tables_of_next_are_moved_by f t r (Put o i w) flat l p may =
     let k : o < length f.objects = omega (arith, p.1, flat.places t l) in
     let count : i < length (cell_of f o).words = omega (arith, p.2, length_of_cell_words_is_most_object_words f o flat k) in
     tables_of_with_object f t _ o _ l k (λ j ne. refl) ∙ ap (λ z.
     record { now = upd (thread_of f) t (after_ask f.code (thread_of f t) (Put o i w) Go); objects = upd (tables f).objects o z })
     (objects_equal_if_parts_equal (object_with (record (cell_of f o) { words = slice_set (cell_of f o).words i w })
-    (upd (inside_of f o) t (inside_of f o t))) (acted (Store o i w) t (object_with (cell_of f o) (inside_of f o))) refl refl
+    (upd (inside_of f o) t (inside_of f o t))) (acted (Stored o i w) t (object_with (cell_of f o) (inside_of f o))) refl refl
     (upd_with_old_value (inside_of f o) t (inside_of f o t) refl) (get_or_of_set_is_upd (cell_of f o).words i w 0 count))
 
 -- the list's step is the step

@@ -3,7 +3,7 @@ use Rattle.std.proofs.Common.{◌≡◌, ◌≢◌, ℕ, suc, zero, ◌<◌, ◌
 use Rattle.std.proofs.Math.Path.{fun_ext}
 use Rattle.std.proofs.lemmas.Bool.{cases_eq, cases_lt, lt-ltb, le-ltb, eqb-true}
 use Rattle.ir_lemmas.proofs.CallerLemmas.{prefix_is_whole_if_rest_is_empty}
-use Rattle.ir_runs.specs.Machine.{Ask, Private, Env, Enter, Try, Leave, Get, Put, Done, Act, act_of, Silent, Result, Entry, Refusal, Exit, Load, Store, Never, Machine, upd, Object, target, Admits, acted, reply, emitted, Label}
+use Rattle.ir_runs.specs.Machine.{Ask, Private, Env, Enter, Try, Leave, Get, Put, Done, Act, act_of, Silent, Replied, Entered, TryFailed, Left, Got, Stored, Never, Machine, upd, Object, target, Admits, acted, reply, emitted, Label}
 use Rattle.ir_runs.specs.Shared.{is_shared}
 use Rattle.ir_object.specs.Order.{Shared, of_thread, IsAllowed, objects_after, order_labels}
 use Rattle.ir_runs.proofs.CallerLemmas.{upd_at_own_place, upd_at_other_place, upd_with_old_value, append_of_runs_is_run, trail_append, end_append}
@@ -76,12 +76,12 @@ pub record LedToObjectStep {T : Type 0} (m : Machine T) (now : ℕ → T) (t : �
 pub unshared_act_emits_alone_label : {T : Type 0} (m : Machine T) (q : Act) (v : ℕ) (b : Object) (ks : List Label) → is_shared q ≡ false → MayReply m q v
     → emitted q b ≡ alone_label q ks
 unshared_act_emits_alone_label m Silent v b ks p h = refl
-unshared_act_emits_alone_label m (Refusal _) v b ks p h = refl
-unshared_act_emits_alone_label m (Result k res) v b ks p h = refl
-unshared_act_emits_alone_label m (Entry o a ans) v b ks p h = absurd (cc p)
-unshared_act_emits_alone_label m (Exit o a) v b ks p h = absurd (cc p)
-unshared_act_emits_alone_label m (Load o i) v b ks p h = absurd (cc p)
-unshared_act_emits_alone_label m (Store o i w) v b ks p h = absurd (cc p)
+unshared_act_emits_alone_label m (TryFailed _) v b ks p h = refl
+unshared_act_emits_alone_label m (Replied k res) v b ks p h = refl
+unshared_act_emits_alone_label m (Entered o a ans) v b ks p h = absurd (cc p)
+unshared_act_emits_alone_label m (Left o a) v b ks p h = absurd (cc p)
+unshared_act_emits_alone_label m (Got o i) v b ks p h = absurd (cc p)
+unshared_act_emits_alone_label m (Stored o i w) v b ks p h = absurd (cc p)
 unshared_act_emits_alone_label m Never v b ks p h = absurd h
 
 heads_equal_of_equal_lists : (v r : ℕ) (vs rs : List ℕ) → (v ∷ vs) ≡ (r ∷ rs) → v ≡ r
@@ -259,12 +259,12 @@ pub record StartsWithObjectStep {T : Type 0} (m : Machine T) (y : T) (ws : List 
 
 pub alone_label_of_shared_act_is_first_label : (q : Act) (k : Label) (ks : List Label) → is_shared q ≡ true → alone_label q (k ∷ ks) ≡ k
 alone_label_of_shared_act_is_first_label Silent k ks p = absurd (cc p)
-alone_label_of_shared_act_is_first_label (Refusal _) k ks p = absurd (cc p)
-alone_label_of_shared_act_is_first_label (Result i res) k ks p = absurd (cc p)
-alone_label_of_shared_act_is_first_label (Entry o a ans) k ks p = refl
-alone_label_of_shared_act_is_first_label (Exit o a) k ks p = refl
-alone_label_of_shared_act_is_first_label (Load o i) k ks p = refl
-alone_label_of_shared_act_is_first_label (Store o i w) k ks p = refl
+alone_label_of_shared_act_is_first_label (TryFailed _) k ks p = absurd (cc p)
+alone_label_of_shared_act_is_first_label (Replied i res) k ks p = absurd (cc p)
+alone_label_of_shared_act_is_first_label (Entered o a ans) k ks p = refl
+alone_label_of_shared_act_is_first_label (Left o a) k ks p = refl
+alone_label_of_shared_act_is_first_label (Got o i) k ks p = refl
+alone_label_of_shared_act_is_first_label (Stored o i w) k ks p = refl
 alone_label_of_shared_act_is_first_label Never k ks p = absurd (cc p)
 
 replies_start_with_object_step : {T : Type 0} (m : Machine T) (y : T) (ws : List ℕ) (q : Act) (v : ℕ) (more : List Shared) → MayRun m y ws

@@ -4,7 +4,7 @@ use Rattle.std.specs.List.{slice_index_or}
 use Rattle.ir_image.specs.Guest.{Guest, most_threads, most_objects, most_object_words, object_count, first_words}
 use Rattle.ir_image.specs.declared.form.ImageForm.TheVariants.{Small}
 use Rattle.ir_thread.specs.State.{held_at, ThreadState, start_state, thread_machine, most_events}
-use Rattle.ir_runs.specs.Machine.{Machine, Act, act_of, Result, Entry, Load, Never}
+use Rattle.ir_runs.specs.Machine.{Machine, Act, act_of, Replied, Entered, Got, Never}
 use Rattle.ir_runs.specs.declared.access.Access.{Access}
 use Rattle.ir_thread.specs.declared.end.End.TheVariants.{Breakpoint}
 use Rattle.ir_thread.specs.declared.profile.Profile.{Profile}
@@ -108,9 +108,9 @@ pub record IsFlat (f : Flat) : Type 0 where
 
 -- what may be answered to a thread that runs alone
 abbrev pub MayReply : {T : Type 0} → Machine T → Act → ℕ → Type 0
-MayReply m (Result k w) v = m.fits k v ≡ true
-MayReply m (Entry o a w) v = v ≡ w
-MayReply m (Load o i) v = Unit {0}
+MayReply m (Replied k w) v = m.fits k v ≡ true
+MayReply m (Entered o a w) v = v ≡ w
+MayReply m (Got o i) v = Unit {0}
 MayReply m Never v = ⊥
 MayReply m q v = v ≡ 0
 

@@ -1,13 +1,13 @@
 -- What a thread that runs alone emits.
 use Rattle.std.specs.Prelude.{ℕ, Bool, true, false, List, [], ◌∷◌}
-use Rattle.ir_runs.specs.Machine.{Act, act_of, Silent, Result, Refusal, Never, Machine, Label, Quiet, Answer, Refused}
+use Rattle.ir_runs.specs.Machine.{Act, act_of, Silent, Replied, TryFailed, Never, Machine, Label, Quiet, Answer, FailedTry}
 use Rattle.ir_runs.specs.Shared.{is_shared}
 
 -- what a step of a thread alone emits, where ks is what its object steps emit
 abbrev pub alone_label : Act → List Label → Label
 alone_label Silent ks = Quiet
-alone_label (Result k v) ks = Answer k v
-alone_label (Refusal o) ks = Refused o
+alone_label (Replied k v) ks = Answer k v
+alone_label (TryFailed o) ks = FailedTry o
 alone_label Never ks = Quiet
 alone_label _ [] = Quiet
 alone_label _ (k ∷ ks) = k

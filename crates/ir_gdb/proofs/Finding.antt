@@ -4,7 +4,7 @@ use Rattle.std.specs.Prelude.{option_map}
 use Rattle.std.proofs.lemmas.Bool.{cases_eq, cases_lt}
 use Rattle.ir_mach.specs.Execution.{memory_word}
 use Rattle.ir_runs.specs.declared.access.Access.TheVariants.{Reading, Writing}
-use Rattle.ir_runs.specs.Machine.{Label, Quiet, Answer, In, Refused, Out}
+use Rattle.ir_runs.specs.Machine.{Label, Quiet, Answer, EnteredAt, FailedTry, LeftAt}
 use Rattle.ir_runs.specs.Run.{Step, At, Emits, count, trail}
 use Rattle.ir_thread.specs.State.{ThreadState, ask_of}
 use Rattle.ir_fit.specs.Fit.{FittedTrace}
@@ -33,51 +33,51 @@ one_at_place (z ∷ zs) (suc k) x y a b = one_at_place zs k x y a b
 abbrev IsWrittenLeave : ℕ → Label → Type 0
 IsWrittenLeave o Quiet = ⊥
 IsWrittenLeave o (Answer kind value) = ⊥
-IsWrittenLeave o (In p access version left) = ⊥
-IsWrittenLeave o (Refused p) = ⊥
-IsWrittenLeave o (Out p Reading version) = ⊥
-IsWrittenLeave o (Out p Writing version) = p ≡ o
+IsWrittenLeave o (EnteredAt p access version left) = ⊥
+IsWrittenLeave o (FailedTry p) = ⊥
+IsWrittenLeave o (LeftAt p Reading version) = ⊥
+IsWrittenLeave o (LeftAt p Writing version) = p ≡ o
 
 written_leave_or_not : (o : ℕ) (l : Label) → IsWrittenLeave o l ⊎ (IsWrittenLeave o l → ⊥)
 written_leave_or_not o Quiet = inr (λ is. is)
 written_leave_or_not o (Answer kind value) = inr (λ is. is)
-written_leave_or_not o (In p access version left) = inr (λ is. is)
-written_leave_or_not o (Refused p) = inr (λ is. is)
-written_leave_or_not o (Out p Reading version) = inr (λ is. is)
-written_leave_or_not o (Out p Writing version) = elim (cases_eq p o) [
+written_leave_or_not o (EnteredAt p access version left) = inr (λ is. is)
+written_leave_or_not o (FailedTry p) = inr (λ is. is)
+written_leave_or_not o (LeftAt p Reading version) = inr (λ is. is)
+written_leave_or_not o (LeftAt p Writing version) = elim (cases_eq p o) [
   | inl e ↦ inl e
   | inr ne ↦ inr ne
 ]
 
-version_of_written_leave : (o : ℕ) (l : Label) → IsWrittenLeave o l → (version : ℕ) × (l ≡ Out o Writing version)
+version_of_written_leave : (o : ℕ) (l : Label) → IsWrittenLeave o l → (version : ℕ) × (l ≡ LeftAt o Writing version)
 version_of_written_leave o Quiet is = absurd is
 version_of_written_leave o (Answer kind value) is = absurd is
-version_of_written_leave o (In p access version left) is = absurd is
-version_of_written_leave o (Refused p) is = absurd is
-version_of_written_leave o (Out p Reading version) is = absurd is
-version_of_written_leave o (Out p Writing version) is = (version, ap (λ x. Out x Writing version) is)
+version_of_written_leave o (EnteredAt p access version left) is = absurd is
+version_of_written_leave o (FailedTry p) is = absurd is
+version_of_written_leave o (LeftAt p Reading version) is = absurd is
+version_of_written_leave o (LeftAt p Writing version) is = (version, ap (λ x. LeftAt x Writing version) is)
 
 written_leave_emitted_or_not : (f : FittedTrace) (run : List Step) (t j object : ℕ)
-    → ((version : ℕ) × Emits (machine_of f) (start_of f) run t j (Out object Writing version))
-    ⊎ (((version : ℕ) × Emits (machine_of f) (start_of f) run t j (Out object Writing version)) → ⊥)
+    → ((version : ℕ) × Emits (machine_of f) (start_of f) run t j (LeftAt object Writing version))
+    ⊎ (((version : ℕ) × Emits (machine_of f) (start_of f) run t j (LeftAt object Writing version)) → ⊥)
 written_leave_emitted_or_not f run t j object = by (emitted_at_place_or_none steps j)
   where
     steps : List (ThreadState × Label)
     steps = trail (machine_of f) (start_of f) run t
 
     Leaves : Type 0
-    Leaves = (version : ℕ) × Emits (machine_of f) (start_of f) run t j (Out object Writing version)
+    Leaves = (version : ℕ) × Emits (machine_of f) (start_of f) run t j (LeftAt object Writing version)
 
     of_label : (x : ThreadState × Label) → At steps j x → IsWrittenLeave object x.1 ⊎ (IsWrittenLeave object x.1 → ⊥) → Leaves ⊎ (Leaves → ⊥)
     of_label x at (inl is) =
         let found = version_of_written_leave object x.1 is in
         inl (found.0, (x.0, subst (λ l. At steps j (x.0, l)) found.1 at))
     of_label x at (inr isnt) = inr (λ leaves. isnt (subst (λ (y : ThreadState × Label). IsWrittenLeave object y.1)
-        (one_at_place steps j (leaves.1.0, Out object Writing leaves.0) x leaves.1.1 at) refl))
+        (one_at_place steps j (leaves.1.0, LeftAt object Writing leaves.0) x leaves.1.1 at) refl))
 
     by : ((x : ThreadState × Label) × At steps j x) ⊎ ((x : ThreadState × Label) → At steps j x → ⊥) → Leaves ⊎ (Leaves → ⊥)
     by (inl (x, at)) = of_label x at (written_leave_or_not object x.1)
-    by (inr none) = inr (λ leaves. none (leaves.1.0, Out object Writing leaves.0) leaves.1.1)
+    by (inr none) = inr (λ leaves. none (leaves.1.0, LeftAt object Writing leaves.0) leaves.1.1)
 
 word_is_changed_or_not : (f : FittedTrace) (run : List Step) (t address j : ℕ) → ChangesWord f run t address j ⊎ (ChangesWord f run t address j → ⊥)
 word_is_changed_or_not f run t address j = elim (cases_lt address objects_start) [
@@ -136,7 +136,7 @@ hit_by_or_not f run t zero (WatchObject object) = inr (λ h. let e = h.1 in omeg
 hit_by_or_not f run t (suc j) (WatchObject object) = elim (written_leave_emitted_or_not f run t j object) [
   | inl leaves ↦ inl (j, refl, leaves)
   | inr none ↦ inr (λ h. let e = h.1 in let i : h.0 ≡ j = omega (arith, e) in
-      none (subst (λ n. (version : ℕ) × Emits (machine_of f) (start_of f) run t n (Out object Writing version)) i h.2))
+      none (subst (λ n. (version : ℕ) × Emits (machine_of f) (start_of f) run t n (LeftAt object Writing version)) i h.2))
 ]
 
 -- ---- the lowest number of those that hit

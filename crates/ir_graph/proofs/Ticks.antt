@@ -3,7 +3,7 @@ use Rattle.std.proofs.Common.{◌≡◌, ◌⊎◌, ℕ, zero, suc, ◌<◌, ◌
 use Rattle.std.proofs.lemmas.Bool.{cases_eq, cases_lt}
 use Rattle.std.proofs.lemmas.List.{get_or_past}
 use Rattle.std.proofs.lemmas.List.FromFn.{get_or-map-range_with_len}
-use Rattle.ir_runs.specs.Machine.{Ask, Private, Env, Enter, Try, Leave, Get, Put, Done, Object, act_of, emitted, target, Label, Quiet, Answer, In, Refused, Out, logged, Machine, upd}
+use Rattle.ir_runs.specs.Machine.{Ask, Private, Env, Enter, Try, Leave, Get, Put, Done, Object, act_of, emitted, target, Label, Quiet, Answer, EnteredAt, FailedTry, LeftAt, logged, Machine, upd}
 use Rattle.ir_runs.specs.declared.access.Access.TheVariants.{Reading, Writing}
 use Rattle.ir_runs.specs.declared.env_kind.EnvKind.TheVariants.{Clock, Random, Input}
 use Rattle.ir_runs.specs.Run.{State, Step, asked, act, after, label, end, join_if, trail, events, log}
@@ -22,9 +22,9 @@ abbrev pub left_after : Source → List Label → Source
 left_after s [] = s
 left_after s (Quiet ∷ es) = left_after s es
 left_after s (Answer k v ∷ es) = left_after (given k s).1 es
-left_after s (In o a v l ∷ es) = left_after s es
-left_after s (Refused o ∷ es) = left_after s es
-left_after s (Out o a v ∷ es) = left_after s es
+left_after s (EnteredAt o a v l ∷ es) = left_after s es
+left_after s (FailedTry o ∷ es) = left_after s es
+left_after s (LeftAt o a v ∷ es) = left_after s es
 
 pub ticks_never_fall : (s : Source) (es : List Label) → s.ticks ≤ (left_after s es).ticks
 ticks_never_fall s [] = omega arith
@@ -32,9 +32,9 @@ ticks_never_fall s (Quiet ∷ es) = ticks_never_fall s es
 ticks_never_fall s (Answer Clock v ∷ es) = let l = ticks_never_fall (given Clock s).1 es in omega (arith, l)
 ticks_never_fall s (Answer Random v ∷ es) = ticks_never_fall (given Random s).1 es
 ticks_never_fall s (Answer Input v ∷ es) = ticks_never_fall (given Input s).1 es
-ticks_never_fall s (In o a v l ∷ es) = ticks_never_fall s es
-ticks_never_fall s (Refused o ∷ es) = ticks_never_fall s es
-ticks_never_fall s (Out o a v ∷ es) = ticks_never_fall s es
+ticks_never_fall s (EnteredAt o a v l ∷ es) = ticks_never_fall s es
+ticks_never_fall s (FailedTry o ∷ es) = ticks_never_fall s es
+ticks_never_fall s (LeftAt o a v ∷ es) = ticks_never_fall s es
 
 pub ticks_rise_if_log_has_time : (s : Source) (es : List Label) → HasTime es → s.ticks < (left_after s es).ticks
 ticks_rise_if_log_has_time s [] h = absurd h
@@ -42,9 +42,9 @@ ticks_rise_if_log_has_time s (Quiet ∷ es) h = ticks_rise_if_log_has_time s es 
 ticks_rise_if_log_has_time s (Answer Clock v ∷ es) h = let l = ticks_never_fall (given Clock s).1 es in omega (arith, l)
 ticks_rise_if_log_has_time s (Answer Random v ∷ es) h = ticks_rise_if_log_has_time (given Random s).1 es h
 ticks_rise_if_log_has_time s (Answer Input v ∷ es) h = ticks_rise_if_log_has_time (given Input s).1 es h
-ticks_rise_if_log_has_time s (In o a v l ∷ es) h = ticks_rise_if_log_has_time s es h
-ticks_rise_if_log_has_time s (Refused o ∷ es) h = ticks_rise_if_log_has_time s es h
-ticks_rise_if_log_has_time s (Out o a v ∷ es) h = ticks_rise_if_log_has_time s es h
+ticks_rise_if_log_has_time s (EnteredAt o a v l ∷ es) h = ticks_rise_if_log_has_time s es h
+ticks_rise_if_log_has_time s (FailedTry o ∷ es) h = ticks_rise_if_log_has_time s es h
+ticks_rise_if_log_has_time s (LeftAt o a v ∷ es) h = ticks_rise_if_log_has_time s es h
 
 -- a log has an answer to a call for the time, or no tick is added
 log_has_time_or_keeps_ticks : (s : Source) (es : List Label) → HasTime es ⊎ ((left_after s es).ticks ≡ s.ticks)
@@ -53,9 +53,9 @@ log_has_time_or_keeps_ticks s (Quiet ∷ es) = log_has_time_or_keeps_ticks s es
 log_has_time_or_keeps_ticks s (Answer Clock v ∷ es) = inl tt
 log_has_time_or_keeps_ticks s (Answer Random v ∷ es) = log_has_time_or_keeps_ticks (given Random s).1 es
 log_has_time_or_keeps_ticks s (Answer Input v ∷ es) = log_has_time_or_keeps_ticks (given Input s).1 es
-log_has_time_or_keeps_ticks s (In o a v l ∷ es) = log_has_time_or_keeps_ticks s es
-log_has_time_or_keeps_ticks s (Refused o ∷ es) = log_has_time_or_keeps_ticks s es
-log_has_time_or_keeps_ticks s (Out o a v ∷ es) = log_has_time_or_keeps_ticks s es
+log_has_time_or_keeps_ticks s (EnteredAt o a v l ∷ es) = log_has_time_or_keeps_ticks s es
+log_has_time_or_keeps_ticks s (FailedTry o ∷ es) = log_has_time_or_keeps_ticks s es
+log_has_time_or_keeps_ticks s (LeftAt o a v ∷ es) = log_has_time_or_keeps_ticks s es
 
 pub log_has_time_if_ticks_rose : (s : Source) (es : List Label) → s.ticks ≡ 0 → 0 < (left_after s es).ticks → HasTime es
 log_has_time_if_ticks_rose s es none some = elim (log_has_time_or_keeps_ticks s es) [

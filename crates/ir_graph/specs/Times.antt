@@ -1,7 +1,7 @@
 -- Calls for the time in the runs of a guest.
 use Rattle.std.specs.Prelude.{◌≡◌, ℕ, Bool, true, false, List, [], ◌∷◌, Some, slice_get}
 use Rattle.ir_search.specs.Following.{BothWays}
-use Rattle.ir_runs.specs.Machine.{Label, Quiet, Answer, In, Refused, Out}
+use Rattle.ir_runs.specs.Machine.{Label, Quiet, Answer, EnteredAt, FailedTry, LeftAt}
 use Rattle.ir_runs.specs.declared.env_kind.EnvKind.TheVariants.{Clock, Random, Input}
 use Rattle.ir_runs.specs.Run.{State, Step, Can, log}
 use Rattle.ir_search_laws.specs.Nodes.{LeadsTo}
@@ -22,9 +22,9 @@ HasTime (Quiet ∷ es) = HasTime es
 HasTime (Answer Clock v ∷ es) = Unit {0}
 HasTime (Answer Random v ∷ es) = HasTime es
 HasTime (Answer Input v ∷ es) = HasTime es
-HasTime (In o a v l ∷ es) = HasTime es
-HasTime (Refused o ∷ es) = HasTime es
-HasTime (Out o a v ∷ es) = HasTime es
+HasTime (EnteredAt o a v l ∷ es) = HasTime es
+HasTime (FailedTry o ∷ es) = HasTime es
+HasTime (LeftAt o a v ∷ es) = HasTime es
 
 -- in this run of the guest some thread is answered a call for the time
 abbrev pub IsTimedRun : Setup → ℕ → List Step → Type 0

@@ -10,9 +10,9 @@ ghost use Rattle.ir_seen.specs.Seen.{Same, view};
 
 use ir_freeze::{Basis, freeze, over, tells_apart};
 use ir_object::Object;
-use ir_world::Sources;
 use ir_store::{SourcedFlat, bounded};
 use ir_thread::Thread;
+use ir_world::Sources;
 use std::alloc::{AllocError, Global};
 
 // Whether two moments of a thread look the same, beside what answers it: as bytes, and what is left of the sources is the same, unless the

@@ -10,9 +10,9 @@ ghost use Rattle.ir_thread.specs.State.{ask_of, after_ask, shared_ask};
 use ir_image::Code;
 use ir_object::Object;
 use ir_runs::Access;
-use ir_world::Sources;
 use ir_store::SourcedThread;
 use ir_thread::{Ask, End, Reply, Thread};
+use ir_world::Sources;
 
 // Whether a thread that asks so rests.
 fn is_rest(asked: Ask) -> bool

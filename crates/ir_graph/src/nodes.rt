@@ -18,8 +18,8 @@ use crate::known::Turn;
 use crate::rest::run_to_rest;
 use crate::turns::{tries, turn_of};
 use crate::way::{Way, way_result};
-use ir_search::Stop;
 use ir_image::Code;
+use ir_search::Stop;
 use ir_store::{Node, Store};
 
 /// How far a search may go.

@@ -11,11 +11,11 @@ ghost use Rattle.ir_search_laws.specs.Sources.{answer_of, left_of};
 ghost use Rattle.ir_search.specs.declared.stop.Stop.TheVariants.{Log};
 ghost use Rattle.ir_thread.specs.State.{ask_of, shared_ask};
 
-use ir_search::Stop;
 use ir_flat::Flat;
-use ir_world::Sources;
+use ir_search::Stop;
 use ir_store::SourcedFlat;
 use ir_thread::{Ask, End};
+use ir_world::Sources;
 
 // Whether a thread that asks so rests; if not, it may go on.
 fn rests(thread: usize, asked: Ask) -> Result<bool, Stop>

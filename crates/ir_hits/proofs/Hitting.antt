@@ -5,7 +5,7 @@ use Rattle.std.proofs.lemmas.Bool.{cases_lt, eqb-true}
 use Rattle.std.proofs.lemmas.Option.{slice_get_within, slice_get_cases}
 use Rattle.ir_lemmas.proofs.CallerLemmas.{true_is_not_false}
 use Rattle.ir_mach.specs.Execution.{memory_word}
-use Rattle.ir_runs.specs.Machine.{Out}
+use Rattle.ir_runs.specs.Machine.{LeftAt}
 use Rattle.ir_runs.specs.declared.access.Access.TheVariants.{Writing}
 use Rattle.ir_runs.specs.Run.{Step}
 use Rattle.ir_thread.specs.State.{ThreadState, ask_of}
@@ -64,7 +64,7 @@ hit_step_below_steps f run t j (Break u address) h = omega (arith, h.2)
 hit_step_below_steps f run t j (Watch u address) h =
     let within = word_is_written_below_steps f run t address h.1.0 h.1.2 in let is = h.1.1 in omega (arith, is, within)
 hit_step_below_steps f run t j (WatchObject object) h =
-    let within = emitting_step_is_below_step_count f run t h.0 (Out object Writing h.2.0) h.2.1 in omega (arith, h.1, within)
+    let within = emitting_step_is_below_step_count f run t h.0 (LeftAt object Writing h.2.0) h.2.1 in omega (arith, h.1, within)
 
 -- a word that is noted as one that isn't put is written if it changes
 written_word_noted_unput_is_changed : (f : FittedTrace) (run : List Step) (t address j word : ℕ) → address < objects_start

@@ -2,7 +2,7 @@
 use Rattle.std.proofs.Common.{◌≡◌, ◌≢◌, ℕ, suc, zero, ◌<◌, ◌≤◌, List, [], ◌∷◌, length, Option, Some, None, refl, sym, ap, ◌∙◌, subst, inl, inr, arith, get_or}
 use Rattle.std.proofs.lemmas.Bool.{cases_eq}
 use Rattle.std.proofs.lemmas.Option.{same_Some}
-use Rattle.ir_runs.specs.Machine.{Machine, Ask, act_of, upd, Object, reply, emitted, Label, Quiet, Answer, In, Refused, Out}
+use Rattle.ir_runs.specs.Machine.{Machine, Ask, act_of, upd, Object, reply, emitted, Label, Quiet, Answer, EnteredAt, FailedTry, LeftAt}
 use Rattle.ir_runs.specs.Lawful.{held_after, Holds}
 use Rattle.ir_runs.specs.Machine as machine
 use Rattle.ir_runs.specs.declared.access.Access.{Access}
@@ -23,12 +23,12 @@ use Rattle.ir_hits.specs.Seeing.{steps_of, LeavesWritten}
 abbrev leave_ask_of_label : Label → Ask
 leave_ask_of_label Quiet = machine.Private
 leave_ask_of_label (Answer k v) = machine.Private
-leave_ask_of_label (In o a v l) = machine.Private
-leave_ask_of_label (Refused o) = machine.Private
-leave_ask_of_label (Out o a v) = machine.Leave o a
+leave_ask_of_label (EnteredAt o a v l) = machine.Private
+leave_ask_of_label (FailedTry o) = machine.Private
+leave_ask_of_label (LeftAt o a v) = machine.Leave o a
 
 -- what leaves an object asked to
-ask_is_leave_if_write_leave_emitted : (q : Ask) (r o v : ℕ) (b : Object) → emitted (act_of q r) b ≡ Out o Writing v → q ≡ machine.Leave o Writing
+ask_is_leave_if_write_leave_emitted : (q : Ask) (r o v : ℕ) (b : Object) → emitted (act_of q r) b ≡ LeftAt o Writing v → q ≡ machine.Leave o Writing
 ask_is_leave_if_write_leave_emitted machine.Private r o v b e = absurd (cc e)
 ask_is_leave_if_write_leave_emitted (machine.Env k) r o v b e = absurd (cc e)
 ask_is_leave_if_write_leave_emitted (machine.Enter p Reading) r o v b e = absurd (cc e)
@@ -115,14 +115,14 @@ pub held_for_writing_before_and_not_after_written_leave : (f : FittedTrace) (run
     → (held_at (thread_at f run t j).held o ≡ Some Writing) × (held_at (thread_at f run t (suc j)).held o ≢ Some Writing)
 held_for_writing_before_and_not_after_written_leave f run whole t j o h =
     let x : thread.ThreadState = thread_at f run t j in
-    let s = emitting_step_is_step_of (machine_of f) (start_of f) run whole.1.runs t j (Out o Writing h.0) h.1 in
+    let s = emitting_step_is_step_of (machine_of f) (start_of f) run whole.1.runs t j (LeftAt o Writing h.0) h.1 in
     let asks : (machine_of f).ask x ≡ machine.Leave o Writing =
     ask_is_leave_if_write_leave_emitted ((machine_of f).ask x) s.result o h.0 s.object (sym s.emits) in
     let r : ℕ = reply (act_of ((machine_of f).ask x) s.result) s.object in
     let gone : held_after (act_of ((machine_of f).ask x) r) (held_at x.held) o ≡ None =
     subst (λ q. held_after (act_of q r) (held_at x.held) o ≡ None) (sym asks) (upd_at_own_place (held_at x.held) o None) in (
       subst (λ q. Holds q (held_at x.held)) asks ((guest_machine_is_lawful f).holds x),
-      none_is_not_writing (held_at (thread_at f run t (suc j)).held o) (held_after_step_is_held_after_its_act f run t j (Out o Writing h.0) s o ∙ gone),
+      none_is_not_writing (held_at (thread_at f run t (suc j)).held o) (held_after_step_is_held_after_its_act f run t j (LeftAt o Writing h.0) s o ∙ gone),
     )
 
 -- and the other way round
@@ -137,6 +137,6 @@ leaves_written_if_write_hold_lost f run whole t j o less inside out =
     let asks : (machine_of f).ask x ≡ machine.Leave o Writing =
     ask_is_leave_if_write_hold_lost ((machine_of f).ask x) r o (held_at x.held) ((guest_machine_is_lawful f).holds x) inside
     (λ w. out (held_after_step_is_held_after_its_act f run t j some.0 s o ∙ w)) in
-    let emits : some.0 ≡ Out o Writing s.object.version =
+    let emits : some.0 ≡ LeftAt o Writing s.object.version =
     s.emits ∙ ap (λ q. emitted (act_of q s.result) s.object) asks in
     (s.object.version, subst (Emits (machine_of f) (start_of f) run t j) emits some.1)

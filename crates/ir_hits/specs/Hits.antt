@@ -5,7 +5,7 @@ use Rattle.ir_thread.specs.State.{ask_of}
 use Rattle.ir_thread.specs.declared.ask.Ask.{Ask}
 use Rattle.ir_thread.specs.declared.ask.Ask.TheVariants as ask
 use Rattle.ir_runs.specs.declared.access.Access.TheVariants.{Writing}
-use Rattle.ir_runs.specs.Machine.{Out}
+use Rattle.ir_runs.specs.Machine.{LeftAt}
 use Rattle.ir_runs.specs.Run.{Step, count, Emits}
 use Rattle.ir_fit.specs.Fit.{FittedTrace}
 use Rattle.ir_cut.specs.Positions.{machine_of, start_of, thread_at}
@@ -48,7 +48,7 @@ abbrev pub HitBy : FittedTrace → List Step → ℕ → ℕ → Point → Type 
 HitBy f run t k (Break u address) = (u ≡ t) × ((thread_at f run t k).core.pc ≡ address) × (k < count (machine_of f) (start_of f) run t)
 HitBy f run t k (Watch u address) = (u ≡ t) × ((j : ℕ) × (k ≡ suc j) × (ChangesWord f run t address j ⊎ PutsWord f run t address j))
 HitBy f run t k (WatchObject object) = (j : ℕ) × (k ≡ suc j)
-    × ((version : ℕ) × Emits (machine_of f) (start_of f) run t j (Out object Writing version))
+    × ((version : ℕ) × Emits (machine_of f) (start_of f) run t j (LeftAt object Writing version))
 
 -- a point of this number hits
 abbrev pub HitByNumber : FittedTrace → List Step → List Numbered → ℕ → ℕ → ℕ → Type 0

@@ -11,7 +11,7 @@ use Rattle.ir_hits.specs.Hits.{Numbered, objects_start, puts_at}
 use Rattle.ir_runs.specs.Run.{Step, count, Emits}
 use Rattle.ir_fit.specs.Fit.{FittedTrace}
 use Rattle.ir_cut.specs.Positions.{machine_of, start_of}
-use Rattle.ir_runs.specs.Machine.{Out}
+use Rattle.ir_runs.specs.Machine.{LeftAt}
 
 -- whether the point may hit thread t
 abbrev pub Concerns : ℕ → Point → Type 0
@@ -74,4 +74,4 @@ steps_of f run t = count (machine_of f) (start_of f) run t
 
 -- step j of thread t leaves the object after writing
 abbrev pub LeavesWritten : FittedTrace → List Step → ℕ → ℕ → ℕ → Type 0
-LeavesWritten f run t object j = (version : ℕ) × Emits (machine_of f) (start_of f) run t j (Out object Writing version)
+LeavesWritten f run t object j = (version : ℕ) × Emits (machine_of f) (start_of f) run t j (LeftAt object Writing version)

@@ -7,6 +7,6 @@ use Rattle.ir_log.specs.declared.event.Event.TheVariants.{Answer, Read, Write, T
 -- the label of the step that the event is logged of: `Read` and `Write` of an entry, `Try` of a refused try; an entry for reading has 0 leaves
 abbrev pub label_of : Event → machine.Label
 label_of (Answer kind value) = machine.Answer kind value
-label_of (Read object version) = machine.In object Reading version 0
-label_of (Write object version readers) = machine.In object Writing version readers
-label_of (Try object) = machine.Refused object
+label_of (Read object version) = machine.EnteredAt object Reading version 0
+label_of (Write object version readers) = machine.EnteredAt object Writing version readers
+label_of (Try object) = machine.FailedTry object

@@ -1,7 +1,7 @@
 -- Object steps in one order: one step more, and what a thread's own steps emit.
 use Rattle.std.proofs.Common.{◌≡◌, ◌≢◌, ℕ, ◌≤◌, eqb, List, [], ◌∷◌, ◌++◌, Option, Some, None, refl, sym, ap, ◌∙◌, subst, arith, inl, inr, eq-eqb, ne_eqb}
 use Rattle.std.proofs.lemmas.Bool.{cases_eq}
-use Rattle.ir_runs.specs.Machine.{Act, Silent, Result, Entry, Refusal, Exit, Load, Store, Never, Machine, upd, Object, target, Admits, acted, emitted}
+use Rattle.ir_runs.specs.Machine.{Act, Silent, Replied, Entered, TryFailed, Left, Got, Stored, Never, Machine, upd, Object, target, Admits, acted, emitted}
 use Rattle.ir_runs.specs.Run.{join_if}
 use Rattle.ir_runs.specs.declared.access.Access.{Access}
 use Rattle.ir_runs.specs.declared.access.Access.TheVariants.{Reading, Writing}
@@ -56,24 +56,24 @@ no_steps_of_missing_thread m n count f (x ∷ xs) l t g = ap (λ b. join_if b x.
 
 inside_of_actor_after_act : (q : Act) (t : ℕ) (b : Object) → (acted q t b).inside t ≡ inside_then q (b.inside t)
 inside_of_actor_after_act Silent t b = refl
-inside_of_actor_after_act (Result k v) t b = refl
-inside_of_actor_after_act (Entry o a v) t b = upd_at_own_place b.inside t (Some a)
-inside_of_actor_after_act (Refusal o) t b = refl
-inside_of_actor_after_act (Exit o Reading) t b = upd_at_own_place b.inside t None
-inside_of_actor_after_act (Exit o Writing) t b = upd_at_own_place b.inside t None
-inside_of_actor_after_act (Load o i) t b = refl
-inside_of_actor_after_act (Store o i w) t b = refl
+inside_of_actor_after_act (Replied k v) t b = refl
+inside_of_actor_after_act (Entered o a v) t b = upd_at_own_place b.inside t (Some a)
+inside_of_actor_after_act (TryFailed o) t b = refl
+inside_of_actor_after_act (Left o Reading) t b = upd_at_own_place b.inside t None
+inside_of_actor_after_act (Left o Writing) t b = upd_at_own_place b.inside t None
+inside_of_actor_after_act (Got o i) t b = refl
+inside_of_actor_after_act (Stored o i w) t b = refl
 inside_of_actor_after_act Never t b = refl
 
 pub inside_of_other_after_act : (q : Act) (t u : ℕ) (b : Object) → u ≢ t → (acted q t b).inside u ≡ b.inside u
 inside_of_other_after_act Silent t u b ne = refl
-inside_of_other_after_act (Result k v) t u b ne = refl
-inside_of_other_after_act (Entry o a v) t u b ne = upd_at_other_place b.inside t u (Some a) ne
-inside_of_other_after_act (Refusal o) t u b ne = refl
-inside_of_other_after_act (Exit o Reading) t u b ne = upd_at_other_place b.inside t u None ne
-inside_of_other_after_act (Exit o Writing) t u b ne = upd_at_other_place b.inside t u None ne
-inside_of_other_after_act (Load o i) t u b ne = refl
-inside_of_other_after_act (Store o i w) t u b ne = refl
+inside_of_other_after_act (Replied k v) t u b ne = refl
+inside_of_other_after_act (Entered o a v) t u b ne = upd_at_other_place b.inside t u (Some a) ne
+inside_of_other_after_act (TryFailed o) t u b ne = refl
+inside_of_other_after_act (Left o Reading) t u b ne = upd_at_other_place b.inside t u None ne
+inside_of_other_after_act (Left o Writing) t u b ne = upd_at_other_place b.inside t u None ne
+inside_of_other_after_act (Got o i) t u b ne = refl
+inside_of_other_after_act (Stored o i w) t u b ne = refl
 inside_of_other_after_act Never t u b ne = refl
 
 pub objects_then_at_target : (f : ℕ → Object) (x : ℕ × Shared) → objects_then f x (target x.1.0) ≡ acted x.1.0 x.0 (f (target x.1.0))
@@ -120,7 +120,7 @@ inside_after_step o i (y ∷ xs) x = inside_after_step o (inside_if (eqb o (targ
 abbrev pub WriterIsAlone : (ℕ → Option Access) → Type 0
 WriterIsAlone inside = (t u : ℕ) → t ≢ u → inside t ≡ Some Writing → inside u ≡ None
 
-writer_alone_after_entry : {T : Type 0} (m : Machine T) (o t v : ℕ) (a : Access) (b : Object) → Admits m (Entry o a v) b → WriterIsAlone b.inside
+writer_alone_after_entry : {T : Type 0} (m : Machine T) (o t v : ℕ) (a : Access) (b : Object) → Admits m (Entered o a v) b → WriterIsAlone b.inside
     → WriterIsAlone (upd b.inside t (Some a))
 writer_alone_after_entry m o t v Reading b can h u w ne is = elim (cases_eq u t) [
   | inl e ↦ absurd (cc (sym (upd_at_own_place b.inside t (Some Reading)) ∙ ap (upd b.inside t (Some Reading)) (sym e) ∙ is))
@@ -139,11 +139,11 @@ writer_alone_after_exit t inside h u w ne is = elim (cases_eq u t) [
 
 pub writer_alone_after_act : {T : Type 0} (m : Machine T) (q : Act) (t : ℕ) (b : Object) → Admits m q b → WriterIsAlone b.inside → WriterIsAlone (acted q t b).inside
 writer_alone_after_act m Silent t b can h = h
-writer_alone_after_act m (Result k v) t b can h = h
-writer_alone_after_act m (Entry o a v) t b can h = writer_alone_after_entry m o t v a b can h
-writer_alone_after_act m (Refusal o) t b can h = h
-writer_alone_after_act m (Exit o Reading) t b can h = writer_alone_after_exit t b.inside h
-writer_alone_after_act m (Exit o Writing) t b can h = writer_alone_after_exit t b.inside h
-writer_alone_after_act m (Load o i) t b can h = h
-writer_alone_after_act m (Store o i w) t b can h = h
+writer_alone_after_act m (Replied k v) t b can h = h
+writer_alone_after_act m (Entered o a v) t b can h = writer_alone_after_entry m o t v a b can h
+writer_alone_after_act m (TryFailed o) t b can h = h
+writer_alone_after_act m (Left o Reading) t b can h = writer_alone_after_exit t b.inside h
+writer_alone_after_act m (Left o Writing) t b can h = writer_alone_after_exit t b.inside h
+writer_alone_after_act m (Got o i) t b can h = h
+writer_alone_after_act m (Stored o i w) t b can h = h
 writer_alone_after_act m Never t b can h = h

@@ -4,7 +4,7 @@ use Rattle.std.specs.Prelude.{◌||◌, slice_index, slice_set}
 use Rattle.std.proofs.lemmas.Bool.{cases_eq, cases_lt}
 use Rattle.ir_lemmas.proofs.CallerLemmas.{or_true_from_left, or_true_from_right}
 use Rattle.ir_image.specs.Guest.{most_object_words}
-use Rattle.ir_runs.specs.Machine.{upd, Entry, Exit, Store, Object, acted}
+use Rattle.ir_runs.specs.Machine.{upd, Entered, Left, Stored, Object, acted}
 use Rattle.ir_runs.specs.declared.access.Access.{Access}
 use Rattle.ir_runs.specs.declared.access.Access.TheVariants.{Reading, Writing}
 use Rattle.ir_object.specs.declared.fields.Fields.{Fields}
@@ -193,7 +193,7 @@ words_stand = record {
 }
   where
     entries : (n : ℕ) (c : Cell) (b : Object) (t : ℕ) (a : Access) (v : ℕ) → t < n → b.inside t ≡ None → StandsFor n c b
-        → StandsFor n (record c { fields = entered a c.fields }) (acted (Entry 0 a v) t b)
+        → StandsFor n (record c { fields = entered a c.fields }) (acted (Entered 0 a v) t b)
     entries n c b t Reading v l e s = record {
       version = s.version;
       left = s.left;
@@ -211,7 +211,7 @@ words_stand = record {
 
     exits : (n : ℕ) (c : Cell) (b : Object) (t : ℕ) (a : Access) → t < n → b.inside t ≡ Some a
         → (a ≡ Writing → (u : ℕ) → u ≢ t → b.inside u ≡ None) → StandsFor n c b
-        → StandsFor n (record c { fields = left_by a c.fields }) (acted (Exit 0 a) t b)
+        → StandsFor n (record c { fields = left_by a c.fields }) (acted (Left 0 a) t b)
     exits n c b t Reading l e alone s = record {
       version = s.version;
       left = let was = s.left in omega (arith, was);
@@ -228,7 +228,7 @@ words_stand = record {
     }
 
     stores : (n : ℕ) (c : Cell) (b : Object) (t i v : ℕ) → length c.words ≡ most_object_words → i < most_object_words → StandsFor n c b
-        → StandsFor n (record c { words = slice_set c.words i v }) (acted (Store 0 i v) t b)
+        → StandsFor n (record c { words = slice_set c.words i v }) (acted (Stored 0 i v) t b)
     stores n c b t i v count l s = record {
       version = s.version;
       left = s.left;

@@ -1,7 +1,7 @@
 -- Object steps of several threads in one order.
 use Rattle.std.specs.Prelude.{◌≡◌, ◌≢◌, ℕ, ◌^◌, ◌<◌, Bool, true, false, eqb, List, [], ◌∷◌, Option, Some, None}
 use Rattle.ir_image.specs.Guest.{most_object_words}
-use Rattle.ir_runs.specs.Machine.{Act, Silent, Result, Entry, Refusal, Exit, Load, Store, Never, Machine, upd, Object, target, Admits, acted, reply, emitted, Label}
+use Rattle.ir_runs.specs.Machine.{Act, Silent, Replied, Entered, TryFailed, Left, Got, Stored, Never, Machine, upd, Object, target, Admits, acted, reply, emitted, Label}
 use Rattle.ir_runs.specs.Run.{join_if}
 use Rattle.ir_runs.specs.declared.access.Access.{Access}
 use Rattle.ir_runs.specs.declared.access.Access.TheVariants.{Writing}
@@ -37,12 +37,12 @@ order_labels f (x ∷ xs) = (x.0, emitted x.1.0 (f (target x.1.0))) ∷ order_la
 -- how a thread is inside the object that it does this to
 abbrev pub Uses : Act → Option Access → Type 0
 Uses Silent i = ⊥
-Uses (Result k v) i = ⊥
-Uses (Entry o a v) i = i ≡ None
-Uses (Refusal o) i = ⊥
-Uses (Exit o a) i = i ≡ Some a
-Uses (Load o j) i = (j < most_object_words) × (i ≢ None)
-Uses (Store o j w) i = (j < most_object_words) × (w < 2 ^ 32) × (i ≡ Some Writing)
+Uses (Replied k v) i = ⊥
+Uses (Entered o a v) i = i ≡ None
+Uses (TryFailed o) i = ⊥
+Uses (Left o a) i = i ≡ Some a
+Uses (Got o j) i = (j < most_object_words) × (i ≢ None)
+Uses (Stored o j w) i = (j < most_object_words) × (w < 2 ^ 32) × (i ≡ Some Writing)
 Uses Never i = ⊥
 
 -- the object step is one of n threads' and of `count` objects', its thread is inside as it has to be, it is admitted, and this is its
@@ -62,12 +62,12 @@ IsLegal m n count f (x ∷ xs) = IsStep m n count f x × IsLegal m n count (obje
 -- how a thread is inside an object after an act about it
 abbrev pub inside_then : Act → Option Access → Option Access
 inside_then Silent i = i
-inside_then (Result k v) i = i
-inside_then (Entry o a v) i = Some a
-inside_then (Refusal o) i = i
-inside_then (Exit o a) i = None
-inside_then (Load o j) i = i
-inside_then (Store o j w) i = i
+inside_then (Replied k v) i = i
+inside_then (Entered o a v) i = Some a
+inside_then (TryFailed o) i = i
+inside_then (Left o a) i = None
+inside_then (Got o j) i = i
+inside_then (Stored o j w) i = i
 inside_then Never i = i
 
 abbrev pub inside_if : Bool → Act → Option Access → Option Access

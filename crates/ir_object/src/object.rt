@@ -3,7 +3,7 @@
 ghost use Rattle.ir_image.specs.Guest.{most_object_words};
 ghost use Rattle.ir_object.specs.Cell.{Cell};
 ghost use Rattle.ir_object.specs.Standing.{Admitted, CanLeave, StandsFor};
-ghost use Rattle.ir_runs.specs.Machine.{Object, acted, Entry, Exit, Store};
+ghost use Rattle.ir_runs.specs.Machine.{Object, acted, Entered, Left, Stored};
 ghost use Rattle.ir_object.specs.Word.{IsFields, fields_of, entered, left_by};
 ghost use Rattle.ir_runs.specs.declared.access.Access.TheVariants.{Reading, Writing};
 ghost use Rattle.std.specs.Prelude.{◌≡◌, ◌<◌, ◌≢◌, ◌↔◌, ℕ, false, length, slice_index, slice_set, IsTrue, Some, None};

@@ -3,7 +3,7 @@ use Rattle.std.proofs.Common.{◌≡◌, ℕ, suc, List, length, map, sym, ap, �
 use Rattle.std.proofs.Math.Path.{fun_ext}
 use Rattle.std.proofs.lemmas.Bool.{cases_lt}
 use Rattle.std.proofs.lemmas.List.{get_or_past}
-use Rattle.ir_runs.specs.Machine.{Label, In}
+use Rattle.ir_runs.specs.Machine.{Label, EnteredAt}
 use Rattle.ir_runs.specs.declared.access.Access.{Access}
 use Rattle.ir_runs.specs.declared.access.Access.TheVariants.{Writing}
 use Rattle.ir_runs.specs.Run.{log, events, At}
@@ -32,9 +32,9 @@ run_trace_is_coherent f h =
           ∙ ap (λ (x : RecordedThread). map label_of x.events) (sym (get_or_past f.recorded.threads t absent (omega (arith, past, size))))
     ]) in
     record {
-      made = subst (λ (ls : ℕ → List Label). (t i o v l : ℕ) (a : Access) → At (ls t) i (In o a (suc v) l) → (u j k : ℕ) × At (ls u) j (In o Writing v k)) same c.made;
-      writer = subst (λ (ls : ℕ → List Label). (t i u j o v l k : ℕ) → At (ls t) i (In o Writing v l) → At (ls u) j (In o Writing v k) → (t ≡ u) × (i ≡ j)) same
+      made = subst (λ (ls : ℕ → List Label). (t i o v l : ℕ) (a : Access) → At (ls t) i (EnteredAt o a (suc v) l) → (u j k : ℕ) × At (ls u) j (EnteredAt o Writing v k)) same c.made;
+      writer = subst (λ (ls : ℕ → List Label). (t i u j o v l k : ℕ) → At (ls t) i (EnteredAt o Writing v l) → At (ls u) j (EnteredAt o Writing v k) → (t ≡ u) × (i ≡ j)) same
           c.writer;
-      readers = subst (λ (z : (ℕ → List Label) × ℕ). (t i o v l : ℕ) → At (z.0 t) i (In o Writing v l) → l ≡ sum_below z.1 (λ u. reads o v (z.0 u)))
+      readers = subst (λ (z : (ℕ → List Label) × ℕ). (t i o v l : ℕ) → At (z.0 t) i (EnteredAt o Writing v l) → l ≡ sum_below z.1 (λ u. reads o v (z.0 u)))
           (λ i. (same i, sym size i)) c.readers;
     }

@@ -4,7 +4,7 @@ use Rattle.std.specs.Prelude.{Option, Some, None, IfSome, IfNone}
 use Rattle.std.specs.List.Sorted.{IsNonDecreasingBy, IsPartitionPoint}
 use Rattle.std.proofs.lemmas.Bool.{cases_lt}
 use Rattle.std.proofs.lemmas.Option.{slice_get_within, none-some}
-use Rattle.ir_runs.specs.Machine.{Label, Out}
+use Rattle.ir_runs.specs.Machine.{Label, LeftAt}
 use Rattle.ir_runs.specs.Run.{trail, At, Emits}
 use Rattle.ir_runs.specs.declared.access.Access.{Access}
 use Rattle.ir_runs.specs.declared.access.Access.TheVariants.{Reading, Writing}
@@ -85,7 +85,7 @@ pub first_listed_leave_leaves_first : (f : FittedTrace) → HasRun f → (t from
 first_listed_leave_leaves_first f h t from ls start o a v k l x first = (
   (
     (let past = x.point.1 first.number p first.from first.within in let here = first.there p in omega (arith, past, here)),
-    step_emits_in_each_run_if_in_one f h t k (Out o a v) emitted,
+    step_emits_in_each_run_if_in_one f h t k (LeftAt o a v) emitted,
   ),
   λ n at.
       let other = leaving_step_is_listed f h t from ls start o a v n x at in
@@ -106,11 +106,11 @@ first_listed_leave_leaves_first f h t from ls start o a v k l x first = (
     is : get_or ls first.number p ≡ p
     is = leave_equal_by_fields k o a v (get_or ls first.number p) (first.is p) (first.there p)
 
-    emitted : Emits (machine_of f) (start_of f) h.run t k (Out o a v)
+    emitted : Emits (machine_of f) (start_of f) h.run t k (LeftAt o a v)
     emitted =
         let at : get_or (placed_at (placed_of f) t).leaves first.number p ≡ p = subst (λ (z : List Leave). get_or z first.number p ≡ p) x.leaves is in
         let within : first.number < length (placed_at (placed_of f) t).leaves = subst (λ (z : List Leave). first.number < length z) x.leaves first.within in
-        subst (λ (z : Leave). Emits (machine_of f) (start_of f) h.run t z.position (Out z.object z.access z.version)) at
+        subst (λ (z : Leave). Emits (machine_of f) (start_of f) h.run t z.position (LeftAt z.object z.access z.version)) at
         (step_of_leave_emits_leave f h t l first.number p within)
 
 -- and where none is, no step leaves
@@ -187,10 +187,10 @@ entry_position_plus_one_fits_64_bits f fitted t i recorded_event_is_inside =
     omega (arith, within, fits)
 
 leave_step_is_within_thread : (f : FittedTrace) → HasRun f → (t o : ℕ) (a : Access) (v k : ℕ) → t < length f.guest.entries
-    → EachRun f (λ run. Emits (machine_of f) (start_of f) run t k (Out o a v)) → k < (recorded_thread f.recorded t).steps
+    → EachRun f (λ run. Emits (machine_of f) (start_of f) run t k (LeftAt o a v)) → k < (recorded_thread f.recorded t).steps
 leave_step_is_within_thread f h t o a v k l at =
     let e = at h.run h.whole in
-    let a = (get_or_is_item_if_at_index (trail (machine_of f) (start_of f) h.run t) k (e.0, Out o a v) e.1).0 in
+    let a = (get_or_is_item_if_at_index (trail (machine_of f) (start_of f) h.run t) k (e.0, LeftAt o a v) e.1).0 in
     let b = h.whole.1.steps t l in
     omega (arith, a, b)
 

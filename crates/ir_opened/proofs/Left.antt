@@ -1,7 +1,7 @@
 -- What an event enters its thread leaves.
 use Rattle.std.proofs.Common.{◌≡◌, ℕ, ◌+◌, ◌<◌, ◌≤◌, List, length, Some, sym, ◌∙◌, subst, arith}
 use Rattle.std.proofs.lemmas.Option.{same_Some, slice_get_within, none-some}
-use Rattle.ir_runs.specs.Machine.{In, Out}
+use Rattle.ir_runs.specs.Machine.{EnteredAt, LeftAt}
 use Rattle.ir_runs.specs.Run.{Emits}
 use Rattle.ir_runs.specs.declared.access.Access.{Access}
 use Rattle.ir_runs.specs.declared.access.Access.TheVariants.{Reading, Writing}
@@ -30,13 +30,13 @@ event_step_emits_its_label f h t i e there =
     subst (λ z. Emits (machine_of f) (start_of f) h.run t (entry_of f t i) (label_of z)) same (step_at_event_position_emits_event f h t (recorded_event_is_inside f h t i e there).thread i e l)
 
 -- the first leave behind an entry
-first_leave_behind_entry_exists : (f : FittedTrace) (h : HasRun f) (t j o : ℕ) (a : Access) (v l : ℕ) → Emits (machine_of f) (start_of f) h.run t j (In o a v l)
+first_leave_behind_entry_exists : (f : FittedTrace) (h : HasRun f) (t j o : ℕ) (a : Access) (v l : ℕ) → Emits (machine_of f) (start_of f) h.run t j (EnteredAt o a v l)
     → (k : ℕ) × LeavesFrom f t (j + 1) o a v k × ((n : ℕ) → LeavesFrom f t (j + 1) o a v n → k ≤ n)
 first_leave_behind_entry_exists f h t j o a v l enters =
     let x : LeavesFirst (machine_of f) (start_of f) h.run t j o a v = entry_is_left_in_complete_run f.guest.code (start_of f)
     (guest_start_is_start f.guest f.recorded.budget f.recorded.profile) h.run (h.whole.1.runs, h.whole.1.done) t j o a v l enters in (
       x.leave,
-      ((let past = x.past in omega (arith, past)), step_emits_in_each_run_if_in_one f h t x.leave (Out o a v) x.leaves),
+      ((let past = x.past in omega (arith, past)), step_emits_in_each_run_if_in_one f h t x.leave (LeftAt o a v) x.leaves),
       λ n at. x.first n (let from = at.0 in omega (arith, from)) (at.1 h.run h.whole),
     )
 

@@ -1,7 +1,7 @@
 -- Where the events of a trace are among the steps of its run, and where the threads leave what they entered.
 use Rattle.std.specs.Prelude.{◌≡◌, ◌<◌, ◌+◌, ◌≤◌, ℕ, List, [], ◌++◌, codes, decimal, length, Option, Some, None}
 use Rattle.std.specs.List.{slice_index_or}
-use Rattle.ir_runs.specs.Machine.{Out}
+use Rattle.ir_runs.specs.Machine.{LeftAt}
 use Rattle.ir_runs.specs.Run.{Emits}
 use Rattle.ir_runs.specs.declared.access.Access.{Access}
 use Rattle.ir_runs.specs.declared.access.Access.TheVariants.{Reading, Writing}
@@ -20,7 +20,7 @@ pub record IsInside (f : FittedTrace) (t i : ℕ) : Type 0 where
 
 -- step k of thread t, at position `from` or past it, leaves object o after such access at version v
 abbrev pub LeavesFrom : FittedTrace → ℕ → ℕ → ℕ → Access → ℕ → ℕ → Type 0
-LeavesFrom f t from o access v k = (from ≤ k) × EachRun f (λ run. Emits (machine_of f) (start_of f) run t k (Out o access v))
+LeavesFrom f t from o access v k = (from ≤ k) × EachRun f (λ run. Emits (machine_of f) (start_of f) run t k (LeftAt o access v))
 
 -- so of what an event entered; an event that is no entry leaves nothing
 abbrev pub EntryLeaves : FittedTrace → ℕ → ℕ → Option Event → ℕ → Type 0

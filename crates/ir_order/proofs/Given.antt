@@ -1,6 +1,6 @@
 -- What the world of a thread answers next.
 use Rattle.std.proofs.Common.{◌≡◌, ◌<◌, ℕ, zero, suc, Bool, true, false, List, ◌∷◌, refl, sym, ap, ◌∙◌, subst}
-use Rattle.ir_runs.specs.Machine.{Ask, Private, Env, Enter, Try, Leave, Get, Put, Done, Act, act_of, Silent, Result, Entry, Refusal, Exit, Load, Store, Never, Machine, upd, Object, target, Admits, emitted, Label, logged}
+use Rattle.ir_runs.specs.Machine.{Ask, Private, Env, Enter, Try, Leave, Get, Put, Done, Act, act_of, Silent, Replied, Entered, TryFailed, Left, Got, Stored, Never, Machine, upd, Object, target, Admits, emitted, Label, logged}
 use Rattle.ir_runs.specs.declared.access.Access.TheVariants.{Reading, Writing}
 use Rattle.ir_runs.specs.Run.{State, Step, asked, act, after, events, log}
 use Rattle.ir_runs.proofs.CallerLemmas.{property_of_upd_by_cases, trail_of_cons_own_thread, trail_of_cons_other_thread}
@@ -11,23 +11,23 @@ use Rattle.ir_world.specs.Sources.{Source, given, Gave}
 -- the act has the answer that comes next
 abbrev pub TakesNextAnswer : Act → Source → Type 0
 TakesNextAnswer Silent s = Unit {0}
-TakesNextAnswer (Result k v) s = v ≡ (given k s).0
-TakesNextAnswer (Entry o a v) s = Unit {0}
-TakesNextAnswer (Refusal o) s = Unit {0}
-TakesNextAnswer (Exit o a) s = Unit {0}
-TakesNextAnswer (Load o i) s = Unit {0}
-TakesNextAnswer (Store o i w) s = Unit {0}
+TakesNextAnswer (Replied k v) s = v ≡ (given k s).0
+TakesNextAnswer (Entered o a v) s = Unit {0}
+TakesNextAnswer (TryFailed o) s = Unit {0}
+TakesNextAnswer (Left o a) s = Unit {0}
+TakesNextAnswer (Got o i) s = Unit {0}
+TakesNextAnswer (Stored o i w) s = Unit {0}
 TakesNextAnswer Never s = Unit {0}
 
 -- what is left after the act
 abbrev pub source_left_by : Act → Source → Source
 source_left_by Silent s = s
-source_left_by (Result k v) s = (given k s).1
-source_left_by (Entry o a v) s = s
-source_left_by (Refusal o) s = s
-source_left_by (Exit o a) s = s
-source_left_by (Load o i) s = s
-source_left_by (Store o i w) s = s
+source_left_by (Replied k v) s = (given k s).1
+source_left_by (Entered o a v) s = s
+source_left_by (TryFailed o) s = s
+source_left_by (Left o a) s = s
+source_left_by (Got o i) s = s
+source_left_by (Stored o i w) s = s
 source_left_by Never s = s
 
 -- the answers in a log were given in turn from here on
@@ -37,13 +37,13 @@ HasGiven s es = (left : Source) × Gave s (answers_in es) left
 pub has_given_splits_off_act : (q : Act) (b : Object) (es : List Label) (s : Source) → HasGiven s (logged (emitted q b) es)
     → TakesNextAnswer q s × HasGiven (source_left_by q s) es
 has_given_splits_off_act Silent b es s h = (tt, h)
-has_given_splits_off_act (Result k v) b es s h = (h.1.0, (h.0, h.1.1))
-has_given_splits_off_act (Entry o Reading v) b es s h = (tt, h)
-has_given_splits_off_act (Entry o Writing v) b es s h = (tt, h)
-has_given_splits_off_act (Refusal o) b es s h = (tt, h)
-has_given_splits_off_act (Exit o a) b es s h = (tt, h)
-has_given_splits_off_act (Load o i) b es s h = (tt, h)
-has_given_splits_off_act (Store o i w) b es s h = (tt, h)
+has_given_splits_off_act (Replied k v) b es s h = (h.1.0, (h.0, h.1.1))
+has_given_splits_off_act (Entered o Reading v) b es s h = (tt, h)
+has_given_splits_off_act (Entered o Writing v) b es s h = (tt, h)
+has_given_splits_off_act (TryFailed o) b es s h = (tt, h)
+has_given_splits_off_act (Left o a) b es s h = (tt, h)
+has_given_splits_off_act (Got o i) b es s h = (tt, h)
+has_given_splits_off_act (Stored o i w) b es s h = (tt, h)
 has_given_splits_off_act Never b es s h = (tt, h)
 
 -- each of n threads was answered from what is left to it
@@ -87,7 +87,7 @@ pub act_taken_from_source_is_unique : {T : Type 0} (m : Machine T) (objects : �
     → EntersIfItCan m objects refused q r → EntersIfItCan m objects refused q w → TakesNextAnswer (act_of q r) source → TakesNextAnswer (act_of q w) source
     → act_of q r ≡ act_of q w
 act_taken_from_source_is_unique m objects source refused Private r w can can' enters enters' takes takes' = refl
-act_taken_from_source_is_unique m objects source refused (Env k) r w can can' enters enters' takes takes' = ap (Result k) (takes ∙ sym takes')
+act_taken_from_source_is_unique m objects source refused (Env k) r w can can' enters enters' takes takes' = ap (Replied k) (takes ∙ sym takes')
 act_taken_from_source_is_unique m objects source refused (Enter o a) r w can can' enters enters' takes takes' = refl
 act_taken_from_source_is_unique m objects source true (Try o) r w can can' enters enters' takes takes' = ap (act_of (Try o)) (enters o refl ∙ sym (enters' o refl))
 act_taken_from_source_is_unique m objects source false (Try o) zero zero can can' enters enters' takes takes' = refl

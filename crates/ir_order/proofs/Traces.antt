@@ -6,7 +6,7 @@ use Rattle.ir_image.specs.Guest.{Guest}
 use Rattle.ir_log.specs.Logging.{label_of}
 use Rattle.ir_log.specs.declared.event.Event.{Event}
 use Rattle.ir_log.specs.declared.event.Event.TheVariants as event
-use Rattle.ir_runs.specs.Machine.{Label, Quiet, Answer, In, Refused, Out}
+use Rattle.ir_runs.specs.Machine.{Label, Quiet, Answer, EnteredAt, FailedTry, LeftAt}
 use Rattle.ir_runs.specs.declared.access.Access.TheVariants.{Reading, Writing}
 use Rattle.ir_runs.specs.Run.{Step}
 use Rattle.ir_thread.specs.State.{end_number, end_code, end_of}
@@ -23,10 +23,10 @@ use Rattle.ir_order.specs.Recording.{IsOfRun}
 abbrev with_event : Label → List Event → List Event
 with_event Quiet es = es
 with_event (Answer kind value) es = event.Answer kind value ∷ es
-with_event (In object Reading version left) es = event.Read object version ∷ es
-with_event (In object Writing version left) es = event.Write object version left ∷ es
-with_event (Refused object) es = event.Try object ∷ es
-with_event (Out object access version) es = es
+with_event (EnteredAt object Reading version left) es = event.Read object version ∷ es
+with_event (EnteredAt object Writing version left) es = event.Write object version left ∷ es
+with_event (FailedTry object) es = event.Try object ∷ es
+with_event (LeftAt object access version) es = es
 
 abbrev events_of : List Label → List Event
 events_of [] = []

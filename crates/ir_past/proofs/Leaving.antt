@@ -2,7 +2,7 @@
 use Rattle.std.proofs.Common.{◌≡◌, ◌≢◌, ℕ, suc, zero, ◌<◌, ◌≤◌, inl, inr, List, [], ◌∷◌, Some, None, sym, ap, ◌∙◌, subst, arith}
 use Rattle.std.proofs.lemmas.Bool.{cases_eq}
 use Rattle.std.proofs.lemmas.Option.{same_Some, none-some}
-use Rattle.ir_runs.specs.Machine.{Act, Done, Silent, Result, Entry, Refusal, Exit, Load, Store, Never, Machine, upd, Object, target, acted, emitted, Label, In, Out}
+use Rattle.ir_runs.specs.Machine.{Act, Done, Silent, Replied, Entered, TryFailed, Left, Got, Stored, Never, Machine, upd, Object, target, acted, emitted, Label, EnteredAt, LeftAt}
 use Rattle.ir_runs.specs.Lawful.{Holds, IsLawful}
 use Rattle.ir_runs.specs.declared.access.Access.{Access}
 use Rattle.ir_runs.specs.declared.access.Access.TheVariants.{Reading, Writing}
@@ -59,32 +59,32 @@ rest_emits_if_run_emits_after_other_step {T} m s e run t k b ne x = (x.0, subst 
 pub record IsEntry (q : Act) (o : ℕ) : Type 0 where
   pub access : Access
   pub answer : ℕ
-  pub does : q ≡ Entry o access answer
+  pub does : q ≡ Entered o access answer
 
 act_emitting_entry_is_entry : (q : Act) (b : Object) (o : ℕ) → Enters o (emitted q b) → IsEntry q o
 act_emitting_entry_is_entry Silent b o h = absurd h
-act_emitting_entry_is_entry (Result k x) b o h = absurd h
-act_emitting_entry_is_entry (Entry p Reading x) b o h = record { access = Reading; answer = x; does = ap (λ z. Entry z Reading x) h }
-act_emitting_entry_is_entry (Entry p Writing x) b o h = record { access = Writing; answer = x; does = ap (λ z. Entry z Writing x) h }
-act_emitting_entry_is_entry (Refusal p) b o h = absurd h
-act_emitting_entry_is_entry (Exit p a) b o h = absurd h
-act_emitting_entry_is_entry (Load p i) b o h = absurd h
-act_emitting_entry_is_entry (Store p i x) b o h = absurd h
+act_emitting_entry_is_entry (Replied k x) b o h = absurd h
+act_emitting_entry_is_entry (Entered p Reading x) b o h = record { access = Reading; answer = x; does = ap (λ z. Entered z Reading x) h }
+act_emitting_entry_is_entry (Entered p Writing x) b o h = record { access = Writing; answer = x; does = ap (λ z. Entered z Writing x) h }
+act_emitting_entry_is_entry (TryFailed p) b o h = absurd h
+act_emitting_entry_is_entry (Left p a) b o h = absurd h
+act_emitting_entry_is_entry (Got p i) b o h = absurd h
+act_emitting_entry_is_entry (Stored p i x) b o h = absurd h
 act_emitting_entry_is_entry Never b o h = absurd h
 
 -- what emits a leave is one
-act_emitting_leave_is_exit : (q : Act) (b : Object) (o : ℕ) (a : Access) (v : ℕ) → emitted q b ≡ Out o a v → q ≡ Exit o a
+act_emitting_leave_is_exit : (q : Act) (b : Object) (o : ℕ) (a : Access) (v : ℕ) → emitted q b ≡ LeftAt o a v → q ≡ Left o a
 act_emitting_leave_is_exit Silent b o a v e = absurd (cc e)
-act_emitting_leave_is_exit (Result k x) b o a v e = absurd (cc e)
-act_emitting_leave_is_exit (Entry p Reading x) b o a v e = absurd (cc e)
-act_emitting_leave_is_exit (Entry p Writing x) b o a v e = absurd (cc e)
-act_emitting_leave_is_exit (Refusal p) b o a v e = absurd (cc e)
-act_emitting_leave_is_exit (Exit p c) b o a v e =
+act_emitting_leave_is_exit (Replied k x) b o a v e = absurd (cc e)
+act_emitting_leave_is_exit (Entered p Reading x) b o a v e = absurd (cc e)
+act_emitting_leave_is_exit (Entered p Writing x) b o a v e = absurd (cc e)
+act_emitting_leave_is_exit (TryFailed p) b o a v e = absurd (cc e)
+act_emitting_leave_is_exit (Left p c) b o a v e =
     let object : p ≡ o = cc e in
     let access : c ≡ a = cc e in
-    λ i. Exit (object i) (access i)
-act_emitting_leave_is_exit (Load p i) b o a v e = absurd (cc e)
-act_emitting_leave_is_exit (Store p i x) b o a v e = absurd (cc e)
+    λ i. Left (object i) (access i)
+act_emitting_leave_is_exit (Got p i) b o a v e = absurd (cc e)
+act_emitting_leave_is_exit (Stored p i x) b o a v e = absurd (cc e)
 act_emitting_leave_is_exit Never b o a v e = absurd (cc e)
 
 -- ---- a thread that is inside
@@ -92,38 +92,38 @@ act_emitting_leave_is_exit Never b o a v e = absurd (cc e)
 -- the leave of a thread that is inside, its first
 pub record Exits {T : Type 0} (m : Machine T) (s : State T) (run : List Step) (t o : ℕ) (a : Access) (v : ℕ) : Type 0 where
   pub leave : ℕ
-  pub leaves : Emits m s run t leave (Out o a v)
-  pub first : (k : ℕ) → Emits m s run t k (Out o a v) → leave ≤ k
+  pub leaves : Emits m s run t leave (LeftAt o a v)
+  pub first : (k : ℕ) → Emits m s run t k (LeftAt o a v) → leave ≤ k
 
 run_exits_if_rest_exits_after_own_step_not_leaving : {T : Type 0} (m : Machine T) (s : State T) (e : Step) (run : List Step) (t o : ℕ) (a : Access) (v : ℕ) → e.0 ≡ t
-    → (label m s e ≡ Out o a v → ⊥) → Exits m (after m s e) run t o a v → Exits m s (e ∷ run) t o a v
+    → (label m s e ≡ LeftAt o a v → ⊥) → Exits m (after m s e) run t o a v → Exits m s (e ∷ run) t o a v
 run_exits_if_rest_exits_after_own_step_not_leaving m s e run t o a v own stays x = record {
   leave = suc x.leave;
-  leaves = run_emits_if_rest_emits_after_own_step m s e run t x.leave (Out o a v) own x.leaves;
+  leaves = run_emits_if_rest_emits_after_own_step m s e run t x.leave (LeftAt o a v) own x.leaves;
   first = no_earlier;
 }
   where
-    no_earlier : (k : ℕ) → Emits m s (e ∷ run) t k (Out o a v) → suc x.leave ≤ k
-    no_earlier zero y = absurd (stays (first_emitted_label_is_own m s e run t (Out o a v) own y))
-    no_earlier (suc k) y = let low = x.first k (rest_emits_if_run_emits_after_own_step m s e run t k (Out o a v) own y) in omega (arith, low)
+    no_earlier : (k : ℕ) → Emits m s (e ∷ run) t k (LeftAt o a v) → suc x.leave ≤ k
+    no_earlier zero y = absurd (stays (first_emitted_label_is_own m s e run t (LeftAt o a v) own y))
+    no_earlier (suc k) y = let low = x.first k (rest_emits_if_run_emits_after_own_step m s e run t k (LeftAt o a v) own y) in omega (arith, low)
 
 run_exits_if_rest_exits_after_other_step : {T : Type 0} (m : Machine T) (s : State T) (e : Step) (run : List Step) (t o : ℕ) (a : Access) (v : ℕ) → (e.0 ≡ t → ⊥)
     → Exits m (after m s e) run t o a v → Exits m s (e ∷ run) t o a v
 run_exits_if_rest_exits_after_other_step m s e run t o a v other x = record {
   leave = x.leave;
-  leaves = run_emits_if_rest_emits_after_other_step m s e run t x.leave (Out o a v) (λ same. other (sym same)) x.leaves;
-  first = λ k y. x.first k (rest_emits_if_run_emits_after_other_step m s e run t k (Out o a v) (λ same. other (sym same)) y);
+  leaves = run_emits_if_rest_emits_after_other_step m s e run t x.leave (LeftAt o a v) (λ same. other (sym same)) x.leaves;
+  first = λ k y. x.first k (rest_emits_if_run_emits_after_other_step m s e run t k (LeftAt o a v) (λ same. other (sym same)) y);
 }
 
 -- behind a leave the thread isn't inside
-thread_is_outside_after_exit : {T : Type 0} (m : Machine T) (s : State T) (e : Step) (t o : ℕ) (a : Access) → e.0 ≡ t → act m s e ≡ Exit o a
+thread_is_outside_after_exit : {T : Type 0} (m : Machine T) (s : State T) (e : Step) (t o : ℕ) (a : Access) → e.0 ≡ t → act m s e ≡ Left o a
     → ((after m s e).objects o).inside t ≡ None
 thread_is_outside_after_exit m s e t o a own does = ap (λ z. z.inside t) object ∙ gone a
   where
-    object : (after m s e).objects o ≡ acted (Exit o a) e.0 (s.objects o)
+    object : (after m s e).objects o ≡ acted (Left o a) e.0 (s.objects o)
     object = subst (λ q. (after m s e).objects (target q) ≡ acted q e.0 (s.objects (target q))) does (target_object_after_step m s e)
 
-    gone : (c : Access) → (acted (Exit o c) e.0 (s.objects o)).inside t ≡ None
+    gone : (c : Access) → (acted (Left o c) e.0 (s.objects o)).inside t ≡ None
     gone Reading = subst (λ z. upd (s.objects o).inside e.0 None z ≡ None) own (upd_at_own_place (s.objects o).inside e.0 None)
     gone Writing = subst (λ z. upd (s.objects o).inside e.0 None z ≡ None) own (upd_at_own_place (s.objects o).inside e.0 None)
 
@@ -151,10 +151,10 @@ thread_inside_exits m law s good (e ∷ run) ok done t o a v inside version = el
     | inr exit ↦
         let held = subst (λ z. (s.objects o).inside z ≡ Some exit.0) own (exiting_thread_is_inside m law s good e o exit.0 exit.1) in
         let access : exit.0 ≡ a = same_Some exit.0 a (sym held ∙ inside) in
-        let does : act m s e ≡ Exit o a = exit.1 ∙ ap (λ z. Exit o z) access in
+        let does : act m s e ≡ Left o a = exit.1 ∙ ap (λ z. Left o z) access in
         record {
           leave = 0;
-          leaves = emits_own_first_label m s e run t (Out o a v) own (ap (λ q. emitted q (s.objects (target q))) does ∙ ap (λ z. Out o a z) version);
+          leaves = emits_own_first_label m s e run t (LeftAt o a v) own (ap (λ q. emitted q (s.objects (target q))) does ∙ ap (λ z. LeftAt o a z) version);
           first = λ k y. omega arith;
         }
   ]
@@ -173,7 +173,7 @@ record IsInsideAt {T : Type 0} (m : Machine T) (s : State T) (e : Step) (t o : �
   inside : ((after m s e).objects o).inside t ≡ Some a
   version : ((after m s e).objects o).version ≡ v
 
-thread_is_inside_after_entry : {T : Type 0} (m : Machine T) (s : State T) (e : Step) (t o : ℕ) (a : Access) (v l : ℕ) → e.0 ≡ t → label m s e ≡ In o a v l
+thread_is_inside_after_entry : {T : Type 0} (m : Machine T) (s : State T) (e : Step) (t o : ℕ) (a : Access) (v l : ℕ) → e.0 ≡ t → label m s e ≡ EnteredAt o a v l
     → IsInsideAt m s e t o a v
 thread_is_inside_after_entry m s e t o a v l own enters = record {
   inside = ap (λ z. z.inside t) object
@@ -184,7 +184,7 @@ thread_is_inside_after_entry m s e t o a v l own enters = record {
     entry : IsEntering (act m s e) (s.objects (target (act m s e))) o a v
     entry = act_emitting_entry_is_entering (act m s e) (s.objects (target (act m s e))) o a v l enters
 
-    object : (after m s e).objects o ≡ acted (Entry o a entry.answer) e.0 (s.objects o)
+    object : (after m s e).objects o ≡ acted (Entered o a entry.answer) e.0 (s.objects o)
     object = subst (λ q. (after m s e).objects (target q) ≡ acted q e.0 (s.objects (target q))) entry.does (target_object_after_step m s e)
 
 leaves_first_at_zero_if_rest_exits_after_own_step : {T : Type 0} (m : Machine T) (s : State T) (e : Step) (run : List Step) (t o : ℕ) (a : Access) (v : ℕ) → e.0 ≡ t
@@ -192,58 +192,58 @@ leaves_first_at_zero_if_rest_exits_after_own_step : {T : Type 0} (m : Machine T)
 leaves_first_at_zero_if_rest_exits_after_own_step m s e run t o a v own x = record {
   leave = suc x.leave;
   past = omega arith;
-  leaves = run_emits_if_rest_emits_after_own_step m s e run t x.leave (Out o a v) own x.leaves;
+  leaves = run_emits_if_rest_emits_after_own_step m s e run t x.leave (LeftAt o a v) own x.leaves;
   first = no_earlier;
 }
   where
-    no_earlier : (k : ℕ) → 0 < k → Emits m s (e ∷ run) t k (Out o a v) → suc x.leave ≤ k
+    no_earlier : (k : ℕ) → 0 < k → Emits m s (e ∷ run) t k (LeftAt o a v) → suc x.leave ≤ k
     no_earlier zero past y = absurd (omega (arith, past))
-    no_earlier (suc k) past y = let low = x.first k (rest_emits_if_run_emits_after_own_step m s e run t k (Out o a v) own y) in omega (arith, low)
+    no_earlier (suc k) past y = let low = x.first k (rest_emits_if_run_emits_after_own_step m s e run t k (LeftAt o a v) own y) in omega (arith, low)
 
 run_leaves_first_if_rest_does_after_own_step : {T : Type 0} (m : Machine T) (s : State T) (e : Step) (run : List Step) (t j o : ℕ) (a : Access) (v : ℕ) → e.0 ≡ t
     → LeavesFirst m (after m s e) run t j o a v → LeavesFirst m s (e ∷ run) t (suc j) o a v
 run_leaves_first_if_rest_does_after_own_step m s e run t j o a v own x = record {
   leave = suc x.leave;
   past = (let less = x.past in omega (arith, less));
-  leaves = run_emits_if_rest_emits_after_own_step m s e run t x.leave (Out o a v) own x.leaves;
+  leaves = run_emits_if_rest_emits_after_own_step m s e run t x.leave (LeftAt o a v) own x.leaves;
   first = no_earlier;
 }
   where
-    no_earlier : (k : ℕ) → suc j < k → Emits m s (e ∷ run) t k (Out o a v) → suc x.leave ≤ k
+    no_earlier : (k : ℕ) → suc j < k → Emits m s (e ∷ run) t k (LeftAt o a v) → suc x.leave ≤ k
     no_earlier zero past y = absurd (omega (arith, past))
-    no_earlier (suc k) past y = let low = x.first k (omega (arith, past)) (rest_emits_if_run_emits_after_own_step m s e run t k (Out o a v) own y) in omega (arith, low)
+    no_earlier (suc k) past y = let low = x.first k (omega (arith, past)) (rest_emits_if_run_emits_after_own_step m s e run t k (LeftAt o a v) own y) in omega (arith, low)
 
 run_leaves_first_if_rest_does_after_other_step : {T : Type 0} (m : Machine T) (s : State T) (e : Step) (run : List Step) (t j o : ℕ) (a : Access) (v : ℕ) → (e.0 ≡ t → ⊥)
     → LeavesFirst m (after m s e) run t j o a v → LeavesFirst m s (e ∷ run) t j o a v
 run_leaves_first_if_rest_does_after_other_step m s e run t j o a v other x = record {
   leave = x.leave;
   past = x.past;
-  leaves = run_emits_if_rest_emits_after_other_step m s e run t x.leave (Out o a v) (λ same. other (sym same)) x.leaves;
-  first = λ k past y. x.first k past (rest_emits_if_run_emits_after_other_step m s e run t k (Out o a v) (λ same. other (sym same)) y);
+  leaves = run_emits_if_rest_emits_after_other_step m s e run t x.leave (LeftAt o a v) (λ same. other (sym same)) x.leaves;
+  first = λ k past y. x.first k past (rest_emits_if_run_emits_after_other_step m s e run t k (LeftAt o a v) (λ same. other (sym same)) y);
 }
 
 pub entry_is_left : {T : Type 0} (m : Machine T) → IsLawful m → (s : State T) → StateInvariant m s → (run : List Step) → IsRun m s run → IsDone m (end m s run)
-    → (t j o : ℕ) (a : Access) (v l : ℕ) → Emits m s run t j (In o a v l) → LeavesFirst m s run t j o a v
+    → (t j o : ℕ) (a : Access) (v l : ℕ) → Emits m s run t j (EnteredAt o a v l) → LeavesFirst m s run t j o a v
 entry_is_left m law s good [] ok done t j o a v l enters = absurd enters.1
 entry_is_left m law s good (e ∷ run) ok done t j o a v l enters = elim (cases_eq e.0 t) [
   | inl own ↦ by own (λ k y. entry_is_left m law (after m s e) (state_invariant_after_step m law s good e ok.0) run ok.1 done t k o a v l y) j enters
   | inr other ↦ run_leaves_first_if_rest_does_after_other_step m s e run t j o a v other
       (entry_is_left m law (after m s e) (state_invariant_after_step m law s good e ok.0) run ok.1 done t j o a v l
-      (rest_emits_if_run_emits_after_other_step m s e run t j (In o a v l) (λ same. other (sym same)) enters))
+      (rest_emits_if_run_emits_after_other_step m s e run t j (EnteredAt o a v l) (λ same. other (sym same)) enters))
 ]
   where
-    by : e.0 ≡ t → ((k : ℕ) → Emits m (after m s e) run t k (In o a v l) → LeavesFirst m (after m s e) run t k o a v) → (j : ℕ)
-        → Emits m s (e ∷ run) t j (In o a v l) → LeavesFirst m s (e ∷ run) t j o a v
+    by : e.0 ≡ t → ((k : ℕ) → Emits m (after m s e) run t k (EnteredAt o a v l) → LeavesFirst m (after m s e) run t k o a v) → (j : ℕ)
+        → Emits m s (e ∷ run) t j (EnteredAt o a v l) → LeavesFirst m s (e ∷ run) t j o a v
     by own again zero y =
-        let there = thread_is_inside_after_entry m s e t o a v l own (first_emitted_label_is_own m s e run t (In o a v l) own y) in
+        let there = thread_is_inside_after_entry m s e t o a v l own (first_emitted_label_is_own m s e run t (EnteredAt o a v l) own y) in
         leaves_first_at_zero_if_rest_exits_after_own_step m s e run t o a v own
         (thread_inside_exits m law (after m s e) (state_invariant_after_step m law s good e ok.0) run ok.1 done t o a v there.inside there.version)
-    by own again (suc j) y = run_leaves_first_if_rest_does_after_own_step m s e run t j o a v own (again j (rest_emits_if_run_emits_after_own_step m s e run t j (In o a v l) own y))
+    by own again (suc j) y = run_leaves_first_if_rest_does_after_own_step m s e run t j o a v own (again j (rest_emits_if_run_emits_after_own_step m s e run t j (EnteredAt o a v l) own y))
 
 -- ---- the law
 
 pub entry_is_left_in_complete_run : (code : List ℕ) (s : State thread.ThreadState) → IsStart (thread_machine code) s → (run : List Step)
-    → IsComplete (thread_machine code) s run → (t j o : ℕ) (a : Access) (v l : ℕ) → Emits (thread_machine code) s run t j (In o a v l)
+    → IsComplete (thread_machine code) s run → (t j o : ℕ) (a : Access) (v l : ℕ) → Emits (thread_machine code) s run t j (EnteredAt o a v l)
     → LeavesFirst (thread_machine code) s run t j o a v
 entry_is_left_in_complete_run code s start run whole t j o a v l enters =
     entry_is_left (thread_machine code) (thread_machine_is_lawful code) s (state_invariant_at_start (thread_machine code) s start) run whole.0 whole.1 t j o a v l enters

@@ -3,7 +3,7 @@ use Rattle.std.proofs.Common.{◌≡◌, ℕ, suc, zero, ◌+◌, ◌<◌, ◌�
 use Rattle.std.specs.Prelude.{slice_get}
 use Rattle.std.proofs.lemmas.Bool.{cases_eq, eqb-true, and_parts}
 use Rattle.std.proofs.lemmas.Option.{same_Some, none-some, slice_get_within}
-use Rattle.ir_runs.specs.Machine.{Label, Answer, In, Refused}
+use Rattle.ir_runs.specs.Machine.{Label, Answer, EnteredAt, FailedTry}
 use Rattle.ir_runs.specs.declared.access.Access.{Access}
 use Rattle.ir_runs.specs.declared.access.Access.TheVariants.{Reading, Writing}
 use Rattle.ir_runs.specs.Coherent.{IsCoherent}
@@ -33,25 +33,25 @@ event_of_label_is_at_its_place [] i m at = absurd at
 event_of_label_is_at_its_place (x ∷ xs) zero m at = (x, refl, at)
 event_of_label_is_at_its_place (x ∷ xs) (suc i) m at = event_of_label_is_at_its_place xs i m at
 
-event_is_write_if_label_is_write : (e : Event) (o v l : ℕ) → label_of e ≡ In o Writing v l → e ≡ variant.Write o v l
-event_is_write_if_label_is_write (variant.Answer k x) o v l is = absurd (let bad : Answer k x ≡ In o Writing v l = is in cc)
-event_is_write_if_label_is_write (variant.Read p w) o v l is = absurd (let bad : In p Reading w 0 ≡ In o Writing v l = is in let same : Reading ≡ Writing = cc in cc)
+event_is_write_if_label_is_write : (e : Event) (o v l : ℕ) → label_of e ≡ EnteredAt o Writing v l → e ≡ variant.Write o v l
+event_is_write_if_label_is_write (variant.Answer k x) o v l is = absurd (let bad : Answer k x ≡ EnteredAt o Writing v l = is in cc)
+event_is_write_if_label_is_write (variant.Read p w) o v l is = absurd (let bad : EnteredAt p Reading w 0 ≡ EnteredAt o Writing v l = is in let same : Reading ≡ Writing = cc in cc)
 event_is_write_if_label_is_write (variant.Write p w k) o v l is =
-    let same : In p Writing w k ≡ In o Writing v l = is in
+    let same : EnteredAt p Writing w k ≡ EnteredAt o Writing v l = is in
     let object : p ≡ o = cc in
     let version : w ≡ v = cc in
     let readers : k ≡ l = cc in
     λ i. variant.Write (object i) (version i) (readers i)
-event_is_write_if_label_is_write (variant.Try p) o v l is = absurd (let bad : Refused p ≡ In o Writing v l = is in cc)
+event_is_write_if_label_is_write (variant.Try p) o v l is = absurd (let bad : FailedTry p ≡ EnteredAt o Writing v l = is in cc)
 
-is_write_at_place_of_write_label_in_log : (r : Recorded) (t i o v l : ℕ) → At ((trace_of r).logs t) i (In o Writing v l) → IsWriteAt r t i o v l
+is_write_at_place_of_write_label_in_log : (r : Recorded) (t i o v l : ℕ) → At ((trace_of r).logs t) i (EnteredAt o Writing v l) → IsWriteAt r t i o v l
 is_write_at_place_of_write_label_in_log r t i o v l at =
-    let e = event_of_label_is_at_its_place (recorded_thread r t).events i (In o Writing v l) at in
+    let e = event_of_label_is_at_its_place (recorded_thread r t).events i (EnteredAt o Writing v l) at in
     e.1 ∙ ap Some (event_is_write_if_label_is_write e.0 o v l e.2)
 
 -- what made a version that is entered
 pub entered_version_was_made : (r : Recorded) → IsCoherent (length r.threads) (trace_of r) → (t i o v : ℕ) (a : Access) (l : ℕ)
-    → At ((trace_of r).logs t) i (In o a (suc v) l) → (u j k : ℕ) × IsWriteAt r u j o v k
+    → At ((trace_of r).logs t) i (EnteredAt o a (suc v) l) → (u j k : ℕ) × IsWriteAt r u j o v k
 entered_version_was_made r coherent t i o v a l at =
     let made = coherent.made t i o v l a at in
     (made.0, made.1, made.2, is_write_at_place_of_write_label_in_log r made.0 made.1 o v made.2 made.3)

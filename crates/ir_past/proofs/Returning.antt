@@ -2,7 +2,7 @@
 use Rattle.std.proofs.Common.{◌≡◌, ℕ, suc, zero, ◌+◌, ◌<◌, ◌⊎◌, inl, inr, Bool, cond, eqb, List, [], ◌∷◌, map, length, Option, Some, None, refl, sym, ap, ◌∙◌, subst, arith, eq-eqb, ne_eqb}
 use Rattle.std.proofs.lemmas.Bool.{cases_eq}
 use Rattle.std.proofs.lemmas.Option.{same_Some, none-some}
-use Rattle.ir_runs.specs.Machine.{Ask, Private, Env, Enter, Try, Leave, Get, Put, Done, Act, act_of, Silent, Result, Entry, Refusal, Exit, Load, Store, Never, Machine, upd, Object, target, acted, emitted, Label, Quiet, Answer, In, Refused, Out, logged}
+use Rattle.ir_runs.specs.Machine.{Ask, Private, Env, Enter, Try, Leave, Get, Put, Done, Act, act_of, Silent, Replied, Entered, TryFailed, Left, Got, Stored, Never, Machine, upd, Object, target, acted, emitted, Label, Quiet, Answer, EnteredAt, FailedTry, LeftAt, logged}
 use Rattle.ir_runs.specs.Lawful.{Holds, IsLawful}
 use Rattle.ir_runs.specs.declared.access.Access.{Access}
 use Rattle.ir_runs.specs.declared.access.Access.TheVariants.{Reading, Writing}
@@ -25,13 +25,13 @@ use Rattle.ir_past.specs.Returning.{leaves_one, ComesBack, LeavesAndComesBack, R
 abbrev pub Enters : ℕ → Label → Type 0
 Enters o Quiet = ⊥
 Enters o (Answer k x) = ⊥
-Enters o (In p a v l) = p ≡ o
-Enters o (Refused p) = ⊥
-Enters o (Out p a v) = ⊥
+Enters o (EnteredAt p a v l) = p ≡ o
+Enters o (FailedTry p) = ⊥
+Enters o (LeftAt p a v) = ⊥
 
 -- label j of these is the first entry of object o, for writing at version w
 pub record IsNextWrite (ks : List Label) (j o w l : ℕ) : Type 0 where
-  pub at : At ks j (In o Writing w l)
+  pub at : At ks j (EnteredAt o Writing w l)
   pub first : (k : ℕ) (x : Label) → k < j → At ks k x → Enters o x → ⊥
 
 -- how many labels one is logged as
@@ -41,13 +41,13 @@ logged_count k = length (logged k [])
 length_of_logged : (k : Label) (ks : List Label) → length (logged k ks) ≡ logged_count k + length ks
 length_of_logged Quiet ks = let same : length ks ≡ 0 + length ks = omega arith in same
 length_of_logged (Answer i x) ks = let same : suc (length ks) ≡ 1 + length ks = omega arith in same
-length_of_logged (In p a v l) ks = let same : suc (length ks) ≡ 1 + length ks = omega arith in same
-length_of_logged (Refused p) ks = let same : suc (length ks) ≡ 1 + length ks = omega arith in same
-length_of_logged (Out p a v) ks = let same : length ks ≡ 0 + length ks = omega arith in same
+length_of_logged (EnteredAt p a v l) ks = let same : suc (length ks) ≡ 1 + length ks = omega arith in same
+length_of_logged (FailedTry p) ks = let same : suc (length ks) ≡ 1 + length ks = omega arith in same
+length_of_logged (LeftAt p a v) ks = let same : length ks ≡ 0 + length ks = omega arith in same
 
 -- the first label is the entry, or what is left has it
 data NextWriteCases (k : Label) (ks : List Label) (j o w l : ℕ) : Type 0 where
-  Here : k ≡ In o Writing w l → j ≡ 0 → NextWriteCases k ks j o w l
+  Here : k ≡ EnteredAt o Writing w l → j ≡ 0 → NextWriteCases k ks j o w l
   There : (n : ℕ) → j ≡ logged_count k + n → (Enters o k → ⊥) → IsNextWrite ks n o w l → NextWriteCases k ks j o w l
 
 next_write_cases_for_logged_label : (k : Label) (ks : List Label) (j o w l : ℕ) → logged_count k ≡ 1 → IsNextWrite (k ∷ ks) j o w l → NextWriteCases k ks j o w l
@@ -58,9 +58,9 @@ next_write_cases_for_logged_label k ks (suc n) o w l one h = There n (omega (ari
 next_write_cases : (k : Label) (ks : List Label) (j o w l : ℕ) → IsNextWrite (logged k ks) j o w l → NextWriteCases k ks j o w l
 next_write_cases Quiet ks j o w l h = There j (let same : j ≡ 0 + j = omega arith in same) (λ e. e) h
 next_write_cases (Answer i x) ks j o w l h = next_write_cases_for_logged_label (Answer i x) ks j o w l refl h
-next_write_cases (In p a v r) ks j o w l h = next_write_cases_for_logged_label (In p a v r) ks j o w l refl h
-next_write_cases (Refused p) ks j o w l h = next_write_cases_for_logged_label (Refused p) ks j o w l refl h
-next_write_cases (Out p a v) ks j o w l h = There j (let same : j ≡ 0 + j = omega arith in same) (λ e. e) h
+next_write_cases (EnteredAt p a v r) ks j o w l h = next_write_cases_for_logged_label (EnteredAt p a v r) ks j o w l refl h
+next_write_cases (FailedTry p) ks j o w l h = next_write_cases_for_logged_label (FailedTry p) ks j o w l refl h
+next_write_cases (LeftAt p a v) ks j o w l h = There j (let same : j ≡ 0 + j = omega arith in same) (λ e. e) h
 
 -- the log of thread t from a step on
 pub log_of_own_step : {T : Type 0} (m : Machine T) (s : State T) (e : Step) (run : List Step) (t : ℕ) → e.0 ≡ t
@@ -84,84 +84,84 @@ other_object_after_step m s e o ne = upd_at_other_place s.objects (target (act m
 
 -- what an act of the thread that takes it does to the object that it is about, but for entries and leaves
 own_act_not_entering_keeps_object_or_exits : (q : Act) (b : Object) (t o : ℕ) → target q ≡ o → (Enters o (emitted q b) → ⊥)
-    → (((acted q t b).version ≡ b.version) × ((acted q t b).inside t ≡ b.inside t)) ⊎ ((a : Access) × (q ≡ Exit o a))
+    → (((acted q t b).version ≡ b.version) × ((acted q t b).inside t ≡ b.inside t)) ⊎ ((a : Access) × (q ≡ Left o a))
 own_act_not_entering_keeps_object_or_exits Silent b t o same free = inl (refl, refl)
-own_act_not_entering_keeps_object_or_exits (Result k x) b t o same free = inl (refl, refl)
-own_act_not_entering_keeps_object_or_exits (Entry p Reading x) b t o same free = absurd (free same)
-own_act_not_entering_keeps_object_or_exits (Entry p Writing x) b t o same free = absurd (free same)
-own_act_not_entering_keeps_object_or_exits (Refusal p) b t o same free = inl (refl, refl)
-own_act_not_entering_keeps_object_or_exits (Exit p a) b t o same free = inr (a, ap (λ z. Exit z a) same)
-own_act_not_entering_keeps_object_or_exits (Load p i) b t o same free = inl (refl, refl)
-own_act_not_entering_keeps_object_or_exits (Store p i x) b t o same free = inl (refl, refl)
+own_act_not_entering_keeps_object_or_exits (Replied k x) b t o same free = inl (refl, refl)
+own_act_not_entering_keeps_object_or_exits (Entered p Reading x) b t o same free = absurd (free same)
+own_act_not_entering_keeps_object_or_exits (Entered p Writing x) b t o same free = absurd (free same)
+own_act_not_entering_keeps_object_or_exits (TryFailed p) b t o same free = inl (refl, refl)
+own_act_not_entering_keeps_object_or_exits (Left p a) b t o same free = inr (a, ap (λ z. Left z a) same)
+own_act_not_entering_keeps_object_or_exits (Got p i) b t o same free = inl (refl, refl)
+own_act_not_entering_keeps_object_or_exits (Stored p i x) b t o same free = inl (refl, refl)
 own_act_not_entering_keeps_object_or_exits Never b t o same free = inl (refl, refl)
 
 -- what an act of thread u does to the object that it is about, as thread t sees it
 other_act_adds_leaves_one_to_version_and_keeps_inside : (q : Act) (b : Object) (u t o : ℕ) → (u ≡ t → ⊥) → target q ≡ o
     → ((acted q u b).version ≡ b.version + leaves_one t o u (emitted q b)) × ((acted q u b).inside t ≡ b.inside t)
 other_act_adds_leaves_one_to_version_and_keeps_inside Silent b u t o ne same = ((let plain : b.version ≡ b.version + 0 = omega arith in plain), refl)
-other_act_adds_leaves_one_to_version_and_keeps_inside (Result k x) b u t o ne same = ((let plain : b.version ≡ b.version + 0 = omega arith in plain), refl)
-other_act_adds_leaves_one_to_version_and_keeps_inside (Entry p Reading x) b u t o ne same =
+other_act_adds_leaves_one_to_version_and_keeps_inside (Replied k x) b u t o ne same = ((let plain : b.version ≡ b.version + 0 = omega arith in plain), refl)
+other_act_adds_leaves_one_to_version_and_keeps_inside (Entered p Reading x) b u t o ne same =
     ((let plain : b.version ≡ b.version + 0 = omega arith in plain), upd_at_other_place b.inside u t (Some Reading) (λ e. ne (sym e)))
-other_act_adds_leaves_one_to_version_and_keeps_inside (Entry p Writing x) b u t o ne same =
+other_act_adds_leaves_one_to_version_and_keeps_inside (Entered p Writing x) b u t o ne same =
     ((let plain : b.version ≡ b.version + 0 = omega arith in plain), upd_at_other_place b.inside u t (Some Writing) (λ e. ne (sym e)))
-other_act_adds_leaves_one_to_version_and_keeps_inside (Refusal p) b u t o ne same = ((let plain : b.version ≡ b.version + 0 = omega arith in plain), refl)
-other_act_adds_leaves_one_to_version_and_keeps_inside (Exit p Reading) b u t o ne same =
+other_act_adds_leaves_one_to_version_and_keeps_inside (TryFailed p) b u t o ne same = ((let plain : b.version ≡ b.version + 0 = omega arith in plain), refl)
+other_act_adds_leaves_one_to_version_and_keeps_inside (Left p Reading) b u t o ne same =
     ((let plain : b.version ≡ b.version + 0 = omega arith in plain), upd_at_other_place b.inside u t None (λ e. ne (sym e)))
-other_act_adds_leaves_one_to_version_and_keeps_inside (Exit p Writing) b u t o ne same = (
-  (let one : leaves_one t o u (Out p Writing b.version) ≡ 1 = ap {B = ℕ} (λ (c : Bool). cond c 0 (cond (eqb p o) 1 0)) (ne_eqb u t ne)
+other_act_adds_leaves_one_to_version_and_keeps_inside (Left p Writing) b u t o ne same = (
+  (let one : leaves_one t o u (LeftAt p Writing b.version) ≡ 1 = ap {B = ℕ} (λ (c : Bool). cond c 0 (cond (eqb p o) 1 0)) (ne_eqb u t ne)
       ∙ ap {B = ℕ} (λ (c : Bool). cond c 1 0) (eq-eqb p o same) in
       omega (arith, one)),
   upd_at_other_place b.inside u t None (λ e. ne (sym e)),
 )
-other_act_adds_leaves_one_to_version_and_keeps_inside (Load p i) b u t o ne same = ((let plain : b.version ≡ b.version + 0 = omega arith in plain), refl)
-other_act_adds_leaves_one_to_version_and_keeps_inside (Store p i x) b u t o ne same = ((let plain : b.version ≡ b.version + 0 = omega arith in plain), refl)
+other_act_adds_leaves_one_to_version_and_keeps_inside (Got p i) b u t o ne same = ((let plain : b.version ≡ b.version + 0 = omega arith in plain), refl)
+other_act_adds_leaves_one_to_version_and_keeps_inside (Stored p i x) b u t o ne same = ((let plain : b.version ≡ b.version + 0 = omega arith in plain), refl)
 other_act_adds_leaves_one_to_version_and_keeps_inside Never b u t o ne same = ((let plain : b.version ≡ b.version + 0 = omega arith in plain), refl)
 
 -- what is counted of a label: nothing, or it is a leave of the object after writing by another thread
-leaves_one_is_zero_or_exit : (q : Act) (b : Object) (u t o : ℕ) → (leaves_one t o u (emitted q b) ≡ 0) ⊎ ((q ≡ Exit o Writing) × (u ≡ t → ⊥))
+leaves_one_is_zero_or_exit : (q : Act) (b : Object) (u t o : ℕ) → (leaves_one t o u (emitted q b) ≡ 0) ⊎ ((q ≡ Left o Writing) × (u ≡ t → ⊥))
 leaves_one_is_zero_or_exit Silent b u t o = inl refl
-leaves_one_is_zero_or_exit (Result k x) b u t o = inl refl
-leaves_one_is_zero_or_exit (Entry p Reading x) b u t o = inl refl
-leaves_one_is_zero_or_exit (Entry p Writing x) b u t o = inl refl
-leaves_one_is_zero_or_exit (Refusal p) b u t o = inl refl
-leaves_one_is_zero_or_exit (Exit p Reading) b u t o = inl refl
-leaves_one_is_zero_or_exit (Exit p Writing) b u t o = elim (cases_eq u t) [
+leaves_one_is_zero_or_exit (Replied k x) b u t o = inl refl
+leaves_one_is_zero_or_exit (Entered p Reading x) b u t o = inl refl
+leaves_one_is_zero_or_exit (Entered p Writing x) b u t o = inl refl
+leaves_one_is_zero_or_exit (TryFailed p) b u t o = inl refl
+leaves_one_is_zero_or_exit (Left p Reading) b u t o = inl refl
+leaves_one_is_zero_or_exit (Left p Writing) b u t o = elim (cases_eq u t) [
   | inl same ↦ inl (ap {B = ℕ} (λ (c : Bool). cond c 0 (cond (eqb p o) 1 0)) (eq-eqb u t same))
   | inr ne ↦ elim (cases_eq p o) [
-    | inl here ↦ inr (ap (λ z. Exit z Writing) here, ne)
+    | inl here ↦ inr (ap (λ z. Left z Writing) here, ne)
     | inr other ↦ inl (ap {B = ℕ} (λ (c : Bool). cond c 0 (cond (eqb p o) 1 0)) (ne_eqb u t ne) ∙ ap {B = ℕ} (λ (c : Bool). cond c 1 0) (ne_eqb p o other))
   ]
 ]
-leaves_one_is_zero_or_exit (Load p i) b u t o = inl refl
-leaves_one_is_zero_or_exit (Store p i x) b u t o = inl refl
+leaves_one_is_zero_or_exit (Got p i) b u t o = inl refl
+leaves_one_is_zero_or_exit (Stored p i x) b u t o = inl refl
 leaves_one_is_zero_or_exit Never b u t o = inl refl
 
 -- an entry is of the object that the act is about, and finds its version
 pub record IsEntering (q : Act) (b : Object) (o : ℕ) (a : Access) (v : ℕ) : Type 0 where
   pub answer : ℕ
-  pub does : q ≡ Entry o a answer
+  pub does : q ≡ Entered o a answer
   pub version : b.version ≡ v
 
-pub act_emitting_entry_is_entering : (q : Act) (b : Object) (o : ℕ) (a : Access) (v l : ℕ) → emitted q b ≡ In o a v l → IsEntering q b o a v
+pub act_emitting_entry_is_entering : (q : Act) (b : Object) (o : ℕ) (a : Access) (v l : ℕ) → emitted q b ≡ EnteredAt o a v l → IsEntering q b o a v
 act_emitting_entry_is_entering Silent b o a v l e = absurd (cc e)
-act_emitting_entry_is_entering (Result k x) b o a v l e = absurd (cc e)
-act_emitting_entry_is_entering (Entry p Reading x) b o a v l e =
+act_emitting_entry_is_entering (Replied k x) b o a v l e = absurd (cc e)
+act_emitting_entry_is_entering (Entered p Reading x) b o a v l e =
     let object : p ≡ o = cc e in
     let access : Reading ≡ a = cc e in
-    record { answer = x; does = (λ i. Entry (object i) (access i) x); version = cc e }
-act_emitting_entry_is_entering (Entry p Writing x) b o a v l e =
+    record { answer = x; does = (λ i. Entered (object i) (access i) x); version = cc e }
+act_emitting_entry_is_entering (Entered p Writing x) b o a v l e =
     let object : p ≡ o = cc e in
     let access : Writing ≡ a = cc e in
-    record { answer = x; does = (λ i. Entry (object i) (access i) x); version = cc e }
-act_emitting_entry_is_entering (Refusal p) b o a v l e = absurd (cc e)
-act_emitting_entry_is_entering (Exit p c) b o a v l e = absurd (cc e)
-act_emitting_entry_is_entering (Load p i) b o a v l e = absurd (cc e)
-act_emitting_entry_is_entering (Store p i x) b o a v l e = absurd (cc e)
+    record { answer = x; does = (λ i. Entered (object i) (access i) x); version = cc e }
+act_emitting_entry_is_entering (TryFailed p) b o a v l e = absurd (cc e)
+act_emitting_entry_is_entering (Left p c) b o a v l e = absurd (cc e)
+act_emitting_entry_is_entering (Got p i) b o a v l e = absurd (cc e)
+act_emitting_entry_is_entering (Stored p i x) b o a v l e = absurd (cc e)
 act_emitting_entry_is_entering Never b o a v l e = absurd (cc e)
 
 -- ---- what a thread that enters or leaves holds
 
-exited_object_is_held : (q : Ask) (r o : ℕ) (a : Access) (h : ℕ → Option Access) → act_of q r ≡ Exit o a → Holds q h → h o ≡ Some a
+exited_object_is_held : (q : Ask) (r o : ℕ) (a : Access) (h : ℕ → Option Access) → act_of q r ≡ Left o a → Holds q h → h o ≡ Some a
 exited_object_is_held Private r o a h e k = absurd (cc e)
 exited_object_is_held (Env c) r o a h e k = absurd (cc e)
 exited_object_is_held (Enter p c) r o a h e k = absurd (cc e)
@@ -176,7 +176,7 @@ exited_object_is_held (Get p i) r o a h e k = absurd (cc e)
 exited_object_is_held (Put p i x) r o a h e k = absurd (cc e)
 exited_object_is_held Done r o a h e k = absurd (cc e)
 
-entered_object_is_not_held : (q : Ask) (r o : ℕ) (a : Access) (x : ℕ) (h : ℕ → Option Access) → act_of q r ≡ Entry o a x → Holds q h → h o ≡ None
+entered_object_is_not_held : (q : Ask) (r o : ℕ) (a : Access) (x : ℕ) (h : ℕ → Option Access) → act_of q r ≡ Entered o a x → Holds q h → h o ≡ None
 entered_object_is_not_held Private r o a x h e k = absurd (cc e)
 entered_object_is_not_held (Env c) r o a x h e k = absurd (cc e)
 entered_object_is_not_held (Enter p c) r o a x h e k = let object : p ≡ o = cc e in k o (omega (arith, object))
@@ -188,12 +188,12 @@ entered_object_is_not_held (Get p i) r o a x h e k = absurd (cc e)
 entered_object_is_not_held (Put p i y) r o a x h e k = absurd (cc e)
 entered_object_is_not_held Done r o a x h e k = absurd (cc e)
 
-pub exiting_thread_is_inside : {T : Type 0} (m : Machine T) → IsLawful m → (s : State T) → StateInvariant m s → (e : Step) (o : ℕ) (a : Access) → act m s e ≡ Exit o a
+pub exiting_thread_is_inside : {T : Type 0} (m : Machine T) → IsLawful m → (s : State T) → StateInvariant m s → (e : Step) (o : ℕ) (a : Access) → act m s e ≡ Left o a
     → (s.objects o).inside e.0 ≡ Some a
 exiting_thread_is_inside m law s good e o a is = good.linked e.0 o ∙ exited_object_is_held (asked m s e.0) e.1 o a (m.held (s.now e.0)) is (law.holds (s.now e.0))
 
 pub entering_thread_is_not_inside : {T : Type 0} (m : Machine T) → IsLawful m → (s : State T) → StateInvariant m s → (e : Step) (o : ℕ) (a : Access) (x : ℕ)
-    → act m s e ≡ Entry o a x → (s.objects o).inside e.0 ≡ None
+    → act m s e ≡ Entered o a x → (s.objects o).inside e.0 ≡ None
 entering_thread_is_not_inside m law s good e o a x is = good.linked e.0 o ∙ entered_object_is_not_held (asked m s e.0) e.1 o a x (m.held (s.now e.0)) is (law.holds (s.now e.0))
 
 -- ---- one step
@@ -201,7 +201,7 @@ entering_thread_is_not_inside m law s good e o a x is = good.linked e.0 o ∙ en
 -- a step of thread t that doesn't enter object o leaves it, or changes neither its version nor how t is inside
 pub own_step_not_entering_keeps_object_or_exits : {T : Type 0} (m : Machine T) (s : State T) (e : Step) (t o : ℕ) → e.0 ≡ t → (Enters o (label m s e) → ⊥)
     → ((((after m s e).objects o).version ≡ (s.objects o).version) × (((after m s e).objects o).inside t ≡ (s.objects o).inside t))
-    ⊎ ((a : Access) × (act m s e ≡ Exit o a))
+    ⊎ ((a : Access) × (act m s e ≡ Left o a))
 own_step_not_entering_keeps_object_or_exits m s e t o own free = elim (cases_eq (target (act m s e)) o) [
   | inl here ↦ elim (own_act_not_entering_keeps_object_or_exits (act m s e) (s.objects (target (act m s e))) e.0 o here free) [
     | inl h ↦ inl (subst (λ z. (((after m s e).objects z).version ≡ (s.objects z).version) × (((after m s e).objects z).inside t ≡ (s.objects z).inside t)) here (
@@ -236,10 +236,10 @@ other_step_adds_leaves_one_to_version_and_keeps_inside m s e t o other = elim (c
 leaves_one_of_own_step_is_zero : (t o u : ℕ) (k : Label) → u ≡ t → leaves_one t o u k ≡ 0
 leaves_one_of_own_step_is_zero t o u Quiet same = refl
 leaves_one_of_own_step_is_zero t o u (Answer c x) same = refl
-leaves_one_of_own_step_is_zero t o u (In p a v l) same = refl
-leaves_one_of_own_step_is_zero t o u (Refused p) same = refl
-leaves_one_of_own_step_is_zero t o u (Out p Reading v) same = refl
-leaves_one_of_own_step_is_zero t o u (Out p Writing v) same = ap {B = ℕ} (λ (c : Bool). cond c 0 (cond (eqb p o) 1 0)) (eq-eqb u t same)
+leaves_one_of_own_step_is_zero t o u (EnteredAt p a v l) same = refl
+leaves_one_of_own_step_is_zero t o u (FailedTry p) same = refl
+leaves_one_of_own_step_is_zero t o u (LeftAt p Reading v) same = refl
+leaves_one_of_own_step_is_zero t o u (LeftAt p Writing v) same = ap {B = ℕ} (λ (c : Bool). cond c 0 (cond (eqb p o) 1 0)) (eq-eqb u t same)
 
 -- ---- the thread comes back
 
@@ -352,7 +352,7 @@ no_other_writer_leaves_while_inside m law s good e t o a other inside = elim (le
 
 -- the reader leaves
 leaves_and_comes_back_from_exit_to_next_write : {T : Type 0} (m : Machine T) → IsLawful m → (s : State T) → StateInvariant m s → (e : Step) → Can m s e → (run : List Step)
-    → IsRun m (after m s e) run → (t j o v w l : ℕ) → e.0 ≡ t → act m s e ≡ Exit o Reading → (s.objects o).version ≡ v
+    → IsRun m (after m s e) run → (t j o v w l : ℕ) → e.0 ≡ t → act m s e ≡ Left o Reading → (s.objects o).version ≡ v
     → IsNextWrite (log m (after m s e) run t) j o w l → LeavesAndComesBack m s (e ∷ run) t j o v w
 leaves_and_comes_back_from_exit_to_next_write m law s good e can run ok t j o v w l own does version next = record {
   before = [];
@@ -360,14 +360,14 @@ leaves_and_comes_back_from_exit_to_next_write m law s good e can run ok t j o v 
   after_leave = run;
   split = refl;
   own = own;
-  leaves = ap (λ q. emitted q (s.objects (target q))) does ∙ ap (λ z. Out o Reading z) version;
+  leaves = ap (λ q. emitted q (s.objects (target q))) does ∙ ap (λ z. LeftAt o Reading z) version;
   back = j;
   number = (let same : 0 + j ≡ j = omega arith in same);
   comes = outside_thread_comes_back_at_its_next_write m law (after m s e) (state_invariant_after_step m law s good e can) run ok t j o w l out next;
   version = ap (λ z. z.version) object ∙ version;
 }
   where
-    object : (after m s e).objects o ≡ acted (Exit o Reading) e.0 (s.objects o)
+    object : (after m s e).objects o ≡ acted (Left o Reading) e.0 (s.objects o)
     object = subst (λ q. (after m s e).objects (target q) ≡ acted q e.0 (s.objects (target q))) does (target_object_after_step m s e)
 
     out : ((after m s e).objects o).inside t ≡ None
@@ -400,7 +400,7 @@ inside_reader_leaves_and_comes_back_at_its_next_write m law s good (e ∷ run) o
       | inl same ↦ leaves_and_comes_back_after_own_step m s e run t j n o v w own is (again n (same.1 ∙ reads) (same.0 ∙ version) next)
       | inr exit ↦ let held = subst (λ z. (s.objects o).inside z ≡ Some exit.0) own (exiting_thread_is_inside m law s good e o exit.0 exit.1) in
           let access : exit.0 ≡ Reading = same_Some exit.0 Reading (sym held ∙ reads) in
-          let does : act m s e ≡ Exit o Reading = exit.1 ∙ ap (Exit o) access in
+          let does : act m s e ≡ Left o Reading = exit.1 ∙ ap (Left o) access in
           let quiet : logged_count (label m s e) ≡ 0 = ap (λ q. logged_count (emitted q (s.objects (target q)))) does in
           leaves_and_comes_back_from_exit_to_next_write m law s good e ok.0 run ok.1 t j o v w l own does version
           (subst (λ z. IsNextWrite (log m (after m s e) run t) z o w l) (let same : n ≡ j = omega (arith, is, quiet) in same) next)
@@ -410,14 +410,14 @@ inside_reader_leaves_and_comes_back_at_its_next_write m law s good (e ∷ run) o
 
 -- labels i and j of these are a read of object o at version v, and the next entry of it, for writing at version w
 record IsReadWritePair (ks : List Label) (i j o v w l : ℕ) : Type 0 where
-  pub read : At ks i (In o Reading v 0)
-  pub write : At ks j (In o Writing w l)
+  pub read : At ks i (EnteredAt o Reading v 0)
+  pub write : At ks j (EnteredAt o Writing w l)
   pub later : i < j
   pub first : (k : ℕ) (x : Label) → i < k → k < j → At ks k x → Enters o x → ⊥
 
 -- the first label is the read, or what is left has both
 data PairCases (k : Label) (ks : List Label) (i j o v w l : ℕ) : Type 0 where
-  Read : k ≡ In o Reading v 0 → i ≡ 0 → (n : ℕ) → j ≡ 1 + n → IsNextWrite ks n o w l → PairCases k ks i j o v w l
+  Read : k ≡ EnteredAt o Reading v 0 → i ≡ 0 → (n : ℕ) → j ≡ 1 + n → IsNextWrite ks n o w l → PairCases k ks i j o v w l
   Later : (m n : ℕ) → i ≡ logged_count k + m → j ≡ logged_count k + n → IsReadWritePair ks m n o v w l → PairCases k ks i j o v w l
 
 read_write_pair_cases_for_logged_label : (k : Label) (ks : List Label) (i j o v w l : ℕ) → logged_count k ≡ 1 → IsReadWritePair (k ∷ ks) i j o v w l → PairCases k ks i j o v w l
@@ -434,9 +434,9 @@ read_write_pair_cases_for_logged_label k ks (suc m) (suc n) o v w l one h = Late
 read_write_pair_cases : (k : Label) (ks : List Label) (i j o v w l : ℕ) → IsReadWritePair (logged k ks) i j o v w l → PairCases k ks i j o v w l
 read_write_pair_cases Quiet ks i j o v w l h = Later i j (let same : i ≡ 0 + i = omega arith in same) (let same : j ≡ 0 + j = omega arith in same) h
 read_write_pair_cases (Answer c x) ks i j o v w l h = read_write_pair_cases_for_logged_label (Answer c x) ks i j o v w l refl h
-read_write_pair_cases (In p a u r) ks i j o v w l h = read_write_pair_cases_for_logged_label (In p a u r) ks i j o v w l refl h
-read_write_pair_cases (Refused p) ks i j o v w l h = read_write_pair_cases_for_logged_label (Refused p) ks i j o v w l refl h
-read_write_pair_cases (Out p a u) ks i j o v w l h = Later i j (let same : i ≡ 0 + i = omega arith in same) (let same : j ≡ 0 + j = omega arith in same) h
+read_write_pair_cases (EnteredAt p a u r) ks i j o v w l h = read_write_pair_cases_for_logged_label (EnteredAt p a u r) ks i j o v w l refl h
+read_write_pair_cases (FailedTry p) ks i j o v w l h = read_write_pair_cases_for_logged_label (FailedTry p) ks i j o v w l refl h
+read_write_pair_cases (LeftAt p a u) ks i j o v w l h = Later i j (let same : i ≡ 0 + i = omega arith in same) (let same : j ≡ 0 + j = omega arith in same) h
 
 reads_and_comes_back_after_own_step : {T : Type 0} (m : Machine T) (s : State T) (e : Step) (run : List Step) (t i j a b o v w : ℕ) → e.0 ≡ t
     → i ≡ logged_count (label m s e) + a → j ≡ logged_count (label m s e) + b → ReadsAndComesBack m (after m s e) run t a b o v w
@@ -472,7 +472,7 @@ reads_and_comes_back_after_other_step m s e run t i j o v w other c = record {
 
 -- the reader enters
 reads_and_comes_back_from_read_entry_to_next_write : {T : Type 0} (m : Machine T) → IsLawful m → (s : State T) → StateInvariant m s → (e : Step) → Can m s e → (run : List Step)
-    → IsRun m (after m s e) run → (t n o v w l : ℕ) → e.0 ≡ t → label m s e ≡ In o Reading v 0
+    → IsRun m (after m s e) run → (t n o v w l : ℕ) → e.0 ≡ t → label m s e ≡ EnteredAt o Reading v 0
     → IsNextWrite (log m (after m s e) run t) n o w l → (i j : ℕ) → i ≡ 0 → j ≡ 1 + n → ReadsAndComesBack m s (e ∷ run) t i j o v w
 reads_and_comes_back_from_read_entry_to_next_write m law s good e can run ok t n o v w l own reads next i j first second = record {
   before = [];
@@ -490,7 +490,7 @@ reads_and_comes_back_from_read_entry_to_next_write m law s good e can run ok t n
     entry : IsEntering (act m s e) (s.objects (target (act m s e))) o Reading v
     entry = act_emitting_entry_is_entering (act m s e) (s.objects (target (act m s e))) o Reading v 0 reads
 
-    object : (after m s e).objects o ≡ acted (Entry o Reading entry.answer) e.0 (s.objects o)
+    object : (after m s e).objects o ≡ acted (Entered o Reading entry.answer) e.0 (s.objects o)
     object = subst (λ q. (after m s e).objects (target q) ≡ acted q e.0 (s.objects (target q))) entry.does (target_object_after_step m s e)
 
     inside : ((after m s e).objects o).inside t ≡ Some Reading

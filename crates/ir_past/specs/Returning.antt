@@ -1,7 +1,7 @@
 -- What a stale read and write are in the runs with a trace: how often others write between.
 use Rattle.std.specs.Prelude.{◌≡◌, ℕ, ◌+◌, ◌<◌, cond, eqb, List, [], ◌∷◌, ◌++◌, map, length, Some}
 use Rattle.std.specs.List.{slice_get}
-use Rattle.ir_runs.specs.Machine.{Machine, Label, Quiet, Answer, In, Refused, Out}
+use Rattle.ir_runs.specs.Machine.{Machine, Label, Quiet, Answer, EnteredAt, FailedTry, LeftAt}
 use Rattle.ir_runs.specs.declared.access.Access.TheVariants.{Reading, Writing}
 use Rattle.ir_runs.specs.Run.{State, Step, after, label, IsRun, end, log}
 use Rattle.ir_runs.specs.Bounds.{IsStart}
@@ -16,10 +16,10 @@ use Rattle.ir_past.specs.Past.{entered}
 abbrev pub leaves_one : ℕ → ℕ → ℕ → Label → ℕ
 leaves_one t o u Quiet = 0
 leaves_one t o u (Answer k x) = 0
-leaves_one t o u (In p a v l) = 0
-leaves_one t o u (Refused p) = 0
-leaves_one t o u (Out p Reading v) = 0
-leaves_one t o u (Out p Writing v) = cond (eqb u t) 0 (cond (eqb p o) 1 0)
+leaves_one t o u (EnteredAt p a v l) = 0
+leaves_one t o u (FailedTry p) = 0
+leaves_one t o u (LeftAt p Reading v) = 0
+leaves_one t o u (LeftAt p Writing v) = cond (eqb u t) 0 (cond (eqb p o) 1 0)
 
 -- how often other threads than t leave object o after writing
 abbrev pub left_by_others : {T : Type 0} → Machine T → State T → ℕ → ℕ → List Step → ℕ
@@ -35,7 +35,7 @@ pub record ComesBack {T : Type 0} (m : Machine T) (s : State T) (run : List Step
   pub split : run ≡ between ++ write ∷ rest
   pub own : write.0 ≡ t
   pub readers : ℕ
-  pub writes : label m (end m s between) write ≡ In o Writing w readers
+  pub writes : label m (end m s between) write ≡ EnteredAt o Writing w readers
   pub number : length (log m s between t) ≡ j
   pub counted : (s.objects o).version + left_by_others m s t o between ≡ w
 
@@ -46,7 +46,7 @@ pub record LeavesAndComesBack {T : Type 0} (m : Machine T) (s : State T) (run : 
   pub after_leave : List Step
   pub split : run ≡ before ++ leave ∷ after_leave
   pub own : leave.0 ≡ t
-  pub leaves : label m (end m s before) leave ≡ Out o Reading v
+  pub leaves : label m (end m s before) leave ≡ LeftAt o Reading v
   pub back : ℕ
   pub number : length (log m s before t) + back ≡ j
   pub comes : ComesBack m (after m (end m s before) leave) after_leave t back o w
@@ -59,7 +59,7 @@ pub record ReadsAndComesBack {T : Type 0} (m : Machine T) (s : State T) (run : L
   pub after_read : List Step
   pub split : run ≡ before ++ read ∷ after_read
   pub own : read.0 ≡ t
-  pub reads : label m (end m s before) read ≡ In o Reading v 0
+  pub reads : label m (end m s before) read ≡ EnteredAt o Reading v 0
   pub number : length (log m s before t) ≡ i
   pub later : ℕ
   pub place : i + 1 + later ≡ j

@@ -2,7 +2,7 @@
 use Rattle.std.proofs.Common.{◌≡◌, ℕ, suc, zero, ◌+◌, ◌-◌, ◌<◌, ◌≤◌, ◌⊎◌, inl, inr, Bool, cond, eqb, List, [], ◌∷◌, map, length, drop, Some, None, refl, sym, ap, ◌∙◌, subst, arith, eq-eqb, ne_eqb}
 use Rattle.std.proofs.lemmas.Bool.{cases_eq, cases_lt}
 use Rattle.std.proofs.lemmas.Option.{same_Some, none-some}
-use Rattle.ir_runs.specs.Machine.{Act, Silent, Result, Entry, Refusal, Exit, Load, Store, Never, Machine, Object, target, Admits, acted, Label, Quiet, Answer, In, Refused, Out, logged}
+use Rattle.ir_runs.specs.Machine.{Act, Silent, Replied, Entered, TryFailed, Left, Got, Stored, Never, Machine, Object, target, Admits, acted, Label, Quiet, Answer, EnteredAt, FailedTry, LeftAt, logged}
 use Rattle.ir_runs.specs.Lawful.{IsLawful}
 use Rattle.ir_runs.specs.declared.access.Access.{Access}
 use Rattle.ir_runs.specs.declared.access.Access.TheVariants.{Reading, Writing}
@@ -25,13 +25,13 @@ use Rattle.ir_picture.specs.Needs.{IsEntryOf, Needs, placed, CanFollow, IsOrder,
 
 act_does_not_lower_version : (q : Act) (t : ℕ) (b : Object) → b.version ≤ (acted q t b).version
 act_does_not_lower_version Silent t b = omega arith
-act_does_not_lower_version (Result k x) t b = omega arith
-act_does_not_lower_version (Entry o a x) t b = omega arith
-act_does_not_lower_version (Refusal o) t b = omega arith
-act_does_not_lower_version (Exit o Reading) t b = omega arith
-act_does_not_lower_version (Exit o Writing) t b = let more : b.version ≤ suc b.version = omega arith in more
-act_does_not_lower_version (Load o i) t b = omega arith
-act_does_not_lower_version (Store o i x) t b = omega arith
+act_does_not_lower_version (Replied k x) t b = omega arith
+act_does_not_lower_version (Entered o a x) t b = omega arith
+act_does_not_lower_version (TryFailed o) t b = omega arith
+act_does_not_lower_version (Left o Reading) t b = omega arith
+act_does_not_lower_version (Left o Writing) t b = let more : b.version ≤ suc b.version = omega arith in more
+act_does_not_lower_version (Got o i) t b = omega arith
+act_does_not_lower_version (Stored o i x) t b = omega arith
 act_does_not_lower_version Never t b = omega arith
 
 step_does_not_lower_version : {T : Type 0} (m : Machine T) (s : State T) (e : Step) (o : ℕ) → (s.objects o).version ≤ ((after m s e).objects o).version
@@ -49,30 +49,30 @@ logged_label_is_head_or_tail : (k : Label) (ks : List Label) (n : ℕ) (x : Labe
 logged_label_is_head_or_tail Quiet ks n x at = inr (n, at)
 logged_label_is_head_or_tail (Answer c v) ks zero x at = inl at
 logged_label_is_head_or_tail (Answer c v) ks (suc n) x at = inr (n, at)
-logged_label_is_head_or_tail (In p a v l) ks zero x at = inl at
-logged_label_is_head_or_tail (In p a v l) ks (suc n) x at = inr (n, at)
-logged_label_is_head_or_tail (Refused p) ks zero x at = inl at
-logged_label_is_head_or_tail (Refused p) ks (suc n) x at = inr (n, at)
-logged_label_is_head_or_tail (Out p a v) ks n x at = inr (n, at)
+logged_label_is_head_or_tail (EnteredAt p a v l) ks zero x at = inl at
+logged_label_is_head_or_tail (EnteredAt p a v l) ks (suc n) x at = inr (n, at)
+logged_label_is_head_or_tail (FailedTry p) ks zero x at = inl at
+logged_label_is_head_or_tail (FailedTry p) ks (suc n) x at = inr (n, at)
+logged_label_is_head_or_tail (LeftAt p a v) ks n x at = inr (n, at)
 
 -- the version that an entry finds is the object's
-entry_label_finds_object_version : {T : Type 0} (m : Machine T) (s : State T) (e : Step) (o : ℕ) (a : Access) (v l : ℕ) → label m s e ≡ In o a v l → (s.objects o).version ≡ v
+entry_label_finds_object_version : {T : Type 0} (m : Machine T) (s : State T) (e : Step) (o : ℕ) (a : Access) (v l : ℕ) → label m s e ≡ EnteredAt o a v l → (s.objects o).version ≡ v
 entry_label_finds_object_version m s e o a v l is =
     let h = act_emitting_entry_is_entering (act m s e) (s.objects (target (act m s e))) o a v l is in
     ap (λ z. (s.objects (target z)).version) (sym h.does) ∙ h.version
 
 -- no later write entry is at a version below the object's
 no_later_write_below_version : {T : Type 0} (m : Machine T) (s : State T) (run : List Step) (o v u n l : ℕ) → v < (s.objects o).version
-    → At (log m s run u) n (In o Writing v l) → ⊥
+    → At (log m s run u) n (EnteredAt o Writing v l) → ⊥
 no_later_write_below_version m s [] o v u n l less at = at
 no_later_write_below_version m s (e ∷ run) o v u n l less at = elim (cases_eq e.0 u) [
-  | inl own ↦ elim (logged_label_is_head_or_tail (label m s e) (log m (after m s e) run u) n (In o Writing v l)
-      (subst (λ (ks : List Label). At ks n (In o Writing v l)) (log_of_own_step m s e run u own) at)) [
+  | inl own ↦ elim (logged_label_is_head_or_tail (label m s e) (log m (after m s e) run u) n (EnteredAt o Writing v l)
+      (subst (λ (ks : List Label). At ks n (EnteredAt o Writing v l)) (log_of_own_step m s e run u own) at)) [
         | inl head ↦ let same = entry_label_finds_object_version m s e o Writing v l head in omega (arith, less, same)
         | inr tail ↦ no_later_write_below_version m (after m s e) run o v u tail.0 l (let more = step_does_not_lower_version m s e o in omega (arith, less, more)) tail.1
       ]
   | inr other ↦ no_later_write_below_version m (after m s e) run o v u n l (let more = step_does_not_lower_version m s e o in omega (arith, less, more))
-      (subst (λ (ks : List Label). At ks n (In o Writing v l)) (log_of_other_step m s e run u other) at)
+      (subst (λ (ks : List Label). At ks n (EnteredAt o Writing v l)) (log_of_other_step m s e run u other) at)
 ]
 
 -- ---- a version that is written over is read no more
@@ -81,15 +81,15 @@ no_later_write_below_version m s (e ∷ run) o v u n l less at = elim (cases_eq 
 abbrev IsWrittenOver : ℕ → ℕ → Object → Type 0
 IsWrittenOver v t b = (v < b.version) ⊎ ((b.version ≡ v) × (b.inside t ≡ Some Writing))
 
-label_enters_or_not : (k : Label) (o : ℕ) → ((a : Access) × (v l : ℕ) × (k ≡ In o a v l)) ⊎ (Enters o k → ⊥)
+label_enters_or_not : (k : Label) (o : ℕ) → ((a : Access) × (v l : ℕ) × (k ≡ EnteredAt o a v l)) ⊎ (Enters o k → ⊥)
 label_enters_or_not Quiet o = inr (λ z. z)
 label_enters_or_not (Answer c x) o = inr (λ z. z)
-label_enters_or_not (In p a v l) o = elim (cases_eq p o) [
-  | inl same ↦ inl (a, v, l, ap (λ z. In z a v l) same)
+label_enters_or_not (EnteredAt p a v l) o = elim (cases_eq p o) [
+  | inl same ↦ inl (a, v, l, ap (λ z. EnteredAt z a v l) same)
   | inr ne ↦ inr ne
 ]
-label_enters_or_not (Refused p) o = inr (λ z. z)
-label_enters_or_not (Out p a v) o = inr (λ z. z)
+label_enters_or_not (FailedTry p) o = inr (λ z. z)
+label_enters_or_not (LeftAt p a v) o = inr (λ z. z)
 
 object_stays_written_over_after_step : {T : Type 0} (m : Machine T) → IsLawful m → (s : State T) → StateInvariant m s → (e : Step) (o v t : ℕ) → IsWrittenOver v t (s.objects o)
     → IsWrittenOver v t ((after m s e).objects o)
@@ -111,40 +111,40 @@ object_stays_written_over_after_step m law s good e o v t (inr is) = elim (cases
       ]
 ]
   where
-    left : (a : Access) → act m s e ≡ Exit o a → a ≡ Writing → v < ((after m s e).objects o).version
+    left : (a : Access) → act m s e ≡ Left o a → a ≡ Writing → v < ((after m s e).objects o).version
     left a does same =
-        let here : act m s e ≡ Exit o Writing = does ∙ ap (Exit o) same in
-        let object : (after m s e).objects o ≡ acted (Exit o Writing) e.0 (s.objects o) =
+        let here : act m s e ≡ Left o Writing = does ∙ ap (Left o) same in
+        let object : (after m s e).objects o ≡ acted (Left o Writing) e.0 (s.objects o) =
         subst (λ q. (after m s e).objects (target q) ≡ acted q e.0 (s.objects (target q))) here (target_object_after_step m s e) in
         let version : ((after m s e).objects o).version ≡ suc (s.objects o).version = ap (λ (b : Object). b.version) object in
         let before = is.0 in
         omega (arith, version, before)
 
 no_later_read_of_written_over_version : {T : Type 0} (m : Machine T) → IsLawful m → (s : State T) → StateInvariant m s → (run : List Step) → IsRun m s run → (o v t u n : ℕ)
-    → IsWrittenOver v t (s.objects o) → At (log m s run u) n (In o Reading v 0) → ⊥
+    → IsWrittenOver v t (s.objects o) → At (log m s run u) n (EnteredAt o Reading v 0) → ⊥
 no_later_read_of_written_over_version m law s good [] ok o v t u n over at = at
 no_later_read_of_written_over_version m law s good (e ∷ run) ok o v t u n over at = elim (cases_eq e.0 u) [
-  | inl own ↦ elim (logged_label_is_head_or_tail (label m s e) (log m (after m s e) run u) n (In o Reading v 0)
-      (subst (λ (ks : List Label). At ks n (In o Reading v 0)) (log_of_own_step m s e run u own) at)) [
+  | inl own ↦ elim (logged_label_is_head_or_tail (label m s e) (log m (after m s e) run u) n (EnteredAt o Reading v 0)
+      (subst (λ (ks : List Label). At ks n (EnteredAt o Reading v 0)) (log_of_own_step m s e run u own) at)) [
         | inl head ↦ by head over
         | inr tail ↦ no_later_read_of_written_over_version m law (after m s e) (state_invariant_after_step m law s good e ok.0) run ok.1 o v t u tail.0 (object_stays_written_over_after_step m law s good e o v t over) tail.1
       ]
   | inr other ↦ no_later_read_of_written_over_version m law (after m s e) (state_invariant_after_step m law s good e ok.0) run ok.1 o v t u n (object_stays_written_over_after_step m law s good e o v t over)
-      (subst (λ (ks : List Label). At ks n (In o Reading v 0)) (log_of_other_step m s e run u other) at)
+      (subst (λ (ks : List Label). At ks n (EnteredAt o Reading v 0)) (log_of_other_step m s e run u other) at)
 ]
   where
-    by : label m s e ≡ In o Reading v 0 → IsWrittenOver v t (s.objects o) → ⊥
+    by : label m s e ≡ EnteredAt o Reading v 0 → IsWrittenOver v t (s.objects o) → ⊥
     by head (inl less) = let same = entry_label_finds_object_version m s e o Reading v 0 head in omega (arith, less, same)
     by head (inr is) =
         let h = act_emitting_entry_is_entering (act m s e) (s.objects (target (act m s e))) o Reading v 0 head in
         subst (λ q. Admits m q (s.objects (target q))) h.does ok.0 t is.1
 
 -- behind a write entry the version that it found is read no more
-written_over_after_write_entry : {T : Type 0} (m : Machine T) (s : State T) (e : Step) (o v l : ℕ) → label m s e ≡ In o Writing v l
+written_over_after_write_entry : {T : Type 0} (m : Machine T) (s : State T) (e : Step) (o v l : ℕ) → label m s e ≡ EnteredAt o Writing v l
     → IsWrittenOver v e.0 ((after m s e).objects o)
 written_over_after_write_entry m s e o v l is =
     let h = act_emitting_entry_is_entering (act m s e) (s.objects (target (act m s e))) o Writing v l is in
-    let object : (after m s e).objects o ≡ acted (Entry o Writing h.answer) e.0 (s.objects o) =
+    let object : (after m s e).objects o ≡ acted (Entered o Writing h.answer) e.0 (s.objects o) =
     subst (λ q. (after m s e).objects (target q) ≡ acted q e.0 (s.objects (target q))) h.does (target_object_after_step m s e) in
     inr (
       ap (λ (b : Object). b.version) object ∙ entry_label_finds_object_version m s e o Writing v l is,
@@ -207,9 +207,9 @@ record IsUnrolled {T : Type 0} (m : Machine T) (s : State T) (run : List Step) (
 logged_adds_label_or_nothing : (k : Label) → ((ks : List Label) → logged k ks ≡ ks) ⊎ ((ks : List Label) → logged k ks ≡ k ∷ ks)
 logged_adds_label_or_nothing Quiet = inl (λ ks. refl)
 logged_adds_label_or_nothing (Answer c x) = inr (λ ks. refl)
-logged_adds_label_or_nothing (In p a v l) = inr (λ ks. refl)
-logged_adds_label_or_nothing (Refused p) = inr (λ ks. refl)
-logged_adds_label_or_nothing (Out p a v) = inl (λ ks. refl)
+logged_adds_label_or_nothing (EnteredAt p a v l) = inr (λ ks. refl)
+logged_adds_label_or_nothing (FailedTry p) = inr (λ ks. refl)
+logged_adds_label_or_nothing (LeftAt p a v) = inl (λ ks. refl)
 
 -- a step that logs nothing
 unrolled_after_silent_step : {T : Type 0} (m : Machine T) (s : State T) (e : Step) (run : List Step) (r : Recorded) (order : List ℕ)
@@ -259,21 +259,21 @@ thread_can_follow_logging_step m law s good e can run ok r order logs h = record
         ]
 
     -- the step enters at a version whose maker is later: it can't be
-    made : (o v l : ℕ) (a : Access) (x : ℕ) → label m s e ≡ In o a (suc v) x
-        → (u : ℕ) → (label m s e ≡ In o Writing v l) ⊎ ((n : ℕ) × At (log m (after m s e) run u) n (In o Writing v l)) → ⊥
+    made : (o v l : ℕ) (a : Access) (x : ℕ) → label m s e ≡ EnteredAt o a (suc v) x
+        → (u : ℕ) → (label m s e ≡ EnteredAt o Writing v l) ⊎ ((n : ℕ) × At (log m (after m s e) run u) n (EnteredAt o Writing v l)) → ⊥
     made o v l a x is u (inl head) =
         let one = entry_label_finds_object_version m s e o a (suc v) x is in let two = entry_label_finds_object_version m s e o Writing v l head in omega (arith, one, two)
     made o v l a x is u (inr tail) = no_later_write_below_version m (after m s e) run o v u tail.0 l
         (let one = entry_label_finds_object_version m s e o a (suc v) x is in let more = step_does_not_lower_version m s e o in omega (arith, one, more)) tail.1
 
-    read : (o v l : ℕ) → label m s e ≡ In o Writing v l
-        → (u : ℕ) → (label m s e ≡ In o Reading v 0) ⊎ ((n : ℕ) × At (log m (after m s e) run u) n (In o Reading v 0)) → ⊥
-    read o v l is u (inl head) = let same : In o Writing v l ≡ In o Reading v 0 = sym is ∙ head in
+    read : (o v l : ℕ) → label m s e ≡ EnteredAt o Writing v l
+        → (u : ℕ) → (label m s e ≡ EnteredAt o Reading v 0) ⊎ ((n : ℕ) × At (log m (after m s e) run u) n (EnteredAt o Reading v 0)) → ⊥
+    read o v l is u (inl head) = let same : EnteredAt o Writing v l ≡ EnteredAt o Reading v 0 = sym is ∙ head in
         let access : Writing ≡ Reading = cc same in cc access
     read o v l is u (inr tail) = no_later_read_of_written_over_version m law (after m s e) (state_invariant_after_step m law s good e can) run ok o v e.0 u tail.0
         (written_over_after_write_entry m s e o v l is) tail.1
 
-    entry_label : (o v : ℕ) → IsEntryOf r e.0 (placed order e.0) o v → (a : Access) × (x : ℕ) × (label m s e ≡ In o a v x)
+    entry_label : (o v : ℕ) → IsEntryOf r e.0 (placed order e.0) o v → (a : Access) × (x : ℕ) × (label m s e ≡ EnteredAt o a v x)
     entry_label o v (inl is) = (Reading, 0, is_label (variant.Read o v) is)
     entry_label o v (inr (l, is)) = (Writing, l, is_label (variant.Write o v l) is)
 

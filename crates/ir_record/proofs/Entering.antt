@@ -130,12 +130,12 @@ pub label_of_step_is_emitted_by_act_of_ask : (f : Flat) (t r : ℕ) (q : Ask) �
 label_of_step_is_emitted_by_act_of_ask f t r q is = ap (λ z. emitted (act_of (shared_ask z) r) ((tables f).objects (target (act_of (shared_ask z) r)))) is
 
 -- what an entry emits is logged, and is no answer
-pub entry_logs_itself : (o : ℕ) (a : Access) (v : ℕ) (b : Object) → logged (emitted (machine.Entry o a v) b) [] ≡ emitted (machine.Entry o a v) b
+pub entry_logs_itself : (o : ℕ) (a : Access) (v : ℕ) (b : Object) → logged (emitted (machine.Entered o a v) b) [] ≡ emitted (machine.Entered o a v) b
     ∷ []
 entry_logs_itself o Reading v b = refl
 entry_logs_itself o Writing v b = refl
 
-pub entry_logs_no_answer : (o : ℕ) (a : Access) (v : ℕ) (b : Object) → answers_in (logged (emitted (machine.Entry o a v) b) []) ≡ []
+pub entry_logs_no_answer : (o : ℕ) (a : Access) (v : ℕ) (b : Object) → answers_in (logged (emitted (machine.Entered o a v) b) []) ≡ []
 entry_logs_no_answer o Reading v b = refl
 entry_logs_no_answer o Writing v b = refl
 

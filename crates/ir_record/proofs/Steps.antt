@@ -4,7 +4,7 @@ use Rattle.std.proofs.lemmas.Bool.{cases_eq}
 use Rattle.ir_thread.specs.State.{ask_of, shared_ask, thread_machine}
 use Rattle.ir_thread.specs.declared.ask.Ask.{Ask}
 use Rattle.ir_runs.specs.Machine as machine
-use Rattle.ir_runs.specs.Machine.{Label, Quiet, Answer, In, Out, Refused, logged}
+use Rattle.ir_runs.specs.Machine.{Label, Quiet, Answer, EnteredAt, LeftAt, FailedTry, logged}
 use Rattle.ir_flat.specs.Flat.{Flat, thread_of, tables, machine}
 use Rattle.ir_runs.specs.Run.{Step, Can, asked, after, label, end, join_if, events, log, EntersIfFree, HasNone}
 use Rattle.ir_runs.specs.Orders.{InTurn}
@@ -123,17 +123,17 @@ took_refused_turn_by_step t k a b s = record {
 answers_in_logged_is_append : (k : Label) (ys : List Label) → answers_in (logged k ys) ≡ answers_in (logged k []) ++ answers_in ys
 answers_in_logged_is_append Quiet ys = refl
 answers_in_logged_is_append (Answer i v) ys = refl
-answers_in_logged_is_append (In o a v l) ys = refl
-answers_in_logged_is_append (Refused o) ys = refl
-answers_in_logged_is_append (Out o a v) ys = refl
+answers_in_logged_is_append (EnteredAt o a v l) ys = refl
+answers_in_logged_is_append (FailedTry o) ys = refl
+answers_in_logged_is_append (LeftAt o a v) ys = refl
 
 pub answers_in_append : (xs ys : List Label) → answers_in (xs ++ ys) ≡ answers_in xs ++ answers_in ys
 answers_in_append [] ys = refl
 answers_in_append (Quiet ∷ xs) ys = answers_in_append xs ys
 answers_in_append (Answer i v ∷ xs) ys = ap (λ z. (i, v) ∷ z) (answers_in_append xs ys)
-answers_in_append (In o a v l ∷ xs) ys = answers_in_append xs ys
-answers_in_append (Refused o ∷ xs) ys = answers_in_append xs ys
-answers_in_append (Out o a v ∷ xs) ys = answers_in_append xs ys
+answers_in_append (EnteredAt o a v l ∷ xs) ys = answers_in_append xs ys
+answers_in_append (FailedTry o ∷ xs) ys = answers_in_append xs ys
+answers_in_append (LeftAt o a v ∷ xs) ys = answers_in_append xs ys
 
 -- ---- turns one after the other
 

@@ -6,7 +6,7 @@ use Rattle.ir_thread.specs.declared.ask.Ask.TheVariants.{Try}
 use Rattle.ir_thread.specs.declared.profile.Profile.{Profile}
 use Rattle.ir_thread.proofs.CallerLemmas.{ask_of_permitted}
 use Rattle.ir_runs.specs.Machine as machine
-use Rattle.ir_runs.specs.Machine.{act_of, target, emitted, Admits, Label, Refused}
+use Rattle.ir_runs.specs.Machine.{act_of, target, emitted, Admits, Label, FailedTry}
 use Rattle.ir_runs.specs.declared.access.Access.TheVariants.{Writing}
 use Rattle.ir_runs.specs.Run.{Can, after}
 use Rattle.ir_flat.specs.Flat.{Flat, thread_of, tables, machine as machine_of, IsFlat}
@@ -45,7 +45,7 @@ pub record TryLogged (f g : Flat) (logs more : List Logged) (t o r : ℕ) (e : E
 
 -- what an entry of object o for writing emits now
 abbrev pub write_entry_label : Flat → ℕ → Label
-write_entry_label f o = emitted (machine.Entry o Writing 0) ((tables f).objects o)
+write_entry_label f o = emitted (machine.Entered o Writing 0) ((tables f).objects o)
 
 -- it entered
 pub entering_try_logs_one_event : (f g : Flat) (logs more : List Logged) (t o : ℕ) (e : Event) → TryLogged f g logs more t o 1 e → label_of e ≡ write_entry_label f o
@@ -72,7 +72,7 @@ entering_try_logs_one_event f g logs more t o e x emits fits = record {
 
 -- it was refused
 pub refused_try_logs_one_event : (f g : Flat) (logs more : List Logged) (t o : ℕ) → TryLogged f g logs more t o 0 (event.Try o)
-    → OneEventLogged f g logs more t 0 (Refused o) (event.Try o)
+    → OneEventLogged f g logs more t 0 (FailedTry o) (event.Try o)
 refused_try_logs_one_event f g logs more t o x = record {
   has_logs = x.has_logs;
   flat = x.flat;

@@ -10,7 +10,7 @@ use Rattle.ir_thread.specs.Permitted.{run_of, step_of, Permits}
 use Rattle.ir_thread.specs.State.{held_at, ask_of, after_ask, after_reply, most_events, shared_ask, reply_of, thread_machine}
 use Rattle.ir_runs.specs.Machine as machine
 use Rattle.ir_runs.specs.Lawful as lawful
-use Rattle.ir_runs.specs.Machine.{Act, act_of, Machine, Label, Quiet, Answer, In, Out, logged}
+use Rattle.ir_runs.specs.Machine.{Act, act_of, Machine, Label, Quiet, Answer, EnteredAt, LeftAt, logged}
 use Rattle.ir_runs.specs.Run.{join_if}
 use Rattle.ir_runs.specs.Shared.{is_shared}
 use Rattle.ir_runs.specs.Lawful.{held_after}
@@ -57,9 +57,9 @@ answers_in_append : (xs ys : List Label) → answers_in (xs ++ ys) ≡ answers_i
 answers_in_append [] ys = refl
 answers_in_append (Quiet ∷ xs) ys = answers_in_append xs ys
 answers_in_append (Answer k v ∷ xs) ys = ap (λ z. (k, v) ∷ z) (answers_in_append xs ys)
-answers_in_append (In o a v l ∷ xs) ys = answers_in_append xs ys
-answers_in_append (Rattle.ir_runs.specs.Machine.Refused o ∷ xs) ys = answers_in_append xs ys
-answers_in_append (Out o a v ∷ xs) ys = answers_in_append xs ys
+answers_in_append (EnteredAt o a v l ∷ xs) ys = answers_in_append xs ys
+answers_in_append (Rattle.ir_runs.specs.Machine.FailedTry o ∷ xs) ys = answers_in_append xs ys
+answers_in_append (LeftAt o a v ∷ xs) ys = answers_in_append xs ys
 
 -- how a thread is inside an object after a step, which is an object step if b
 inside_after_step_is_held_after : (q : Act) (v o : ℕ) (h : ℕ → Option Access) (xs : List Shared) (b : Bool) → is_shared q ≡ b → inside_after o None xs ≡ h o

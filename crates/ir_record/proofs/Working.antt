@@ -1,6 +1,6 @@
 -- A thread alone, with one step more.
 use Rattle.std.proofs.Common.{◌≡◌, ℕ, Bool, true, false, cond, eqb, List, [], ◌∷◌, ◌++◌, map, length, Option, Some, None, refl, sym, ap, ◌∙◌, subst, arith}
-use Rattle.ir_runs.specs.Machine.{Act, act_of, Silent, Result, Entry, Refusal, Exit, Load, Store, Never, Machine, upd, target, Label, logged}
+use Rattle.ir_runs.specs.Machine.{Act, act_of, Silent, Replied, Entered, TryFailed, Left, Got, Stored, Never, Machine, upd, target, Label, logged}
 use Rattle.ir_runs.specs.Shared.{is_shared}
 use Rattle.ir_runs.specs.Lawful.{held_after}
 use Rattle.ir_runs.specs.declared.access.Access.{Access}
@@ -36,22 +36,22 @@ shared_steps_with_reply_added m x (u ∷ vs) v = ap (join_if (is_shared (act_of 
 
 own_act_label_ignores_labels : (q : Act) (ks ls : List Label) → is_shared q ≡ false → alone_label q ks ≡ alone_label q ls
 own_act_label_ignores_labels Silent ks ls e = refl
-own_act_label_ignores_labels (Result k v) ks ls e = refl
-own_act_label_ignores_labels (Entry o a v) ks ls e = absurd (cc e)
-own_act_label_ignores_labels (Refusal o) ks ls e = refl
-own_act_label_ignores_labels (Exit o a) ks ls e = absurd (cc e)
-own_act_label_ignores_labels (Load o i) ks ls e = absurd (cc e)
-own_act_label_ignores_labels (Store o i w) ks ls e = absurd (cc e)
+own_act_label_ignores_labels (Replied k v) ks ls e = refl
+own_act_label_ignores_labels (Entered o a v) ks ls e = absurd (cc e)
+own_act_label_ignores_labels (TryFailed o) ks ls e = refl
+own_act_label_ignores_labels (Left o a) ks ls e = absurd (cc e)
+own_act_label_ignores_labels (Got o i) ks ls e = absurd (cc e)
+own_act_label_ignores_labels (Stored o i w) ks ls e = absurd (cc e)
 own_act_label_ignores_labels Never ks ls e = refl
 
 alone_label_uses_first_label : (q : Act) (k : Label) (ks ls : List Label) → alone_label q (k ∷ ks) ≡ alone_label q (k ∷ ls)
 alone_label_uses_first_label Silent k ks ls = refl
-alone_label_uses_first_label (Result i v) k ks ls = refl
-alone_label_uses_first_label (Entry o a v) k ks ls = refl
-alone_label_uses_first_label (Refusal o) k ks ls = refl
-alone_label_uses_first_label (Exit o a) k ks ls = refl
-alone_label_uses_first_label (Load o i) k ks ls = refl
-alone_label_uses_first_label (Store o i w) k ks ls = refl
+alone_label_uses_first_label (Replied i v) k ks ls = refl
+alone_label_uses_first_label (Entered o a v) k ks ls = refl
+alone_label_uses_first_label (TryFailed o) k ks ls = refl
+alone_label_uses_first_label (Left o a) k ks ls = refl
+alone_label_uses_first_label (Got o i) k ks ls = refl
+alone_label_uses_first_label (Stored o i w) k ks ls = refl
 alone_label_uses_first_label Never k ks ls = refl
 
 -- what the trail of more replies says
@@ -111,12 +111,12 @@ worked_with_reply_added m x y steps labels log v ls w n may = record {
 
 pub held_after_own_act_is_unchanged : (q : Act) (h : ℕ → Option Access) (o : ℕ) → is_shared q ≡ false → held_after q h o ≡ h o
 held_after_own_act_is_unchanged Silent h o e = refl
-held_after_own_act_is_unchanged (Result k v) h o e = refl
-held_after_own_act_is_unchanged (Entry i a v) h o e = absurd (cc e)
-held_after_own_act_is_unchanged (Refusal i) h o e = refl
-held_after_own_act_is_unchanged (Exit i a) h o e = absurd (cc e)
-held_after_own_act_is_unchanged (Load i j) h o e = absurd (cc e)
-held_after_own_act_is_unchanged (Store i j w) h o e = absurd (cc e)
+held_after_own_act_is_unchanged (Replied k v) h o e = refl
+held_after_own_act_is_unchanged (Entered i a v) h o e = absurd (cc e)
+held_after_own_act_is_unchanged (TryFailed i) h o e = refl
+held_after_own_act_is_unchanged (Left i a) h o e = absurd (cc e)
+held_after_own_act_is_unchanged (Got i j) h o e = absurd (cc e)
+held_after_own_act_is_unchanged (Stored i j w) h o e = absurd (cc e)
 held_after_own_act_is_unchanged Never h o e = refl
 
 cond_is_inside_if_if_inside_then_is_first_branch : (b : Bool) (q : Act) (x : Option Access) (y : Option Access) → inside_then q y ≡ x → cond b x y ≡ inside_if b q y
@@ -130,12 +130,12 @@ inside_if_changes_nothing_if_inside_then_does_not false q y e = refl
 pub held_after_is_inside_if : (q : Act) (h : ℕ → Option Access) (o : ℕ) → is_shared q ≡ true → held_after q h o ≡ inside_if (eqb o (target q)) q (h o)
 unfolding upd
 held_after_is_inside_if Silent h o e = absurd (cc e)
-held_after_is_inside_if (Result k v) h o e = absurd (cc e)
-held_after_is_inside_if (Entry i a v) h o e = cond_is_inside_if_if_inside_then_is_first_branch (eqb o i) (Entry i a v) (Some a) (h o) refl
-held_after_is_inside_if (Refusal i) h o e = absurd (cc e)
-held_after_is_inside_if (Exit i a) h o e = cond_is_inside_if_if_inside_then_is_first_branch (eqb o i) (Exit i a) None (h o) refl
-held_after_is_inside_if (Load i j) h o e = inside_if_changes_nothing_if_inside_then_does_not (eqb o i) (Load i j) (h o) refl
-held_after_is_inside_if (Store i j w) h o e = inside_if_changes_nothing_if_inside_then_does_not (eqb o i) (Store i j w) (h o) refl
+held_after_is_inside_if (Replied k v) h o e = absurd (cc e)
+held_after_is_inside_if (Entered i a v) h o e = cond_is_inside_if_if_inside_then_is_first_branch (eqb o i) (Entered i a v) (Some a) (h o) refl
+held_after_is_inside_if (TryFailed i) h o e = absurd (cc e)
+held_after_is_inside_if (Left i a) h o e = cond_is_inside_if_if_inside_then_is_first_branch (eqb o i) (Left i a) None (h o) refl
+held_after_is_inside_if (Got i j) h o e = inside_if_changes_nothing_if_inside_then_does_not (eqb o i) (Got i j) (h o) refl
+held_after_is_inside_if (Stored i j w) h o e = inside_if_changes_nothing_if_inside_then_does_not (eqb o i) (Stored i j w) (h o) refl
 held_after_is_inside_if Never h o e = absurd (cc e)
 
 -- ---- what is logged of object steps is no answer of the environment
@@ -152,17 +152,17 @@ logged_answers_are_alone_answers_step : (q : Act) (f : List Label → List Label
     → ((later : List ObjectStep) → answers_in (f (map label_of later)) ≡ others)
     → answers_in (logged (alone_label q (map label_of track)) (f (labels_left (is_shared q) (map label_of track)))) ≡ answer_if q others
 logged_answers_are_alone_answers_step Silent f track others rest = rest track
-logged_answers_are_alone_answers_step (Result k v) f track others rest = ap (λ z. (k, v) ∷ z) (rest track)
-logged_answers_are_alone_answers_step (Refusal o) f track others rest = rest track
+logged_answers_are_alone_answers_step (Replied k v) f track others rest = ap (λ z. (k, v) ∷ z) (rest track)
+logged_answers_are_alone_answers_step (TryFailed o) f track others rest = rest track
 logged_answers_are_alone_answers_step Never f track others rest = rest track
-logged_answers_are_alone_answers_step (Entry o a v) f [] others rest = rest []
-logged_answers_are_alone_answers_step (Entry o a v) f (e ∷ track) others rest = deed_logs_no_answer e.object e.deed (f (map label_of track)) ∙ rest track
-logged_answers_are_alone_answers_step (Exit o a) f [] others rest = rest []
-logged_answers_are_alone_answers_step (Exit o a) f (e ∷ track) others rest = deed_logs_no_answer e.object e.deed (f (map label_of track)) ∙ rest track
-logged_answers_are_alone_answers_step (Load o i) f [] others rest = rest []
-logged_answers_are_alone_answers_step (Load o i) f (e ∷ track) others rest = deed_logs_no_answer e.object e.deed (f (map label_of track)) ∙ rest track
-logged_answers_are_alone_answers_step (Store o i w) f [] others rest = rest []
-logged_answers_are_alone_answers_step (Store o i w) f (e ∷ track) others rest = deed_logs_no_answer e.object e.deed (f (map label_of track)) ∙ rest track
+logged_answers_are_alone_answers_step (Entered o a v) f [] others rest = rest []
+logged_answers_are_alone_answers_step (Entered o a v) f (e ∷ track) others rest = deed_logs_no_answer e.object e.deed (f (map label_of track)) ∙ rest track
+logged_answers_are_alone_answers_step (Left o a) f [] others rest = rest []
+logged_answers_are_alone_answers_step (Left o a) f (e ∷ track) others rest = deed_logs_no_answer e.object e.deed (f (map label_of track)) ∙ rest track
+logged_answers_are_alone_answers_step (Got o i) f [] others rest = rest []
+logged_answers_are_alone_answers_step (Got o i) f (e ∷ track) others rest = deed_logs_no_answer e.object e.deed (f (map label_of track)) ∙ rest track
+logged_answers_are_alone_answers_step (Stored o i w) f [] others rest = rest []
+logged_answers_are_alone_answers_step (Stored o i w) f (e ∷ track) others rest = deed_logs_no_answer e.object e.deed (f (map label_of track)) ∙ rest track
 
 -- the answers that a thread alone logs are those of its replies, whatever its object steps report
 pub logged_answers_are_alone_answers : {T : Type 0} (m : Machine T) (x : T) (vs : List ℕ) (track : List ObjectStep)

@@ -5,7 +5,7 @@ use Rattle.ir_image.specs.Guest.{Guest, object_count}
 use Rattle.ir_thread.specs.State.{start_state, ask_of, thread_machine}
 use Rattle.ir_thread.specs.declared.ask.Ask.TheVariants as ask
 use Rattle.ir_flat.specs.Flat.{start_flat, tables, machine, MayRun, alone_after}
-use Rattle.ir_runs.specs.Machine.{Act, act_of, Result, Env, Machine}
+use Rattle.ir_runs.specs.Machine.{Act, act_of, Replied, Env, Machine}
 use Rattle.ir_runs.specs.Run.{Step, asked, log, end, rounds, IsWhole}
 use Rattle.ir_runs.specs.declared.env_kind.EnvKind.{EnvKind}
 use Rattle.ir_trace.specs.Recorded.{Recorded, trace_of}
@@ -98,7 +98,7 @@ IsFailureInTurns answers broken origin guest budget profile turns before (World 
 
 -- what the environment answers in an act, and the answers after it
 abbrev pub answer_if : Act → List AnsweredCall → List AnsweredCall
-answer_if (Result kind value) others = (kind, value) ∷ others
+answer_if (Replied kind value) others = (kind, value) ∷ others
 answer_if q others = others
 
 -- the calls of the environment that a thread makes alone, with their answers, if these are its replies

@@ -2,7 +2,7 @@
 use Rattle.std.proofs.Common.{◌≡◌, ◌≢◌, ℕ, suc, zero, ◌+◌, ◌<◌, ◌≤◌, ◌⊎◌, inl, inr, length, Bool, true, false, cond, eqb, ne_eqb, List, [], ◌∷◌, Some, None, get_or, refl, sym, ap, ◌∙◌, subst, arith}
 use Rattle.std.proofs.lemmas.Bool.{cases_eq, cases_lt}
 use Rattle.std.proofs.lemmas.Option.{same_Some, none-some, slice_get-get_or}
-use Rattle.ir_runs.specs.Machine.{Act, Silent, Result, Entry, Refusal, Exit, Load, Store, Never, Machine, upd, Object, target, acted, emitted, Label, Quiet, Answer, In, Refused, Out}
+use Rattle.ir_runs.specs.Machine.{Act, Silent, Replied, Entered, TryFailed, Left, Got, Stored, Never, Machine, upd, Object, target, acted, emitted, Label, Quiet, Answer, EnteredAt, FailedTry, LeftAt}
 use Rattle.ir_runs.specs.Lawful.{IsLawful}
 use Rattle.ir_runs.specs.declared.access.Access.{Access}
 use Rattle.ir_runs.specs.declared.access.Access.TheVariants.{Reading, Writing}
@@ -64,21 +64,21 @@ rest_emits_same {T} m s e run t k b ne x = (x.0, subst (λ (ks : List (T × Labe
 
 -- a label that leaves is an exit at the object's version
 record IsExiting (q : Act) (b : Object) (o : ℕ) (a : Access) (v : ℕ) : Type 0 where
-  does : q ≡ Exit o a
+  does : q ≡ Left o a
   version : b.version ≡ v
 
-label_out_is_exit : (q : Act) (b : Object) (o : ℕ) (a : Access) (v : ℕ) → emitted q b ≡ Out o a v → IsExiting q b o a v
+label_out_is_exit : (q : Act) (b : Object) (o : ℕ) (a : Access) (v : ℕ) → emitted q b ≡ LeftAt o a v → IsExiting q b o a v
 label_out_is_exit Silent b o a v e = absurd (cc e)
-label_out_is_exit (Result k x) b o a v e = absurd (cc e)
-label_out_is_exit (Entry p Reading x) b o a v e = absurd (cc e)
-label_out_is_exit (Entry p Writing x) b o a v e = absurd (cc e)
-label_out_is_exit (Refusal p) b o a v e = absurd (cc e)
-label_out_is_exit (Exit p c) b o a v e =
+label_out_is_exit (Replied k x) b o a v e = absurd (cc e)
+label_out_is_exit (Entered p Reading x) b o a v e = absurd (cc e)
+label_out_is_exit (Entered p Writing x) b o a v e = absurd (cc e)
+label_out_is_exit (TryFailed p) b o a v e = absurd (cc e)
+label_out_is_exit (Left p c) b o a v e =
     let object : p ≡ o = cc e in
     let access : c ≡ a = cc e in
-    record { does = (λ i. Exit (object i) (access i)); version = cc e }
-label_out_is_exit (Load p i) b o a v e = absurd (cc e)
-label_out_is_exit (Store p i x) b o a v e = absurd (cc e)
+    record { does = (λ i. Left (object i) (access i)); version = cc e }
+label_out_is_exit (Got p i) b o a v e = absurd (cc e)
+label_out_is_exit (Stored p i x) b o a v e = absurd (cc e)
 label_out_is_exit Never b o a v e = absurd (cc e)
 
 -- a label enters the object, or doesn't
@@ -86,27 +86,27 @@ record IsIn (o : ℕ) (k : Label) : Type 0 where
   access : Access
   version : ℕ
   readers : ℕ
-  is : k ≡ In o access version readers
+  is : k ≡ EnteredAt o access version readers
 
 label_enters_or_not : (o : ℕ) (k : Label) → IsIn o k ⊎ (Enters o k → ⊥)
 label_enters_or_not o Quiet = inr (λ h. h)
 label_enters_or_not o (Answer k x) = inr (λ h. h)
-label_enters_or_not o (In p a v l) = elim (cases_eq p o) [
-  | inl same ↦ inl (record { access = a; version = v; readers = l; is = ap (λ z. In z a v l) same })
+label_enters_or_not o (EnteredAt p a v l) = elim (cases_eq p o) [
+  | inl same ↦ inl (record { access = a; version = v; readers = l; is = ap (λ z. EnteredAt z a v l) same })
   | inr ne ↦ inr ne
 ]
-label_enters_or_not o (Refused p) = inr (λ h. h)
-label_enters_or_not o (Out p a v) = inr (λ h. h)
+label_enters_or_not o (FailedTry p) = inr (λ h. h)
+label_enters_or_not o (LeftAt p a v) = inr (λ h. h)
 
 -- a label of another thread leaves the object after writing, or counts nothing
-label_counts_or_leaves : (t o u : ℕ) (k : Label) → (leaves_one t o u k ≡ 0) ⊎ ((v : ℕ) × (k ≡ Out o Writing v))
+label_counts_or_leaves : (t o u : ℕ) (k : Label) → (leaves_one t o u k ≡ 0) ⊎ ((v : ℕ) × (k ≡ LeftAt o Writing v))
 label_counts_or_leaves t o u Quiet = inl refl
 label_counts_or_leaves t o u (Answer k x) = inl refl
-label_counts_or_leaves t o u (In p a v l) = inl refl
-label_counts_or_leaves t o u (Refused p) = inl refl
-label_counts_or_leaves t o u (Out p Reading v) = inl refl
-label_counts_or_leaves t o u (Out p Writing v) = elim (cases_eq p o) [
-  | inl here ↦ inr (v, ap (λ z. Out z Writing v) here)
+label_counts_or_leaves t o u (EnteredAt p a v l) = inl refl
+label_counts_or_leaves t o u (FailedTry p) = inl refl
+label_counts_or_leaves t o u (LeftAt p Reading v) = inl refl
+label_counts_or_leaves t o u (LeftAt p Writing v) = elim (cases_eq p o) [
+  | inl here ↦ inr (v, ap (λ z. LeftAt z Writing v) here)
   | inr other ↦ inl (ap {B = ℕ} (λ (c : Bool). cond (eqb u t) 0 (cond c 1 0)) (ne_eqb p o other) ∙ same_either_way (eqb u t) 0)
 ]
   where
@@ -114,14 +114,14 @@ label_counts_or_leaves t o u (Out p Writing v) = elim (cases_eq p o) [
     same_either_way true n = refl
     same_either_way false n = refl
 
-thread_is_outside_after_exit : {T : Type 0} (m : Machine T) (s : State T) (e : Step) (t o : ℕ) (a : Access) → e.0 ≡ t → act m s e ≡ Exit o a
+thread_is_outside_after_exit : {T : Type 0} (m : Machine T) (s : State T) (e : Step) (t o : ℕ) (a : Access) → e.0 ≡ t → act m s e ≡ Left o a
     → ((after m s e).objects o).inside t ≡ None
 thread_is_outside_after_exit m s e t o a own does = ap (λ z. z.inside t) object ∙ gone a
   where
-    object : (after m s e).objects o ≡ acted (Exit o a) e.0 (s.objects o)
+    object : (after m s e).objects o ≡ acted (Left o a) e.0 (s.objects o)
     object = subst (λ q. (after m s e).objects (target q) ≡ acted q e.0 (s.objects (target q))) does (target_object_after_step m s e)
 
-    gone : (c : Access) → (acted (Exit o c) e.0 (s.objects o)).inside t ≡ None
+    gone : (c : Access) → (acted (Left o c) e.0 (s.objects o)).inside t ≡ None
     gone Reading = subst (λ z. upd (s.objects o).inside e.0 None z ≡ None) own (upd_at_own_place (s.objects o).inside e.0 None)
     gone Writing = subst (λ z. upd (s.objects o).inside e.0 None z ≡ None) own (upd_at_own_place (s.objects o).inside e.0 None)
 
@@ -130,7 +130,7 @@ record IsInsideAt {T : Type 0} (m : Machine T) (s : State T) (e : Step) (t o : �
   inside : ((after m s e).objects o).inside t ≡ Some a
   version : ((after m s e).objects o).version ≡ v
 
-thread_is_inside_after_entry : {T : Type 0} (m : Machine T) (s : State T) (e : Step) (t o : ℕ) (a : Access) (v l : ℕ) → e.0 ≡ t → label m s e ≡ In o a v l
+thread_is_inside_after_entry : {T : Type 0} (m : Machine T) (s : State T) (e : Step) (t o : ℕ) (a : Access) (v l : ℕ) → e.0 ≡ t → label m s e ≡ EnteredAt o a v l
     → IsInsideAt m s e t o a v
 thread_is_inside_after_entry m s e t o a v l own enters = record {
   inside = ap (λ z. z.inside t) object
@@ -141,7 +141,7 @@ thread_is_inside_after_entry m s e t o a v l own enters = record {
     entry : IsEntering (act m s e) (s.objects (target (act m s e))) o a v
     entry = act_emitting_entry_is_entering (act m s e) (s.objects (target (act m s e))) o a v l enters
 
-    object : (after m s e).objects o ≡ acted (Entry o a entry.answer) e.0 (s.objects o)
+    object : (after m s e).objects o ≡ acted (Entered o a entry.answer) e.0 (s.objects o)
     object = subst (λ q. (after m s e).objects (target q) ≡ acted q e.0 (s.objects (target q))) entry.does (target_object_after_step m s e)
 
 -- while a thread is inside, no other makes a version
@@ -162,20 +162,20 @@ inside_version_stays m law s good e t o a other inside =
 record IsInsideTo {T : Type 0} (m : Machine T) (s : State T) (run : List Step) (t j o : ℕ) (a : Access) (v : ℕ) : Type 0 where
   inside : (s.objects o).inside t ≡ Some a
   version : (s.objects o).version ≡ v
-  none : (k : ℕ) → k < j → Emits m s run t k (Out o a v) → ⊥
+  none : (k : ℕ) → k < j → Emits m s run t k (LeftAt o a v) → ⊥
 
 -- it enters so before its step j, and doesn't leave between
 pub record IsEnteredTo {T : Type 0} (m : Machine T) (s : State T) (run : List Step) (t j o : ℕ) (a : Access) (v : ℕ) : Type 0 where
   pub entry : ℕ
   pub readers : ℕ
   pub before : entry < j
-  pub enters : Emits m s run t entry (In o a v readers)
-  pub none : (k : ℕ) → entry < k → k < j → Emits m s run t k (Out o a v) → ⊥
+  pub enters : Emits m s run t entry (EnteredAt o a v readers)
+  pub none : (k : ℕ) → entry < k → k < j → Emits m s run t k (LeftAt o a v) → ⊥
 
 first_step_leaves_if_inside : {T : Type 0} (m : Machine T) → IsLawful m → (s : State T) → StateInvariant m s → (e : Step) (run : List Step) (t o : ℕ) (a : Access) (v : ℕ)
-    → e.0 ≡ t → Emits m s (e ∷ run) t 0 (Out o a v) → IsInsideTo m s (e ∷ run) t 0 o a v
+    → e.0 ≡ t → Emits m s (e ∷ run) t 0 (LeftAt o a v) → IsInsideTo m s (e ∷ run) t 0 o a v
 first_step_leaves_if_inside m law s good e run t o a v own x =
-    let exit = label_out_is_exit (act m s e) (s.objects (target (act m s e))) o a v (first_label_is_own m s e run t (Out o a v) own x) in
+    let exit = label_out_is_exit (act m s e) (s.objects (target (act m s e))) o a v (first_label_is_own m s e run t (LeftAt o a v) own x) in
     record {
       inside = subst (λ z. (s.objects o).inside z ≡ Some a) own (exiting_thread_is_inside m law s good e o a exit.does);
       version = ap (λ z. (s.objects (target z)).version) (sym exit.does) ∙ exit.version;
@@ -189,13 +189,13 @@ entered_before_own_step m s e run t j o a v own x = record {
   entry = suc x.entry;
   readers = x.readers;
   before = (let less = x.before in omega (arith, less));
-  enters = own_step_emits_later m s e run t x.entry (In o a v x.readers) own x.enters;
+  enters = own_step_emits_later m s e run t x.entry (EnteredAt o a v x.readers) own x.enters;
   none = between;
 }
   where
-    between : (k : ℕ) → suc x.entry < k → k < suc j → Emits m s (e ∷ run) t k (Out o a v) → ⊥
+    between : (k : ℕ) → suc x.entry < k → k < suc j → Emits m s (e ∷ run) t k (LeftAt o a v) → ⊥
     between zero low high y = omega (arith, low)
-    between (suc k) low high y = x.none k (omega (arith, low)) (omega (arith, high)) (rest_emits_earlier m s e run t k (Out o a v) own y)
+    between (suc k) low high y = x.none k (omega (arith, low)) (omega (arith, high)) (rest_emits_earlier m s e run t k (LeftAt o a v) own y)
 
 entered_by_own_step : {T : Type 0} (m : Machine T) (s : State T) (e : Step) (run : List Step) (t j o : ℕ) (a : Access) (v : ℕ) → e.0 ≡ t
     → IsIn o (label m s e) → IsInsideTo m (after m s e) run t j o a v → IsEnteredTo m s (e ∷ run) t (suc j) o a v
@@ -207,13 +207,13 @@ entered_by_own_step m s e run t j o a v own enters x =
       entry = 0;
       readers = enters.readers;
       before = omega arith;
-      enters = own_step_emits_first m s e run t (In o a v enters.readers) own (enters.is ∙ (λ i. In o (access i) (version i) enters.readers));
+      enters = own_step_emits_first m s e run t (EnteredAt o a v enters.readers) own (enters.is ∙ (λ i. EnteredAt o (access i) (version i) enters.readers));
       none = between;
     }
   where
-    between : (k : ℕ) → 0 < k → k < suc j → Emits m s (e ∷ run) t k (Out o a v) → ⊥
+    between : (k : ℕ) → 0 < k → k < suc j → Emits m s (e ∷ run) t k (LeftAt o a v) → ⊥
     between zero low high y = omega (arith, low)
-    between (suc k) low high y = x.none k (omega (arith, high)) (rest_emits_earlier m s e run t k (Out o a v) own y)
+    between (suc k) low high y = x.none k (omega (arith, high)) (rest_emits_earlier m s e run t k (LeftAt o a v) own y)
 
 inside_before_own_step : {T : Type 0} (m : Machine T) (s : State T) (e : Step) (run : List Step) (t j o : ℕ) (a : Access) (v : ℕ) → e.0 ≡ t
     → (Enters o (label m s e) → ⊥) → IsInsideTo m (after m s e) run t j o a v → IsInsideTo m s (e ∷ run) t (suc j) o a v
@@ -222,11 +222,11 @@ inside_before_own_step m s e run t j o a v own free x = elim (own_step_not_enter
   | inr exit ↦ absurd (none-some a (sym (thread_is_outside_after_exit m s e t o exit.0 own exit.1) ∙ x.inside))
 ]
   where
-    between : (k : ℕ) → k < suc j → Emits m s (e ∷ run) t k (Out o a v) → ⊥
+    between : (k : ℕ) → k < suc j → Emits m s (e ∷ run) t k (LeftAt o a v) → ⊥
     between zero high y =
-        let exit = label_out_is_exit (act m s e) (s.objects (target (act m s e))) o a v (first_label_is_own m s e run t (Out o a v) own y) in
+        let exit = label_out_is_exit (act m s e) (s.objects (target (act m s e))) o a v (first_label_is_own m s e run t (LeftAt o a v) own y) in
         none-some a (sym (thread_is_outside_after_exit m s e t o a own exit.does) ∙ x.inside)
-    between (suc k) high y = x.none k (omega (arith, high)) (rest_emits_earlier m s e run t k (Out o a v) own y)
+    between (suc k) high y = x.none k (omega (arith, high)) (rest_emits_earlier m s e run t k (LeftAt o a v) own y)
 
 -- with a step of another thread before
 entered_before_other_step : {T : Type 0} (m : Machine T) (s : State T) (e : Step) (run : List Step) (t j o : ℕ) (a : Access) (v : ℕ) → t ≢ e.0
@@ -235,8 +235,8 @@ entered_before_other_step m s e run t j o a v other x = record {
   entry = x.entry;
   readers = x.readers;
   before = x.before;
-  enters = other_step_emits_same m s e run t x.entry (In o a v x.readers) other x.enters;
-  none = λ k low high y. x.none k low high (rest_emits_same m s e run t k (Out o a v) other y);
+  enters = other_step_emits_same m s e run t x.entry (EnteredAt o a v x.readers) other x.enters;
+  none = λ k low high y. x.none k low high (rest_emits_same m s e run t k (LeftAt o a v) other y);
 }
 
 inside_before_other_step : {T : Type 0} (m : Machine T) → IsLawful m → (s : State T) → StateInvariant m s → (e : Step) (run : List Step) (t j o : ℕ) (a : Access) (v : ℕ)
@@ -246,25 +246,25 @@ inside_before_other_step m law s good e run t j o a v other x =
     record {
       inside = inside;
       version = sym (inside_version_stays m law s good e t o a other inside) ∙ x.version;
-      none = λ k high y. x.none k high (rest_emits_same m s e run t k (Out o a v) (λ same. other (sym same)) y);
+      none = λ k high y. x.none k high (rest_emits_same m s e run t k (LeftAt o a v) (λ same. other (sym same)) y);
     }
 
 left_object_was_entered : {T : Type 0} (m : Machine T) → IsLawful m → (s : State T) → StateInvariant m s → (run : List Step) → IsRun m s run
-    → (t j o : ℕ) (a : Access) (v : ℕ) → Emits m s run t j (Out o a v) → IsInsideTo m s run t j o a v ⊎ IsEnteredTo m s run t j o a v
+    → (t j o : ℕ) (a : Access) (v : ℕ) → Emits m s run t j (LeftAt o a v) → IsInsideTo m s run t j o a v ⊎ IsEnteredTo m s run t j o a v
 left_object_was_entered m law s good [] ok t j o a v x = absurd x.1
 left_object_was_entered m law s good (e ∷ run) ok t j o a v x = elim (cases_eq e.0 t) [
   | inl own ↦ by own (λ k y. left_object_was_entered m law (after m s e) (state_invariant_after_step m law s good e ok.0) run ok.1 t k o a v y) j x
   | inr other ↦ elim (left_object_was_entered m law (after m s e) (state_invariant_after_step m law s good e ok.0) run ok.1 t j o a v
-      (rest_emits_same m s e run t j (Out o a v) (λ same. other (sym same)) x)) [
+      (rest_emits_same m s e run t j (LeftAt o a v) (λ same. other (sym same)) x)) [
         | inl inside ↦ inl (inside_before_other_step m law s good e run t j o a v other inside)
         | inr entered ↦ inr (entered_before_other_step m s e run t j o a v (λ same. other (sym same)) entered)
       ]
 ]
   where
-    by : e.0 ≡ t → ((k : ℕ) → Emits m (after m s e) run t k (Out o a v) → IsInsideTo m (after m s e) run t k o a v ⊎ IsEnteredTo m (after m s e) run t k o a v)
-        → (j : ℕ) → Emits m s (e ∷ run) t j (Out o a v) → IsInsideTo m s (e ∷ run) t j o a v ⊎ IsEnteredTo m s (e ∷ run) t j o a v
+    by : e.0 ≡ t → ((k : ℕ) → Emits m (after m s e) run t k (LeftAt o a v) → IsInsideTo m (after m s e) run t k o a v ⊎ IsEnteredTo m (after m s e) run t k o a v)
+        → (j : ℕ) → Emits m s (e ∷ run) t j (LeftAt o a v) → IsInsideTo m s (e ∷ run) t j o a v ⊎ IsEnteredTo m s (e ∷ run) t j o a v
     by own again zero y = inl (first_step_leaves_if_inside m law s good e run t o a v own y)
-    by own again (suc j) y = elim (again j (rest_emits_earlier m s e run t j (Out o a v) own y)) [
+    by own again (suc j) y = elim (again j (rest_emits_earlier m s e run t j (LeftAt o a v) own y)) [
       | inl inside ↦ elim (label_enters_or_not o (label m s e)) [
         | inl enters ↦ inr (entered_by_own_step m s e run t j o a v own enters inside)
         | inr free ↦ inl (inside_before_own_step m s e run t j o a v own free inside)
@@ -280,7 +280,7 @@ step_is_of_each_run : (f : FittedTrace) (h : HasRun f) (t k : ℕ) (a : Label) �
 step_is_of_each_run f h t k a x run of =
     (x.0, subst (λ (steps : List (thread.ThreadState × Label)). At steps k (x.0, a)) (trail_same_in_runs_of_trace f h.run run h.whole of t) x.1)
 
-read_label_is_of_read : (e : Event) (o v l : ℕ) → label_of e ≡ In o Reading v l → e ≡ logged.Read o v
+read_label_is_of_read : (e : Event) (o v l : ℕ) → label_of e ≡ EnteredAt o Reading v l → e ≡ logged.Read o v
 read_label_is_of_read (logged.Answer kind value) o v l x = absurd (cc x)
 read_label_is_of_read (logged.Read p w) o v l x =
     let object : p ≡ o = cc x in
@@ -288,7 +288,7 @@ read_label_is_of_read (logged.Read p w) o v l x =
 read_label_is_of_read (logged.Write p w n) o v l x = absurd (cc x)
 read_label_is_of_read (logged.Try p) o v l x = absurd (cc x)
 
-write_label_is_of_write : (e : Event) (o v l : ℕ) → label_of e ≡ In o Writing v l → e ≡ logged.Write o v l
+write_label_is_of_write : (e : Event) (o v l : ℕ) → label_of e ≡ EnteredAt o Writing v l → e ≡ logged.Write o v l
 write_label_is_of_write (logged.Answer kind value) o v l x = absurd (cc x)
 write_label_is_of_write (logged.Read p w) o v l x = absurd (cc x)
 write_label_is_of_write (logged.Write p w n) o v l x =
@@ -308,14 +308,14 @@ pub record IsEventOf (f : FittedTrace) (t k o : ℕ) (a : Access) (v l : ℕ) : 
   pub entry : IsEntryFor f.recorded t event o a v l
   pub step : entry_of f t event ≡ k
 
-pub entering_step_has_event : (f : FittedTrace) (h : HasRun f) (t k o : ℕ) (a : Access) (v l : ℕ) → Emits (machine_of f) (start_of f) h.run t k (In o a v l)
+pub entering_step_has_event : (f : FittedTrace) (h : HasRun f) (t k o : ℕ) (a : Access) (v l : ℕ) → Emits (machine_of f) (start_of f) h.run t k (EnteredAt o a v l)
     → IsEventOf f t k o a v l
 entering_step_has_event f h t k o a v l x =
     let found = entry_step_is_of_event f h t k o a v l x in
     record { event = found.0; entry = entry a found.0 found.1 (found.3 (logged.Try 0)); step = found.2 }
   where
     entry : (c : Access) (i : ℕ) → i < length (recorded_thread f.recorded t).events
-        → label_of (get_or (recorded_thread f.recorded t).events i (logged.Try 0)) ≡ In o c v l → IsEntryFor f.recorded t i o c v l
+        → label_of (get_or (recorded_thread f.recorded t).events i (logged.Try 0)) ≡ EnteredAt o c v l → IsEntryFor f.recorded t i o c v l
     entry Reading i within is = slice_get-get_or (recorded_thread f.recorded t).events i (logged.Try 0) within ∙ ap Some (read_label_is_of_read _ o v l is)
     entry Writing i within is = slice_get-get_or (recorded_thread f.recorded t).events i (logged.Try 0) within ∙ ap Some (write_label_is_of_write _ o v l is)
 
@@ -327,30 +327,30 @@ pub record HasEntry (f : FittedTrace) (t k o : ℕ) (a : Access) (v : ℕ) : Typ
   pub leave : IsLeaveOf f t event k
 
 first_leave_is_of_entry : (f : FittedTrace) (h : HasRun f) (t i k o : ℕ) (a : Access) (v l : ℕ) → IsEntryFor f.recorded t i o a v l → entry_of f t i < k
-    → Emits (machine_of f) (start_of f) h.run t k (Out o a v)
-    → ((n : ℕ) → entry_of f t i < n → n < k → Emits (machine_of f) (start_of f) h.run t n (Out o a v) → ⊥) → IsLeaveOf f t i k
+    → Emits (machine_of f) (start_of f) h.run t k (LeftAt o a v)
+    → ((n : ℕ) → entry_of f t i < n → n < k → Emits (machine_of f) (start_of f) h.run t n (LeftAt o a v) → ⊥) → IsLeaveOf f t i k
 first_leave_is_of_entry f h t i k o Reading v l there past x none = record {
-  leaves = subst (λ z. EntryLeaves f t (entry_of f t i + 1) z k) (sym there) (omega (arith, past), step_is_of_each_run f h t k (Out o Reading v) x);
+  leaves = subst (λ z. EntryLeaves f t (entry_of f t i + 1) z k) (sym there) (omega (arith, past), step_is_of_each_run f h t k (LeftAt o Reading v) x);
   first = λ n at. let y = subst (λ z. EntryLeaves f t (entry_of f t i + 1) z n) there at in not_before n y.0 (y.1 h.run h.whole);
 }
   where
-    not_before : (n : ℕ) → entry_of f t i + 1 ≤ n → Emits (machine_of f) (start_of f) h.run t n (Out o Reading v) → k ≤ n
+    not_before : (n : ℕ) → entry_of f t i + 1 ≤ n → Emits (machine_of f) (start_of f) h.run t n (LeftAt o Reading v) → k ≤ n
     not_before n from y = elim (cases_lt n k) [
       | inl less ↦ absurd (none n (omega (arith, from)) less y)
       | inr not ↦ omega (arith, not)
     ]
 first_leave_is_of_entry f h t i k o Writing v l there past x none = record {
-  leaves = subst (λ z. EntryLeaves f t (entry_of f t i + 1) z k) (sym there) (omega (arith, past), step_is_of_each_run f h t k (Out o Writing v) x);
+  leaves = subst (λ z. EntryLeaves f t (entry_of f t i + 1) z k) (sym there) (omega (arith, past), step_is_of_each_run f h t k (LeftAt o Writing v) x);
   first = λ n at. let y = subst (λ z. EntryLeaves f t (entry_of f t i + 1) z n) there at in not_before n y.0 (y.1 h.run h.whole);
 }
   where
-    not_before : (n : ℕ) → entry_of f t i + 1 ≤ n → Emits (machine_of f) (start_of f) h.run t n (Out o Writing v) → k ≤ n
+    not_before : (n : ℕ) → entry_of f t i + 1 ≤ n → Emits (machine_of f) (start_of f) h.run t n (LeftAt o Writing v) → k ≤ n
     not_before n from y = elim (cases_lt n k) [
       | inl less ↦ absurd (none n (omega (arith, from)) less y)
       | inr not ↦ omega (arith, not)
     ]
 
-pub leaving_step_has_entry : (f : FittedTrace) (h : HasRun f) (t k o : ℕ) (a : Access) (v : ℕ) → Emits (machine_of f) (start_of f) h.run t k (Out o a v)
+pub leaving_step_has_entry : (f : FittedTrace) (h : HasRun f) (t k o : ℕ) (a : Access) (v : ℕ) → Emits (machine_of f) (start_of f) h.run t k (LeftAt o a v)
     → HasEntry f t k o a v
 leaving_step_has_entry f h t k o a v x =
     let start = guest_start_is_start f.guest f.recorded.budget f.recorded.profile in

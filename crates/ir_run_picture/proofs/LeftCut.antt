@@ -4,7 +4,7 @@ use Rattle.std.specs.List.{slice_get}
 use Rattle.std.proofs.lemmas.Bool.{cases_lt}
 use Rattle.std.proofs.lemmas.List.{get_or_past}
 use Rattle.std.proofs.lemmas.Option.{slice_get_within}
-use Rattle.ir_runs.specs.Machine.{Label, Quiet, Answer, In, Refused, Out}
+use Rattle.ir_runs.specs.Machine.{Label, Quiet, Answer, EnteredAt, FailedTry, LeftAt}
 use Rattle.ir_runs.specs.declared.access.Access.{Access}
 use Rattle.ir_runs.specs.declared.access.Access.TheVariants.{Reading, Writing}
 use Rattle.ir_runs.specs.Run.{Emits, IsNeededBy, Cut, IsCut, Consistent}
@@ -38,14 +38,14 @@ pub record AreNeed (emitted needed : Label) : Type 0 where
   pub access : Access
   pub version : ℕ
   pub readers : ℕ
-  pub enters : emitted ≡ In object access version readers
+  pub enters : emitted ≡ EnteredAt object access version readers
   pub kind : Access
   pub left : ℕ
-  pub leaves : needed ≡ Out object kind left
-  pub needs : IsNeededBy (Out object kind left) (In object access version readers)
+  pub leaves : needed ≡ LeftAt object kind left
+  pub needs : IsNeededBy (LeftAt object kind left) (EnteredAt object access version readers)
 
 needed_label_is_leave : (b a : Label) → IsNeededBy b a → AreNeed a b
-needed_label_is_leave (Out o Writing w) (In p c v l) h = record {
+needed_label_is_leave (LeftAt o Writing w) (EnteredAt p c v l) h = record {
   object = p;
   access = c;
   version = v;
@@ -53,14 +53,14 @@ needed_label_is_leave (Out o Writing w) (In p c v l) h = record {
   enters = refl;
   kind = Writing;
   left = w;
-  leaves = ap (λ z. Out z Writing w) h.0;
+  leaves = ap (λ z. LeftAt z Writing w) h.0;
   needs = (refl, h.1);
 }
-needed_label_is_leave (Out o Writing w) Quiet h = absurd h
-needed_label_is_leave (Out o Writing w) (Answer k x) h = absurd h
-needed_label_is_leave (Out o Writing w) (Refused p) h = absurd h
-needed_label_is_leave (Out o Writing w) (Out p c v) h = absurd h
-needed_label_is_leave (Out o Reading w) (In p Writing v l) h = record {
+needed_label_is_leave (LeftAt o Writing w) Quiet h = absurd h
+needed_label_is_leave (LeftAt o Writing w) (Answer k x) h = absurd h
+needed_label_is_leave (LeftAt o Writing w) (FailedTry p) h = absurd h
+needed_label_is_leave (LeftAt o Writing w) (LeftAt p c v) h = absurd h
+needed_label_is_leave (LeftAt o Reading w) (EnteredAt p Writing v l) h = record {
   object = p;
   access = Writing;
   version = v;
@@ -68,21 +68,21 @@ needed_label_is_leave (Out o Reading w) (In p Writing v l) h = record {
   enters = refl;
   kind = Reading;
   left = w;
-  leaves = ap (λ z. Out z Reading w) h.0;
+  leaves = ap (λ z. LeftAt z Reading w) h.0;
   needs = (refl, h.1);
 }
-needed_label_is_leave (Out o Reading w) (In p Reading v l) h = absurd h
-needed_label_is_leave (Out o Reading w) Quiet h = absurd h
-needed_label_is_leave (Out o Reading w) (Answer k x) h = absurd h
-needed_label_is_leave (Out o Reading w) (Refused p) h = absurd h
-needed_label_is_leave (Out o Reading w) (Out p c v) h = absurd h
+needed_label_is_leave (LeftAt o Reading w) (EnteredAt p Reading v l) h = absurd h
+needed_label_is_leave (LeftAt o Reading w) Quiet h = absurd h
+needed_label_is_leave (LeftAt o Reading w) (Answer k x) h = absurd h
+needed_label_is_leave (LeftAt o Reading w) (FailedTry p) h = absurd h
+needed_label_is_leave (LeftAt o Reading w) (LeftAt p c v) h = absurd h
 needed_label_is_leave Quiet a h = absurd h
 needed_label_is_leave (Answer k x) a h = absurd h
-needed_label_is_leave (In p c v l) a h = absurd h
-needed_label_is_leave (Refused p) a h = absurd h
+needed_label_is_leave (EnteredAt p c v l) a h = absurd h
+needed_label_is_leave (FailedTry p) a h = absurd h
 
 -- an event needs the event that entered what has to be left
-event_needs_entry : (r : Recorded) (t i u j o : ℕ) (a : Access) (v l : ℕ) (c : Access) (w n : ℕ) → IsNeededBy (Out o c w) (In o a v l) → IsEntryFor r t i o a v l
+event_needs_entry : (r : Recorded) (t i u j o : ℕ) (a : Access) (v l : ℕ) (c : Access) (w n : ℕ) → IsNeededBy (LeftAt o c w) (EnteredAt o a v l) → IsEntryFor r t i o a v l
     → IsEntryFor r u j o c w n → Needs r t i u j
 event_needs_entry r t i u j o Reading v l Writing w n needs own other = inl (record {
   object = o;

@@ -3,7 +3,7 @@ use Rattle.std.proofs.Common.{◌≡◌, ℕ, ◌+◌, ◌<◌, ◌≤◌, inl, 
 use Rattle.std.specs.List.{slice_get}
 use Rattle.std.proofs.lemmas.Bool.{cases_lt}
 use Rattle.std.proofs.lemmas.Option.{same_Some, slice_get-get_or}
-use Rattle.ir_runs.specs.Machine.{Machine, Label, Out}
+use Rattle.ir_runs.specs.Machine.{Machine, Label, LeftAt}
 use Rattle.ir_runs.specs.Run.{State, Step, trail, Emits}
 use Rattle.ir_runs.specs.declared.access.Access.{Access}
 use Rattle.ir_runs.specs.declared.access.Access.TheVariants.{Reading, Writing}
@@ -44,7 +44,7 @@ label_of_step_is_one {T} m s run t k a b x y =
     let same : (x.0, a) ≡ (y.0, b) = sym first ∙ second in
     ap (λ (z : T × Label). z.1) same
 
-event_label_is_no_leave : (e : Event) (o : ℕ) (a : Access) (v : ℕ) → label_of e ≡ Out o a v → ⊥
+event_label_is_no_leave : (e : Event) (o : ℕ) (a : Access) (v : ℕ) → label_of e ≡ LeftAt o a v → ⊥
 event_label_is_no_leave (Answer kind value) o a v x = absurd (cc x)
 event_label_is_no_leave (Read p w) o a v x = absurd (cc x)
 event_label_is_no_leave (Write p w n) o a v x = absurd (cc x)
@@ -68,12 +68,12 @@ event_step_is_no_leave f h t i j k inside within same (Some (Answer kind value))
 event_step_is_no_leave f h t i j k inside within same (Some (Read o v)) x =
     let e : Event = get_or (recorded_thread f.recorded t).events i (Try 0) in
     let own = event_step_emits_its_label f h t i e (slice_get-get_or (recorded_thread f.recorded t).events i (Try 0) within) in
-    event_label_is_no_leave e o Reading v (label_of_step_is_one (machine_of f) (start_of f) h.run t k (label_of e) (Out o Reading v)
+    event_label_is_no_leave e o Reading v (label_of_step_is_one (machine_of f) (start_of f) h.run t k (label_of e) (LeftAt o Reading v)
     (subst (λ z. Emits (machine_of f) (start_of f) h.run t z (label_of e)) same own) (x.1 h.run h.whole))
 event_step_is_no_leave f h t i j k inside within same (Some (Write o v readers)) x =
     let e : Event = get_or (recorded_thread f.recorded t).events i (Try 0) in
     let own = event_step_emits_its_label f h t i e (slice_get-get_or (recorded_thread f.recorded t).events i (Try 0) within) in
-    event_label_is_no_leave e o Writing v (label_of_step_is_one (machine_of f) (start_of f) h.run t k (label_of e) (Out o Writing v)
+    event_label_is_no_leave e o Writing v (label_of_step_is_one (machine_of f) (start_of f) h.run t k (label_of e) (LeftAt o Writing v)
     (subst (λ z. Emits (machine_of f) (start_of f) h.run t z (label_of e)) same own) (x.1 h.run h.whole))
 event_step_is_no_leave f h t i j k inside within same (Some (Try o)) x = x
 

@@ -3,7 +3,7 @@ use Rattle.std.proofs.Common.{◌≡◌, ℕ, suc, ◌+◌, ◌<◌, inl, inr, B
 use Rattle.std.proofs.lemmas.Bool.{cases_eq, cases_lt, false≢true}
 use Rattle.std.proofs.lemmas.List.{length-append}
 use Rattle.std.proofs.lemmas.Option.{same_Some, slice_get_within}
-use Rattle.ir_runs.specs.Machine.{Label, In, Out}
+use Rattle.ir_runs.specs.Machine.{Label, EnteredAt, LeftAt}
 use Rattle.ir_runs.specs.Run.{Step, IsRun, At, Emits, count, end, log, trail, Consistent, IsNeededBy}
 use Rattle.ir_runs.specs.declared.access.Access.{Access}
 use Rattle.ir_runs.specs.declared.access.Access.TheVariants.{Reading, Writing}
@@ -36,11 +36,11 @@ step_of_event_emits f h t i e there =
     (step_at_event_position_emits_event f h t (recorded_event_is_inside f h t i e there).thread i e l)
 
 leave_of_write_emits : (f : FittedTrace) (h : HasRun f) (u j k o v n : ℕ) → event_at f.recorded u j ≡ Some (Write o v n) → IsLeaveOf f u j k
-    → Emits (machine_of f) (start_of f) h.run u k (Out o Writing v)
+    → Emits (machine_of f) (start_of f) h.run u k (LeftAt o Writing v)
 leave_of_write_emits f h u j k o v n there left = (subst (λ z. EntryLeaves f u (entry_of f u j + 1) z k) there left.leaves).1 h.run h.whole
 
 leave_of_read_emits : (f : FittedTrace) (h : HasRun f) (u j k o v : ℕ) → event_at f.recorded u j ≡ Some (Read o v) → IsLeaveOf f u j k
-    → Emits (machine_of f) (start_of f) h.run u k (Out o Reading v)
+    → Emits (machine_of f) (start_of f) h.run u k (LeftAt o Reading v)
 leave_of_read_emits f h u j k o v there left = (subst (λ z. EntryLeaves f u (entry_of f u j + 1) z k) there left.leaves).1 h.run h.whole
 
 -- a step emits one label
@@ -77,33 +77,33 @@ first_steps_are_consistent f h n =
     omega (arith, parts, all)) (λ t. count m s first t) (λ t. refl)).consistent
 
 abbrev is_in : Label → Bool
-is_in (In o a v l) = true
+is_in (EnteredAt o a v l) = true
 is_in _ = false
 
 -- what a step needs is taken before it
-needed_step_is_before : (f : FittedTrace) (h : HasRun f) (t k u j o p v w l : ℕ) (a b : Access) → Emits (machine_of f) (start_of f) h.run t k (In o a v l)
-    → Emits (machine_of f) (start_of f) h.run u j (Out p b w) → IsNeededBy (Out p b w) (In o a v l) → place_in h.run u j < place_in h.run t k
+needed_step_is_before : (f : FittedTrace) (h : HasRun f) (t k u j o p v w l : ℕ) (a b : Access) → Emits (machine_of f) (start_of f) h.run t k (EnteredAt o a v l)
+    → Emits (machine_of f) (start_of f) h.run u j (LeftAt p b w) → IsNeededBy (LeftAt p b w) (EnteredAt o a v l) → place_in h.run u j < place_in h.run t k
 needed_step_is_before f h t k u j o p v w l a b enters leaves needs =
     let m = machine_of f in
     let s = start_of f in
     let n = suc (place_in h.run t k) in
-    let own = emitted_step_is_taken f h t k (In o a v l) enters in
-    let other = emitted_step_is_taken f h u j (Out p b w) leaves in
+    let own = emitted_step_is_taken f h t k (EnteredAt o a v l) enters in
+    let other = emitted_step_is_taken f h u j (LeftAt p b w) leaves in
     let own_first = step_within_is_taken h.run n t k own (omega arith) in
     let same_t = count_is_taken m s (take n h.run) t in
     let same_u = count_is_taken m s (take n h.run) u in
-    let in_cut = first_steps_are_consistent f h n t k u j (In o a v l) (Out p b w) enters leaves needs (omega (arith, own_first, same_t)) in
+    let in_cut = first_steps_are_consistent f h n t k u j (EnteredAt o a v l) (LeftAt p b w) enters leaves needs (omega (arith, own_first, same_t)) in
     let other_first = taken_step_is_within h.run n u j (omega (arith, in_cut, same_u)) in
     elim (cases_eq u t) [
       | inl same ↦
-          let leaves_t = subst (λ z. Emits m s h.run z j (Out p b w)) same leaves in
+          let leaves_t = subst (λ z. Emits m s h.run z j (LeftAt p b w)) same leaves in
           let place_t = ap (λ z. place_in h.run z j) same in
           let less : j < k = elim (cases_lt j k) [
             | inl before ↦ before
             | inr past ↦ elim (cases_eq j k) [
               | inl one ↦
-                  let at_k = subst (λ z. Emits m s h.run t z (Out p b w)) one leaves_t in
-                  absurd (false≢true (ap is_in (emitted_label_is_one (trail m s h.run t) k at_k.0 enters.0 (Out p b w) (In o a v l) at_k.1 enters.1)))
+                  let at_k = subst (λ z. Emits m s h.run t z (LeftAt p b w)) one leaves_t in
+                  absurd (false≢true (ap is_in (emitted_label_is_one (trail m s h.run t) k at_k.0 enters.0 (LeftAt p b w) (EnteredAt o a v l) at_k.1 enters.1)))
               | inr ne ↦
                   let up = place_rises h.run t k j (omega (arith, past, ne)) in
                   absurd (omega (arith, up, other_first, place_t))

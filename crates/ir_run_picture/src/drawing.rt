@@ -9,8 +9,8 @@ ghost use Rattle.ir_run_picture.specs.Steps.{IsLastStep, IsDrawn, AreDrawn};
 
 use crate::drawn::Drawn;
 use ir_fit::Fitted;
-use ir_opened::{leave_of, step_of};
 use ir_log::Event;
+use ir_opened::{leave_of, step_of};
 use ir_past::{Place, event_of};
 use ir_picture::PlacedBox;
 use std::alloc::{AllocError, Global};

@@ -9,8 +9,8 @@ ghost use Rattle.ir_run_picture.specs.Numbers.{last_number, step_numbers, row_en
 use crate::drawn::Drawn;
 use crate::resting::Resting;
 use ir_fit::Fitted;
-use ir_opened::step_of;
 use ir_log::Event;
+use ir_opened::step_of;
 use ir_past::Place;
 use ir_picture::{events_in, push_box_start, push_fold, push_number, push_words, row_start};
 use ir_stale_run::{Reason, Rest};

@@ -9,8 +9,8 @@ ghost use Rattle.ir_run_picture.specs.Spans.{IsSpan};
 
 use crate::drawing::last_step;
 use ir_fit::Fitted;
-use ir_opened::step_of;
 use ir_holds::Span;
+use ir_opened::step_of;
 use ir_past::Place;
 use ir_picture::EventBox;
 use std::alloc::{AllocError, Global};

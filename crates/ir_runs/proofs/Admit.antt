@@ -1,7 +1,7 @@
 -- A step that follows the run's log at a cut is admitted there.
 use Rattle.std.proofs.Common.{◌≡◌, ◌≢◌, ℕ, suc, zero, ◌<◌, ◌≤◌, cond, eqb, List, [], ◌∷◌, ◌++◌, length, take, drop, refl, sym, ap, ◌∙◌, subst, arith, inl, inr, append-nil, append_assoc, eq-eqb, ne_eqb, take-append-drop, length-take, length-append}
 use Rattle.std.proofs.lemmas.Bool.{cases_eq}
-use Rattle.ir_runs.specs.Machine.{Machine, Label, Quiet, Answer, In, Refused, Out, logged}
+use Rattle.ir_runs.specs.Machine.{Machine, Label, Quiet, Answer, EnteredAt, FailedTry, LeftAt, logged}
 use Rattle.ir_runs.specs.Lawful.{IsLawful}
 use Rattle.ir_runs.specs.Run.{State, Step, Can, IsRun, end, join_if, trail, events, log, count, label, At, Emits, Cut, IsCut, Consistent, part}
 use Rattle.ir_runs.proofs.Good.{StateInvariant}
@@ -17,9 +17,9 @@ use Rattle.ir_runs.specs.Admitted.{further, Admitted}
 logged_is_logged_of_empty_append_log : (k : Label) (es : List Label) → logged k es ≡ logged k [] ++ es
 logged_is_logged_of_empty_append_log Quiet es = refl
 logged_is_logged_of_empty_append_log (Answer i v) es = refl
-logged_is_logged_of_empty_append_log (In o a v l) es = refl
-logged_is_logged_of_empty_append_log (Refused o) es = refl
-logged_is_logged_of_empty_append_log (Out o a v) es = refl
+logged_is_logged_of_empty_append_log (EnteredAt o a v l) es = refl
+logged_is_logged_of_empty_append_log (FailedTry o) es = refl
+logged_is_logged_of_empty_append_log (LeftAt o a v) es = refl
 
 logged_same_if_same_on_empty : (k j : Label) (es : List Label) → logged k [] ≡ logged j [] → logged k es ≡ logged j es
 logged_same_if_same_on_empty k j es h = logged_is_logged_of_empty_append_log k es ∙ ap (λ z. z ++ es) h ∙ sym (logged_is_logged_of_empty_append_log j es)

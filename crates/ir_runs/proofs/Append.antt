@@ -1,6 +1,6 @@
 -- Runs one after the other.
 use Rattle.std.proofs.Common.{◌≡◌, ℕ, Bool, true, false, eqb, List, [], ◌∷◌, ◌++◌, refl, ap, ◌∙◌}
-use Rattle.ir_runs.specs.Machine.{Machine, Label, Quiet, Answer, In, Refused, Out, logged}
+use Rattle.ir_runs.specs.Machine.{Machine, Label, Quiet, Answer, EnteredAt, FailedTry, LeftAt, logged}
 use Rattle.ir_runs.specs.Run.{State, Step, after, label, IsRun, end, join_if, trail, events, log}
 
 pub conditional_cons_join_if_of_append : {A : Type 0} (b : Bool) (x : A) (xs ys : List A) → join_if b x (xs ++ ys) ≡ join_if b x xs ++ ys
@@ -25,9 +25,9 @@ end_append m s (e ∷ run) more = end_append m (after m s e) run more
 logged_append : (k : Label) (xs ys : List Label) → logged k (xs ++ ys) ≡ logged k xs ++ ys
 logged_append Quiet xs ys = refl
 logged_append (Answer i v) xs ys = refl
-logged_append (In o a v l) xs ys = refl
-logged_append (Refused o) xs ys = refl
-logged_append (Out o a v) xs ys = refl
+logged_append (EnteredAt o a v l) xs ys = refl
+logged_append (FailedTry o) xs ys = refl
+logged_append (LeftAt o a v) xs ys = refl
 
 pub events_append : {T : Type 0} (xs ys : List (T × Label)) → events (xs ++ ys) ≡ events xs ++ events ys
 events_append [] ys = refl

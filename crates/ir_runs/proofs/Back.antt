@@ -2,7 +2,7 @@
 -- what an entry is admitted by, before another's step
 use Rattle.std.proofs.Common.{◌≡◌, ◌≢◌, ℕ, suc, Bool, true, false, eqb, List, [], ◌∷◌, Option, Some, None, refl, sym, ap, ◌∙◌, subst, inl, inr, eq-eqb, ne_eqb}
 use Rattle.std.proofs.lemmas.Bool.{cases_eq, eqb-true}
-use Rattle.ir_runs.specs.Machine.{Act, act_of, Silent, Result, Entry, Refusal, Exit, Load, Store, Never, Machine, upd, Object, target, Admits, acted, emitted, Label}
+use Rattle.ir_runs.specs.Machine.{Act, act_of, Silent, Replied, Entered, TryFailed, Left, Got, Stored, Never, Machine, upd, Object, target, Admits, acted, emitted, Label}
 use Rattle.ir_runs.specs.Lawful.{IsLawful}
 use Rattle.ir_runs.specs.declared.access.Access.{Access}
 use Rattle.ir_runs.specs.declared.access.Access.TheVariants.{Reading, Writing}
@@ -25,49 +25,49 @@ no_writer_inside_if_none_after_update m b t x ne i a h w e = elim (cases_eq w t)
 act_admitted_before_unless_needed : {T : Type 0} (m : Machine T) (b : Object) (t u : ℕ) (q q' : Act) → target q' ≡ target q → InsideForAct q (b.inside t) → Admits m q b
     → Admits m q' (acted q t b) → (IsNeededBy (emitted q b) (emitted q' (acted q t b)) → ⊥) → Admits m q' b × (Clash q q' → ⊥)
 act_admitted_before_unless_needed m b t u Silent q' same i h h' free = (h', λ c. c)
-act_admitted_before_unless_needed m b t u (Refusal _) q' same i h h' free = (h', λ c. c)
-act_admitted_before_unless_needed m b t u (Result k res) q' same i h h' free = (h', λ c. c)
-act_admitted_before_unless_needed m b t u (Load o j) q' same i h h' free = (h', λ c. c)
+act_admitted_before_unless_needed m b t u (TryFailed _) q' same i h h' free = (h', λ c. c)
+act_admitted_before_unless_needed m b t u (Replied k res) q' same i h h' free = (h', λ c. c)
+act_admitted_before_unless_needed m b t u (Got o j) q' same i h h' free = (h', λ c. c)
 act_admitted_before_unless_needed m b t u Never q' same i h h' free = absurd h
-act_admitted_before_unless_needed m b t u (Store o j w) Silent same i h h' free = (tt, λ c. c)
-act_admitted_before_unless_needed m b t u (Store o j w) (Refusal _) same i h h' free = (tt, λ c. c)
-act_admitted_before_unless_needed m b t u (Store o j w) (Result k res) same i h h' free = (h', λ c. c)
-act_admitted_before_unless_needed m b t u (Store o j w) (Entry p Reading ans') same i h h' free = (h', λ c. c)
-act_admitted_before_unless_needed m b t u (Store o j w) (Entry p Writing ans') same i h h' free = (h', λ c. c)
-act_admitted_before_unless_needed m b t u (Store o j w) (Exit p a) same i h h' free = (tt, λ c. c)
-act_admitted_before_unless_needed m b t u (Store o j w) (Load p k) same i h h' free = (tt, λ c. c)
-act_admitted_before_unless_needed m b t u (Store o j w) (Store p k v) same i h h' free = (tt, λ c. c)
-act_admitted_before_unless_needed m b t u (Store o j w) Never same i h h' free = absurd h'
-act_admitted_before_unless_needed m b t u (Entry o Reading ans) Silent same i h h' free = (tt, λ c. c)
-act_admitted_before_unless_needed m b t u (Entry o Reading ans) (Refusal _) same i h h' free = (tt, λ c. c)
-act_admitted_before_unless_needed m b t u (Entry o Writing ans) Silent same i h h' free = (tt, λ c. c)
-act_admitted_before_unless_needed m b t u (Entry o Writing ans) (Refusal _) same i h h' free = (tt, λ c. c)
-act_admitted_before_unless_needed m b t u (Entry o Reading ans) (Result k res) same i h h' free = (h', λ c. c)
-act_admitted_before_unless_needed m b t u (Entry o Writing ans) (Result k res) same i h h' free = (h', λ c. c)
-act_admitted_before_unless_needed m b t u (Entry o Reading ans) (Entry p Reading ans') same i h h' free = (h_before, λ c. c)
+act_admitted_before_unless_needed m b t u (Stored o j w) Silent same i h h' free = (tt, λ c. c)
+act_admitted_before_unless_needed m b t u (Stored o j w) (TryFailed _) same i h h' free = (tt, λ c. c)
+act_admitted_before_unless_needed m b t u (Stored o j w) (Replied k res) same i h h' free = (h', λ c. c)
+act_admitted_before_unless_needed m b t u (Stored o j w) (Entered p Reading ans') same i h h' free = (h', λ c. c)
+act_admitted_before_unless_needed m b t u (Stored o j w) (Entered p Writing ans') same i h h' free = (h', λ c. c)
+act_admitted_before_unless_needed m b t u (Stored o j w) (Left p a) same i h h' free = (tt, λ c. c)
+act_admitted_before_unless_needed m b t u (Stored o j w) (Got p k) same i h h' free = (tt, λ c. c)
+act_admitted_before_unless_needed m b t u (Stored o j w) (Stored p k v) same i h h' free = (tt, λ c. c)
+act_admitted_before_unless_needed m b t u (Stored o j w) Never same i h h' free = absurd h'
+act_admitted_before_unless_needed m b t u (Entered o Reading ans) Silent same i h h' free = (tt, λ c. c)
+act_admitted_before_unless_needed m b t u (Entered o Reading ans) (TryFailed _) same i h h' free = (tt, λ c. c)
+act_admitted_before_unless_needed m b t u (Entered o Writing ans) Silent same i h h' free = (tt, λ c. c)
+act_admitted_before_unless_needed m b t u (Entered o Writing ans) (TryFailed _) same i h h' free = (tt, λ c. c)
+act_admitted_before_unless_needed m b t u (Entered o Reading ans) (Replied k res) same i h h' free = (h', λ c. c)
+act_admitted_before_unless_needed m b t u (Entered o Writing ans) (Replied k res) same i h h' free = (h', λ c. c)
+act_admitted_before_unless_needed m b t u (Entered o Reading ans) (Entered p Reading ans') same i h h' free = (h_before, λ c. c)
   where
     h_before : (w : ℕ) → b.inside w ≢ Some Writing
     h_before = h
-act_admitted_before_unless_needed m b t u (Entry o Writing ans) (Entry p Reading ans') same i h h' free = absurd (h' t (upd_at_own_place b.inside t (Some Writing)))
-act_admitted_before_unless_needed m b t u (Entry o a ans) (Entry p Writing ans') same i h h' free = absurd (cc (h' t, upd_at_own_place b.inside t (Some a)))
-act_admitted_before_unless_needed m b t u (Entry o Reading ans) (Exit p c) same i h h' free = (tt, λ c. c)
-act_admitted_before_unless_needed m b t u (Entry o Writing ans) (Exit p c) same i h h' free = (tt, λ c. c)
-act_admitted_before_unless_needed m b t u (Entry o Reading ans) (Load p k) same i h h' free = (tt, λ c. c)
-act_admitted_before_unless_needed m b t u (Entry o Writing ans) (Load p k) same i h h' free = (tt, λ c. c)
-act_admitted_before_unless_needed m b t u (Entry o Reading ans) (Store p k v) same i h h' free = (tt, λ c. c)
-act_admitted_before_unless_needed m b t u (Entry o Writing ans) (Store p k v) same i h h' free = (tt, λ c. c)
-act_admitted_before_unless_needed m b t u (Entry o a ans) Never same i h h' free = absurd h'
-act_admitted_before_unless_needed m b t u (Exit o a) Silent same i h h' free = (tt, λ c. c)
-act_admitted_before_unless_needed m b t u (Exit o a) (Refusal _) same i h h' free = (tt, λ c. c)
-act_admitted_before_unless_needed m b t u (Exit o a) (Result k res) same i h h' free = (h', λ c. c)
-act_admitted_before_unless_needed m b t u (Exit o Reading) (Entry p Reading ans') same i h h' free = (no_writer_inside_if_none_after_update m b t (Some Reading) (λ z. cc z) i None h', λ c. c)
-act_admitted_before_unless_needed m b t u (Exit o Reading) (Entry p Writing ans') same i h h' free = absurd (free (sym same, refl))
-act_admitted_before_unless_needed m b t u (Exit o Writing) (Entry p Reading ans') same i h h' free = absurd (free (sym same, refl))
-act_admitted_before_unless_needed m b t u (Exit o Writing) (Entry p Writing ans') same i h h' free = absurd (free (sym same, refl))
-act_admitted_before_unless_needed m b t u (Exit o a) (Exit p c) same i h h' free = (tt, λ c. c)
-act_admitted_before_unless_needed m b t u (Exit o a) (Load p k) same i h h' free = (tt, λ c. c)
-act_admitted_before_unless_needed m b t u (Exit o a) (Store p k v) same i h h' free = (tt, λ c. c)
-act_admitted_before_unless_needed m b t u (Exit o a) Never same i h h' free = absurd h'
+act_admitted_before_unless_needed m b t u (Entered o Writing ans) (Entered p Reading ans') same i h h' free = absurd (h' t (upd_at_own_place b.inside t (Some Writing)))
+act_admitted_before_unless_needed m b t u (Entered o a ans) (Entered p Writing ans') same i h h' free = absurd (cc (h' t, upd_at_own_place b.inside t (Some a)))
+act_admitted_before_unless_needed m b t u (Entered o Reading ans) (Left p c) same i h h' free = (tt, λ c. c)
+act_admitted_before_unless_needed m b t u (Entered o Writing ans) (Left p c) same i h h' free = (tt, λ c. c)
+act_admitted_before_unless_needed m b t u (Entered o Reading ans) (Got p k) same i h h' free = (tt, λ c. c)
+act_admitted_before_unless_needed m b t u (Entered o Writing ans) (Got p k) same i h h' free = (tt, λ c. c)
+act_admitted_before_unless_needed m b t u (Entered o Reading ans) (Stored p k v) same i h h' free = (tt, λ c. c)
+act_admitted_before_unless_needed m b t u (Entered o Writing ans) (Stored p k v) same i h h' free = (tt, λ c. c)
+act_admitted_before_unless_needed m b t u (Entered o a ans) Never same i h h' free = absurd h'
+act_admitted_before_unless_needed m b t u (Left o a) Silent same i h h' free = (tt, λ c. c)
+act_admitted_before_unless_needed m b t u (Left o a) (TryFailed _) same i h h' free = (tt, λ c. c)
+act_admitted_before_unless_needed m b t u (Left o a) (Replied k res) same i h h' free = (h', λ c. c)
+act_admitted_before_unless_needed m b t u (Left o Reading) (Entered p Reading ans') same i h h' free = (no_writer_inside_if_none_after_update m b t (Some Reading) (λ z. cc z) i None h', λ c. c)
+act_admitted_before_unless_needed m b t u (Left o Reading) (Entered p Writing ans') same i h h' free = absurd (free (sym same, refl))
+act_admitted_before_unless_needed m b t u (Left o Writing) (Entered p Reading ans') same i h h' free = absurd (free (sym same, refl))
+act_admitted_before_unless_needed m b t u (Left o Writing) (Entered p Writing ans') same i h h' free = absurd (free (sym same, refl))
+act_admitted_before_unless_needed m b t u (Left o a) (Left p c) same i h h' free = (tt, λ c. c)
+act_admitted_before_unless_needed m b t u (Left o a) (Got p k) same i h h' free = (tt, λ c. c)
+act_admitted_before_unless_needed m b t u (Left o a) (Stored p k v) same i h h' free = (tt, λ c. c)
+act_admitted_before_unless_needed m b t u (Left o a) Never same i h h' free = absurd h'
 
 -- The step e' was there before e, unless it needs e.
 pub step_can_come_before_unless_needed : {T : Type 0} (m : Machine T) → IsLawful m → (s : State T) → StateInvariant m s → (e e' : Step) → e'.0 ≢ e.0 → Can m s e

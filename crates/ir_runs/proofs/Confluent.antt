@@ -2,7 +2,7 @@
 -- what is left to each thread after a step
 use Rattle.std.proofs.Common.{◌≡◌, ◌≢◌, ℕ, suc, pred, ◌+◌, ◌<◌, ◌≤◌, Bool, true, false, cond, eqb, List, [], ◌∷◌, ◌++◌, None, refl, sym, ap, ◌∙◌, subst, arith, inl, inr, ◌⊎◌, eq-eqb, ne_eqb, append-nil, append_assoc}
 use Rattle.std.proofs.lemmas.Bool.{cases_eq, eqb-true, cases_lt}
-use Rattle.ir_runs.specs.Machine.{Act, act_of, Entry, Done, Machine, Object, target, Admits, emitted, Label, Quiet, Answer, In, Refused, Out, logged, Trace}
+use Rattle.ir_runs.specs.Machine.{Act, act_of, Entered, Done, Machine, Object, target, Admits, emitted, Label, Quiet, Answer, EnteredAt, FailedTry, LeftAt, logged, Trace}
 use Rattle.ir_runs.specs.Lawful.{IsLawful}
 use Rattle.ir_runs.specs.declared.access.Access.TheVariants.{Reading, Writing}
 use Rattle.ir_runs.specs.Run.{act, State, Step, asked, Can, after, label, IsRun, end, join_if, trail, At}
@@ -67,16 +67,16 @@ pub record FollowingInvariant (n : ℕ) {T : Type 0} (m : Machine T) (tr : Trace
 reads_of_logged_adds_reads_one : (o v : ℕ) (k : Label) (es : List Label) → reads o v (logged k es) ≡ reads_one o v k + reads o v es
 reads_of_logged_adds_reads_one o v Quiet es = let g : reads o v es ≡ 0 + reads o v es = omega arith in g
 reads_of_logged_adds_reads_one o v (Answer i x) es = refl
-reads_of_logged_adds_reads_one o v (In p a w l) es = refl
-reads_of_logged_adds_reads_one o v (Refused p) es = refl
-reads_of_logged_adds_reads_one o v (Out p a w) es = let g : reads o v es ≡ 0 + reads o v es = omega arith in g
+reads_of_logged_adds_reads_one o v (EnteredAt p a w l) es = refl
+reads_of_logged_adds_reads_one o v (FailedTry p) es = refl
+reads_of_logged_adds_reads_one o v (LeftAt p a w) es = let g : reads o v es ≡ 0 + reads o v es = omega arith in g
 
 event_stays_in_logged : (k : Label) (es : List Label) (i : ℕ) (j : Label) → At es i j → (h : ℕ) × At (logged k es) h j
 event_stays_in_logged Quiet es i j h = (i, h)
 event_stays_in_logged (Answer a x) es i j h = (suc i, h)
-event_stays_in_logged (In p a w l) es i j h = (suc i, h)
-event_stays_in_logged (Refused p) es i j h = (suc i, h)
-event_stays_in_logged (Out p a w) es i j h = (i, h)
+event_stays_in_logged (EnteredAt p a w l) es i j h = (suc i, h)
+event_stays_in_logged (FailedTry p) es i j h = (suc i, h)
+event_stays_in_logged (LeftAt p a w) es i j h = (i, h)
 
 pub stepping_thread_is_below_idle : {T : Type 0} (m : Machine T) (s : State T) (n : ℕ) → ((t : ℕ) → n ≤ t → asked m s t ≡ Done) → (e : Step) → Can m s e
     → e.0 < n
@@ -126,15 +126,15 @@ following_invariant_after_step n m law tr s rem f e can is =
 -- a writer that is admitted at its logged version has all its readers before it
 write_and_read_entries_do_not_both_follow_trace : (n : ℕ) {T : Type 0} (m : Machine T) (tr : Trace) → IsCoherent n tr → (s : State T) (rem : ℕ → List Label)
     → FollowingInvariant n m tr s rem → (e d : Step) (o ans ans' : ℕ) → Can m s e → logged (label m s e) (unlogged (label m s e) (rem e.0)) ≡ rem e.0
-    → act m s e ≡ Entry o Writing ans → act m s d ≡ Entry o Reading ans' → logged (label m s d) (unlogged (label m s d) (rem d.0)) ≡ rem d.0
+    → act m s e ≡ Entered o Writing ans → act m s d ≡ Entered o Reading ans' → logged (label m s d) (unlogged (label m s d) (rem d.0)) ≡ rem d.0
     → d.0 < n → ⊥
 write_and_read_entries_do_not_both_follow_trace n m tr co s rem f e d o ans ans' can is a a' is' less =
     let b : Object = s.objects o in
     let v : ℕ = b.version in
-    let k : label m s e ≡ In o Writing v b.left = ap (λ z. emitted z (s.objects (target z))) a in
-    let k' : label m s d ≡ In o Reading v 0 = ap (λ z. emitted z (s.objects (target z))) a' in
-    let i = f.within e.0 0 (In o Writing v b.left)
-    (subst (λ z. At z 0 (In o Writing v b.left)) (ap (λ z. logged z (unlogged (label m s e) (rem e.0))) (sym k) ∙ is) refl) in
+    let k : label m s e ≡ EnteredAt o Writing v b.left = ap (λ z. emitted z (s.objects (target z))) a in
+    let k' : label m s d ≡ EnteredAt o Reading v 0 = ap (λ z. emitted z (s.objects (target z))) a' in
+    let i = f.within e.0 0 (EnteredAt o Writing v b.left)
+    (subst (λ z. At z 0 (EnteredAt o Writing v b.left)) (ap (λ z. logged z (unlogged (label m s e) (rem e.0))) (sym k) ∙ is) refl) in
     let all : b.left ≡ sum_below n (λ u. reads o v (tr.logs u)) = co.readers e.0 i.0 o v b.left i.1 in
     let empty : (u : ℕ) → b.inside u ≡ None = subst (λ z. Admits m z (s.objects (target z))) a can in
     let none : readers_inside n b ≡ 0 = sum_below_of_zeros n (λ u. one_if_reader (b.inside u)) (λ u _. ap one_if_reader (empty u)) in
@@ -145,7 +145,7 @@ write_and_read_entries_do_not_both_follow_trace n m tr co s rem f e d o ans ans'
     (λ u. omega (arith, f.total o v u)) in
     omega (arith, f.tally.balance o, none, all, more)
   where
-    read_first : (o v : ℕ) (es : List Label) → 1 ≤ reads o v (In o Reading v 0 ∷ es)
+    read_first : (o v : ℕ) (es : List Label) → 1 ≤ reads o v (EnteredAt o Reading v 0 ∷ es)
     read_first o v es = subst (λ z. 1 ≤ z + reads o v es)
         (sym (ap (λ b. cond b (cond (eqb v v) 1 0) 0) (eq-eqb o o refl) ∙ ap (λ b. cond b 1 0) (eq-eqb v v refl))) (at_least (reads o v es))
       where
@@ -157,26 +157,26 @@ next_steps_do_not_clash : (n : ℕ) {T : Type 0} (m : Machine T) → IsLawful m 
     → FollowingInvariant n m tr s rem → (e d : Step) → e.0 ≢ d.0 → Can m s e → Can m s d
     → logged (label m s e) (unlogged (label m s e) (rem e.0)) ≡ rem e.0 → logged (label m s d) (unlogged (label m s d) (rem d.0)) ≡ rem d.0
     → (q q' : Act) → act m s e ≡ q → act m s d ≡ q' → target q' ≡ target q → Clash q q' → ⊥
-next_steps_do_not_clash n m law tr co s rem f e d ne can can' is is' (Entry o Writing ans) (Entry p Writing ans') a a' same c =
-    let k : label m s e ≡ In o Writing (s.objects o).version (s.objects o).left = ap (λ z. emitted z (s.objects (target z))) a in
-    let k' : label m s d ≡ In o Writing (s.objects o).version (s.objects o).left = ap (λ z. emitted z (s.objects (target z))) a'
-    ∙ ap (λ z. In z Writing (s.objects z).version (s.objects z).left) same in
-    let i = f.within e.0 0 (In o Writing (s.objects o).version (s.objects o).left)
-    (subst (λ z. At z 0 (In o Writing (s.objects o).version (s.objects o).left))
+next_steps_do_not_clash n m law tr co s rem f e d ne can can' is is' (Entered o Writing ans) (Entered p Writing ans') a a' same c =
+    let k : label m s e ≡ EnteredAt o Writing (s.objects o).version (s.objects o).left = ap (λ z. emitted z (s.objects (target z))) a in
+    let k' : label m s d ≡ EnteredAt o Writing (s.objects o).version (s.objects o).left = ap (λ z. emitted z (s.objects (target z))) a'
+    ∙ ap (λ z. EnteredAt z Writing (s.objects z).version (s.objects z).left) same in
+    let i = f.within e.0 0 (EnteredAt o Writing (s.objects o).version (s.objects o).left)
+    (subst (λ z. At z 0 (EnteredAt o Writing (s.objects o).version (s.objects o).left))
     (ap (λ z. logged z (unlogged (label m s e) (rem e.0))) (sym k) ∙ is) refl) in
-    let j = f.within d.0 0 (In o Writing (s.objects o).version (s.objects o).left)
-    (subst (λ z. At z 0 (In o Writing (s.objects o).version (s.objects o).left))
+    let j = f.within d.0 0 (EnteredAt o Writing (s.objects o).version (s.objects o).left)
+    (subst (λ z. At z 0 (EnteredAt o Writing (s.objects o).version (s.objects o).left))
     (ap (λ z. logged z (unlogged (label m s d) (rem d.0))) (sym k') ∙ is') refl) in
     ne (co.writer e.0 i.0 d.0 j.0 o (s.objects o).version (s.objects o).left (s.objects o).left i.1 j.1).0
-next_steps_do_not_clash n m law tr co s rem f e d ne can can' is is' (Entry o Writing ans) (Entry p Reading ans') a a' same c =
-    write_and_read_entries_do_not_both_follow_trace n m tr co s rem f e d o ans ans' can is a (subst (λ z. act m s d ≡ Entry z Reading ans') same a') is'
+next_steps_do_not_clash n m law tr co s rem f e d ne can can' is is' (Entered o Writing ans) (Entered p Reading ans') a a' same c =
+    write_and_read_entries_do_not_both_follow_trace n m tr co s rem f e d o ans ans' can is a (subst (λ z. act m s d ≡ Entered z Reading ans') same a') is'
     (stepping_thread_is_below_idle m s n f.idle d can')
-next_steps_do_not_clash n m law tr co s rem f e d ne can can' is is' (Entry o Reading ans) (Entry p Writing ans') a a' same c =
-    write_and_read_entries_do_not_both_follow_trace n m tr co s rem f d e p ans' ans can' is' a' (subst (λ z. act m s e ≡ Entry z Reading ans) (sym same) a) is
+next_steps_do_not_clash n m law tr co s rem f e d ne can can' is is' (Entered o Reading ans) (Entered p Writing ans') a a' same c =
+    write_and_read_entries_do_not_both_follow_trace n m tr co s rem f d e p ans' ans can' is' a' (subst (λ z. act m s e ≡ Entered z Reading ans) (sym same) a) is
     (stepping_thread_is_below_idle m s n f.idle e can)
-next_steps_do_not_clash n m law tr co s rem f e d ne can can' is is' (Entry o Reading ans) (Entry p Reading ans') a a' same c = c
-next_steps_do_not_clash n m law tr co s rem f e d ne can can' is is' (Entry o Reading ans) _ a a' same c = absurd c
-next_steps_do_not_clash n m law tr co s rem f e d ne can can' is is' (Entry o Writing ans) _ a a' same c = absurd c
+next_steps_do_not_clash n m law tr co s rem f e d ne can can' is is' (Entered o Reading ans) (Entered p Reading ans') a a' same c = c
+next_steps_do_not_clash n m law tr co s rem f e d ne can can' is is' (Entered o Reading ans) _ a a' same c = absurd c
+next_steps_do_not_clash n m law tr co s rem f e d ne can can' is is' (Entered o Writing ans) _ a a' same c = absurd c
 next_steps_do_not_clash n m law tr co s rem f e d ne can can' is is' _ _ a a' same c = absurd c
 
 -- a step that is not taken stays

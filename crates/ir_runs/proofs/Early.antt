@@ -2,7 +2,7 @@
 -- what a leave emits of the object
 use Rattle.std.proofs.Common.{◌≡◌, ◌≢◌, ℕ, suc, zero, ◌<◌, Bool, true, false, cond, eqb, List, [], ◌∷◌, Some, None, refl, sym, ap, ◌∙◌, subst, arith, inl, inr, ◌⊎◌, eq-eqb}
 use Rattle.std.proofs.lemmas.Bool.{cases_eq, eqb-true}
-use Rattle.ir_runs.specs.Machine.{Act, Silent, Result, Entry, Refusal, Exit, Load, Store, Never, Machine, Object, target, emitted, Label, Out}
+use Rattle.ir_runs.specs.Machine.{Act, Silent, Replied, Entered, TryFailed, Left, Got, Stored, Never, Machine, Object, target, emitted, Label, LeftAt}
 use Rattle.ir_runs.specs.Lawful.{IsLawful}
 use Rattle.ir_runs.specs.declared.access.Access.{Access}
 use Rattle.ir_runs.specs.declared.access.Access.TheVariants.{Reading, Writing}
@@ -19,18 +19,18 @@ moment [] (suc i) t = 0
 moment (e ∷ run) (suc i) t = cond (eqb t e.0) (suc (moment run i t)) (moment run i t)
 
 pub record Leaving (b : Object) (o : ℕ) (a : Access) (v : ℕ) (q : Act) : Type 0 where
-  pub does : q ≡ Exit o a
+  pub does : q ≡ Left o a
   pub version : b.version ≡ v
 
-emitted_leave_is_leaving : (q : Act) (b : Object) (o : ℕ) (a : Access) (v : ℕ) → emitted q b ≡ Out o a v → Leaving b o a v q
+emitted_leave_is_leaving : (q : Act) (b : Object) (o : ℕ) (a : Access) (v : ℕ) → emitted q b ≡ LeftAt o a v → Leaving b o a v q
 emitted_leave_is_leaving Silent b o a v h = absurd (cc h)
-emitted_leave_is_leaving (Refusal _) b o a v h = absurd (cc h)
-emitted_leave_is_leaving (Result k x) b o a v h = absurd (cc h)
-emitted_leave_is_leaving (Entry p Reading x) b o a v h = absurd (cc h)
-emitted_leave_is_leaving (Entry p Writing x) b o a v h = absurd (cc h)
-emitted_leave_is_leaving (Exit p c) b o a v h = record { does = cc h; version = cc h }
-emitted_leave_is_leaving (Load p j) b o a v h = absurd (cc h)
-emitted_leave_is_leaving (Store p j w) b o a v h = absurd (cc h)
+emitted_leave_is_leaving (TryFailed _) b o a v h = absurd (cc h)
+emitted_leave_is_leaving (Replied k x) b o a v h = absurd (cc h)
+emitted_leave_is_leaving (Entered p Reading x) b o a v h = absurd (cc h)
+emitted_leave_is_leaving (Entered p Writing x) b o a v h = absurd (cc h)
+emitted_leave_is_leaving (Left p c) b o a v h = record { does = cc h; version = cc h }
+emitted_leave_is_leaving (Got p j) b o a v h = absurd (cc h)
+emitted_leave_is_leaving (Stored p j w) b o a v h = absurd (cc h)
 emitted_leave_is_leaving Never b o a v h = absurd (cc h)
 
 -- a leave that was taken, as the object saw it
@@ -41,7 +41,7 @@ pub record TakenLeave (R : Object → Type 0) (o : ℕ) (a : Access) (v t : ℕ)
   pub exclusive : (u : ℕ) → u ≢ t → object.inside u ≡ Some Writing → object.inside t ≡ None
   pub version : object.version ≡ v
 
-taken_leave_saw_object : {T : Type 0} (m : Machine T) → IsLawful m → (R : Object → Type 0) (o : ℕ) (a : Access) (v t : ℕ) → TakenStep m R o t (Out o a v)
+taken_leave_saw_object : {T : Type 0} (m : Machine T) → IsLawful m → (R : Object → Type 0) (o : ℕ) (a : Access) (v t : ℕ) → TakenStep m R o t (LeftAt o a v)
     → TakenLeave R o a v t
 taken_leave_saw_object m law R o a v t k =
     let q : Act = act m k.state k.step in
@@ -56,39 +56,39 @@ taken_leave_saw_object m law R o a v t k =
     }
 
 no_past_leave_after_entry : {T : Type 0} (m : Machine T) → IsLawful m → (s : State T) → StateInvariant m s → (e : Step) → Can m s e → (run : List Step)
-    → IsRun m (after m s e) run → (u j : ℕ) (x : T) (p o : ℕ) (a : Access) (w ans : ℕ) → act m s e ≡ Entry o a ans
-    → At (trail m (after m s e) run u) j (x, Out p Writing w) → (p ≡ o) × ((s.objects o).version ≡ suc w) → ⊥
+    → IsRun m (after m s e) run → (u j : ℕ) (x : T) (p o : ℕ) (a : Access) (w ans : ℕ) → act m s e ≡ Entered o a ans
+    → At (trail m (after m s e) run u) j (x, LeftAt p Writing w) → (p ≡ o) × ((s.objects o).version ≡ suc w) → ⊥
 no_past_leave_after_entry m law s good e can run ok u j x p o a w ans is h n =
     let k : TakenLeave (VersionAtLeast (suc w)) o Writing w u = taken_leave_saw_object m law (VersionAtLeast (suc w)) o Writing w u
     (step_of_trail_was_taken m law (VersionAtLeast (suc w)) (version_at_least_is_kept m (suc w)) (after m s e) (state_invariant_after_step m law s good e can) run ok o
-    (omega (arith, ap (λ z. z.version) (target_object_after_step m s e (Entry o a ans) is), n.1))
-    u j x (Out o Writing w) (subst (λ z. At (trail m (after m s e) run u) j (x, Out z Writing w)) n.0 h)) in
+    (omega (arith, ap (λ z. z.version) (target_object_after_step m s e (Entered o a ans) is), n.1))
+    u j x (LeftAt o Writing w) (subst (λ z. At (trail m (after m s e) run u) j (x, LeftAt z Writing w)) n.0 h)) in
     omega (arith, k.kept, k.version)
 
 -- nothing that a step needs comes after it
 pub needed_step_is_not_later : {T : Type 0} (m : Machine T) → IsLawful m → (s : State T) → StateInvariant m s → (e : Step) → Can m s e → (run : List Step)
     → IsRun m (after m s e) run → (u j : ℕ) (x : T) (b : Label) (q : Act) → act m s e ≡ q
     → At (trail m (after m s e) run u) j (x, b) → IsNeededBy b (emitted q (s.objects (target q))) → ⊥
-needed_step_is_not_later m law s good e can run ok u j x (Out p Writing w) (Entry o Reading ans) is h n =
+needed_step_is_not_later m law s good e can run ok u j x (LeftAt p Writing w) (Entered o Reading ans) is h n =
     no_past_leave_after_entry m law s good e can run ok u j x p o Reading w ans is h n
-needed_step_is_not_later m law s good e can run ok u j x (Out p Writing w) (Entry o Writing ans) is h n =
+needed_step_is_not_later m law s good e can run ok u j x (LeftAt p Writing w) (Entered o Writing ans) is h n =
     no_past_leave_after_entry m law s good e can run ok u j x p o Writing w ans is h n
-needed_step_is_not_later m law s good e can run ok u j x (Out p Reading w) (Entry o Writing ans) is h n =
+needed_step_is_not_later m law s good e can run ok u j x (LeftAt p Reading w) (Entered o Writing ans) is h n =
     let k : TakenLeave (WritesOrPast w e.0) o Reading w u = taken_leave_saw_object m law (WritesOrPast w e.0) o Reading w u
     (step_of_trail_was_taken m law (WritesOrPast w e.0) (writes_or_past_is_kept m w e.0) (after m s e) (state_invariant_after_step m law s good e can) run ok o
     (inr (
-      ap (λ z. z.version) (target_object_after_step m s e (Entry o Writing ans) is)
+      ap (λ z. z.version) (target_object_after_step m s e (Entered o Writing ans) is)
           ∙ n.1,
-      ap (λ z. z.inside e.0) (target_object_after_step m s e (Entry o Writing ans) is) ∙ upd_at_own_place (s.objects o).inside e.0 (Some Writing),
+      ap (λ z. z.inside e.0) (target_object_after_step m s e (Entered o Writing ans) is) ∙ upd_at_own_place (s.objects o).inside e.0 (Some Writing),
     ))
-    u j x (Out o Reading w) (subst (λ z. At (trail m (after m s e) run u) j (x, Out z Reading w)) n.0 h)) in
+    u j x (LeftAt o Reading w) (subst (λ z. At (trail m (after m s e) run u) j (x, LeftAt z Reading w)) n.0 h)) in
     elim k.kept [
       | inl l ↦ omega (arith, l, k.version)
       | inr g ↦ elim (cases_eq e.0 u)
           [ inl same ↦ cc (ap k.object.inside same, g.1, k.inside) | inr other ↦ cc (k.exclusive e.0 other g.1, k.inside) ]
     ]
-needed_step_is_not_later m law s good e can run ok u j x (Out p Reading w) _ is h n = absurd n
-needed_step_is_not_later m law s good e can run ok u j x (Out p Writing w) _ is h n = absurd n
+needed_step_is_not_later m law s good e can run ok u j x (LeftAt p Reading w) _ is h n = absurd n
+needed_step_is_not_later m law s good e can run ok u j x (LeftAt p Writing w) _ is h n = absurd n
 needed_step_is_not_later m law s good e can run ok u j x _ _ is h n = absurd n
 
 -- where a step of a run is

@@ -1,7 +1,7 @@
 -- A complete run follows its own trace, its ends too.
 use Rattle.std.proofs.Common.{◌≡◌, ◌≢◌, ℕ, suc, List, [], ◌∷◌, ◌++◌, length, Option, Some, None, refl, sym, ap, ◌∙◌, subst, inl, inr, eq-eqb, ne_eqb}
 use Rattle.std.proofs.lemmas.Bool.{cases_eq}
-use Rattle.ir_runs.specs.Machine.{Private, Done, act_of, Machine, target, Admits, reply, emitted, Quiet, Out, logged}
+use Rattle.ir_runs.specs.Machine.{Private, Done, act_of, Machine, target, Admits, reply, emitted, Quiet, LeftAt, logged}
 use Rattle.ir_runs.specs.Lawful.{IsClosing, Ends}
 use Rattle.ir_runs.proofs.Tables.{upd_at_own_place}
 use Rattle.ir_runs.specs.Run.{act, State, Step, asked, Can, after, label, IsRun, end, join_if, trail, IsDone, events}
@@ -37,7 +37,7 @@ after_thread_end_of_cons_own_step : {T : Type 0} (m : Machine T) → IsClosing m
 after_thread_end_of_cons_own_step m c s d run can e h k =
     let v : ℕ = reply (act m s d) (s.objects (target (act m s d))) in
     let g = c.leaves (s.now d.0) v e h (thread_that_steps_is_not_done m s d can) in
-    let emitted_out : label m s d ≡ Out g.0 g.1 (s.objects g.0).version =
+    let emitted_out : label m s d ≡ LeftAt g.0 g.1 (s.objects g.0).version =
     ap (λ q. emitted (act_of q d.1) (s.objects (target (act_of q d.1)))) g.2 in
     record {
       steps = ap length (trail_of_cons_own_thread m s d run) ∙ ap suc (k.steps ∙ ap m.size (thread_after_own_step m s d)) ∙ sym g.3;

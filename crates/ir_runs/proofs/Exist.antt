@@ -1,7 +1,7 @@
 -- The least consistent cut above a cut.
 use Rattle.std.proofs.Common.{◌≡◌, ℕ, suc, pred, max, ◌<◌, ◌≤◌, Bool, true, false, cond, eqb, List, [], ◌∷◌, refl, sym, ap, ◌∙◌, subst, arith, inl, inr, ◌⊎◌, eq-eqb, ne_eqb, le_refl}
 use Rattle.std.proofs.lemmas.Bool.{cases_eq, eqb-true, cases_lt}
-use Rattle.ir_runs.specs.Machine.{Machine, Label, In, Out}
+use Rattle.ir_runs.specs.Machine.{Machine, Label, EnteredAt, LeftAt}
 use Rattle.ir_runs.specs.Lawful.{IsLawful}
 use Rattle.ir_runs.specs.declared.access.Access.TheVariants.{Reading, Writing}
 use Rattle.ir_runs.specs.Run.{act, State, Step, after, label, IsRun, count, IsLeast, Emits, IsNeededBy, Cut, IsCut, Consistent}
@@ -13,12 +13,12 @@ use Rattle.ir_runs.proofs.Sort.{emits_of_cons_if_emits_later, first_step_emits_o
 use Rattle.ir_runs.specs.Admitted.{further}
 
 pub needs_is_decidable : (a b : Label) → IsNeededBy a b ⊎ (IsNeededBy a b → ⊥)
-needs_is_decidable (Out o Writing w) (In p c v l) = elim (cases_eq o p)
+needs_is_decidable (LeftAt o Writing w) (EnteredAt p c v l) = elim (cases_eq o p)
     [ inl e ↦ elim (cases_eq v (suc w)) [ inl d ↦ inl (e, d) | inr ne ↦ inr (λ h. ne h.1) ] | inr ne ↦ inr (λ h. ne h.0) ]
-needs_is_decidable (Out o Reading w) (In p Writing v l) =
+needs_is_decidable (LeftAt o Reading w) (EnteredAt p Writing v l) =
     elim (cases_eq o p) [ inl e ↦ elim (cases_eq v w) [ inl d ↦ inl (e, d) | inr ne ↦ inr (λ h. ne h.1) ] | inr ne ↦ inr (λ h. ne h.0) ]
-needs_is_decidable (Out o Reading w) _ = inr (λ h. h)
-needs_is_decidable (Out o Writing w) _ = inr (λ h. h)
+needs_is_decidable (LeftAt o Reading w) _ = inr (λ h. h)
+needs_is_decidable (LeftAt o Writing w) _ = inr (λ h. h)
 needs_is_decidable _ _ = inr (λ h. h)
 
 -- a step of the cut that needs what k emits

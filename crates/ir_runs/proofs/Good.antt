@@ -1,7 +1,7 @@
 -- What holds in each state that a run reaches.
 use Rattle.std.proofs.Common.{◌≡◌, ◌≢◌, ℕ, suc, zero, List, [], ◌∷◌, Option, Some, None, refl, sym, ap, ◌∙◌, subst, arith, le_refl}
 use Rattle.std.proofs.lemmas.Bool.Decides.{nat_tests}
-use Rattle.ir_runs.specs.Machine.{Ask, Private, Env, Enter, Try, Leave, Get, Put, Done, Act, act_of, Silent, Result, Entry, Refusal, Exit, Load, Store, Never, Machine, upd, Object, target, Admits, acted, reply}
+use Rattle.ir_runs.specs.Machine.{Ask, Private, Env, Enter, Try, Leave, Get, Put, Done, Act, act_of, Silent, Replied, Entered, TryFailed, Left, Got, Stored, Never, Machine, upd, Object, target, Admits, acted, reply}
 use Rattle.ir_runs.specs.Lawful.{Holds, held_after, IsLawful}
 use Rattle.ir_runs.specs.declared.access.Access.{Access}
 use Rattle.ir_runs.specs.declared.access.Access.TheVariants.{Reading, Writing}
@@ -16,12 +16,12 @@ Exclusive b = (t u : ℕ) → t ≢ u → b.inside t ≡ Some Writing → b.insi
 -- how a thread is inside the object that it asks about
 abbrev pub InsideForAct : Act → Option Access → Type 0
 InsideForAct Silent i = Unit {0}
-InsideForAct (Refusal _) i = Unit {0}
-InsideForAct (Result k res) i = Unit {0}
-InsideForAct (Entry o a ans) i = i ≡ None
-InsideForAct (Exit o a) i = i ≡ Some a
-InsideForAct (Load o j) i = i ≢ None
-InsideForAct (Store o j w) i = i ≡ Some Writing
+InsideForAct (TryFailed _) i = Unit {0}
+InsideForAct (Replied k res) i = Unit {0}
+InsideForAct (Entered o a ans) i = i ≡ None
+InsideForAct (Left o a) i = i ≡ Some a
+InsideForAct (Got o j) i = i ≢ None
+InsideForAct (Stored o j w) i = i ≡ Some Writing
 InsideForAct Never i = Unit {0}
 
 -- the threads hold what they are inside of
@@ -63,35 +63,35 @@ inside_for_act_of_step m law s good e = inside_for_act_if_holds (asked m s e.0) 
 -- a step moves no other thread
 acted_inside_of_other_thread : (q : Act) (t : ℕ) (b : Object) (u : ℕ) → u ≢ t → (acted q t b).inside u ≡ b.inside u
 acted_inside_of_other_thread Silent t b u ne = refl
-acted_inside_of_other_thread (Refusal _) t b u ne = refl
-acted_inside_of_other_thread (Result k res) t b u ne = refl
-acted_inside_of_other_thread (Entry o a ans) t b u ne = upd_at_other_place b.inside t u (Some a) ne
-acted_inside_of_other_thread (Exit o Reading) t b u ne = upd_at_other_place b.inside t u None ne
-acted_inside_of_other_thread (Exit o Writing) t b u ne = upd_at_other_place b.inside t u None ne
-acted_inside_of_other_thread (Load o j) t b u ne = refl
-acted_inside_of_other_thread (Store o j w) t b u ne = refl
+acted_inside_of_other_thread (TryFailed _) t b u ne = refl
+acted_inside_of_other_thread (Replied k res) t b u ne = refl
+acted_inside_of_other_thread (Entered o a ans) t b u ne = upd_at_other_place b.inside t u (Some a) ne
+acted_inside_of_other_thread (Left o Reading) t b u ne = upd_at_other_place b.inside t u None ne
+acted_inside_of_other_thread (Left o Writing) t b u ne = upd_at_other_place b.inside t u None ne
+acted_inside_of_other_thread (Got o j) t b u ne = refl
+acted_inside_of_other_thread (Stored o j w) t b u ne = refl
 acted_inside_of_other_thread Never t b u ne = refl
 
 acted_inside_of_own_thread_is_held_after : (q : Act) (t : ℕ) (b : Object) (h : ℕ → Option Access) → b.inside t ≡ h (target q)
     → (acted q t b).inside t ≡ held_after q h (target q)
 acted_inside_of_own_thread_is_held_after Silent t b h e = e
-acted_inside_of_own_thread_is_held_after (Refusal _) t b h e = e
-acted_inside_of_own_thread_is_held_after (Result k res) t b h e = e
-acted_inside_of_own_thread_is_held_after (Entry o a ans) t b h e = upd_at_own_place b.inside t (Some a) ∙ sym (upd_at_own_place h o (Some a))
-acted_inside_of_own_thread_is_held_after (Exit o Reading) t b h e = upd_at_own_place b.inside t None ∙ sym (upd_at_own_place h o None)
-acted_inside_of_own_thread_is_held_after (Exit o Writing) t b h e = upd_at_own_place b.inside t None ∙ sym (upd_at_own_place h o None)
-acted_inside_of_own_thread_is_held_after (Load o j) t b h e = e
-acted_inside_of_own_thread_is_held_after (Store o j w) t b h e = e
+acted_inside_of_own_thread_is_held_after (TryFailed _) t b h e = e
+acted_inside_of_own_thread_is_held_after (Replied k res) t b h e = e
+acted_inside_of_own_thread_is_held_after (Entered o a ans) t b h e = upd_at_own_place b.inside t (Some a) ∙ sym (upd_at_own_place h o (Some a))
+acted_inside_of_own_thread_is_held_after (Left o Reading) t b h e = upd_at_own_place b.inside t None ∙ sym (upd_at_own_place h o None)
+acted_inside_of_own_thread_is_held_after (Left o Writing) t b h e = upd_at_own_place b.inside t None ∙ sym (upd_at_own_place h o None)
+acted_inside_of_own_thread_is_held_after (Got o j) t b h e = e
+acted_inside_of_own_thread_is_held_after (Stored o j w) t b h e = e
 acted_inside_of_own_thread_is_held_after Never t b h e = e
 
 held_after_at_other_object : (q : Act) (h : ℕ → Option Access) (o : ℕ) → o ≢ target q → held_after q h o ≡ h o
 held_after_at_other_object Silent h o ne = refl
-held_after_at_other_object (Refusal _) h o ne = refl
-held_after_at_other_object (Result k res) h o ne = refl
-held_after_at_other_object (Entry i a ans) h o ne = upd_at_other_place h i o (Some a) ne
-held_after_at_other_object (Exit i a) h o ne = upd_at_other_place h i o None ne
-held_after_at_other_object (Load i j) h o ne = refl
-held_after_at_other_object (Store i j w) h o ne = refl
+held_after_at_other_object (TryFailed _) h o ne = refl
+held_after_at_other_object (Replied k res) h o ne = refl
+held_after_at_other_object (Entered i a ans) h o ne = upd_at_other_place h i o (Some a) ne
+held_after_at_other_object (Left i a) h o ne = upd_at_other_place h i o None ne
+held_after_at_other_object (Got i j) h o ne = refl
+held_after_at_other_object (Stored i j w) h o ne = refl
 held_after_at_other_object Never h o ne = refl
 
 exclusive_after_writing_entry : (b : Object) (t : ℕ) → ((u : ℕ) → b.inside u ≡ None) → (v w : ℕ) → v ≢ w → upd b.inside t (Some Writing) v ≡ Some Writing
@@ -110,14 +110,14 @@ exclusive_after_leave b t ex v w ne e = grind (arith, nat_tests, ex v w)
 
 exclusive_after_act : {T : Type 0} (m : Machine T) (q : Act) (t : ℕ) (b : Object) → Exclusive b → Admits m q b → Exclusive (acted q t b)
 exclusive_after_act m Silent t b ex h = ex
-exclusive_after_act m (Refusal _) t b ex h = ex
-exclusive_after_act m (Result k res) t b ex h = ex
-exclusive_after_act m (Entry o Reading ans) t b ex h = exclusive_after_reading_entry b t h
-exclusive_after_act m (Entry o Writing ans) t b ex h = exclusive_after_writing_entry b t h
-exclusive_after_act m (Exit o Reading) t b ex h = exclusive_after_leave b t ex
-exclusive_after_act m (Exit o Writing) t b ex h = exclusive_after_leave b t ex
-exclusive_after_act m (Load o j) t b ex h = ex
-exclusive_after_act m (Store o j w) t b ex h = ex
+exclusive_after_act m (TryFailed _) t b ex h = ex
+exclusive_after_act m (Replied k res) t b ex h = ex
+exclusive_after_act m (Entered o Reading ans) t b ex h = exclusive_after_reading_entry b t h
+exclusive_after_act m (Entered o Writing ans) t b ex h = exclusive_after_writing_entry b t h
+exclusive_after_act m (Left o Reading) t b ex h = exclusive_after_leave b t ex
+exclusive_after_act m (Left o Writing) t b ex h = exclusive_after_leave b t ex
+exclusive_after_act m (Got o j) t b ex h = ex
+exclusive_after_act m (Stored o j w) t b ex h = ex
 exclusive_after_act m Never t b ex h = ex
 
 inside_is_held_after_step : {T : Type 0} (m : Machine T) → IsLawful m → (s : State T) → StateInvariant m s → (e : Step) → (u o : ℕ)

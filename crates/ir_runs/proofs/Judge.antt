@@ -1,7 +1,7 @@
 -- Each thread has one verdict, which doesn't depend on the run, and all are the same exactly where there is a complete run with the trace.
 use Rattle.std.proofs.Common.{◌≡◌, ◌≢◌, ℕ, suc, zero, pred, ◌<◌, true, List, [], ◌∷◌, ◌++◌, length, Option, Some, None, refl, sym, ap, ◌∙◌, subst, arith, inl, inr, ◌⊎◌, append-nil, length-append}
 use Rattle.std.proofs.lemmas.Bool.{cases_eq, cases_lt}
-use Rattle.ir_runs.specs.Machine.{Ask, Private, Env, Enter, Try, Leave, Get, Put, Done, act_of, Machine, Object, target, Admits, reply, emitted, Label, Quiet, Answer, In, Refused, Out, logged, Trace}
+use Rattle.ir_runs.specs.Machine.{Ask, Private, Env, Enter, Try, Leave, Get, Put, Done, act_of, Machine, Object, target, Admits, reply, emitted, Label, Quiet, Answer, EnteredAt, FailedTry, LeftAt, logged, Trace}
 use Rattle.ir_runs.specs.Lawful.{IsLawful, IsClosing}
 use Rattle.ir_runs.specs.declared.access.Access.{Access}
 use Rattle.ir_runs.specs.declared.env_kind.EnvKind.{EnvKind}
@@ -65,21 +65,21 @@ suits_is_decidable Private es = inl tt
 suits_is_decidable (Env k) [] = inr (λ h. h)
 suits_is_decidable (Env k) (Quiet ∷ es) = inr (λ h. h)
 suits_is_decidable (Env k) (Answer j v ∷ es) = env_kind_equality_is_decidable j k
-suits_is_decidable (Env k) (In p c v l ∷ es) = inr (λ h. h)
-suits_is_decidable (Env k) (Refused p ∷ es) = inr (λ h. h)
-suits_is_decidable (Env k) (Out p c v ∷ es) = inr (λ h. h)
+suits_is_decidable (Env k) (EnteredAt p c v l ∷ es) = inr (λ h. h)
+suits_is_decidable (Env k) (FailedTry p ∷ es) = inr (λ h. h)
+suits_is_decidable (Env k) (LeftAt p c v ∷ es) = inr (λ h. h)
 suits_is_decidable (Enter o a) [] = inr (λ h. h)
 suits_is_decidable (Enter o a) (Quiet ∷ es) = inr (λ h. h)
 suits_is_decidable (Enter o a) (Answer j v ∷ es) = inr (λ h. h)
-suits_is_decidable (Enter o a) (In p c v l ∷ es) = conjunction_of_two_is_decidable (cases_eq p o) (access_equality_is_decidable c a)
-suits_is_decidable (Enter o a) (Refused p ∷ es) = inr (λ h. h)
-suits_is_decidable (Enter o a) (Out p c v ∷ es) = inr (λ h. h)
+suits_is_decidable (Enter o a) (EnteredAt p c v l ∷ es) = conjunction_of_two_is_decidable (cases_eq p o) (access_equality_is_decidable c a)
+suits_is_decidable (Enter o a) (FailedTry p ∷ es) = inr (λ h. h)
+suits_is_decidable (Enter o a) (LeftAt p c v ∷ es) = inr (λ h. h)
 suits_is_decidable (Try o) [] = inr (λ h. h)
 suits_is_decidable (Try o) (Quiet ∷ es) = inr (λ h. h)
 suits_is_decidable (Try o) (Answer j v ∷ es) = inr (λ h. h)
-suits_is_decidable (Try o) (In p c v l ∷ es) = conjunction_of_two_is_decidable (cases_eq p o) (access_equality_is_decidable c Writing)
-suits_is_decidable (Try o) (Refused p ∷ es) = cases_eq p o
-suits_is_decidable (Try o) (Out p c v ∷ es) = inr (λ h. h)
+suits_is_decidable (Try o) (EnteredAt p c v l ∷ es) = conjunction_of_two_is_decidable (cases_eq p o) (access_equality_is_decidable c Writing)
+suits_is_decidable (Try o) (FailedTry p ∷ es) = cases_eq p o
+suits_is_decidable (Try o) (LeftAt p c v ∷ es) = inr (λ h. h)
 suits_is_decidable (Leave o a) es = inl tt
 suits_is_decidable (Get o i) es = inl tt
 suits_is_decidable (Put o i w) es = inl tt
@@ -144,11 +144,11 @@ element_of_unlogged_is_in_log : (k : Label) (es : List Label) (i : ℕ) (j : Lab
 element_of_unlogged_is_in_log Quiet es i j h = (i, h)
 element_of_unlogged_is_in_log (Answer a v) [] i j h = absurd h
 element_of_unlogged_is_in_log (Answer a v) (e ∷ es) i j h = (suc i, h)
-element_of_unlogged_is_in_log (In o a v l) [] i j h = absurd h
-element_of_unlogged_is_in_log (In o a v l) (e ∷ es) i j h = (suc i, h)
-element_of_unlogged_is_in_log (Refused o) [] i j h = absurd h
-element_of_unlogged_is_in_log (Refused o) (e ∷ es) i j h = (suc i, h)
-element_of_unlogged_is_in_log (Out o a v) es i j h = (i, h)
+element_of_unlogged_is_in_log (EnteredAt o a v l) [] i j h = absurd h
+element_of_unlogged_is_in_log (EnteredAt o a v l) (e ∷ es) i j h = (suc i, h)
+element_of_unlogged_is_in_log (FailedTry o) [] i j h = absurd h
+element_of_unlogged_is_in_log (FailedTry o) (e ∷ es) i j h = (suc i, h)
+element_of_unlogged_is_in_log (LeftAt o a v) es i j h = (i, h)
 
 element_of_left_log_is_in_log : {T : Type 0} (xs : List (T × Label)) (es : List Label) (i : ℕ) (j : Label) → At (left_log xs es) i j → (h : ℕ) × At es h j
 element_of_left_log_is_in_log [] es i j h = (i, h)
@@ -163,16 +163,16 @@ awaits_if_no_step_continues m (Env k) (Answer j v ∷ es) suits ne ev stop =
     absurd (stop v (λ b. subst (λ z. m.fits z v ≡ true) suits (ev 0 (Answer j v) refl)) (λ b. ap (λ z. Answer z v ∷ es) (sym suits)))
 awaits_if_no_step_continues m (Env k) [] suits ne ev stop = absurd suits
 awaits_if_no_step_continues m (Env k) (Quiet ∷ es) suits ne ev stop = absurd suits
-awaits_if_no_step_continues m (Env k) (In p c v l ∷ es) suits ne ev stop = absurd suits
-awaits_if_no_step_continues m (Env k) (Refused p ∷ es) suits ne ev stop = absurd suits
-awaits_if_no_step_continues m (Env k) (Out p c v ∷ es) suits ne ev stop = absurd suits
+awaits_if_no_step_continues m (Env k) (EnteredAt p c v l ∷ es) suits ne ev stop = absurd suits
+awaits_if_no_step_continues m (Env k) (FailedTry p ∷ es) suits ne ev stop = absurd suits
+awaits_if_no_step_continues m (Env k) (LeftAt p c v ∷ es) suits ne ev stop = absurd suits
 awaits_if_no_step_continues m (Enter o a) es suits ne ev stop = tt
-awaits_if_no_step_continues m (Try o) (In p c v l ∷ es) suits ne ev stop = tt
-awaits_if_no_step_continues m (Try o) (Refused p ∷ es) suits ne ev stop = absurd (stop 0 (λ b. tt) (λ b. ap (λ z. Refused z ∷ es) (sym suits)))
+awaits_if_no_step_continues m (Try o) (EnteredAt p c v l ∷ es) suits ne ev stop = tt
+awaits_if_no_step_continues m (Try o) (FailedTry p ∷ es) suits ne ev stop = absurd (stop 0 (λ b. tt) (λ b. ap (λ z. FailedTry z ∷ es) (sym suits)))
 awaits_if_no_step_continues m (Try o) [] suits ne ev stop = absurd suits
 awaits_if_no_step_continues m (Try o) (Quiet ∷ es) suits ne ev stop = absurd suits
 awaits_if_no_step_continues m (Try o) (Answer j v ∷ es) suits ne ev stop = absurd suits
-awaits_if_no_step_continues m (Try o) (Out p c v ∷ es) suits ne ev stop = absurd suits
+awaits_if_no_step_continues m (Try o) (LeftAt p c v ∷ es) suits ne ev stop = absurd suits
 awaits_if_no_step_continues m (Leave o a) es suits ne ev stop = absurd (stop 0 (λ b. tt) (λ b. refl))
 awaits_if_no_step_continues m (Get o i) es suits ne ev stop = absurd (stop 0 (λ b. tt) (λ b. refl))
 awaits_if_no_step_continues m (Put o i w) es suits ne ev stop = absurd (stop 0 (λ b. tt) (λ b. refl))

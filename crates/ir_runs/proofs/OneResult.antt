@@ -1,7 +1,7 @@
 -- One step of each thread is enough to see that a run is maximal.
 -- the act of a step that follows is that of the one result
 use Rattle.std.proofs.Common.{◌≡◌, ℕ, suc, zero, pred, ◌<◌, List, [], ◌∷◌, ◌++◌, refl, ap, ◌∙◌, subst}
-use Rattle.ir_runs.specs.Machine.{Ask, Private, Env, Enter, Try, Leave, Get, Put, Done, act_of, Machine, Object, target, Admits, emitted, Label, Quiet, Answer, In, Refused, Out, logged, Trace}
+use Rattle.ir_runs.specs.Machine.{Ask, Private, Env, Enter, Try, Leave, Get, Put, Done, act_of, Machine, Object, target, Admits, emitted, Label, Quiet, Answer, EnteredAt, FailedTry, LeftAt, logged, Trace}
 use Rattle.ir_runs.specs.Run.{act, State, Step, asked, Can, after, label, IsRun, end, trail}
 use Rattle.ir_runs.proofs.Append.{trail_append}
 use Rattle.ir_runs.proofs.Ending.{trail_of_cons_own_thread, last_step_can_be_taken}
@@ -16,22 +16,22 @@ following_act_is_of_logged_result m Private r b es can h = refl
 following_act_is_of_logged_result m (Env k) r b [] can h = absurd (cc h)
 following_act_is_of_logged_result m (Env k) r b (Quiet ∷ es) can h = absurd (cc h)
 following_act_is_of_logged_result m (Env k) r b (Answer j v ∷ es) can h = cc h
-following_act_is_of_logged_result m (Env k) r b (In p c v l ∷ es) can h = absurd (cc h)
-following_act_is_of_logged_result m (Env k) r b (Refused p ∷ es) can h = absurd (cc h)
-following_act_is_of_logged_result m (Env k) r b (Out p c v ∷ es) can h = absurd (cc h)
+following_act_is_of_logged_result m (Env k) r b (EnteredAt p c v l ∷ es) can h = absurd (cc h)
+following_act_is_of_logged_result m (Env k) r b (FailedTry p ∷ es) can h = absurd (cc h)
+following_act_is_of_logged_result m (Env k) r b (LeftAt p c v ∷ es) can h = absurd (cc h)
 following_act_is_of_logged_result m (Enter o a) r b es can h = refl
 following_act_is_of_logged_result m (Try o) zero b [] can h = absurd (cc h)
 following_act_is_of_logged_result m (Try o) zero b (Quiet ∷ es) can h = absurd (cc h)
 following_act_is_of_logged_result m (Try o) zero b (Answer j v ∷ es) can h = absurd (cc h)
-following_act_is_of_logged_result m (Try o) zero b (In p c v l ∷ es) can h = absurd (cc h)
-following_act_is_of_logged_result m (Try o) zero b (Refused p ∷ es) can h = refl
-following_act_is_of_logged_result m (Try o) zero b (Out p c v ∷ es) can h = absurd (cc h)
+following_act_is_of_logged_result m (Try o) zero b (EnteredAt p c v l ∷ es) can h = absurd (cc h)
+following_act_is_of_logged_result m (Try o) zero b (FailedTry p ∷ es) can h = refl
+following_act_is_of_logged_result m (Try o) zero b (LeftAt p c v ∷ es) can h = absurd (cc h)
 following_act_is_of_logged_result m (Try o) (suc zero) b [] can h = absurd (cc h)
 following_act_is_of_logged_result m (Try o) (suc zero) b (Quiet ∷ es) can h = absurd (cc h)
 following_act_is_of_logged_result m (Try o) (suc zero) b (Answer j v ∷ es) can h = absurd (cc h)
-following_act_is_of_logged_result m (Try o) (suc zero) b (In p c v l ∷ es) can h = refl
-following_act_is_of_logged_result m (Try o) (suc zero) b (Refused p ∷ es) can h = absurd (cc h)
-following_act_is_of_logged_result m (Try o) (suc zero) b (Out p c v ∷ es) can h = absurd (cc h)
+following_act_is_of_logged_result m (Try o) (suc zero) b (EnteredAt p c v l ∷ es) can h = refl
+following_act_is_of_logged_result m (Try o) (suc zero) b (FailedTry p ∷ es) can h = absurd (cc h)
+following_act_is_of_logged_result m (Try o) (suc zero) b (LeftAt p c v ∷ es) can h = absurd (cc h)
 following_act_is_of_logged_result m (Try o) (suc (suc r)) b es can h = absurd can
 following_act_is_of_logged_result m (Leave o a) r b es can h = refl
 following_act_is_of_logged_result m (Get o i) r b es can h = refl

@@ -1,7 +1,7 @@
 -- There is a maximal run that follows a trace.
 use Rattle.std.proofs.Common.{◌≡◌, ◌≢◌, ℕ, suc, zero, pred, ◌<◌, ◌≤◌, Bool, true, false, cond, eqb, List, [], ◌∷◌, ◌++◌, Some, None, refl, sym, subst, arith, inl, inr, ◌⊎◌, eq-eqb}
 use Rattle.std.proofs.lemmas.Bool.{cases_eq, cases_lt, eqb-true}
-use Rattle.ir_runs.specs.Machine.{Done, Act, Silent, Result, Entry, Refusal, Exit, Load, Store, Never, Machine, target, Admits, emitted, Label, Quiet, Answer, In, Refused, Out, logged, Trace}
+use Rattle.ir_runs.specs.Machine.{Done, Act, Silent, Replied, Entered, TryFailed, Left, Got, Stored, Never, Machine, target, Admits, emitted, Label, Quiet, Answer, EnteredAt, FailedTry, LeftAt, logged, Trace}
 use Rattle.ir_runs.specs.Lawful.{IsLawful}
 use Rattle.ir_runs.specs.declared.access.Access.TheVariants.{Reading, Writing}
 use Rattle.ir_runs.specs.Run.{act, State, Step, asked, Can, after, label, trail}
@@ -23,31 +23,31 @@ logged_of_unlogged_is_log_or_not (Answer i v) (Answer j w ∷ es) = elim (env_ki
   | inl p ↦ elim (cases_eq v w) [ inl q ↦ inl (λ z. Answer (p z) (q z) ∷ es) | inr f ↦ inr (λ h. f (cc h)) ]
   | inr f ↦ inr (λ h. f (cc h))
 ]
-logged_of_unlogged_is_log_or_not (Answer i v) (In p c w j ∷ es) = inr (λ h. cc h)
-logged_of_unlogged_is_log_or_not (Answer i v) (Refused p ∷ es) = inr (λ h. cc h)
-logged_of_unlogged_is_log_or_not (Answer i v) (Out p c w ∷ es) = inr (λ h. cc h)
-logged_of_unlogged_is_log_or_not (In o a v l) [] = inr (λ h. cc h)
-logged_of_unlogged_is_log_or_not (In o a v l) (Quiet ∷ es) = inr (λ h. cc h)
-logged_of_unlogged_is_log_or_not (In o a v l) (Answer j w ∷ es) = inr (λ h. cc h)
-logged_of_unlogged_is_log_or_not (In o a v l) (In p c w j ∷ es) = elim (cases_eq o p) [
+logged_of_unlogged_is_log_or_not (Answer i v) (EnteredAt p c w j ∷ es) = inr (λ h. cc h)
+logged_of_unlogged_is_log_or_not (Answer i v) (FailedTry p ∷ es) = inr (λ h. cc h)
+logged_of_unlogged_is_log_or_not (Answer i v) (LeftAt p c w ∷ es) = inr (λ h. cc h)
+logged_of_unlogged_is_log_or_not (EnteredAt o a v l) [] = inr (λ h. cc h)
+logged_of_unlogged_is_log_or_not (EnteredAt o a v l) (Quiet ∷ es) = inr (λ h. cc h)
+logged_of_unlogged_is_log_or_not (EnteredAt o a v l) (Answer j w ∷ es) = inr (λ h. cc h)
+logged_of_unlogged_is_log_or_not (EnteredAt o a v l) (EnteredAt p c w j ∷ es) = elim (cases_eq o p) [
   | inl e ↦ elim (access_equality_is_decidable a c) [
     | inl f ↦ elim (cases_eq v w) [
-      | inl g ↦ elim (cases_eq l j) [ inl k ↦ inl (λ z. In (e z) (f z) (g z) (k z) ∷ es) | inr ne ↦ inr (λ h. ne (cc h)) ]
+      | inl g ↦ elim (cases_eq l j) [ inl k ↦ inl (λ z. EnteredAt (e z) (f z) (g z) (k z) ∷ es) | inr ne ↦ inr (λ h. ne (cc h)) ]
       | inr ne ↦ inr (λ h. ne (cc h))
     ]
     | inr ne ↦ inr (λ h. ne (cc h))
   ]
   | inr ne ↦ inr (λ h. ne (cc h))
 ]
-logged_of_unlogged_is_log_or_not (In o a v l) (Refused p ∷ es) = inr (λ h. cc h)
-logged_of_unlogged_is_log_or_not (In o a v l) (Out p c w ∷ es) = inr (λ h. cc h)
-logged_of_unlogged_is_log_or_not (Refused o) [] = inr (λ h. cc h)
-logged_of_unlogged_is_log_or_not (Refused o) (Quiet ∷ es) = inr (λ h. cc h)
-logged_of_unlogged_is_log_or_not (Refused o) (Answer j w ∷ es) = inr (λ h. cc h)
-logged_of_unlogged_is_log_or_not (Refused o) (In p c w j ∷ es) = inr (λ h. cc h)
-logged_of_unlogged_is_log_or_not (Refused o) (Refused p ∷ es) = elim (cases_eq o p) [ inl e ↦ inl (λ z. Refused (e z) ∷ es) | inr ne ↦ inr (λ h. ne (cc h)) ]
-logged_of_unlogged_is_log_or_not (Refused o) (Out p c w ∷ es) = inr (λ h. cc h)
-logged_of_unlogged_is_log_or_not (Out o a v) es = inl refl
+logged_of_unlogged_is_log_or_not (EnteredAt o a v l) (FailedTry p ∷ es) = inr (λ h. cc h)
+logged_of_unlogged_is_log_or_not (EnteredAt o a v l) (LeftAt p c w ∷ es) = inr (λ h. cc h)
+logged_of_unlogged_is_log_or_not (FailedTry o) [] = inr (λ h. cc h)
+logged_of_unlogged_is_log_or_not (FailedTry o) (Quiet ∷ es) = inr (λ h. cc h)
+logged_of_unlogged_is_log_or_not (FailedTry o) (Answer j w ∷ es) = inr (λ h. cc h)
+logged_of_unlogged_is_log_or_not (FailedTry o) (EnteredAt p c w j ∷ es) = inr (λ h. cc h)
+logged_of_unlogged_is_log_or_not (FailedTry o) (FailedTry p ∷ es) = elim (cases_eq o p) [ inl e ↦ inl (λ z. FailedTry (e z) ∷ es) | inr ne ↦ inr (λ h. ne (cc h)) ]
+logged_of_unlogged_is_log_or_not (FailedTry o) (LeftAt p c w ∷ es) = inr (λ h. cc h)
+logged_of_unlogged_is_log_or_not (LeftAt o a v) es = inl refl
 
 bool_is_true_or_not : (b : Bool) → (b ≡ true) ⊎ ((b ≡ true) → ⊥)
 bool_is_true_or_not true = inl refl
@@ -56,20 +56,20 @@ bool_is_true_or_not false = inr (λ h. cc h)
 admits_is_decidable : {T : Type 0} (m : Machine T) → IsLawful m → (s : State T) → StateInvariant m s → (n : ℕ) → ((t : ℕ) → n ≤ t → asked m s t ≡ Done)
     → (q : Act) → Admits m q (s.objects (target q)) ⊎ (Admits m q (s.objects (target q)) → ⊥)
 admits_is_decidable m law s good n idle Silent = inl tt
-admits_is_decidable m law s good n idle (Result k v) = bool_is_true_or_not (m.fits k v)
-admits_is_decidable m law s good n idle (Entry o Reading v) =
+admits_is_decidable m law s good n idle (Replied k v) = bool_is_true_or_not (m.fits k v)
+admits_is_decidable m law s good n idle (Entered o Reading v) =
     elim (some_value_has_first_or_all_below_have_second (λ x. x ≡ Some Writing) (λ x. x ≢ Some Writing) access_is_writing_or_not (s.objects o).inside n) [
       | inl w ↦ inr (λ h. h w.0 w.1)
       | inr none ↦ inl (λ u e. elim (cases_lt u n) [ inl l ↦ none u l e | inr g ↦ cc (done_thread_is_not_inside m law s good u o (idle u g), e) ])
     ]
-admits_is_decidable m law s good n idle (Entry o Writing v) = elim (some_value_has_first_or_all_below_have_second (λ x. x ≢ None) (λ x. x ≡ None) access_is_some_or_none (s.objects o).inside n) [
+admits_is_decidable m law s good n idle (Entered o Writing v) = elim (some_value_has_first_or_all_below_have_second (λ x. x ≢ None) (λ x. x ≡ None) access_is_some_or_none (s.objects o).inside n) [
   | inl w ↦ inr (λ h. w.1 (h w.0))
   | inr none ↦ inl (λ u. elim (cases_lt u n) [ inl l ↦ none u l | inr g ↦ done_thread_is_not_inside m law s good u o (idle u g) ])
 ]
-admits_is_decidable m law s good n idle (Refusal o) = inl tt
-admits_is_decidable m law s good n idle (Exit o a) = inl tt
-admits_is_decidable m law s good n idle (Load o i) = inl tt
-admits_is_decidable m law s good n idle (Store o i w) = inl tt
+admits_is_decidable m law s good n idle (TryFailed o) = inl tt
+admits_is_decidable m law s good n idle (Left o a) = inl tt
+admits_is_decidable m law s good n idle (Got o i) = inl tt
+admits_is_decidable m law s good n idle (Stored o i w) = inl tt
 admits_is_decidable m law s good n idle Never = inr (λ h. h)
 
 some_below_satisfies_or_none_does : (P : ℕ → Type 0) → ((t : ℕ) → P t ⊎ (P t → ⊥)) → (n : ℕ) → ((t : ℕ) × (t < n) × P t) ⊎ ((t : ℕ) → t < n → P t → ⊥)

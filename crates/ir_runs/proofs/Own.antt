@@ -2,7 +2,7 @@
 -- an event of a run is the first step's, or a later one
 use Rattle.std.proofs.Common.{◌≡◌, ℕ, suc, zero, ◌+◌, ◌<◌, ◌≤◌, Bool, true, false, cond, eqb, List, [], ◌∷◌, Some, None, refl, sym, ap, ◌∙◌, subst, arith, inl, inr, ◌⊎◌, eq-eqb, ne_eqb}
 use Rattle.std.proofs.lemmas.Bool.{cases_eq, eqb-true, cases_lt}
-use Rattle.ir_runs.specs.Machine.{Done, Act, act_of, Silent, Result, Entry, Refusal, Exit, Load, Store, Never, Machine, upd, Object, target, Admits, acted, emitted, Label, Quiet, Answer, In, Refused, Out, logged}
+use Rattle.ir_runs.specs.Machine.{Done, Act, act_of, Silent, Replied, Entered, TryFailed, Left, Got, Stored, Never, Machine, upd, Object, target, Admits, acted, emitted, Label, Quiet, Answer, EnteredAt, FailedTry, LeftAt, logged}
 use Rattle.ir_runs.specs.Lawful.{IsLawful}
 use Rattle.ir_runs.specs.declared.access.Access.{Access}
 use Rattle.ir_runs.specs.declared.access.Access.TheVariants.{Reading, Writing}
@@ -26,9 +26,9 @@ pub record FirstStepEvent {T : Type 0} (m : Machine T) (s : State T) (e : Step) 
 abbrev pub shifted_place : Bool → Label → ℕ → ℕ
 shifted_place true Quiet i = i
 shifted_place true (Answer k v) i = suc i
-shifted_place true (In o a v l) i = suc i
-shifted_place true (Refused o) i = suc i
-shifted_place true (Out o a v) i = i
+shifted_place true (EnteredAt o a v l) i = suc i
+shifted_place true (FailedTry o) i = suc i
+shifted_place true (LeftAt o a v) i = i
 shifted_place false k i = i
 
 event_of_join_if_cases : {T : Type 0} (b : Bool) (x : T × Label) (xs : List (T × Label)) (i : ℕ) (k : Label) → At (events (join_if b x xs)) i k
@@ -41,11 +41,11 @@ event_of_join_if_cases true x xs i k h = in_logged x.1 i h
     in_logged Quiet i h = inr (i, refl, h)
     in_logged (Answer a v) zero h = inl (refl, refl, sym h)
     in_logged (Answer a v) (suc i) h = inr (i, refl, h)
-    in_logged (In o a v l) zero h = inl (refl, refl, sym h)
-    in_logged (In o a v l) (suc i) h = inr (i, refl, h)
-    in_logged (Refused o) zero h = inl (refl, refl, sym h)
-    in_logged (Refused o) (suc i) h = inr (i, refl, h)
-    in_logged (Out o a v) i h = inr (i, refl, h)
+    in_logged (EnteredAt o a v l) zero h = inl (refl, refl, sym h)
+    in_logged (EnteredAt o a v l) (suc i) h = inr (i, refl, h)
+    in_logged (FailedTry o) zero h = inl (refl, refl, sym h)
+    in_logged (FailedTry o) (suc i) h = inr (i, refl, h)
+    in_logged (LeftAt o a v) i h = inr (i, refl, h)
 
 event_of_cons_cases : {T : Type 0} (m : Machine T) (s : State T) (e : Step) (run : List Step) (t i : ℕ) (k : Label) → At (log m s (e ∷ run) t) i k
     → FirstStepEvent m s e t i k ⊎ ((j : ℕ) × (i ≡ shifted_place (eqb t e.0) (label m s e) j) × At (log m (after m s e) run t) j k)
@@ -61,11 +61,11 @@ event_of_logged_is_in_trail : {T : Type 0} (y : T × Label) (ys : List (T × Lab
 event_of_logged_is_in_trail y ys k ih Quiet i p h = let g = ih i h in (g.0, suc g.1, g.2)
 event_of_logged_is_in_trail y ys k ih (Answer a v) zero p h = (y.0, 0, λ w. (y.0, (p ∙ h) w))
 event_of_logged_is_in_trail y ys k ih (Answer a v) (suc i) p h = let g = ih i h in (g.0, suc g.1, g.2)
-event_of_logged_is_in_trail y ys k ih (In o a v l) zero p h = (y.0, 0, λ w. (y.0, (p ∙ h) w))
-event_of_logged_is_in_trail y ys k ih (In o a v l) (suc i) p h = let g = ih i h in (g.0, suc g.1, g.2)
-event_of_logged_is_in_trail y ys k ih (Refused o) zero p h = (y.0, 0, λ w. (y.0, (p ∙ h) w))
-event_of_logged_is_in_trail y ys k ih (Refused o) (suc i) p h = let g = ih i h in (g.0, suc g.1, g.2)
-event_of_logged_is_in_trail y ys k ih (Out o a v) i p h = let g = ih i h in (g.0, suc g.1, g.2)
+event_of_logged_is_in_trail y ys k ih (EnteredAt o a v l) zero p h = (y.0, 0, λ w. (y.0, (p ∙ h) w))
+event_of_logged_is_in_trail y ys k ih (EnteredAt o a v l) (suc i) p h = let g = ih i h in (g.0, suc g.1, g.2)
+event_of_logged_is_in_trail y ys k ih (FailedTry o) zero p h = (y.0, 0, λ w. (y.0, (p ∙ h) w))
+event_of_logged_is_in_trail y ys k ih (FailedTry o) (suc i) p h = let g = ih i h in (g.0, suc g.1, g.2)
+event_of_logged_is_in_trail y ys k ih (LeftAt o a v) i p h = let g = ih i h in (g.0, suc g.1, g.2)
 
 event_is_in_trail : {T : Type 0} (xs : List (T × Label)) (i : ℕ) (k : Label) → At (events xs) i k → (x : T) × (j : ℕ) × At xs j (x, k)
 event_is_in_trail [] i k h = absurd h
@@ -73,33 +73,33 @@ event_is_in_trail (y ∷ ys) i k h = event_of_logged_is_in_trail y ys k (λ j g.
 
 -- after a write entry no other entry has its version
 no_entry_at_version_after_writer : {T : Type 0} (m : Machine T) → IsLawful m → (s : State T) → StateInvariant m s → (e : Step) → Can m s e → (run : List Step)
-    → IsRun m (after m s e) run → (o v l : ℕ) → In o Writing v l ≡ label m s e → (t i : ℕ) (a : Access) (k : ℕ)
-    → At (log m (after m s e) run t) i (In o a v k) → ⊥
+    → IsRun m (after m s e) run → (o v l : ℕ) → EnteredAt o Writing v l ≡ label m s e → (t i : ℕ) (a : Access) (k : ℕ)
+    → At (log m (after m s e) run t) i (EnteredAt o a v k) → ⊥
 no_entry_at_version_after_writer m law s good e can run ok o v l is t i a k h =
     let q : Act = act m s e in
     let en : Entering m (s.objects (target q)) o Writing v l q = emitted_entry_is_entering m q (s.objects (target q)) o Writing v l (sym is) in
     let ver : (s.objects o).version ≡ v = ap (λ z. (s.objects (target z)).version) (sym en.does) ∙ en.version in
-    let g = event_is_in_trail (trail m (after m s e) run t) i (In o a v k) h in
+    let g = event_is_in_trail (trail m (after m s e) run t) i (EnteredAt o a v k) h in
     taken_entry_not_past_writer m v e.0 o a k (taken_entry_saw_object m (WritesOrPast v e.0) o a v k t
     (step_of_trail_was_taken m law (WritesOrPast v e.0) (writes_or_past_is_kept m v e.0) (after m s e) (state_invariant_after_step m law s good e can) run ok o
     (inr (
-      ap (λ z. z.version) (target_object_after_step m s e (Entry o Writing en.answer) en.does)
+      ap (λ z. z.version) (target_object_after_step m s e (Entered o Writing en.answer) en.does)
           ∙ ver,
-      ap (λ z. z.inside e.0) (target_object_after_step m s e (Entry o Writing en.answer) en.does)
+      ap (λ z. z.inside e.0) (target_object_after_step m s e (Entered o Writing en.answer) en.does)
           ∙ upd_at_own_place (s.objects o).inside e.0 (Some Writing),
     ))
-    t g.1 g.0 (In o a v k) g.2))
+    t g.1 g.0 (EnteredAt o a v k) g.2))
 
 -- at most one write entry at a version
 pub one_write_entry_at_version : {T : Type 0} (m : Machine T) → IsLawful m → (s : State T) → StateInvariant m s → (run : List Step) → IsRun m s run
-    → (t i u j o v l k : ℕ) → At (log m s run t) i (In o Writing v l) → At (log m s run u) j (In o Writing v k) → (t ≡ u) × (i ≡ j)
+    → (t i u j o v l k : ℕ) → At (log m s run t) i (EnteredAt o Writing v l) → At (log m s run u) j (EnteredAt o Writing v k) → (t ≡ u) × (i ≡ j)
 one_write_entry_at_version m law s good [] ok t i u j o v l k h g = absurd h
-one_write_entry_at_version m law s good (e ∷ run) ok t i u j o v l k h g = elim (event_of_cons_cases m s e run t i (In o Writing v l) h) [
-  | inl p ↦ elim (event_of_cons_cases m s e run u j (In o Writing v k) g) [
+one_write_entry_at_version m law s good (e ∷ run) ok t i u j o v l k h g = elim (event_of_cons_cases m s e run t i (EnteredAt o Writing v l) h) [
+  | inl p ↦ elim (event_of_cons_cases m s e run u j (EnteredAt o Writing v k) g) [
     | inl q ↦ (p.who ∙ sym q.who, p.place ∙ sym q.place)
     | inr q ↦ absurd (no_entry_at_version_after_writer m law s good e ok.0 run ok.1 o v l p.is u q.0 Writing k q.2)
   ]
-  | inr p ↦ elim (event_of_cons_cases m s e run u j (In o Writing v k) g) [
+  | inr p ↦ elim (event_of_cons_cases m s e run u j (EnteredAt o Writing v k) g) [
     | inl q ↦ absurd (no_entry_at_version_after_writer m law s good e ok.0 run ok.1 o v k q.is t p.0 Writing l p.2)
     | inr q ↦ let z = one_write_entry_at_version m law (after m s e) (state_invariant_after_step m law s good e ok.0) run ok.1 t p.0 u q.0 o v l k p.2 q.2 in
         (z.0, p.1 ∙ ap (λ w. shifted_place (eqb w e.0) (label m s e) p.0) z.0 ∙ ap (shifted_place (eqb u e.0) (label m s e)) z.1 ∙ sym q.1)
@@ -113,31 +113,31 @@ reads_of_join_if o v true x xs = by_label x.1
     by_label : (k : Label) → reads o v (logged k (events xs)) ≡ reads_one o v k + reads o v (events xs)
     by_label Quiet = let g : reads o v (events xs) ≡ 0 + reads o v (events xs) = omega arith in g
     by_label (Answer a w) = refl
-    by_label (In p a w l) = refl
-    by_label (Refused p) = refl
-    by_label (Out p a w) = let g : reads o v (events xs) ≡ 0 + reads o v (events xs) = omega arith in g
+    by_label (EnteredAt p a w l) = refl
+    by_label (FailedTry p) = refl
+    by_label (LeftAt p a w) = let g : reads o v (events xs) ≡ 0 + reads o v (events xs) = omega arith in g
 reads_of_join_if o v false x xs = let g : reads o v (events xs) ≡ 0 + reads o v (events xs) = omega arith in g
 
 -- no read entry of a version that none of these is
-reads_zero_if_no_entry : (o v : ℕ) (es : List Label) → ((i k : ℕ) → At es i (In o Reading v k) → ⊥) → reads o v es ≡ 0
+reads_zero_if_no_entry : (o v : ℕ) (es : List Label) → ((i k : ℕ) → At es i (EnteredAt o Reading v k) → ⊥) → reads o v es ≡ 0
 reads_zero_if_no_entry o v [] h = refl
 reads_zero_if_no_entry o v (Quiet ∷ es) h = no_more (reads o v es) (reads_zero_if_no_entry o v es (λ i k a. h (suc i) k a))
   where
     no_more : (n : ℕ) → n ≡ 0 → 0 + n ≡ 0
     no_more n p = omega arith
 reads_zero_if_no_entry o v (Answer a w ∷ es) h = let g = reads_zero_if_no_entry o v es (λ i k a. h (suc i) k a) in let z : 0 + reads o v es ≡ 0 = omega (arith, g) in z
-reads_zero_if_no_entry o v (In p Writing w l ∷ es) h = let g = reads_zero_if_no_entry o v es (λ i k a. h (suc i) k a) in let z : 0 + reads o v es ≡ 0 =
+reads_zero_if_no_entry o v (EnteredAt p Writing w l ∷ es) h = let g = reads_zero_if_no_entry o v es (λ i k a. h (suc i) k a) in let z : 0 + reads o v es ≡ 0 =
     omega (arith, g) in z
-reads_zero_if_no_entry o v (Refused p ∷ es) h = let g = reads_zero_if_no_entry o v es (λ i k a. h (suc i) k a) in let z : 0 + reads o v es ≡ 0 = omega (arith, g) in z
-reads_zero_if_no_entry o v (Out p a w ∷ es) h = let g = reads_zero_if_no_entry o v es (λ i k a. h (suc i) k a) in let z : 0 + reads o v es ≡ 0 = omega (arith, g) in z
-reads_zero_if_no_entry o v (In p Reading w l ∷ es) h =
+reads_zero_if_no_entry o v (FailedTry p ∷ es) h = let g = reads_zero_if_no_entry o v es (λ i k a. h (suc i) k a) in let z : 0 + reads o v es ≡ 0 = omega (arith, g) in z
+reads_zero_if_no_entry o v (LeftAt p a w ∷ es) h = let g = reads_zero_if_no_entry o v es (λ i k a. h (suc i) k a) in let z : 0 + reads o v es ≡ 0 = omega (arith, g) in z
+reads_zero_if_no_entry o v (EnteredAt p Reading w l ∷ es) h =
     let g = reads_zero_if_no_entry o v es (λ i k a. h (suc i) k a) in
     elim (cases_eq p o) [
-      | inr ne ↦ let z : reads_one o v (In p Reading w l) ≡ 0 = ap (λ b. cond b (cond (eqb w v) 1 0) 0) (ne_eqb p o ne) in
+      | inr ne ↦ let z : reads_one o v (EnteredAt p Reading w l) ≡ 0 = ap (λ b. cond b (cond (eqb w v) 1 0) 0) (ne_eqb p o ne) in
           omega (arith, g, z)
       | inl e ↦ elim (cases_eq w v) [
-        | inl d ↦ absurd (h 0 l (λ y. In (e y) Reading (d y) l))
-        | inr ne ↦ let z : reads_one o v (In p Reading w l) ≡ 0 = ap (λ b. cond b (cond (eqb w v) 1 0) 0) (eq-eqb p o e)
+        | inl d ↦ absurd (h 0 l (λ y. EnteredAt (e y) Reading (d y) l))
+        | inr ne ↦ let z : reads_one o v (EnteredAt p Reading w l) ≡ 0 = ap (λ b. cond b (cond (eqb w v) 1 0) 0) (eq-eqb p o e)
             ∙ ap (λ b. cond b 1 0) (ne_eqb w v ne) in omega (arith, g, z)
       ]
     ]
@@ -154,10 +154,10 @@ step_below_idle_keeps_idle m s n idle e can =
 
 -- a write entry's readers are those of its version
 pub write_entry_left_counts_reads : {T : Type 0} (m : Machine T) → IsLawful m → (n : ℕ) (s : State T) → StateInvariant m s → ((t : ℕ) → n ≤ t → asked m s t ≡ Done)
-    → (c : ℕ → ℕ → ℕ → ℕ) → Tally n s c → (run : List Step) → IsRun m s run → (t i o v l : ℕ) → At (log m s run t) i (In o Writing v l)
+    → (c : ℕ → ℕ → ℕ → ℕ) → Tally n s c → (run : List Step) → IsRun m s run → (t i o v l : ℕ) → At (log m s run t) i (EnteredAt o Writing v l)
     → l ≡ sum_below n (λ u. c o v u + reads o v (log m s run u))
 write_entry_left_counts_reads m law n s good idle c tally [] ok t i o v l h = absurd h
-write_entry_left_counts_reads m law n s good idle c tally (e ∷ run) ok t i o v l h = elim (event_of_cons_cases m s e run t i (In o Writing v l) h) [
+write_entry_left_counts_reads m law n s good idle c tally (e ∷ run) ok t i o v l h = elim (event_of_cons_cases m s e run t i (EnteredAt o Writing v l) h) [
   | inl p ↦
       let q : Act = act m s e in
       let en : Entering m (s.objects (target q)) o Writing v l q = emitted_entry_is_entering m q (s.objects (target q)) o Writing v l (sym p.is) in
@@ -202,15 +202,15 @@ writer_after_leave_was_inside b t u = property_of_upd_by_cases b.inside t None u
 
 property_of_made_versions_holds_after_act : {T : Type 0} (m : Machine T) (q : Act) (t : ℕ) (b : Object) → Exclusive b → InsideForAct q (b.inside t) → (P : ℕ → Type 0)
     → ((v : ℕ) → v < b.version → P v) → ((u : ℕ) → b.inside u ≡ Some Writing → P b.version)
-    → ((o ans : ℕ) → q ≡ Entry o Writing ans → P b.version)
+    → ((o ans : ℕ) → q ≡ Entered o Writing ans → P b.version)
     → ((v : ℕ) → v < (acted q t b).version → P v) × ((u : ℕ) → (acted q t b).inside u ≡ Some Writing → P (acted q t b).version)
 property_of_made_versions_holds_after_act m Silent t b ex i P p w new = (p, w)
-property_of_made_versions_holds_after_act m (Refusal _) t b ex i P p w new = (p, w)
-property_of_made_versions_holds_after_act m (Result k res) t b ex i P p w new = (p, w)
-property_of_made_versions_holds_after_act m (Entry o Reading ans) t b ex i P p w new = (p, λ u h. elim (writer_after_entry_cases b t u Reading h) [ inl g ↦ w u g | inr g ↦ absurd (cc g) ])
-property_of_made_versions_holds_after_act m (Entry o Writing ans) t b ex i P p w new = (p, λ u h. new o ans refl)
-property_of_made_versions_holds_after_act m (Exit o Reading) t b ex i P p w new = (p, λ u h. w u (writer_after_leave_was_inside b t u h))
-property_of_made_versions_holds_after_act m (Exit o Writing) t b ex i P p w new = (
+property_of_made_versions_holds_after_act m (TryFailed _) t b ex i P p w new = (p, w)
+property_of_made_versions_holds_after_act m (Replied k res) t b ex i P p w new = (p, w)
+property_of_made_versions_holds_after_act m (Entered o Reading ans) t b ex i P p w new = (p, λ u h. elim (writer_after_entry_cases b t u Reading h) [ inl g ↦ w u g | inr g ↦ absurd (cc g) ])
+property_of_made_versions_holds_after_act m (Entered o Writing ans) t b ex i P p w new = (p, λ u h. new o ans refl)
+property_of_made_versions_holds_after_act m (Left o Reading) t b ex i P p w new = (p, λ u h. w u (writer_after_leave_was_inside b t u h))
+property_of_made_versions_holds_after_act m (Left o Writing) t b ex i P p w new = (
   λ v l. elim (cases_lt v b.version)
       [ inl g ↦ p v g | inr g ↦ let e : b.version ≡ v = omega arith in subst P e (w t i) ],
   λ u h. absurd (gone u h),
@@ -218,12 +218,12 @@ property_of_made_versions_holds_after_act m (Exit o Writing) t b ex i P p w new 
   where
     gone : (u : ℕ) → upd b.inside t None u ≡ Some Writing → ⊥
     gone u h = absurd (property_of_upd_by_cases b.inside t None u (λ z. z ≡ Some Writing → ⊥) (λ _ g. cc g) (λ ne g. cc (ex t u (λ e. ne (sym e)) i, g)) h)
-property_of_made_versions_holds_after_act m (Load o j) t b ex i P p w new = (p, w)
-property_of_made_versions_holds_after_act m (Store o j x) t b ex i P p w new = (p, w)
+property_of_made_versions_holds_after_act m (Got o j) t b ex i P p w new = (p, w)
+property_of_made_versions_holds_after_act m (Stored o j x) t b ex i P p w new = (p, w)
 property_of_made_versions_holds_after_act m Never t b ex i P p w new = (p, w)
 
 versions_made_after_step : {T : Type 0} (m : Machine T) → IsLawful m → (s : State T) → StateInvariant m s → (Q : ℕ → ℕ → Type 0) → VersionsMade s Q → (e : Step)
-    → ((o v l : ℕ) → label m s e ≡ In o Writing v l → Q o v) → VersionsMade (after m s e) Q
+    → ((o v l : ℕ) → label m s e ≡ EnteredAt o Writing v l → Q o v) → VersionsMade (after m s e) Q
 unfolding after
 versions_made_after_step m law s good Q made e new =
     let q : Act = act m s e in
@@ -247,21 +247,21 @@ event_after_join_if_is_shifted true x xs i k h = by_label x.1
     by_label : (y : Label) → At (logged y (events xs)) (shifted_place true y i) k
     by_label Quiet = h
     by_label (Answer a v) = h
-    by_label (In o a v l) = h
-    by_label (Refused o) = h
-    by_label (Out o a v) = h
+    by_label (EnteredAt o a v l) = h
+    by_label (FailedTry o) = h
+    by_label (LeftAt o a v) = h
 
-write_entry_is_first_event : {T : Type 0} (m : Machine T) (s : State T) (e : Step) (run : List Step) (o v l : ℕ) → label m s e ≡ In o Writing v l
-    → At (log m s (e ∷ run) e.0) 0 (In o Writing v l)
+write_entry_is_first_event : {T : Type 0} (m : Machine T) (s : State T) (e : Step) (run : List Step) (o v l : ℕ) → label m s e ≡ EnteredAt o Writing v l
+    → At (log m s (e ∷ run) e.0) 0 (EnteredAt o Writing v l)
 write_entry_is_first_event m s e run o v l is = subst (λ b. At (events (join_if b (s.now e.0, label m s e) (trail m (after m s e) run e.0))) 0
-    (In o Writing v l)) (sym (eq-eqb e.0 e.0 refl))
-    (subst (λ z. At (logged z (log m (after m s e) run e.0)) 0 (In o Writing v l)) (sym is) refl)
+    (EnteredAt o Writing v l)) (sym (eq-eqb e.0 e.0 refl))
+    (subst (λ z. At (logged z (log m (after m s e) run e.0)) 0 (EnteredAt o Writing v l)) (sym is) refl)
 
 pub later_version_has_writer : {T : Type 0} (m : Machine T) → IsLawful m → (s : State T) → StateInvariant m s → (Q : ℕ → ℕ → Type 0) → VersionsMade s Q → (run : List Step)
-    → IsRun m s run → ((t i o v l : ℕ) → At (log m s run t) i (In o Writing v l) → Q o v)
-    → (t i o v l : ℕ) (a : Access) → At (log m s run t) i (In o a (suc v) l) → Q o v
+    → IsRun m s run → ((t i o v l : ℕ) → At (log m s run t) i (EnteredAt o Writing v l) → Q o v)
+    → (t i o v l : ℕ) (a : Access) → At (log m s run t) i (EnteredAt o a (suc v) l) → Q o v
 later_version_has_writer m law s good Q made [] ok all t i o v l a h = absurd h
-later_version_has_writer m law s good Q made (e ∷ run) ok all t i o v l a h = elim (event_of_cons_cases m s e run t i (In o a (suc v) l) h) [
+later_version_has_writer m law s good Q made (e ∷ run) ok all t i o v l a h = elim (event_of_cons_cases m s e run t i (EnteredAt o a (suc v) l) h) [
   | inl p ↦
       let q : Act = act m s e in
       let en : Entering m (s.objects (target q)) o a (suc v) l q = emitted_entry_is_entering m q (s.objects (target q)) o a (suc v) l (sym p.is) in
@@ -270,13 +270,13 @@ later_version_has_writer m law s good Q made (e ∷ run) ok all t i o v l a h = 
   | inr p ↦ later_version_has_writer m law (after m s e) (state_invariant_after_step m law s good e ok.0) Q
       (versions_made_after_step m law s good Q made e (λ o v l is. all e.0 0 o v l (write_entry_is_first_event m s e run o v l is))) run ok.1
       (λ t i o v l g. all t (shifted_place (eqb t e.0) (label m s e) i) o v l
-      (event_after_join_if_is_shifted (eqb t e.0) (s.now t, label m s e) (trail m (after m s e) run t) i (In o Writing v l) g)) t p.0 o v l a p.2
+      (event_after_join_if_is_shifted (eqb t e.0) (s.now t, label m s e) (trail m (after m s e) run t) i (EnteredAt o Writing v l) g)) t p.0 o v l a p.2
 ]
 
 pub own_trace_is_coherent : (n : ℕ) {T : Type 0} (m : Machine T) → IsLawful m → (s : State T) → StateInvariant m s → IsStart m s → IsIdle m s n
     → (run : List Step) → IsRun m s run → IsCoherent n (trace m s run)
 own_trace_is_coherent n m law s good st im run ok = record {
-  made = λ t i o v l a h. later_version_has_writer m law s good (λ o v. (u j k : ℕ) × At (log m s run u) j (In o Writing v k))
+  made = λ t i o v l a h. later_version_has_writer m law s good (λ o v. (u j k : ℕ) × At (log m s run u) j (EnteredAt o Writing v k))
       (record { past = λ o v l. absurd (omega (arith, st.version o)); inside = λ o t h. absurd (cc (st.inside o t, h)) }) run ok
       (λ t i o v l g. (t, i, l, g)) t i o v l a h;
   writer = λ t i u j o v l k h g. one_write_entry_at_version m law s good run ok t i u j o v l k h g;

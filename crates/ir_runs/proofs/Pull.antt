@@ -2,7 +2,7 @@
 -- an entry that was taken, as the object saw it
 use Rattle.std.proofs.Common.{◌≡◌, ◌≢◌, ℕ, suc, zero, Bool, true, false, eqb, List, [], ◌∷◌, Some, refl, sym, ap, ◌∙◌, subst, arith, inl, inr, eq-eqb, ne_eqb, append-nil, ◌++◌}
 use Rattle.std.proofs.lemmas.Bool.{cases_eq, eqb-true}
-use Rattle.ir_runs.specs.Machine.{Ask, Private, Env, Enter, Try, Leave, Get, Put, Done, Act, act_of, Entry, Machine, Object, target, Admits, acted, emitted, Label, Quiet, Answer, In, Refused, Out, logged}
+use Rattle.ir_runs.specs.Machine.{Ask, Private, Env, Enter, Try, Leave, Get, Put, Done, Act, act_of, Entered, Machine, Object, target, Admits, acted, emitted, Label, Quiet, Answer, EnteredAt, FailedTry, LeftAt, logged}
 use Rattle.ir_runs.specs.Lawful.{IsLawful}
 use Rattle.ir_runs.specs.declared.access.Access.{Access}
 use Rattle.ir_runs.specs.declared.access.Access.TheVariants.{Reading, Writing}
@@ -17,11 +17,11 @@ pub record TakenEntry {T : Type 0} (m : Machine T) (R : Object → Type 0) (o : 
   pub object : Object
   pub answer : ℕ
   pub kept : R object
-  pub admits : Admits m (Entry o a answer) object
+  pub admits : Admits m (Entered o a answer) object
   pub version : object.version ≡ v
   pub left : a ≡ Writing → object.left ≡ l
 
-pub taken_entry_saw_object : {T : Type 0} (m : Machine T) (R : Object → Type 0) (o : ℕ) (a : Access) (v l t : ℕ) → TakenStep m R o t (In o a v l)
+pub taken_entry_saw_object : {T : Type 0} (m : Machine T) (R : Object → Type 0) (o : ℕ) (a : Access) (v l t : ℕ) → TakenStep m R o t (EnteredAt o a v l)
     → TakenEntry m R o a v l
 taken_entry_saw_object m R o a v l t k =
     let q : Act = act m k.state k.step in
@@ -57,49 +57,49 @@ clashing_entry_does_not_recur : {T : Type 0} (m : Machine T) → IsLawful m → 
     → IsRun m (after m s e) run → (t k : ℕ) (x : T)
     → (q' q : Act) → act m s e ≡ q' → target q ≡ target q' → Clash q' q
     → At (trail m (after m s e) run t) k (x, emitted q (s.objects (target q))) → ⊥
-clashing_entry_does_not_recur m law s good e can run ok t k x (Entry o Writing ans) (Entry p Reading ans') is same c h =
+clashing_entry_does_not_recur m law s good e can run ok t k x (Entered o Writing ans) (Entered p Reading ans') is same c h =
     taken_entry_not_past_writer m (s.objects p).version e.0 p Reading 0 (taken_entry_saw_object m (WritesOrPast (s.objects p).version e.0) p Reading _ _ t
     (step_of_trail_was_taken m law (WritesOrPast (s.objects p).version e.0) (writes_or_past_is_kept m _ _) (after m s e) (state_invariant_after_step m law s good e can) run ok p
     (inr (subst (λ z. (((after m s e).objects z).version ≡ (s.objects z).version) × (((after m s e).objects z).inside e.0 ≡ Some Writing))
     (sym same) (
-      ap (λ z. z.version) (target_object_after_step m s e (Entry o Writing ans) is),
+      ap (λ z. z.version) (target_object_after_step m s e (Entered o Writing ans) is),
       ap (λ z. z.inside e.0)
-          (target_object_after_step m s e (Entry o Writing ans) is) ∙ upd_at_own_place (s.objects o).inside e.0 (Some Writing),
+          (target_object_after_step m s e (Entered o Writing ans) is) ∙ upd_at_own_place (s.objects o).inside e.0 (Some Writing),
     )))
     t k x _ h))
-clashing_entry_does_not_recur m law s good e can run ok t k x (Entry o Writing ans) (Entry p Writing ans') is same c h =
+clashing_entry_does_not_recur m law s good e can run ok t k x (Entered o Writing ans) (Entered p Writing ans') is same c h =
     taken_entry_not_past_writer m (s.objects p).version e.0 p Writing (s.objects p).left (taken_entry_saw_object m (WritesOrPast (s.objects p).version e.0) p Writing _ _ t
     (step_of_trail_was_taken m law (WritesOrPast (s.objects p).version e.0) (writes_or_past_is_kept m _ _) (after m s e) (state_invariant_after_step m law s good e can) run ok p
     (inr (subst (λ z. (((after m s e).objects z).version ≡ (s.objects z).version) × (((after m s e).objects z).inside e.0 ≡ Some Writing))
     (sym same) (
-      ap (λ z. z.version) (target_object_after_step m s e (Entry o Writing ans) is),
+      ap (λ z. z.version) (target_object_after_step m s e (Entered o Writing ans) is),
       ap (λ z. z.inside e.0)
-          (target_object_after_step m s e (Entry o Writing ans) is) ∙ upd_at_own_place (s.objects o).inside e.0 (Some Writing),
+          (target_object_after_step m s e (Entered o Writing ans) is) ∙ upd_at_own_place (s.objects o).inside e.0 (Some Writing),
     )))
     t k x _ h))
-clashing_entry_does_not_recur m law s good e can run ok t k x (Entry o Reading ans) (Entry p Writing ans') is same c h =
+clashing_entry_does_not_recur m law s good e can run ok t k x (Entered o Reading ans) (Entered p Writing ans') is same c h =
     taken_write_entry_not_past_reader m (s.objects p).version e.0 p (s.objects p).left
     (taken_entry_saw_object m (ReadsOrPast (s.objects p).version (s.objects p).left e.0) p Writing _ _ t
     (step_of_trail_was_taken m law (ReadsOrPast (s.objects p).version (s.objects p).left e.0) (reads_or_past_is_kept m _ _ _) (after m s e) (state_invariant_after_step m law s good e can) run
     ok p
     (subst (λ z. ReadsOrPast (s.objects z).version (s.objects z).left e.0 ((after m s e).objects z)) (sym same)
     (inr (
-      ap (λ z. z.version) (target_object_after_step m s e (Entry o Reading ans) is),
+      ap (λ z. z.version) (target_object_after_step m s e (Entered o Reading ans) is),
       inr (
-        ap (λ z. z.left) (target_object_after_step m s e (Entry o Reading ans) is),
+        ap (λ z. z.left) (target_object_after_step m s e (Entered o Reading ans) is),
         ap (λ z. z.inside e.0)
-            (target_object_after_step m s e (Entry o Reading ans) is) ∙ upd_at_own_place (s.objects o).inside e.0 (Some Reading),
+            (target_object_after_step m s e (Entered o Reading ans) is) ∙ upd_at_own_place (s.objects o).inside e.0 (Some Reading),
       ),
     )))
     t k x _ h))
-clashing_entry_does_not_recur m law s good e can run ok t k x (Entry o Reading ans) (Entry p Reading ans') is same c h = c
+clashing_entry_does_not_recur m law s good e can run ok t k x (Entered o Reading ans) (Entered p Reading ans') is same c h = c
 clashing_entry_does_not_recur m law s good e can run ok t k x _ _ is same c h = absurd c
 
 pub clash_is_symmetric : (q q' : Act) → Clash q q' → Clash q' q
-clash_is_symmetric (Entry o Writing ans) (Entry p Reading ans') c = tt
-clash_is_symmetric (Entry o Writing ans) (Entry p Writing ans') c = tt
-clash_is_symmetric (Entry o Reading ans) (Entry p Writing ans') c = tt
-clash_is_symmetric (Entry o Reading ans) (Entry p Reading ans') c = c
+clash_is_symmetric (Entered o Writing ans) (Entered p Reading ans') c = tt
+clash_is_symmetric (Entered o Writing ans) (Entered p Writing ans') c = tt
+clash_is_symmetric (Entered o Reading ans) (Entered p Writing ans') c = tt
+clash_is_symmetric (Entered o Reading ans) (Entered p Reading ans') c = c
 clash_is_symmetric _ _ c = absurd c
 
 -- results with which an ask logs the same are one act
@@ -143,18 +143,18 @@ heads_equal_of_equal_lists : {A : Type 0} (x y : A) (xs ys : List A) → (x ∷ 
 heads_equal_of_equal_lists x y xs ys h = cc h
 
 -- what logs an entry is the entry
-label_is_entry_if_logs_entry : (k : Label) (o : ℕ) (a : Access) (v l : ℕ) → logged k [] ≡ In o a v l ∷ [] → k ≡ In o a v l
+label_is_entry_if_logs_entry : (k : Label) (o : ℕ) (a : Access) (v l : ℕ) → logged k [] ≡ EnteredAt o a v l ∷ [] → k ≡ EnteredAt o a v l
 label_is_entry_if_logs_entry Quiet o a v l h = absurd (cc h)
 label_is_entry_if_logs_entry (Answer i w) o a v l h = cc h
-label_is_entry_if_logs_entry (In p c v' l') o a v l h = cc h
-label_is_entry_if_logs_entry (Refused p) o a v l h = absurd (cc h)
-label_is_entry_if_logs_entry (Out p c v') o a v l h = absurd (cc h)
+label_is_entry_if_logs_entry (EnteredAt p c v' l') o a v l h = cc h
+label_is_entry_if_logs_entry (FailedTry p) o a v l h = absurd (cc h)
+label_is_entry_if_logs_entry (LeftAt p c v') o a v l h = absurd (cc h)
 
 label_same_if_clashing_logs_same : (q' q : Act) (b : Object) (k : Label) → Clash q' q → logged k [] ≡ logged (emitted q b) [] → k ≡ emitted q b
-label_same_if_clashing_logs_same q' (Entry o Reading x) b k c h = label_is_entry_if_logs_entry k o Reading _ _ h
-label_same_if_clashing_logs_same q' (Entry o Writing x) b k c h = label_is_entry_if_logs_entry k o Writing _ _ h
-label_same_if_clashing_logs_same (Entry p Reading x) _ b k c h = absurd c
-label_same_if_clashing_logs_same (Entry p Writing x) _ b k c h = absurd c
+label_same_if_clashing_logs_same q' (Entered o Reading x) b k c h = label_is_entry_if_logs_entry k o Reading _ _ h
+label_same_if_clashing_logs_same q' (Entered o Writing x) b k c h = label_is_entry_if_logs_entry k o Writing _ _ h
+label_same_if_clashing_logs_same (Entered p Reading x) _ b k c h = absurd c
+label_same_if_clashing_logs_same (Entered p Writing x) _ b k c h = absurd c
 label_same_if_clashing_logs_same _ _ b k c h = absurd c
 
 pulled_first_if_own_step_first : {T : Type 0} (m : Machine T) (s : State T) (e : Step) (run : List Step) → IsRun m s (e ∷ run) → (r : ℕ) → Can m s (e.0, r)

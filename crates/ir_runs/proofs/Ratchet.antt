@@ -2,7 +2,7 @@
 -- once it holds of an object, it holds after each step
 use Rattle.std.proofs.Common.{◌≡◌, ◌≢◌, ℕ, suc, zero, ◌<◌, ◌≤◌, Bool, true, false, eqb, List, [], ◌∷◌, Some, None, refl, sym, ap, ◌∙◌, subst, arith, inl, inr, ◌⊎◌}
 use Rattle.std.proofs.lemmas.Bool.{cases_eq, eqb-true}
-use Rattle.ir_runs.specs.Machine.{Act, Silent, Result, Entry, Refusal, Exit, Load, Store, Never, Machine, upd, Object, target, Admits, acted, emitted, Label, In}
+use Rattle.ir_runs.specs.Machine.{Act, Silent, Replied, Entered, TryFailed, Left, Got, Stored, Never, Machine, upd, Object, target, Admits, acted, emitted, Label, EnteredAt}
 use Rattle.ir_runs.specs.Lawful.{IsLawful}
 use Rattle.ir_runs.specs.declared.access.Access.{Access}
 use Rattle.ir_runs.specs.declared.access.Access.TheVariants.{Reading, Writing}
@@ -62,13 +62,13 @@ VersionAtLeast v b = v ≤ b.version
 
 pub version_at_least_is_kept : {T : Type 0} (m : Machine T) (v : ℕ) → IsKeptByActs m (VersionAtLeast v)
 version_at_least_is_kept m v b t Silent ex i h l = l
-version_at_least_is_kept m v b t (Refusal _) ex i h l = l
-version_at_least_is_kept m v b t (Result k res) ex i h l = l
-version_at_least_is_kept m v b t (Entry o a ans) ex i h l = l
-version_at_least_is_kept m v b t (Exit o Reading) ex i h l = l
-version_at_least_is_kept m v b t (Exit o Writing) ex i h l = omega arith
-version_at_least_is_kept m v b t (Load o j) ex i h l = l
-version_at_least_is_kept m v b t (Store o j w) ex i h l = l
+version_at_least_is_kept m v b t (TryFailed _) ex i h l = l
+version_at_least_is_kept m v b t (Replied k res) ex i h l = l
+version_at_least_is_kept m v b t (Entered o a ans) ex i h l = l
+version_at_least_is_kept m v b t (Left o Reading) ex i h l = l
+version_at_least_is_kept m v b t (Left o Writing) ex i h l = omega arith
+version_at_least_is_kept m v b t (Got o j) ex i h l = l
+version_at_least_is_kept m v b t (Stored o j w) ex i h l = l
 version_at_least_is_kept m v b t Never ex i h l = l
 
 inside_kept_by_entry_of_other : (b : Object) (t u : ℕ) (a c : Access) → b.inside t ≡ None → b.inside u ≡ Some c → upd b.inside t (Some a) u ≡ Some c
@@ -80,25 +80,25 @@ inside_kept_by_leave_of_other b t u c ne w = upd_at_other_place b.inside t u Non
 
 pub writes_or_past_is_kept : {T : Type 0} (m : Machine T) (v u : ℕ) → IsKeptByActs m (WritesOrPast v u)
 writes_or_past_is_kept m v u b t Silent ex i h l = l
-writes_or_past_is_kept m v u b t (Refusal _) ex i h l = l
-writes_or_past_is_kept m v u b t (Result k res) ex i h l = l
-writes_or_past_is_kept m v u b t (Entry o a ans) ex i h l = elim l [ inl p ↦ inl p | inr p ↦ inr (p.0, inside_kept_by_entry_of_other b t u a Writing i p.1) ]
-writes_or_past_is_kept m v u b t (Exit o Reading) ex i h l =
+writes_or_past_is_kept m v u b t (TryFailed _) ex i h l = l
+writes_or_past_is_kept m v u b t (Replied k res) ex i h l = l
+writes_or_past_is_kept m v u b t (Entered o a ans) ex i h l = elim l [ inl p ↦ inl p | inr p ↦ inr (p.0, inside_kept_by_entry_of_other b t u a Writing i p.1) ]
+writes_or_past_is_kept m v u b t (Left o Reading) ex i h l =
     elim l [
       | inl p ↦ inl p
       | inr p ↦ elim (cases_eq u t)
           [ inl e ↦ absurd (cc (ap b.inside e, i, p.1)) | inr ne ↦ inr (p.0, inside_kept_by_leave_of_other b t u Writing ne p.1) ]
     ]
-writes_or_past_is_kept m v u b t (Exit o Writing) ex i h l = elim l [ inl p ↦ inl (omega arith) | inr p ↦ inl (omega (arith, p.0)) ]
-writes_or_past_is_kept m v u b t (Load o j) ex i h l = l
-writes_or_past_is_kept m v u b t (Store o j w) ex i h l = l
+writes_or_past_is_kept m v u b t (Left o Writing) ex i h l = elim l [ inl p ↦ inl (omega arith) | inr p ↦ inl (omega (arith, p.0)) ]
+writes_or_past_is_kept m v u b t (Got o j) ex i h l = l
+writes_or_past_is_kept m v u b t (Stored o j w) ex i h l = l
 writes_or_past_is_kept m v u b t Never ex i h l = l
 
 pub reads_or_past_is_kept : {T : Type 0} (m : Machine T) (v l u : ℕ) → IsKeptByActs m (ReadsOrPast v l u)
 reads_or_past_is_kept m v l u b t Silent ex i h k = k
-reads_or_past_is_kept m v l u b t (Refusal _) ex i h k = k
-reads_or_past_is_kept m v l u b t (Result _ res) ex i h k = k
-reads_or_past_is_kept m v l u b t (Entry o a ans) ex i h k =
+reads_or_past_is_kept m v l u b t (TryFailed _) ex i h k = k
+reads_or_past_is_kept m v l u b t (Replied _ res) ex i h k = k
+reads_or_past_is_kept m v l u b t (Entered o a ans) ex i h k =
     elim k [
       | inl p ↦ inl p
       | inr p ↦ elim p.1 [
@@ -107,28 +107,28 @@ reads_or_past_is_kept m v l u b t (Entry o a ans) ex i h k =
             (p.0, inr (g.0, inside_kept_by_entry_of_other b t u a Reading i g.1))
       ]
     ]
-reads_or_past_is_kept m v l u b t (Exit o Reading) ex i h k =
+reads_or_past_is_kept m v l u b t (Left o Reading) ex i h k =
     elim k [ inl p ↦ inl p | inr p ↦ elim p.1 [ inl less ↦ inr (p.0, inl (omega arith)) | inr g ↦ inr (p.0, inl (omega (arith, g.0))) ] ]
-reads_or_past_is_kept m v l u b t (Exit o Writing) ex i h k = elim k [ inl p ↦ inl (omega arith) | inr p ↦ inl (omega (arith, p.0)) ]
-reads_or_past_is_kept m v l u b t (Load o j) ex i h k = k
-reads_or_past_is_kept m v l u b t (Store o j w) ex i h k = k
+reads_or_past_is_kept m v l u b t (Left o Writing) ex i h k = elim k [ inl p ↦ inl (omega arith) | inr p ↦ inl (omega (arith, p.0)) ]
+reads_or_past_is_kept m v l u b t (Got o j) ex i h k = k
+reads_or_past_is_kept m v l u b t (Stored o j w) ex i h k = k
 reads_or_past_is_kept m v l u b t Never ex i h k = k
 
 -- what an entry emits of the object
 pub record Entering {T : Type 0} (m : Machine T) (b : Object) (o : ℕ) (a : Access) (v l : ℕ) (q : Act) : Type 0 where
   pub answer : ℕ
-  pub does : q ≡ Entry o a answer
+  pub does : q ≡ Entered o a answer
   pub version : b.version ≡ v
   pub left : a ≡ Writing → b.left ≡ l
 
-pub emitted_entry_is_entering : {T : Type 0} (m : Machine T) (q : Act) (b : Object) (o : ℕ) (a : Access) (v l : ℕ) → emitted q b ≡ In o a v l
+pub emitted_entry_is_entering : {T : Type 0} (m : Machine T) (q : Act) (b : Object) (o : ℕ) (a : Access) (v l : ℕ) → emitted q b ≡ EnteredAt o a v l
     → Entering m b o a v l q
 emitted_entry_is_entering m Silent b o a v l h = absurd (cc h)
-emitted_entry_is_entering m (Refusal _) b o a v l h = absurd (cc h)
-emitted_entry_is_entering m (Result k x) b o a v l h = absurd (cc h)
-emitted_entry_is_entering m (Entry p Reading x) b o a v l h = record { answer = x; does = cc h; version = cc h; left = λ w. absurd (cc (h, w)) }
-emitted_entry_is_entering m (Entry p Writing x) b o a v l h = record { answer = x; does = cc h; version = cc h; left = λ w. cc h }
-emitted_entry_is_entering m (Exit p c) b o a v l h = absurd (cc h)
-emitted_entry_is_entering m (Load p j) b o a v l h = absurd (cc h)
-emitted_entry_is_entering m (Store p j w) b o a v l h = absurd (cc h)
+emitted_entry_is_entering m (TryFailed _) b o a v l h = absurd (cc h)
+emitted_entry_is_entering m (Replied k x) b o a v l h = absurd (cc h)
+emitted_entry_is_entering m (Entered p Reading x) b o a v l h = record { answer = x; does = cc h; version = cc h; left = λ w. absurd (cc (h, w)) }
+emitted_entry_is_entering m (Entered p Writing x) b o a v l h = record { answer = x; does = cc h; version = cc h; left = λ w. cc h }
+emitted_entry_is_entering m (Left p c) b o a v l h = absurd (cc h)
+emitted_entry_is_entering m (Got p j) b o a v l h = absurd (cc h)
+emitted_entry_is_entering m (Stored p j w) b o a v l h = absurd (cc h)
 emitted_entry_is_entering m Never b o a v l h = absurd (cc h)

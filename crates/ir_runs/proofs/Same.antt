@@ -2,7 +2,7 @@
 -- the first step of a thread is what the thread asks now
 use Rattle.std.proofs.Common.{◌≡◌, ◌≢◌, ℕ, ◌<◌, ◌≤◌, Bool, true, false, eqb, List, [], ◌∷◌, ◌++◌, length, refl, sym, ap, ◌∙◌, subst, arith, inl, inr, eq-eqb, ne_eqb, append-nil, length-append}
 use Rattle.std.proofs.lemmas.Bool.{cases_eq}
-use Rattle.ir_runs.specs.Machine.{Ask, Act, act_of, Silent, Result, Entry, Refusal, Exit, Load, Store, Never, Machine, Object, Admits, target, emitted, Label, Quiet, Answer, In, Refused, Out, logged}
+use Rattle.ir_runs.specs.Machine.{Ask, Act, act_of, Silent, Replied, Entered, TryFailed, Left, Got, Stored, Never, Machine, Object, Admits, target, emitted, Label, Quiet, Answer, EnteredAt, FailedTry, LeftAt, logged}
 use Rattle.ir_runs.specs.Lawful.{IsLawful}
 use Rattle.ir_runs.specs.declared.access.Access.TheVariants.{Reading, Writing}
 use Rattle.ir_runs.proofs.Tables.{upd_at_other_place}
@@ -54,13 +54,13 @@ logs_of_same_ask_agree m q r r' b b' xs ys zs can can' h = by_act (act_of q r) (
     one : (a : Act) (b b' : Object) (xs ys zs : List Label) → logged (emitted a b) xs ++ ys ≡ logged (emitted a b') zs
         → logged (emitted a b') [] ≡ logged (emitted a b) []
     one Silent b b' xs ys zs h = refl
-    one (Refusal o) b b' xs ys zs h = refl
-    one (Result k v) b b' xs ys zs h = refl
-    one (Entry o Reading v) b b' xs ys zs h = cc h
-    one (Entry o Writing v) b b' xs ys zs h = cc h
-    one (Exit o a) b b' xs ys zs h = refl
-    one (Load o j) b b' xs ys zs h = refl
-    one (Store o j w) b b' xs ys zs h = refl
+    one (TryFailed o) b b' xs ys zs h = refl
+    one (Replied k v) b b' xs ys zs h = refl
+    one (Entered o Reading v) b b' xs ys zs h = cc h
+    one (Entered o Writing v) b b' xs ys zs h = cc h
+    one (Left o a) b b' xs ys zs h = refl
+    one (Got o j) b b' xs ys zs h = refl
+    one (Stored o j w) b b' xs ys zs h = refl
     one Never b b' xs ys zs h = refl
 
     by_act : (a a' : Act) → a ≡ a' → logged (emitted a b) xs ++ ys ≡ logged (emitted a' b') zs → logged (emitted a' b') [] ≡ logged (emitted a b) []
@@ -70,9 +70,9 @@ logs_of_same_ask_agree m q r r' b b' xs ys zs can can' h = by_act (act_of q r) (
 logged_prefix_cancels : (k : Label) (xs ys zs : List Label) → logged k xs ++ ys ≡ logged k zs → xs ++ ys ≡ zs
 logged_prefix_cancels Quiet xs ys zs h = h
 logged_prefix_cancels (Answer i v) xs ys zs h = cc h
-logged_prefix_cancels (In o a v l) xs ys zs h = cc h
-logged_prefix_cancels (Refused o) xs ys zs h = cc h
-logged_prefix_cancels (Out o a v) xs ys zs h = h
+logged_prefix_cancels (EnteredAt o a v l) xs ys zs h = cc h
+logged_prefix_cancels (FailedTry o) xs ys zs h = cc h
+logged_prefix_cancels (LeftAt o a v) xs ys zs h = h
 
 events_prefix_cancels_join_if : {T : Type 0} (b : Bool) (x : T × Label) (xs ys : List (T × Label)) (zs : List Label)
     → events (join_if b x xs) ++ zs ≡ events (join_if b x ys) → events xs ++ zs ≡ events ys

@@ -1,7 +1,7 @@
 -- What follows from where the threads are at the end of a run.
 use Rattle.std.proofs.Common.{◌≡◌, ◌≢◌, ℕ, suc, zero, ◌<◌, List, [], ◌∷◌, refl, inl, inr}
 use Rattle.std.proofs.lemmas.Bool.{cases_lt}
-use Rattle.ir_runs.specs.Machine.{Ask, Private, Env, Enter, Try, Leave, Get, Put, Done, act_of, Machine, Object, target, Admits, emitted, Label, Quiet, Answer, In, Refused, Out, logged, Trace}
+use Rattle.ir_runs.specs.Machine.{Ask, Private, Env, Enter, Try, Leave, Get, Put, Done, act_of, Machine, Object, target, Admits, emitted, Label, Quiet, Answer, EnteredAt, FailedTry, LeftAt, logged, Trace}
 use Rattle.ir_runs.specs.Lawful.{IsLawful}
 use Rattle.ir_runs.specs.declared.access.Access.TheVariants.{Reading, Writing}
 use Rattle.ir_runs.specs.Run.{State, Step, asked, end, IsDone}
@@ -25,33 +25,33 @@ ask_suits_log_if_step_follows m Private r b es can h = tt
 ask_suits_log_if_step_follows m (Env k) r b [] can h = absurd (cc h)
 ask_suits_log_if_step_follows m (Env k) r b (Quiet ∷ es) can h = absurd (cc h)
 ask_suits_log_if_step_follows m (Env k) r b (Answer j v ∷ es) can h = cc h
-ask_suits_log_if_step_follows m (Env k) r b (In p c v l ∷ es) can h = absurd (cc h)
-ask_suits_log_if_step_follows m (Env k) r b (Refused p ∷ es) can h = absurd (cc h)
-ask_suits_log_if_step_follows m (Env k) r b (Out p c v ∷ es) can h = absurd (cc h)
+ask_suits_log_if_step_follows m (Env k) r b (EnteredAt p c v l ∷ es) can h = absurd (cc h)
+ask_suits_log_if_step_follows m (Env k) r b (FailedTry p ∷ es) can h = absurd (cc h)
+ask_suits_log_if_step_follows m (Env k) r b (LeftAt p c v ∷ es) can h = absurd (cc h)
 ask_suits_log_if_step_follows m (Enter o Reading) r b [] can h = absurd (cc h)
 ask_suits_log_if_step_follows m (Enter o Reading) r b (Quiet ∷ es) can h = absurd (cc h)
 ask_suits_log_if_step_follows m (Enter o Reading) r b (Answer j v ∷ es) can h = absurd (cc h)
-ask_suits_log_if_step_follows m (Enter o Reading) r b (In p c v l ∷ es) can h = (cc h, cc h)
-ask_suits_log_if_step_follows m (Enter o Reading) r b (Refused p ∷ es) can h = absurd (cc h)
-ask_suits_log_if_step_follows m (Enter o Reading) r b (Out p c v ∷ es) can h = absurd (cc h)
+ask_suits_log_if_step_follows m (Enter o Reading) r b (EnteredAt p c v l ∷ es) can h = (cc h, cc h)
+ask_suits_log_if_step_follows m (Enter o Reading) r b (FailedTry p ∷ es) can h = absurd (cc h)
+ask_suits_log_if_step_follows m (Enter o Reading) r b (LeftAt p c v ∷ es) can h = absurd (cc h)
 ask_suits_log_if_step_follows m (Enter o Writing) r b [] can h = absurd (cc h)
 ask_suits_log_if_step_follows m (Enter o Writing) r b (Quiet ∷ es) can h = absurd (cc h)
 ask_suits_log_if_step_follows m (Enter o Writing) r b (Answer j v ∷ es) can h = absurd (cc h)
-ask_suits_log_if_step_follows m (Enter o Writing) r b (In p c v l ∷ es) can h = (cc h, cc h)
-ask_suits_log_if_step_follows m (Enter o Writing) r b (Refused p ∷ es) can h = absurd (cc h)
-ask_suits_log_if_step_follows m (Enter o Writing) r b (Out p c v ∷ es) can h = absurd (cc h)
+ask_suits_log_if_step_follows m (Enter o Writing) r b (EnteredAt p c v l ∷ es) can h = (cc h, cc h)
+ask_suits_log_if_step_follows m (Enter o Writing) r b (FailedTry p ∷ es) can h = absurd (cc h)
+ask_suits_log_if_step_follows m (Enter o Writing) r b (LeftAt p c v ∷ es) can h = absurd (cc h)
 ask_suits_log_if_step_follows m (Try o) zero b [] can h = absurd (cc h)
 ask_suits_log_if_step_follows m (Try o) zero b (Quiet ∷ es) can h = absurd (cc h)
 ask_suits_log_if_step_follows m (Try o) zero b (Answer j v ∷ es) can h = absurd (cc h)
-ask_suits_log_if_step_follows m (Try o) zero b (In p c v l ∷ es) can h = absurd (cc h)
-ask_suits_log_if_step_follows m (Try o) zero b (Refused p ∷ es) can h = cc h
-ask_suits_log_if_step_follows m (Try o) zero b (Out p c v ∷ es) can h = absurd (cc h)
+ask_suits_log_if_step_follows m (Try o) zero b (EnteredAt p c v l ∷ es) can h = absurd (cc h)
+ask_suits_log_if_step_follows m (Try o) zero b (FailedTry p ∷ es) can h = cc h
+ask_suits_log_if_step_follows m (Try o) zero b (LeftAt p c v ∷ es) can h = absurd (cc h)
 ask_suits_log_if_step_follows m (Try o) (suc zero) b [] can h = absurd (cc h)
 ask_suits_log_if_step_follows m (Try o) (suc zero) b (Quiet ∷ es) can h = absurd (cc h)
 ask_suits_log_if_step_follows m (Try o) (suc zero) b (Answer j v ∷ es) can h = absurd (cc h)
-ask_suits_log_if_step_follows m (Try o) (suc zero) b (In p c v l ∷ es) can h = (cc h, cc h)
-ask_suits_log_if_step_follows m (Try o) (suc zero) b (Refused p ∷ es) can h = absurd (cc h)
-ask_suits_log_if_step_follows m (Try o) (suc zero) b (Out p c v ∷ es) can h = absurd (cc h)
+ask_suits_log_if_step_follows m (Try o) (suc zero) b (EnteredAt p c v l ∷ es) can h = (cc h, cc h)
+ask_suits_log_if_step_follows m (Try o) (suc zero) b (FailedTry p ∷ es) can h = absurd (cc h)
+ask_suits_log_if_step_follows m (Try o) (suc zero) b (LeftAt p c v ∷ es) can h = absurd (cc h)
 ask_suits_log_if_step_follows m (Try o) (suc (suc r)) b es can h = absurd can
 ask_suits_log_if_step_follows m (Leave o a) r b es can h = tt
 ask_suits_log_if_step_follows m (Get o i) r b es can h = tt

@@ -2,7 +2,7 @@
 use Rattle.std.proofs.Common.{◌≡◌, ◌≢◌, ℕ, Option, Some, None, refl, sym, arith}
 use Rattle.std.proofs.Math.Path.{fun_ext}
 use Rattle.std.proofs.lemmas.Bool.Decides.{nat_tests}
-use Rattle.ir_runs.specs.Machine.{Act, Silent, Result, Entry, Refusal, Exit, Load, Store, Never, Machine, upd, Object, Admits, acted, reply, emitted}
+use Rattle.ir_runs.specs.Machine.{Act, Silent, Replied, Entered, TryFailed, Left, Got, Stored, Never, Machine, upd, Object, Admits, acted, reply, emitted}
 use Rattle.ir_runs.specs.declared.access.Access.{Access}
 use Rattle.ir_runs.specs.declared.access.Access.TheVariants.{Reading, Writing}
 use Rattle.ir_runs.proofs.Good.{Exclusive, InsideForAct}
@@ -17,14 +17,14 @@ upd_twice_is_last_upd f i v w = fun_ext (λ k. grind (arith, nat_tests))
 
 -- the two asks can't both be met: both enter, and one for writing
 abbrev pub Clash : Act → Act → Type 0
-Clash (Entry o Writing ans) (Entry p a ans') = Unit {0}
-Clash (Entry o Reading ans) (Entry p Writing ans') = Unit {0}
-Clash (Entry o Reading ans) (Entry p Reading ans') = ⊥
-Clash (Entry o a ans) _ = ⊥
+Clash (Entered o Writing ans) (Entered p a ans') = Unit {0}
+Clash (Entered o Reading ans) (Entered p Writing ans') = Unit {0}
+Clash (Entered o Reading ans) (Entered p Reading ans') = ⊥
+Clash (Entered o a ans) _ = ⊥
 Clash _ _ = ⊥
 
 abbrev pub IsEntry : Act → Type 0
-IsEntry (Entry o a ans) = Unit {0}
+IsEntry (Entered o a ans) = Unit {0}
 IsEntry _ = ⊥
 
 -- The step of u, which asks q, is what it was once f changed the object, and the order makes no difference.
@@ -42,24 +42,24 @@ act_commutes_with_no_change m b u q h = record { admits = h; emitted_same = refl
 act_commutes_if_not_inside : {T : Type 0} (m : Machine T) (b : Object) (f : Object → Object) (u : ℕ) (q : Act) → b.inside u ≡ None → InsideForAct q (b.inside u)
     → Admits m q b → (IsEntry q → ⊥) → Commutes m b f u q
 act_commutes_if_not_inside m b f u Silent none i h free = record { admits = tt; emitted_same = refl; reply_same = refl; order = refl }
-act_commutes_if_not_inside m b f u (Refusal _) none i h free = record { admits = tt; emitted_same = refl; reply_same = refl; order = refl }
-act_commutes_if_not_inside m b f u (Result k res) none i h free = record { admits = h; emitted_same = refl; reply_same = refl; order = refl }
-act_commutes_if_not_inside m b f u (Entry o a ans) none i h free = absurd (free tt)
-act_commutes_if_not_inside m b f u (Exit o a) none i h free = absurd (cc (none, i))
-act_commutes_if_not_inside m b f u (Load o j) none i h free = absurd (i none)
-act_commutes_if_not_inside m b f u (Store o j w) none i h free = absurd (cc (none, i))
+act_commutes_if_not_inside m b f u (TryFailed _) none i h free = record { admits = tt; emitted_same = refl; reply_same = refl; order = refl }
+act_commutes_if_not_inside m b f u (Replied k res) none i h free = record { admits = h; emitted_same = refl; reply_same = refl; order = refl }
+act_commutes_if_not_inside m b f u (Entered o a ans) none i h free = absurd (free tt)
+act_commutes_if_not_inside m b f u (Left o a) none i h free = absurd (cc (none, i))
+act_commutes_if_not_inside m b f u (Got o j) none i h free = absurd (i none)
+act_commutes_if_not_inside m b f u (Stored o j w) none i h free = absurd (cc (none, i))
 act_commutes_if_not_inside m b f u Never none i h free = absurd h
 
 -- no entry is admitted while another writes
 no_entry_while_other_writes : {T : Type 0} (m : Machine T) (b : Object) (t : ℕ) (q : Act) → b.inside t ≡ Some Writing → Admits m q b → IsEntry q → ⊥
-no_entry_while_other_writes m b t (Entry o Reading ans) w h _ = h t w
-no_entry_while_other_writes m b t (Entry o Writing ans) w h _ = cc (w, h t)
+no_entry_while_other_writes m b t (Entered o Reading ans) w h _ = h t w
+no_entry_while_other_writes m b t (Entered o Writing ans) w h _ = cc (w, h t)
 no_entry_while_other_writes m b t Silent w h e = e
-no_entry_while_other_writes m b t (Refusal _) w h e = e
-no_entry_while_other_writes m b t (Result k res) w h e = e
-no_entry_while_other_writes m b t (Exit o a) w h e = e
-no_entry_while_other_writes m b t (Load o j) w h e = e
-no_entry_while_other_writes m b t (Store o j v) w h e = e
+no_entry_while_other_writes m b t (TryFailed _) w h e = e
+no_entry_while_other_writes m b t (Replied k res) w h e = e
+no_entry_while_other_writes m b t (Left o a) w h e = e
+no_entry_while_other_writes m b t (Got o j) w h e = e
+no_entry_while_other_writes m b t (Stored o j v) w h e = e
 no_entry_while_other_writes m b t Never w h e = e
 
 objects_equal_if_parts_equal : (b c : Object) → b.version ≡ c.version → b.left ≡ c.left → b.inside ≡ c.inside → b.words ≡ c.words → b ≡ c
@@ -79,33 +79,33 @@ no_writer_after_leave b t h u = grind (arith, nat_tests, h u)
 pub acts_commute_unless_clash : {T : Type 0} (m : Machine T) (b : Object) (ex : Exclusive b) (t u : ℕ) → t ≢ u → (q q' : Act) → InsideForAct q (b.inside t)
     → InsideForAct q' (b.inside u) → Admits m q b → Admits m q' b → (Clash q q' → ⊥) → Commutes m b (acted q t) u q'
 acts_commute_unless_clash m b ex t u ne Silent q' i i' h h' free = act_commutes_with_no_change m b u q' h'
-acts_commute_unless_clash m b ex t u ne (Refusal _) q' i i' h h' free = act_commutes_with_no_change m b u q' h'
-acts_commute_unless_clash m b ex t u ne (Result k res) q' i i' h h' free = act_commutes_with_no_change m b u q' h'
-acts_commute_unless_clash m b ex t u ne (Load o j) q' i i' h h' free = act_commutes_with_no_change m b u q' h'
+acts_commute_unless_clash m b ex t u ne (TryFailed _) q' i i' h h' free = act_commutes_with_no_change m b u q' h'
+acts_commute_unless_clash m b ex t u ne (Replied k res) q' i i' h h' free = act_commutes_with_no_change m b u q' h'
+acts_commute_unless_clash m b ex t u ne (Got o j) q' i i' h h' free = act_commutes_with_no_change m b u q' h'
 acts_commute_unless_clash m b ex t u ne Never q' i i' h h' free = absurd h
-acts_commute_unless_clash m b ex t u ne (Store o j w) q' i i' h h' free = act_commutes_if_not_inside m b (acted (Store o j w) t) u q' (ex t u ne i) i' h' (no_entry_while_other_writes m b t q' i h')
-acts_commute_unless_clash m b ex t u ne (Exit o Writing) q' i i' h h' free =
-    act_commutes_if_not_inside m b (acted (Exit o Writing) t) u q' (ex t u ne i) i' h' (no_entry_while_other_writes m b t q' i h')
-acts_commute_unless_clash m b ex t u ne (Entry o Writing ans) q' i i' h h' free =
-    act_commutes_if_not_inside m b (acted (Entry o Writing ans) t) u q' (h u) i' h' (entry_clash q' free)
+acts_commute_unless_clash m b ex t u ne (Stored o j w) q' i i' h h' free = act_commutes_if_not_inside m b (acted (Stored o j w) t) u q' (ex t u ne i) i' h' (no_entry_while_other_writes m b t q' i h')
+acts_commute_unless_clash m b ex t u ne (Left o Writing) q' i i' h h' free =
+    act_commutes_if_not_inside m b (acted (Left o Writing) t) u q' (ex t u ne i) i' h' (no_entry_while_other_writes m b t q' i h')
+acts_commute_unless_clash m b ex t u ne (Entered o Writing ans) q' i i' h h' free =
+    act_commutes_if_not_inside m b (acted (Entered o Writing ans) t) u q' (h u) i' h' (entry_clash q' free)
   where
-    entry_clash : (q' : Act) → (Clash (Entry o Writing ans) q' → ⊥) → IsEntry q' → ⊥
-    entry_clash (Entry p a ans') free e = free tt
+    entry_clash : (q' : Act) → (Clash (Entered o Writing ans) q' → ⊥) → IsEntry q' → ⊥
+    entry_clash (Entered p a ans') free e = free tt
     entry_clash Silent free e = e
-    entry_clash (Refusal _) free e = e
-    entry_clash (Result k res) free e = e
-    entry_clash (Exit o a) free e = e
-    entry_clash (Load o j) free e = e
-    entry_clash (Store o j v) free e = e
+    entry_clash (TryFailed _) free e = e
+    entry_clash (Replied k res) free e = e
+    entry_clash (Left o a) free e = e
+    entry_clash (Got o j) free e = e
+    entry_clash (Stored o j v) free e = e
     entry_clash Never free e = e
-acts_commute_unless_clash m b ex t u ne (Entry o Reading ans) q' i i' h h' free = enter_read q' i' h' free
+acts_commute_unless_clash m b ex t u ne (Entered o Reading ans) q' i i' h h' free = enter_read q' i' h' free
   where
-    enter_read : (q' : Act) → InsideForAct q' (b.inside u) → Admits m q' b → (Clash (Entry o Reading ans) q' → ⊥)
-        → Commutes m b (acted (Entry o Reading ans) t) u q'
+    enter_read : (q' : Act) → InsideForAct q' (b.inside u) → Admits m q' b → (Clash (Entered o Reading ans) q' → ⊥)
+        → Commutes m b (acted (Entered o Reading ans) t) u q'
     enter_read Silent i' h' free = record { admits = tt; emitted_same = refl; reply_same = refl; order = refl }
-    enter_read (Refusal _) i' h' free = record { admits = tt; emitted_same = refl; reply_same = refl; order = refl }
-    enter_read (Result k res) i' h' free = record { admits = h'; emitted_same = refl; reply_same = refl; order = refl }
-    enter_read (Entry p Reading ans') i' h' free =
+    enter_read (TryFailed _) i' h' free = record { admits = tt; emitted_same = refl; reply_same = refl; order = refl }
+    enter_read (Replied k res) i' h' free = record { admits = h'; emitted_same = refl; reply_same = refl; order = refl }
+    enter_read (Entered p Reading ans') i' h' free =
         record {
           admits = no_writer_after_reading_entry b t h';
           emitted_same = refl;
@@ -113,40 +113,40 @@ acts_commute_unless_clash m b ex t u ne (Entry o Reading ans) q' i i' h h' free 
           order =
               objects_equal_if_parts_equal _ _ refl refl (upd_at_different_places_commutes b.inside t u _ _ ne) refl;
         }
-    enter_read (Entry p Writing ans') i' h' free = absurd (free tt)
-    enter_read (Exit p Reading) i' h' free = record {
+    enter_read (Entered p Writing ans') i' h' free = absurd (free tt)
+    enter_read (Left p Reading) i' h' free = record {
       admits = tt;
       emitted_same = refl;
       reply_same = refl;
       order =
           objects_equal_if_parts_equal _ _ refl refl (upd_at_different_places_commutes b.inside t u _ _ ne) refl;
     }
-    enter_read (Exit p Writing) i' h' free = absurd (h u i')
-    enter_read (Load p j) i' h' free = record { admits = tt; emitted_same = refl; reply_same = refl; order = refl }
-    enter_read (Store p j w) i' h' free = absurd (h u i')
+    enter_read (Left p Writing) i' h' free = absurd (h u i')
+    enter_read (Got p j) i' h' free = record { admits = tt; emitted_same = refl; reply_same = refl; order = refl }
+    enter_read (Stored p j w) i' h' free = absurd (h u i')
     enter_read Never i' h' free = absurd h'
-acts_commute_unless_clash m b ex t u ne (Exit o Reading) q' i i' h h' free = leave_read q' i' h'
+acts_commute_unless_clash m b ex t u ne (Left o Reading) q' i i' h h' free = leave_read q' i' h'
   where
-    leave_read : (q' : Act) → InsideForAct q' (b.inside u) → Admits m q' b → Commutes m b (acted (Exit o Reading) t) u q'
+    leave_read : (q' : Act) → InsideForAct q' (b.inside u) → Admits m q' b → Commutes m b (acted (Left o Reading) t) u q'
     leave_read Silent i' h' = record { admits = tt; emitted_same = refl; reply_same = refl; order = refl }
-    leave_read (Refusal _) i' h' = record { admits = tt; emitted_same = refl; reply_same = refl; order = refl }
-    leave_read (Result k res) i' h' = record { admits = h'; emitted_same = refl; reply_same = refl; order = refl }
-    leave_read (Entry p Reading ans') i' h' = record {
+    leave_read (TryFailed _) i' h' = record { admits = tt; emitted_same = refl; reply_same = refl; order = refl }
+    leave_read (Replied k res) i' h' = record { admits = h'; emitted_same = refl; reply_same = refl; order = refl }
+    leave_read (Entered p Reading ans') i' h' = record {
       admits = no_writer_after_leave b t h';
       emitted_same = refl;
       reply_same = refl;
       order =
           objects_equal_if_parts_equal _ _ refl refl (upd_at_different_places_commutes b.inside t u _ _ ne) refl;
     }
-    leave_read (Entry p Writing ans') i' h' = absurd (cc (i, h' t))
-    leave_read (Exit p Reading) i' h' = record {
+    leave_read (Entered p Writing ans') i' h' = absurd (cc (i, h' t))
+    leave_read (Left p Reading) i' h' = record {
       admits = tt;
       emitted_same = refl;
       reply_same = refl;
       order =
           objects_equal_if_parts_equal _ _ refl refl (upd_at_different_places_commutes b.inside t u _ _ ne) refl;
     }
-    leave_read (Exit p Writing) i' h' = absurd (cc (ex u t (λ e. ne (sym e)) i', i))
-    leave_read (Load p j) i' h' = record { admits = tt; emitted_same = refl; reply_same = refl; order = refl }
-    leave_read (Store p j w) i' h' = absurd (cc (ex u t (λ e. ne (sym e)) i', i))
+    leave_read (Left p Writing) i' h' = absurd (cc (ex u t (λ e. ne (sym e)) i', i))
+    leave_read (Got p j) i' h' = record { admits = tt; emitted_same = refl; reply_same = refl; order = refl }
+    leave_read (Stored p j w) i' h' = absurd (cc (ex u t (λ e. ne (sym e)) i', i))
     leave_read Never i' h' = absurd h'

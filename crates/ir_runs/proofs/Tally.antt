@@ -1,7 +1,7 @@
 -- How many have entered an object for reading at its version.
 use Rattle.std.proofs.Common.{◌≡◌, ◌≢◌, ℕ, suc, zero, ◌+◌, ◌<◌, ◌≤◌, Bool, true, false, cond, eqb, Option, Some, None, refl, sym, ap, ◌∙◌, subst, arith, inl, inr, eq-eqb, ne_eqb}
 use Rattle.std.proofs.lemmas.Bool.{cases_eq}
-use Rattle.ir_runs.specs.Machine.{Act, Silent, Result, Entry, Refusal, Exit, Load, Store, Never, Machine, upd, Object, target, Admits, acted, emitted, Label, In}
+use Rattle.ir_runs.specs.Machine.{Act, Silent, Replied, Entered, TryFailed, Left, Got, Stored, Never, Machine, upd, Object, target, Admits, acted, emitted, Label, EnteredAt}
 use Rattle.ir_runs.specs.Lawful.{IsLawful}
 use Rattle.ir_runs.specs.declared.access.Access.{Access}
 use Rattle.ir_runs.specs.declared.access.Access.TheVariants.{Reading, Writing}
@@ -61,7 +61,7 @@ sum_below_with_zero_added n t f = sum_below_of_equal_functions n _ _ (λ u _. no
     none true k = let g : k ≡ k + 0 = omega arith in g
     none false k = let g : k ≡ k + 0 = omega arith in g
 
-reads_one_of_own_entry : (o v : ℕ) → reads_one o v (In o Reading v 0) ≡ 1
+reads_one_of_own_entry : (o v : ℕ) → reads_one o v (EnteredAt o Reading v 0) ≡ 1
 reads_one_of_own_entry o v = ap (λ b. cond b (cond (eqb v v) 1 0) 0) (eq-eqb o o refl) ∙ ap (λ b. cond b 1 0) (eq-eqb v v refl)
 
 sum_below_with_one_added : (n t : ℕ) (f : ℕ → ℕ) (k : ℕ) → t < n → k ≡ 1 → sum_below n (λ u. f u + cond (eqb u t) k 0) ≡ suc (sum_below n f)
@@ -92,21 +92,21 @@ left_and_inside_balance_reads_after_act : {T : Type 0} (m : Machine T) (n t : �
     → (acted q t b).left + readers_inside n (acted q t b) ≡ sum_below n
     (λ u. f (acted q t b).version u + counted_read (target q) (acted q t b).version (emitted q b) t u)
 left_and_inside_balance_reads_after_act m n t Silent b l ex i h f bal later = bal ∙ sum_below_with_zero_added n t (f b.version)
-left_and_inside_balance_reads_after_act m n t (Refusal _) b l ex i h f bal later = bal ∙ sum_below_with_zero_added n t (f b.version)
-left_and_inside_balance_reads_after_act m n t (Result k res) b l ex i h f bal later = bal ∙ sum_below_with_zero_added n t (f b.version)
-left_and_inside_balance_reads_after_act m n t (Entry o Reading ans) b l ex i h f bal later =
+left_and_inside_balance_reads_after_act m n t (TryFailed _) b l ex i h f bal later = bal ∙ sum_below_with_zero_added n t (f b.version)
+left_and_inside_balance_reads_after_act m n t (Replied k res) b l ex i h f bal later = bal ∙ sum_below_with_zero_added n t (f b.version)
+left_and_inside_balance_reads_after_act m n t (Entered o Reading ans) b l ex i h f bal later =
     omega (
       arith,
       bal,
       readers_inside_after_entry n t b l i,
-      sum_below_with_one_added n t (f b.version) (reads_one o b.version (In o Reading b.version 0)) l
+      sum_below_with_one_added n t (f b.version) (reads_one o b.version (EnteredAt o Reading b.version 0)) l
           (reads_one_of_own_entry o b.version),
     )
-left_and_inside_balance_reads_after_act m n t (Entry o Writing ans) b l ex i h f bal later =
+left_and_inside_balance_reads_after_act m n t (Entered o Writing ans) b l ex i h f bal later =
     ap (λ z. b.left + z) (sum_below_of_equal_functions n _ _ (λ u _. property_of_upd_by_cases b.inside t (Some Writing) u (λ z. one_if_reader z ≡ one_if_reader (b.inside u))
     (λ e. ap one_if_reader (sym (h u))) (λ _. refl))) ∙ bal ∙ sum_below_with_zero_added n t (f b.version)
-left_and_inside_balance_reads_after_act m n t (Exit o Reading) b l ex i h f bal later = omega (arith, bal, readers_inside_before_leave n t b l i, sum_below_with_zero_added n t (f b.version))
-left_and_inside_balance_reads_after_act m n t (Exit o Writing) b l ex i h f bal later =
+left_and_inside_balance_reads_after_act m n t (Left o Reading) b l ex i h f bal later = omega (arith, bal, readers_inside_before_leave n t b l i, sum_below_with_zero_added n t (f b.version))
+left_and_inside_balance_reads_after_act m n t (Left o Writing) b l ex i h f bal later =
     omega (
       arith,
       sum_below_of_zeros n (λ u. one_if_reader (upd b.inside t None u))
@@ -115,47 +115,47 @@ left_and_inside_balance_reads_after_act m n t (Exit o Writing) b l ex i h f bal 
           (f (suc b.version)),
       sum_below_of_zeros n (f (suc b.version)) (λ u _. later (suc b.version) u (omega arith)),
     )
-left_and_inside_balance_reads_after_act m n t (Load o j) b l ex i h f bal later = bal ∙ sum_below_with_zero_added n t (f b.version)
-left_and_inside_balance_reads_after_act m n t (Store o j w) b l ex i h f bal later = bal ∙ sum_below_with_zero_added n t (f b.version)
+left_and_inside_balance_reads_after_act m n t (Got o j) b l ex i h f bal later = bal ∙ sum_below_with_zero_added n t (f b.version)
+left_and_inside_balance_reads_after_act m n t (Stored o j w) b l ex i h f bal later = bal ∙ sum_below_with_zero_added n t (f b.version)
 left_and_inside_balance_reads_after_act m n t Never b l ex i h f bal later = absurd h
 
 -- what is emitted is of the object that is asked about, at its version
 no_read_emitted_of_other_object : (q : Act) (b : Object) (o v : ℕ) → o ≢ target q → reads_one o v (emitted q b) ≡ 0
 no_read_emitted_of_other_object Silent b o v ne = refl
-no_read_emitted_of_other_object (Refusal _) b o v ne = refl
-no_read_emitted_of_other_object (Result k res) b o v ne = refl
-no_read_emitted_of_other_object (Entry p Reading ans') b o v ne = ap (λ z. cond z (cond (eqb b.version v) 1 0) 0) (ne_eqb p o (λ e. ne (sym e)))
-no_read_emitted_of_other_object (Entry p Writing ans') b o v ne = refl
-no_read_emitted_of_other_object (Exit p a) b o v ne = refl
-no_read_emitted_of_other_object (Load p j) b o v ne = refl
-no_read_emitted_of_other_object (Store p j w) b o v ne = refl
+no_read_emitted_of_other_object (TryFailed _) b o v ne = refl
+no_read_emitted_of_other_object (Replied k res) b o v ne = refl
+no_read_emitted_of_other_object (Entered p Reading ans') b o v ne = ap (λ z. cond z (cond (eqb b.version v) 1 0) 0) (ne_eqb p o (λ e. ne (sym e)))
+no_read_emitted_of_other_object (Entered p Writing ans') b o v ne = refl
+no_read_emitted_of_other_object (Left p a) b o v ne = refl
+no_read_emitted_of_other_object (Got p j) b o v ne = refl
+no_read_emitted_of_other_object (Stored p j w) b o v ne = refl
 no_read_emitted_of_other_object Never b o v ne = refl
 
 no_read_emitted_of_later_version : (q : Act) (b : Object) (o v : ℕ) → b.version < v → reads_one o v (emitted q b) ≡ 0
 no_read_emitted_of_later_version Silent b o v l = refl
-no_read_emitted_of_later_version (Refusal _) b o v l = refl
-no_read_emitted_of_later_version (Result k res) b o v l = refl
-no_read_emitted_of_later_version (Entry p Reading ans') b o v l = ap (λ z. cond (eqb p o) (cond z 1 0) 0) (ne_eqb b.version v (λ e. omega arith))
+no_read_emitted_of_later_version (TryFailed _) b o v l = refl
+no_read_emitted_of_later_version (Replied k res) b o v l = refl
+no_read_emitted_of_later_version (Entered p Reading ans') b o v l = ap (λ z. cond (eqb p o) (cond z 1 0) 0) (ne_eqb b.version v (λ e. omega arith))
     ∙ zeros (eqb p o)
   where
     zeros : (b : Bool) → ◌≡◌ {A = ℕ} (cond b 0 0) 0
     zeros true = refl
     zeros false = refl
-no_read_emitted_of_later_version (Entry p Writing ans') b o v l = refl
-no_read_emitted_of_later_version (Exit p a) b o v l = refl
-no_read_emitted_of_later_version (Load p j) b o v l = refl
-no_read_emitted_of_later_version (Store p j w) b o v l = refl
+no_read_emitted_of_later_version (Entered p Writing ans') b o v l = refl
+no_read_emitted_of_later_version (Left p a) b o v l = refl
+no_read_emitted_of_later_version (Got p j) b o v l = refl
+no_read_emitted_of_later_version (Stored p j w) b o v l = refl
 no_read_emitted_of_later_version Never b o v l = refl
 
 act_does_not_lower_version : (q : Act) (t : ℕ) (b : Object) → b.version ≤ (acted q t b).version
 act_does_not_lower_version Silent t b = omega arith
-act_does_not_lower_version (Refusal _) t b = omega arith
-act_does_not_lower_version (Result k res) t b = omega arith
-act_does_not_lower_version (Entry o a ans) t b = omega arith
-act_does_not_lower_version (Exit o Reading) t b = omega arith
-act_does_not_lower_version (Exit o Writing) t b = omega arith
-act_does_not_lower_version (Load o j) t b = omega arith
-act_does_not_lower_version (Store o j w) t b = omega arith
+act_does_not_lower_version (TryFailed _) t b = omega arith
+act_does_not_lower_version (Replied k res) t b = omega arith
+act_does_not_lower_version (Entered o a ans) t b = omega arith
+act_does_not_lower_version (Left o Reading) t b = omega arith
+act_does_not_lower_version (Left o Writing) t b = omega arith
+act_does_not_lower_version (Got o j) t b = omega arith
+act_does_not_lower_version (Stored o j w) t b = omega arith
 act_does_not_lower_version Never t b = omega arith
 
 count_zero_if_both_zero : (c k : ℕ) (b : Bool) → c ≡ 0 → k ≡ 0 → c + cond b k 0 ≡ 0

@@ -2,19 +2,19 @@
 use Rattle.std.specs.Prelude.{◌≡◌, ◌≢◌, ℕ, suc, ◌≤◌, Option, Some, None, length, List, [], ◌∷◌}
 use Rattle.ir_runs.specs.declared.access.Access.{Access}
 use Rattle.ir_runs.specs.declared.access.Access.TheVariants.{Writing}
-use Rattle.ir_runs.specs.Machine.{Ask, Private, Env, Enter, Try, Leave, Get, Put, Done, Act, Silent, Result, Entry, Refusal, Exit, Load, Store, Never, act_of, Machine, upd, Label, logged}
+use Rattle.ir_runs.specs.Machine.{Ask, Private, Env, Enter, Try, Leave, Get, Put, Done, Act, Silent, Replied, Entered, TryFailed, Left, Got, Stored, Never, act_of, Machine, upd, Label, logged}
 use Rattle.ir_runs.specs.Run.{events}
 use Rattle.ir_runs.specs.Verdicts.{Check}
 
 -- what is held after an act
 abbrev pub held_after : Act → (ℕ → Option Access) → ℕ → Option Access
 held_after Silent h o = h o
-held_after (Result k v) h o = h o
-held_after (Entry i a v) h o = upd h i (Some a) o
-held_after (Refusal i) h o = h o
-held_after (Exit i a) h o = upd h i None o
-held_after (Load i j) h o = h o
-held_after (Store i j w) h o = h o
+held_after (Replied k v) h o = h o
+held_after (Entered i a v) h o = upd h i (Some a) o
+held_after (TryFailed i) h o = h o
+held_after (Left i a) h o = upd h i None o
+held_after (Got i j) h o = h o
+held_after (Stored i j w) h o = h o
 held_after Never h o = h o
 
 -- what the asks say of the objects that are held

@@ -18,24 +18,24 @@ pub data Ask : Type 0 where
 -- what a step does: an ask, and the result of the step where it has one
 pub data Act : Type 0 where
   Silent : Act
-  Result : (kind : EnvKind) → (value : ℕ) → Act
-  Entry : (object : ℕ) → (access : Access) → (answer : ℕ) → Act
-  Refusal : (object : ℕ) → Act
-  Exit : (object : ℕ) → (access : Access) → Act
-  Load : (object index : ℕ) → Act
-  Store : (object index value : ℕ) → Act
+  Replied : (kind : EnvKind) → (value : ℕ) → Act
+  Entered : (object : ℕ) → (access : Access) → (answer : ℕ) → Act
+  TryFailed : (object : ℕ) → Act
+  Left : (object : ℕ) → (access : Access) → Act
+  Got : (object index : ℕ) → Act
+  Stored : (object index value : ℕ) → Act
   Never : Act
 
 -- what a step with this result does; a try with 1 is an entry for writing, with 0 a refused try, and there is no other
 abbrev pub act_of : Ask → ℕ → Act
 act_of Private r = Silent
-act_of (Env k) r = Result k r
-act_of (Enter o a) r = Entry o a 0
-act_of (Try o) zero = Refusal o
-act_of (Try o) (suc zero) = Entry o Writing 1
-act_of (Leave o a) r = Exit o a
-act_of (Get o i) r = Load o i
-act_of (Put o i w) r = Store o i w
+act_of (Env k) r = Replied k r
+act_of (Enter o a) r = Entered o a 0
+act_of (Try o) zero = TryFailed o
+act_of (Try o) (suc zero) = Entered o Writing 1
+act_of (Leave o a) r = Left o a
+act_of (Get o i) r = Got o i
+act_of (Put o i w) r = Stored o i w
 act_of q r = Never
 
 -- what a thread does, T being the thread's state
@@ -69,56 +69,56 @@ pub record Object : Type 0 where
 
 -- the object that an act enters, leaves, reads or writes; any other act has object 0, which it doesn't change
 abbrev pub target : Act → ℕ
-target (Entry o a v) = o
-target (Exit o a) = o
-target (Load o i) = o
-target (Store o i w) = o
+target (Entered o a v) = o
+target (Left o a) = o
+target (Got o i) = o
+target (Stored o i w) = o
 target q = 0
 
 -- whether the act can be taken now: a reader waits while a writer is inside, a writer while anyone is, and a result suits its call
 abbrev pub Admits : {T : Type 0} → Machine T → Act → Object → Type 0
-Admits m (Result k v) b = m.fits k v ≡ true
-Admits m (Entry o Reading v) b = (u : ℕ) → b.inside u ≢ Some Writing
-Admits m (Entry o Writing v) b = (u : ℕ) → b.inside u ≡ None
+Admits m (Replied k v) b = m.fits k v ≡ true
+Admits m (Entered o Reading v) b = (u : ℕ) → b.inside u ≢ Some Writing
+Admits m (Entered o Writing v) b = (u : ℕ) → b.inside u ≡ None
 Admits m Never b = ⊥
 Admits m q b = Unit {0}
 
 -- the object after the act of thread t: a reader's leave adds 1 to left, a writer's leave makes a new version that no reader has left
 abbrev pub acted : Act → ℕ → Object → Object
-acted (Entry o a v) t b = record b { inside = upd b.inside t (Some a) }
-acted (Exit o Reading) t b = record b { left = suc b.left; inside = upd b.inside t None }
-acted (Exit o Writing) t b = record b { version = suc b.version; left = 0; inside = upd b.inside t None }
-acted (Store o i w) t b = record b { words = upd b.words i w }
+acted (Entered o a v) t b = record b { inside = upd b.inside t (Some a) }
+acted (Left o Reading) t b = record b { left = suc b.left; inside = upd b.inside t None }
+acted (Left o Writing) t b = record b { version = suc b.version; left = 0; inside = upd b.inside t None }
+acted (Stored o i w) t b = record b { words = upd b.words i w }
 acted q t b = b
 
 -- what the thread is answered
 abbrev pub reply : Act → Object → ℕ
-reply (Result k v) b = v
-reply (Entry o a v) b = v
-reply (Load o i) b = b.words i
+reply (Replied k v) b = v
+reply (Entered o a v) b = v
+reply (Got o i) b = b.words i
 reply q b = 0
 
 -- what a step emits: nothing, the result of a call of the environment, an entry, a refused try, or a leave
 pub data Label : Type 0 where
   Quiet : Label
   Answer : (kind : EnvKind) → (value : ℕ) → Label
-  In : (object : ℕ) → (access : Access) → (version left : ℕ) → Label
-  Refused : (object : ℕ) → Label
-  Out : (object : ℕ) → (access : Access) → (version : ℕ) → Label
+  EnteredAt : (object : ℕ) → (access : Access) → (version left : ℕ) → Label
+  FailedTry : (object : ℕ) → Label
+  LeftAt : (object : ℕ) → (access : Access) → (version : ℕ) → Label
 
 -- what the act emits: an entry emits the version that it finds and, for writing, how many readers have left it
 abbrev pub emitted : Act → Object → Label
-emitted (Result k v) b = Answer k v
-emitted (Entry o Reading v) b = In o Reading b.version 0
-emitted (Entry o Writing v) b = In o Writing b.version b.left
-emitted (Refusal o) b = Refused o
-emitted (Exit o a) b = Out o a b.version
+emitted (Replied k v) b = Answer k v
+emitted (Entered o Reading v) b = EnteredAt o Reading b.version 0
+emitted (Entered o Writing v) b = EnteredAt o Writing b.version b.left
+emitted (TryFailed o) b = FailedTry o
+emitted (Left o a) b = LeftAt o a b.version
 emitted q b = Quiet
 
 -- es, with what is logged of the label before it: results, entries and refused tries
 abbrev pub logged : Label → List Label → List Label
 logged Quiet es = es
-logged (Out o a v) es = es
+logged (LeftAt o a v) es = es
 logged event es = event ∷ es
 
 -- the trace of a run: of each thread how many steps it takes, its log, and its end and code

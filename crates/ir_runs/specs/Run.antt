@@ -1,6 +1,6 @@
 -- Threads and objects, one step at a time: runs, cuts of a run, and rounds over the threads.
 use Rattle.std.specs.Prelude.{◌≡◌, ℕ, zero, suc, Bool, true, false, eqb, List, [], ◌∷◌, length, pred, ◌<◌, ◌≤◌, cond, ltb, ◌++◌}
-use Rattle.ir_runs.specs.Machine.{Ask, Done, Act, act_of, Machine, upd, Object, target, Admits, acted, reply, emitted, Label, logged, In, Out, Try, Trace}
+use Rattle.ir_runs.specs.Machine.{Ask, Done, Act, act_of, Machine, upd, Object, target, Admits, acted, reply, emitted, Label, logged, EnteredAt, LeftAt, Try, Trace}
 use Rattle.ir_runs.specs.declared.access.Access.TheVariants.{Reading, Writing}
 use Rattle.std.specs.List.{range_with_len}
 
@@ -107,9 +107,9 @@ Emits {T} m s run t k l = (x : T) × At (trail m s run t) k (x, l)
 
 -- what emits the second needs what emits the first: an entry the writer's leave that made its version, one for writing each reader's leave too
 abbrev pub IsNeededBy : Label → Label → Type 0
-IsNeededBy (Out o Writing w) (In p a v l) = (o ≡ p) × (v ≡ suc w)
-IsNeededBy (Out o Reading w) (In p Writing v l) = (o ≡ p) × (v ≡ w)
-IsNeededBy (Out o Reading w) _ = ⊥
+IsNeededBy (LeftAt o Writing w) (EnteredAt p a v l) = (o ≡ p) × (v ≡ suc w)
+IsNeededBy (LeftAt o Reading w) (EnteredAt p Writing v l) = (o ≡ p) × (v ≡ w)
+IsNeededBy (LeftAt o Reading w) _ = ⊥
 IsNeededBy _ _ = ⊥
 
 -- a position for each thread

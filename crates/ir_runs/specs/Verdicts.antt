@@ -1,6 +1,6 @@
 -- What is said of the threads of a trace that no run has: which traces are accepted doesn't rest on it. Also the read entries of a log.
 use Rattle.std.specs.Prelude.{◌≡◌, ◌≢◌, ℕ, ◌<◌, ◌≤◌, List, ◌∷◌, Option, length, Some, None, suc, pred, [], ◌++◌, zero, ◌+◌, cond, eqb}
-use Rattle.ir_runs.specs.Machine.{Ask, Env, Enter, Try, Done, Machine, Label, Answer, In, Refused, Trace, Quiet, Out, logged}
+use Rattle.ir_runs.specs.Machine.{Ask, Env, Enter, Try, Done, Machine, Label, Answer, EnteredAt, FailedTry, Trace, Quiet, LeftAt, logged}
 use Rattle.ir_runs.specs.declared.access.Access.TheVariants.{Writing, Reading}
 use Rattle.ir_runs.specs.Run.{State, Step, IsRun, end, trail, log, count}
 use Rattle.ir_runs.specs.declared.thread_verdict.ThreadVerdict.{ThreadVerdict}
@@ -8,7 +8,7 @@ use Rattle.ir_runs.specs.declared.thread_verdict.ThreadVerdict.TheVariants.{Same
 
 -- 1 for a read entry of object o at version v, else 0
 abbrev pub reads_one : ℕ → ℕ → Label → ℕ
-reads_one o v (In p Reading w l) = cond (eqb p o) (cond (eqb w v) 1 0) 0
+reads_one o v (EnteredAt p Reading w l) = cond (eqb p o) (cond (eqb w v) 1 0) 0
 reads_one o v event = 0
 
 -- how many of these are read entries of object o at version v
@@ -28,7 +28,7 @@ Check T = T → ℕ → List Label → Type 0
 -- the log that is left after the label
 abbrev pub unlogged : Label → List Label → List Label
 unlogged Quiet es = es
-unlogged (Out o a v) es = es
+unlogged (LeftAt o a v) es = es
 unlogged event [] = []
 unlogged event (e ∷ es) = es
 
@@ -77,10 +77,10 @@ closing m tr t x n es = Meets (ends_now m x) (tr.ends t) (m.size x) n es
 abbrev pub Suits : Ask → List Label → Type 0
 Suits (Env k) (Answer j v ∷ es) = j ≡ k
 Suits (Env k) _ = ⊥
-Suits (Enter o a) (In p c v l ∷ es) = (p ≡ o) × (c ≡ a)
+Suits (Enter o a) (EnteredAt p c v l ∷ es) = (p ≡ o) × (c ≡ a)
 Suits (Enter o a) _ = ⊥
-Suits (Try o) (In p c v l ∷ es) = (p ≡ o) × (c ≡ Writing)
-Suits (Try o) (Refused p ∷ es) = p ≡ o
+Suits (Try o) (EnteredAt p c v l ∷ es) = (p ≡ o) × (c ≡ Writing)
+Suits (Try o) (FailedTry p ∷ es) = p ≡ o
 Suits (Try o) _ = ⊥
 Suits q es = Unit {0}
 
@@ -92,7 +92,7 @@ Agrees m fin x n es = (0 < n) × Suits (m.ask x) es × Meets (ends_now m x) fin 
 -- an entry, or a try that the trace says got in
 abbrev pub Awaits : Ask → List Label → Type 0
 Awaits (Enter o a) es = Unit {0}
-Awaits (Try o) (In p c v l ∷ es) = Unit {0}
+Awaits (Try o) (EnteredAt p c v l ∷ es) = Unit {0}
 Awaits _ _ = ⊥
 
 -- the verdict on a thread whose state is x, with n steps and the log es left, after i events and k steps; stuck says that no run takes it further

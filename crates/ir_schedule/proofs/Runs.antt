@@ -9,7 +9,7 @@ use Rattle.ir_record.specs.Worlds.{answers_at, AnsweredCall, answers_in, NoneFai
 use Rattle.ir_record.specs.Recording.{order_of_turns}
 use Rattle.ir_record.specs.declared.turns.Turns.{Turns}
 use Rattle.ir_runs.proofs.CallerLemmas.{end_append, log_append, upd_at_other_place}
-use Rattle.ir_runs.specs.Machine.{Label, Quiet, Answer, In, Out, Refused, logged, Machine, Private, Try, act_of, Object, Admits, emitted, target}
+use Rattle.ir_runs.specs.Machine.{Label, Quiet, Answer, EnteredAt, LeftAt, FailedTry, logged, Machine, Private, Try, act_of, Object, Admits, emitted, target}
 use Rattle.ir_runs.specs.Machine as machine
 use Rattle.ir_runs.specs.Run.{State, Step, asked, Can, after, label, IsRun, end, join_if, events, log, EntersIfFree}
 use Rattle.ir_runs.specs.declared.access.Access.TheVariants.{Reading, Writing}
@@ -35,17 +35,17 @@ leads_by_append_of_runs tries m n s c d e (x ∷ run) more h k = (h.0, h.1, lead
 answers_in_logged_is_append : (k : Label) (ys : List Label) → answers_in (logged k ys) ≡ answers_in (logged k []) ++ answers_in ys
 answers_in_logged_is_append Quiet ys = refl
 answers_in_logged_is_append (Answer i v) ys = refl
-answers_in_logged_is_append (In o a v l) ys = refl
-answers_in_logged_is_append (Refused o) ys = refl
-answers_in_logged_is_append (Out o a v) ys = refl
+answers_in_logged_is_append (EnteredAt o a v l) ys = refl
+answers_in_logged_is_append (FailedTry o) ys = refl
+answers_in_logged_is_append (LeftAt o a v) ys = refl
 
 answers_in_append : (xs ys : List Label) → answers_in (xs ++ ys) ≡ answers_in xs ++ answers_in ys
 answers_in_append [] ys = refl
 answers_in_append (Quiet ∷ xs) ys = answers_in_append xs ys
 answers_in_append (Answer i v ∷ xs) ys = ap (λ z. (i, v) ∷ z) (answers_in_append xs ys)
-answers_in_append (In o a v l ∷ xs) ys = answers_in_append xs ys
-answers_in_append (Refused o ∷ xs) ys = answers_in_append xs ys
-answers_in_append (Out o a v ∷ xs) ys = answers_in_append xs ys
+answers_in_append (EnteredAt o a v l ∷ xs) ys = answers_in_append xs ys
+answers_in_append (FailedTry o ∷ xs) ys = answers_in_append xs ys
+answers_in_append (LeftAt o a v ∷ xs) ys = answers_in_append xs ys
 
 -- the same run on the machine and state at which it begins
 log_on_later_machine_is_log_on_first_after_gained_run : (a b : Moment) (first more : List Step) (t : ℕ) → Gained first a b

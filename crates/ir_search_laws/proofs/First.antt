@@ -1,7 +1,7 @@
 -- A step that no other can refuse may come first.
 use Rattle.std.proofs.Common.{◌≡◌, ◌≢◌, ℕ, Bool, true, false, cond, eqb, List, [], ◌∷◌, refl, sym, ap, ◌∙◌, subst, arith, inl, inr, append-nil}
 use Rattle.std.proofs.lemmas.Bool.{cases_eq, eqb-true}
-use Rattle.ir_runs.specs.Machine.{Ask, Private, Env, Enter, Try, Leave, Get, Put, Done, Act, act_of, Result, Entry, Machine, target, emitted}
+use Rattle.ir_runs.specs.Machine.{Ask, Private, Env, Enter, Try, Leave, Get, Put, Done, Act, act_of, Replied, Entered, Machine, target, emitted}
 use Rattle.ir_runs.specs.Lawful.{IsLawful}
 use Rattle.ir_runs.specs.declared.access.Access.TheVariants.{Reading, Writing}
 use Rattle.ir_runs.specs.Run.{State, Step, asked, act, after, label, end, join_if, trail}
@@ -10,9 +10,9 @@ use Rattle.ir_search_laws.specs.Counting.{Answers, IsAnswered, Takes, RunCounts,
 
 -- what clashes with an entry is an entry
 act_clashing_with_entry_is_entry : (q q' : Act) → Clash q q' → IsEntry q'
-act_clashing_with_entry_is_entry (Entry o Writing x) (Entry p a y) c = tt
-act_clashing_with_entry_is_entry (Entry o Reading x) (Entry p Writing y) c = tt
-act_clashing_with_entry_is_entry (Entry o Reading x) (Entry p Reading y) c = tt
+act_clashing_with_entry_is_entry (Entered o Writing x) (Entered p a y) c = tt
+act_clashing_with_entry_is_entry (Entered o Reading x) (Entered p Writing y) c = tt
+act_clashing_with_entry_is_entry (Entered o Reading x) (Entered p Reading y) c = tt
 act_clashing_with_entry_is_entry _ _ c = absurd c
 
 own_act_is_no_entry : (q : Ask) (r : ℕ) → is_own q ≡ true → IsEntry (act_of q r) → ⊥
@@ -28,7 +28,7 @@ own_act_is_no_entry Done r own h = h
 -- such a step does one thing
 pub own_acts_of_answering_results_are_equal : (q : Ask) (answer r r' : ℕ) → is_own q ≡ true → IsAnswered q answer r → IsAnswered q answer r' → act_of q r ≡ act_of q r'
 own_acts_of_answering_results_are_equal Private answer r r' own a b = refl
-own_acts_of_answering_results_are_equal (Env k) answer r r' own a b = ap (Result k) (a ∙ sym b)
+own_acts_of_answering_results_are_equal (Env k) answer r r' own a b = ap (Replied k) (a ∙ sym b)
 own_acts_of_answering_results_are_equal (Enter o a) answer r r' own _ b = absurd (cc own)
 own_acts_of_answering_results_are_equal (Try o) answer r r' own a b = absurd (cc own)
 own_acts_of_answering_results_are_equal (Leave o c) answer r r' own a b = refl

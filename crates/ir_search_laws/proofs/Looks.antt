@@ -1,6 +1,6 @@
 -- No step tells states apart that look the same.
 use Rattle.std.proofs.Common.{Some, None, ◌≡◌, ◌≢◌, ℕ, Bool, true, false, cond, eqb, refl, sym, ap, ◌∙◌, subst}
-use Rattle.ir_runs.specs.Machine.{Ask, Done, Act, act_of, Silent, Result, Entry, Refusal, Exit, Load, Store, Never, Machine, upd, Object, target, Admits, acted, reply}
+use Rattle.ir_runs.specs.Machine.{Ask, Done, Act, act_of, Silent, Replied, Entered, TryFailed, Left, Got, Stored, Never, Machine, upd, Object, target, Admits, acted, reply}
 use Rattle.ir_runs.specs.declared.access.Access.TheVariants.{Reading, Writing}
 use Rattle.ir_runs.specs.Run.{State, Step, asked, act, Can, after, after_act}
 use Rattle.ir_runs.proofs.CallerLemmas.{StateInvariant}
@@ -10,34 +10,34 @@ use Rattle.ir_search_laws.specs.Nodes.{TellsNothing}
 
 admits_if_inside_equal : {T : Type 0} (m : Machine T) (q : Act) (b c : Object) → ((u : ℕ) → b.inside u ≡ c.inside u) → Admits m q b → Admits m q c
 admits_if_inside_equal m Silent b c same h = tt
-admits_if_inside_equal m (Result k v) b c same h = h
-admits_if_inside_equal m (Entry o Reading v) b c same h = λ u e. h u (same u ∙ e)
-admits_if_inside_equal m (Entry o Writing v) b c same h = λ u. sym (same u) ∙ h u
-admits_if_inside_equal m (Refusal o) b c same h = tt
-admits_if_inside_equal m (Exit o a) b c same h = tt
-admits_if_inside_equal m (Load o i) b c same h = tt
-admits_if_inside_equal m (Store o i w) b c same h = tt
+admits_if_inside_equal m (Replied k v) b c same h = h
+admits_if_inside_equal m (Entered o Reading v) b c same h = λ u e. h u (same u ∙ e)
+admits_if_inside_equal m (Entered o Writing v) b c same h = λ u. sym (same u) ∙ h u
+admits_if_inside_equal m (TryFailed o) b c same h = tt
+admits_if_inside_equal m (Left o a) b c same h = tt
+admits_if_inside_equal m (Got o i) b c same h = tt
+admits_if_inside_equal m (Stored o i w) b c same h = tt
 admits_if_inside_equal m Never b c same h = h
 
 reply_equal_if_words_equal : (q : Act) (b c : Object) → b.words ≡ c.words → reply q b ≡ reply q c
 reply_equal_if_words_equal Silent b c same = refl
-reply_equal_if_words_equal (Result k v) b c same = refl
-reply_equal_if_words_equal (Entry o a v) b c same = refl
-reply_equal_if_words_equal (Refusal o) b c same = refl
-reply_equal_if_words_equal (Exit o a) b c same = refl
-reply_equal_if_words_equal (Load o i) b c same = ap (λ w. w i) same
-reply_equal_if_words_equal (Store o i w) b c same = refl
+reply_equal_if_words_equal (Replied k v) b c same = refl
+reply_equal_if_words_equal (Entered o a v) b c same = refl
+reply_equal_if_words_equal (TryFailed o) b c same = refl
+reply_equal_if_words_equal (Left o a) b c same = refl
+reply_equal_if_words_equal (Got o i) b c same = ap (λ w. w i) same
+reply_equal_if_words_equal (Stored o i w) b c same = refl
 reply_equal_if_words_equal Never b c same = refl
 
 acted_words_equal_if_words_equal : (q : Act) (t : ℕ) (b c : Object) → b.words ≡ c.words → (acted q t b).words ≡ (acted q t c).words
 acted_words_equal_if_words_equal Silent t b c same = same
-acted_words_equal_if_words_equal (Result k v) t b c same = same
-acted_words_equal_if_words_equal (Entry o a v) t b c same = same
-acted_words_equal_if_words_equal (Refusal o) t b c same = same
-acted_words_equal_if_words_equal (Exit o Reading) t b c same = same
-acted_words_equal_if_words_equal (Exit o Writing) t b c same = same
-acted_words_equal_if_words_equal (Load o i) t b c same = same
-acted_words_equal_if_words_equal (Store o i w) t b c same = ap (λ z. upd z i w) same
+acted_words_equal_if_words_equal (Replied k v) t b c same = same
+acted_words_equal_if_words_equal (Entered o a v) t b c same = same
+acted_words_equal_if_words_equal (TryFailed o) t b c same = same
+acted_words_equal_if_words_equal (Left o Reading) t b c same = same
+acted_words_equal_if_words_equal (Left o Writing) t b c same = same
+acted_words_equal_if_words_equal (Got o i) t b c same = same
+acted_words_equal_if_words_equal (Stored o i w) t b c same = ap (λ z. upd z i w) same
 acted_words_equal_if_words_equal Never t b c same = same
 
 -- tables that are changed at one place
@@ -52,13 +52,13 @@ updates_are_related_if_tables_and_values_are {A} R f g i x y j h k = by_test (eq
 acted_inside_equal_if_inside_equal : (q : Act) (t : ℕ) (b c : Object) → ((u : ℕ) → b.inside u ≡ c.inside u) → (u : ℕ)
     → (acted q t b).inside u ≡ (acted q t c).inside u
 acted_inside_equal_if_inside_equal Silent t b c same u = same u
-acted_inside_equal_if_inside_equal (Result k v) t b c same u = same u
-acted_inside_equal_if_inside_equal (Entry o a v) t b c same u = updates_are_related_if_tables_and_values_are (λ x y. x ≡ y) b.inside c.inside t (Some a) (Some a) u refl (same u)
-acted_inside_equal_if_inside_equal (Refusal o) t b c same u = same u
-acted_inside_equal_if_inside_equal (Exit o Reading) t b c same u = updates_are_related_if_tables_and_values_are (λ x y. x ≡ y) b.inside c.inside t None None u refl (same u)
-acted_inside_equal_if_inside_equal (Exit o Writing) t b c same u = updates_are_related_if_tables_and_values_are (λ x y. x ≡ y) b.inside c.inside t None None u refl (same u)
-acted_inside_equal_if_inside_equal (Load o i) t b c same u = same u
-acted_inside_equal_if_inside_equal (Store o i w) t b c same u = same u
+acted_inside_equal_if_inside_equal (Replied k v) t b c same u = same u
+acted_inside_equal_if_inside_equal (Entered o a v) t b c same u = updates_are_related_if_tables_and_values_are (λ x y. x ≡ y) b.inside c.inside t (Some a) (Some a) u refl (same u)
+acted_inside_equal_if_inside_equal (TryFailed o) t b c same u = same u
+acted_inside_equal_if_inside_equal (Left o Reading) t b c same u = updates_are_related_if_tables_and_values_are (λ x y. x ≡ y) b.inside c.inside t None None u refl (same u)
+acted_inside_equal_if_inside_equal (Left o Writing) t b c same u = updates_are_related_if_tables_and_values_are (λ x y. x ≡ y) b.inside c.inside t None None u refl (same u)
+acted_inside_equal_if_inside_equal (Got o i) t b c same u = same u
+acted_inside_equal_if_inside_equal (Stored o i w) t b c same u = same u
 acted_inside_equal_if_inside_equal Never t b c same u = same u
 
 admitted_ask_is_not_done : {T : Type 0} (m : Machine T) (q : Ask) (r : ℕ) (b : Object) → Admits m (act_of q r) b → q ≢ Done

@@ -1,7 +1,7 @@
 -- Runs of a machine are runs of its view.
 use Rattle.std.proofs.Common.{◌≡◌, ◌↔◌, ℕ, true, cond, List, [], ◌∷◌, refl, sym, ap, ◌∙◌, subst, inl, inr}
 use Rattle.std.proofs.lemmas.Bool.{cases_eq}
-use Rattle.ir_runs.specs.Machine.{Act, Silent, Result, Entry, Refusal, Exit, Load, Store, Never, act_of, Machine, upd, Object, target, Admits, acted, reply}
+use Rattle.ir_runs.specs.Machine.{Act, Silent, Replied, Entered, TryFailed, Left, Got, Stored, Never, act_of, Machine, upd, Object, target, Admits, acted, reply}
 use Rattle.ir_runs.specs.declared.access.Access.TheVariants.{Reading, Writing}
 use Rattle.ir_runs.specs.Run.{State, Step, asked, act, Can, after_act, after, end}
 use Rattle.ir_runs.proofs.CallerLemmas.{upd_at_own_place, thread_after_step_of_other}
@@ -31,13 +31,13 @@ sourced_machine_spoils_as_machine_does m Live Spoilt given spoils = record {
 -- which acts can be taken goes by which results suit a call alone
 admits_if_fits_functions_equal : {T V : Type 0} (m : Machine T) (w : Machine V) → m.fits ≡ w.fits → (q : Act) (b : Object) → Admits m q b → Admits w q b
 admits_if_fits_functions_equal m w same Silent b h = tt
-admits_if_fits_functions_equal m w same (Result k v) b h = subst (λ f. f k v ≡ true) same h
-admits_if_fits_functions_equal m w same (Entry o Reading v) b h = h
-admits_if_fits_functions_equal m w same (Entry o Writing v) b h = h
-admits_if_fits_functions_equal m w same (Refusal o) b h = tt
-admits_if_fits_functions_equal m w same (Exit o a) b h = tt
-admits_if_fits_functions_equal m w same (Load o i) b h = tt
-admits_if_fits_functions_equal m w same (Store o i x) b h = tt
+admits_if_fits_functions_equal m w same (Replied k v) b h = subst (λ f. f k v ≡ true) same h
+admits_if_fits_functions_equal m w same (Entered o Reading v) b h = h
+admits_if_fits_functions_equal m w same (Entered o Writing v) b h = h
+admits_if_fits_functions_equal m w same (TryFailed o) b h = tt
+admits_if_fits_functions_equal m w same (Left o a) b h = tt
+admits_if_fits_functions_equal m w same (Got o i) b h = tt
+admits_if_fits_functions_equal m w same (Stored o i x) b h = tt
 admits_if_fits_functions_equal m w same Never b h = h
 
 module _ {T V : Type 0} (m : Machine T) (w : Machine V) (view : T → V) (Live : T → Type 0) (is : IsView m w view Live) where

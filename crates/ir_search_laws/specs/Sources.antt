@@ -1,6 +1,6 @@
 -- Threads beside the sources that answer them.
 use Rattle.std.specs.Prelude.{◌≡◌, ℕ, List, [], ◌∷◌}
-use Rattle.ir_runs.specs.Machine.{Ask, Env, Machine, Label, Quiet, Answer, In, Refused, Out}
+use Rattle.ir_runs.specs.Machine.{Ask, Env, Machine, Label, Quiet, Answer, EnteredAt, FailedTry, LeftAt}
 use Rattle.ir_runs.specs.declared.env_kind.EnvKind.{EnvKind}
 use Rattle.ir_runs.specs.Run.{State}
 use Rattle.ir_search_laws.specs.Counting.{Answers}
@@ -43,6 +43,6 @@ abbrev pub Gives : {S : Type 0} → Giving S → S → List Label → Type 0
 Gives given source [] = Unit {0}
 Gives given source (Quiet ∷ es) = Gives given source es
 Gives given source (Answer k v ∷ es) = (v ≡ (given k source).0) × Gives given (given k source).1 es
-Gives given source (In o a v l ∷ es) = Gives given source es
-Gives given source (Refused o ∷ es) = Gives given source es
-Gives given source (Out o a v ∷ es) = Gives given source es
+Gives given source (EnteredAt o a v l ∷ es) = Gives given source es
+Gives given source (FailedTry o ∷ es) = Gives given source es
+Gives given source (LeftAt o a v ∷ es) = Gives given source es

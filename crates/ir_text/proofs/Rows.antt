@@ -3,7 +3,7 @@ use Rattle.std.proofs.Common.{◌≡◌, zero, suc, [], ◌∷◌, refl, Some, N
 use Rattle.std.specs.Prelude.{codes}
 use Rattle.std.specs.Fmt.{digits}
 use Rattle.hex.specs.Hex.{encode_with}
-use Rattle.ir_runs.specs.Machine.{In, Answer, Refused}
+use Rattle.ir_runs.specs.Machine.{EnteredAt, Answer, FailedTry}
 use Rattle.ir_runs.specs.Machine as machine
 use Rattle.ir_runs.specs.declared.access.Access.TheVariants.{Reading, Writing}
 use Rattle.ir_runs.specs.declared.env_kind.EnvKind.TheVariants.{Clock}
@@ -49,15 +49,15 @@ object_text_of_object_with_readers_example : object_text 3 8 object_with_readers
 unfolding inside_for digits encode_with
 object_text_of_object_with_readers_example = refl
 
-log_text_of_one_write_entry_example : log_text (In 0 Writing 1 0 ∷ []) 1 ≡ codes "log 1 of 1\n0 write 0 version 1 readers 0\n"
+log_text_of_one_write_entry_example : log_text (EnteredAt 0 Writing 1 0 ∷ []) 1 ≡ codes "log 1 of 1\n0 write 0 version 1 readers 0\n"
 unfolding event_lines digits encode_with
 log_text_of_one_write_entry_example = refl
 
-log_text_of_read_entry_and_clock_example : log_text (In 3 Reading 5 0 ∷ Answer Clock 4294967295 ∷ []) 9 ≡ codes "log 2 of 9\n0 read 3 version 5\n1 clock 4294967295\n"
+log_text_of_read_entry_and_clock_example : log_text (EnteredAt 3 Reading 5 0 ∷ Answer Clock 4294967295 ∷ []) 9 ≡ codes "log 2 of 9\n0 read 3 version 5\n1 clock 4294967295\n"
 unfolding event_lines digits encode_with
 log_text_of_read_entry_and_clock_example = refl
 
-log_text_of_refused_try_example : log_text (Refused 2 ∷ []) 1 ≡ codes "log 1 of 1\n0 try 2\n"
+log_text_of_refused_try_example : log_text (FailedTry 2 ∷ []) 1 ≡ codes "log 1 of 1\n0 try 2\n"
 unfolding event_lines digits encode_with
 log_text_of_refused_try_example = refl
 

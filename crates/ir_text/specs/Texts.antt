@@ -4,7 +4,7 @@ use Rattle.hex.specs.Hex.{encode_lower}
 use Rattle.ir_image.specs.Guest.{word_at_pc}
 use Rattle.ir_mach.specs.Execution.{byte_at}
 use Rattle.ir_thread.specs.State.{highest, ThreadState}
-use Rattle.ir_runs.specs.Machine.{Label, Answer, In, Refused, Object}
+use Rattle.ir_runs.specs.Machine.{Label, Answer, EnteredAt, FailedTry, Object}
 use Rattle.ir_runs.specs.declared.access.Access.{Access}
 use Rattle.ir_runs.specs.declared.access.Access.TheVariants.{Reading, Writing}
 use Rattle.ir_runs.specs.declared.env_kind.EnvKind.{EnvKind}
@@ -111,10 +111,10 @@ kind_text Input = codes "input"
 -- what is logged of a step; nothing of one that logs nothing
 abbrev pub event_text : Label → List ℕ
 event_text (Answer kind value) = kind_text kind ++ codes " " ++ decimal value
-event_text (In object Reading version left) = codes "read " ++ decimal object ++ codes " version " ++ decimal version
-event_text (In object Writing version left) = codes "write " ++ decimal object ++ codes " version " ++ decimal version ++ codes " readers "
+event_text (EnteredAt object Reading version left) = codes "read " ++ decimal object ++ codes " version " ++ decimal version
+event_text (EnteredAt object Writing version left) = codes "write " ++ decimal object ++ codes " version " ++ decimal version ++ codes " readers "
     ++ decimal left
-event_text (Refused object) = codes "try " ++ decimal object
+event_text (FailedTry object) = codes "try " ++ decimal object
 event_text other = []
 
 -- the events from a number on

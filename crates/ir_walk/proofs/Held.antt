@@ -2,7 +2,7 @@
 use Rattle.std.proofs.Common.{◌≡◌, ◌+◌, ℕ, zero, suc, List, sym, ap, ◌∙◌, subst, arith}
 use Rattle.std.specs.Prelude.{Option, Some, None, slice_index}
 use Rattle.std.specs.List.{slice_index_or}
-use Rattle.ir_runs.specs.Machine.{Ask, Private, Env, Enter, Try, Leave, Get, Put, Done, act_of, upd, Object, emitted, reply, Label, Quiet, Answer, In, Refused, Out}
+use Rattle.ir_runs.specs.Machine.{Ask, Private, Env, Enter, Try, Leave, Get, Put, Done, act_of, upd, Object, emitted, reply, Label, Quiet, Answer, EnteredAt, FailedTry, LeftAt}
 use Rattle.ir_runs.specs.Lawful.{Holds, held_after}
 use Rattle.ir_runs.specs.declared.access.Access.{Access}
 use Rattle.ir_runs.specs.declared.access.Access.TheVariants.{Reading, Writing}
@@ -22,13 +22,13 @@ use Rattle.ir_walk.proofs.Still.{held_words_equal_at_consistent_cuts}
 abbrev pub object_of_entry_label : Label → ℕ
 object_of_entry_label Quiet = 0
 object_of_entry_label (Answer k v) = 0
-object_of_entry_label (In o a v l) = o
-object_of_entry_label (Refused o) = 0
-object_of_entry_label (Out o a v) = 0
+object_of_entry_label (EnteredAt o a v l) = o
+object_of_entry_label (FailedTry o) = 0
+object_of_entry_label (LeftAt o a v) = 0
 
 -- what emits an entry holds its object behind it
 entry_holds_its_object_behind_it : (q : Ask) (r : ℕ) (b : Object) (h : ℕ → Option Access) (o : ℕ) (a : Access) (v l : ℕ)
-    → In o a v l ≡ emitted (act_of q r) b → held_after (act_of q (reply (act_of q r) b)) h o ≡ None → ⊥
+    → EnteredAt o a v l ≡ emitted (act_of q r) b → held_after (act_of q (reply (act_of q r) b)) h o ≡ None → ⊥
 entry_holds_its_object_behind_it Private r b h o a v l e none = absurd (cc e)
 entry_holds_its_object_behind_it (Env kind) r b h o a v l e none = absurd (cc e)
 entry_holds_its_object_behind_it (Enter p Reading) r b h o a v l e none = let same : o ≡ p = ap object_of_entry_label e in
@@ -47,11 +47,11 @@ entry_holds_its_object_behind_it Done r b h o a v l e none = absurd (cc e)
 
 -- a thread of a run behind an entry
 pub thread_holds_object_behind_entry : (f : FittedTrace) (run : List Step) → IsRunOf f.guest f.recorded run → (t k o : ℕ) (a : Access) (v l : ℕ)
-    → Emits (machine_of f) (start_of f) run t k (In o a v l) → (machine_of f).held (thread_at f run t (k + 1)) o ≡ None → ⊥
+    → Emits (machine_of f) (start_of f) run t k (EnteredAt o a v l) → (machine_of f).held (thread_at f run t (k + 1)) o ≡ None → ⊥
 thread_holds_object_behind_entry f run of t k o a v l emitted none =
     let m = machine_of f in
-    let z : StepOf m (thread_at f run t k) (thread_at f run t (suc k)) (In o a v l) =
-    emitting_step_is_step_of m (start_of f) run of.1.runs t k (In o a v l) emitted in
+    let z : StepOf m (thread_at f run t k) (thread_at f run t (suc k)) (EnteredAt o a v l) =
+    emitting_step_is_step_of m (start_of f) run of.1.runs t k (EnteredAt o a v l) emitted in
     let on : k + 1 ≡ suc k = omega arith in
     entry_holds_its_object_behind_it (m.ask (thread_at f run t k)) z.result z.object (m.held (thread_at f run t k)) o a v l z.emits
     (sym ((guest_machine_is_lawful f).takes (thread_at f run t k) (reply (act_of (m.ask (thread_at f run t k)) z.result) z.object) o)
@@ -60,12 +60,12 @@ thread_holds_object_behind_entry f run of t k o a v l emitted none =
 abbrev pub object_of_leave_label : Label → ℕ
 object_of_leave_label Quiet = 0
 object_of_leave_label (Answer k v) = 0
-object_of_leave_label (In o a v l) = 0
-object_of_leave_label (Refused o) = 0
-object_of_leave_label (Out o a v) = o
+object_of_leave_label (EnteredAt o a v l) = 0
+object_of_leave_label (FailedTry o) = 0
+object_of_leave_label (LeftAt o a v) = o
 
 -- what emits a leave holds its object before it
-leave_holds_its_object_before_it : (q : Ask) (r : ℕ) (b : Object) (h : ℕ → Option Access) (o : ℕ) (a : Access) (v : ℕ) → Out o a v ≡ emitted (act_of q r) b
+leave_holds_its_object_before_it : (q : Ask) (r : ℕ) (b : Object) (h : ℕ → Option Access) (o : ℕ) (a : Access) (v : ℕ) → LeftAt o a v ≡ emitted (act_of q r) b
     → Holds q h → h o ≡ None → ⊥
 leave_holds_its_object_before_it Private r b h o a v e k none = absurd (cc e)
 leave_holds_its_object_before_it (Env kind) r b h o a v e k none = absurd (cc e)
@@ -83,11 +83,11 @@ leave_holds_its_object_before_it Done r b h o a v e k none = absurd (cc e)
 
 -- a thread of a run before a leave
 pub thread_holds_object_before_leave : (f : FittedTrace) (run : List Step) → IsRunOf f.guest f.recorded run → (t k o : ℕ) (a : Access) (v : ℕ)
-    → Emits (machine_of f) (start_of f) run t k (Out o a v) → (machine_of f).held (thread_at f run t k) o ≡ None → ⊥
+    → Emits (machine_of f) (start_of f) run t k (LeftAt o a v) → (machine_of f).held (thread_at f run t k) o ≡ None → ⊥
 thread_holds_object_before_leave f run of t k o a v emitted none =
     let m = machine_of f in
-    let z : StepOf m (thread_at f run t k) (thread_at f run t (suc k)) (Out o a v) =
-    emitting_step_is_step_of m (start_of f) run of.1.runs t k (Out o a v) emitted in
+    let z : StepOf m (thread_at f run t k) (thread_at f run t (suc k)) (LeftAt o a v) =
+    emitting_step_is_step_of m (start_of f) run of.1.runs t k (LeftAt o a v) emitted in
     leave_holds_its_object_before_it (m.ask (thread_at f run t k)) z.result z.object (m.held (thread_at f run t k)) o a v z.emits
     ((guest_machine_is_lawful f).holds (thread_at f run t k)) none
 

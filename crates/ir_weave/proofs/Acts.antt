@@ -10,7 +10,7 @@ use Rattle.ir_image.specs.Guest.{object_count, most_object_words}
 use Rattle.ir_thread.specs.State.{ask_of, after_ask, shared_ask}
 use Rattle.ir_thread.specs.Permitted.{Permits}
 use Rattle.ir_thread.proofs.CallerLemmas.{ask_of_permitted}
-use Rattle.ir_runs.specs.Machine.{act_of, target, emitted, Out}
+use Rattle.ir_runs.specs.Machine.{act_of, target, emitted, LeftAt}
 use Rattle.ir_thread.specs.State as thread
 use Rattle.ir_runs.specs.declared.access.Access.{Access}
 use Rattle.ir_runs.specs.declared.access.Access.TheVariants.{Reading, Writing}
@@ -421,10 +421,10 @@ read_leave_is_allowed slots id o y q c ahead inside is has x h homes at small =
 -- what a writer's leave emits
 write_leave_emits_version : (f : FittedTrace) (s : Flat) (t o : ℕ) → IsStateAt f (positions s) s → ask_of s.code (thread_of s t) ≡ Leave o Writing
     → AdmittedAt f (positions s) t
-    → EachRun f (λ run. Emits (machine_of f) (start_of f) run t (positions s t) (Out o Writing (cell_of s o).fields.version))
+    → EachRun f (λ run. Emits (machine_of f) (start_of f) run t (positions s t) (LeftAt o Writing (cell_of s o).fields.version))
 write_leave_emits_version f s t o at is ad run of =
     let some = (guest_has_state_at_consistent_cut f run of (positions s) (at.each run of).cut (at.each run of).consistent).steps t (ad run of) in
-    let emitted_is : label (machine_of f) (end (machine_of f) (start_of f) (part run (positions s))) (t, some.0) ≡ Out o Writing
+    let emitted_is : label (machine_of f) (end (machine_of f) (start_of f) (part run (positions s))) (t, some.0) ≡ LeftAt o Writing
     (cell_of s o).fields.version =
     ap (λ z. label (machine_of f) z (t, some.0)) (sym (tables_of_state_at_cut_are_end_of_part_below f (positions s) s run of (at.each run of)))
     ∙ ap (λ a. emitted (act_of (shared_ask a) some.0) ((tables s).objects (target (act_of (shared_ask a) some.0))))
@@ -470,7 +470,7 @@ version_load_is_allowed_before_write_leave slots id o y q c ahead inside is has 
         (λ run of p word asked.
             let o_is : o ≡ p = omega (arith, word) in
             let v_is : (cell_of cu.state o).fields.version ≡ n / version_unit = ap (λ (z : Fields). z.version) (sym same) in
-            subst (λ (z : ℕ × ℕ × ℕ). Emits (machine_of f) (start_of f) run t z.0 (Out z.1 Writing z.2))
+            subst (λ (z : ℕ × ℕ × ℕ). Emits (machine_of f) (start_of f) run t z.0 (LeftAt z.1 Writing z.2))
             (λ i. (ap (λ (z : thread.ThreadState). z.steps) cu.own i, o_is i, v_is i)) (emits run of)),
       ),
     )
@@ -480,7 +480,7 @@ pub write_leave_is_allowed : (slots id o v : ℕ) (y : thread.ThreadState) (q : 
     → ask_of (trace_in q.plan).guest.code y ≡ Leave o Writing
     → HasStep (trace_in q.plan) q.thread y.steps
     → EachRun (trace_in q.plan) (λ run. Emits (machine_of (trace_in q.plan)) (start_of (trace_in q.plan)) run q.thread y.steps
-    (Out o Writing v))
+    (LeftAt o Writing v))
     → Allows (Woven q.plan) slots id (q ∷ [], c) (word_place o) (λ _. (v + 1) * version_unit)
     (λ _. stepped_on (step slots (word_place o) ((v + 1) * version_unit) 0 none) (q ∷ [], c) ((v + 1) * version_unit))
 write_leave_is_allowed slots id o v y q c ahead inside is has emits x h homes at small =
@@ -495,13 +495,13 @@ write_leave_is_allowed slots id o v y q c ahead inside is has emits x h homes at
     let own = write_leave_emits_version f cu.state t o cu.at ask
     (free_step_is_admitted f cu.state t cu.at (caught_up_thread_has_step_if_thread_has f h.state t y cu has) (state_thread_index_is_below_guest_thread_count f cu.state t cu.at (seat_thread_is_below_thread_count_of_caught_up_state q.plan x h id q y at cu))
     (subst (λ p. IsFree p (event_of f t (thread_of cu.state t))) (sym ask) tt)) h.run.run h.run.whole in
-    let mine : Emits (machine_of f) (start_of f) h.run.run t y.steps (Out o Writing (cell_of cu.state o).fields.version) =
-    subst (λ z. Emits (machine_of f) (start_of f) h.run.run t z (Out o Writing (cell_of cu.state o).fields.version))
+    let mine : Emits (machine_of f) (start_of f) h.run.run t y.steps (LeftAt o Writing (cell_of cu.state o).fields.version) =
+    subst (λ z. Emits (machine_of f) (start_of f) h.run.run t z (LeftAt o Writing (cell_of cu.state o).fields.version))
     (ap (λ (z : thread.ThreadState). z.steps) cu.own) own in
     let emitted' = emits h.run.run h.run.whole in
-    let labels : Out o Writing v ≡ Out o Writing (cell_of cu.state o).fields.version =
-    ap (λ z. z.1) (element_at_index_is_unique (trail (machine_of f) (start_of f) h.run.run t) y.steps (emitted'.0, Out o Writing v)
-    (mine.0, Out o Writing (cell_of cu.state o).fields.version) emitted'.1 mine.1) in
+    let labels : LeftAt o Writing v ≡ LeftAt o Writing (cell_of cu.state o).fields.version =
+    ap (λ z. z.1) (element_at_index_is_unique (trail (machine_of f) (start_of f) h.run.run t) y.steps (emitted'.0, LeftAt o Writing v)
+    (mine.0, LeftAt o Writing (cell_of cu.state o).fields.version) emitted'.1 mine.1) in
     let version : v ≡ (cell_of cu.state o).fields.version = cc labels in
     let table : IsTable cu.state.objects x.words = subst (λ cs. IsTable cs x.words) (sym cu.objects) h.table in
     let word : w ≡ word_of (left_by Writing (cell_of cu.state o).fields) = omega (arith, version) in

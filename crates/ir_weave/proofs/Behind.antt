@@ -2,7 +2,7 @@
 use Rattle.std.proofs.Common.{◌≡◌, ℕ, suc, zero, ◌+◌, ◌<◌, List, [], ◌∷◌, ◌++◌, length, map, take, drop, refl, sym, ap, ◌∙◌, subst, arith, take-append-drop}
 use Rattle.std.proofs.Math.Path.{fun_ext}
 use Rattle.std.proofs.Math.Seq.{drop-append_seam}
-use Rattle.ir_runs.specs.Machine.{Machine, Label, Quiet, Answer, In, Refused, Out, logged}
+use Rattle.ir_runs.specs.Machine.{Machine, Label, Quiet, Answer, EnteredAt, FailedTry, LeftAt, logged}
 use Rattle.ir_runs.specs.Lawful.{IsLawful}
 use Rattle.ir_thread.specs.State.{thread_machine}
 use Rattle.ir_thread.specs.State as thread
@@ -101,9 +101,9 @@ log_ahead_is_log_after_cut f p s run is at t l =
 logged_of_unlogged_logged : (k : Label) (es : List Label) → logged k (unlogged k (logged k es)) ≡ logged k es
 logged_of_unlogged_logged Quiet es = refl
 logged_of_unlogged_logged (Answer kind value) es = refl
-logged_of_unlogged_logged (In o a v l) es = refl
-logged_of_unlogged_logged (Refused o) es = refl
-logged_of_unlogged_logged (Out o a v) es = refl
+logged_of_unlogged_logged (EnteredAt o a v l) es = refl
+logged_of_unlogged_logged (FailedTry o) es = refl
+logged_of_unlogged_logged (LeftAt o a v) es = refl
 
 drop_splits_off_element_at_index : {A : Type 0} (xs : List A) (n : ℕ) (x : A) → At xs n x → drop n xs ≡ x ∷ drop (suc n) xs
 drop_splits_off_element_at_index [] n x h = absurd h

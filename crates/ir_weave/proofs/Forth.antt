@@ -147,13 +147,13 @@ ask_is_try_or_not (End x) = inr (λ o h. cc h)
 ask_is_try_or_not Done = inr (λ o h. cc h)
 
 -- a refused try needs nothing
-refused_label_needs_nothing : (b : Label) (o : ℕ) → IsNeededBy b (machine.Refused o) → ⊥
+refused_label_needs_nothing : (b : Label) (o : ℕ) → IsNeededBy b (machine.FailedTry o) → ⊥
 refused_label_needs_nothing machine.Quiet o h = h
 refused_label_needs_nothing (machine.Answer k v) o h = h
-refused_label_needs_nothing (machine.In p a v l) o h = h
-refused_label_needs_nothing (machine.Refused p) o h = h
-refused_label_needs_nothing (machine.Out p Reading v) o h = h
-refused_label_needs_nothing (machine.Out p Writing v) o h = h
+refused_label_needs_nothing (machine.EnteredAt p a v l) o h = h
+refused_label_needs_nothing (machine.FailedTry p) o h = h
+refused_label_needs_nothing (machine.LeftAt p Reading v) o h = h
+refused_label_needs_nothing (machine.LeftAt p Writing v) o h = h
 
 -- the event of a refused try
 refused_option_is_refused_event : (x : Option Event) → IsRefusedTry x → (o : ℕ) × (x ≡ Some (Refused o))

@@ -2,7 +2,7 @@
 use Rattle.std.proofs.Common.{◌≡◌, ◌≢◌, ℕ, suc, zero, ◌+◌, ◌-◌, ◌<◌, ◌≤◌, List, [], ◌∷◌, ◌++◌, length, replicate, Result, Ok, Err, OnOk, OnErr, refl, sym, ap, ◌∙◌, subst, arith, inl, inr, append_assoc, pred}
 use Rattle.std.proofs.lemmas.Bool.{cases_eq, cases_lt}
 use Rattle.ir_image.specs.Guest.{object_count}
-use Rattle.ir_runs.specs.Machine.{Machine, Label, Quiet, Answer, In, Refused, Out, logged}
+use Rattle.ir_runs.specs.Machine.{Machine, Label, Quiet, Answer, EnteredAt, FailedTry, LeftAt, logged}
 use Rattle.ir_thread.specs.State as thread
 use Rattle.ir_flat.specs.Alone.{WentAlone}
 use Rattle.ir_flat.specs.Flat.{Flat, tables, machine, start_flat}
@@ -150,9 +150,9 @@ under_target_after_leading_steps f target s new more aim under code threads obje
 append_to_logged_empty_is_logged : (k : Label) (es : List Label) → logged k [] ++ es ≡ logged k es
 append_to_logged_empty_is_logged Quiet es = refl
 append_to_logged_empty_is_logged (Answer kind value) es = refl
-append_to_logged_empty_is_logged (In o a v l) es = refl
-append_to_logged_empty_is_logged (Refused o) es = refl
-append_to_logged_empty_is_logged (Out o a v) es = refl
+append_to_logged_empty_is_logged (EnteredAt o a v l) es = refl
+append_to_logged_empty_is_logged (FailedTry o) es = refl
+append_to_logged_empty_is_logged (LeftAt o a v) es = refl
 
 -- what a step of thread t logs
 pub step_log_is_prefix_of_left : {T : Type 0} (m : Machine T) (s : State T) (t v : ℕ) (left : ℕ → List Label)

@@ -7,7 +7,7 @@ use Rattle.atomic_table.specs.Table.{Step as TableStep, step, Allows}
 use Rattle.ir_image.specs.Guest.{object_count, most_object_words}
 use Rattle.ir_thread.specs.State.{ask_of}
 use Rattle.ir_thread.specs.Permitted.{Permits}
-use Rattle.ir_runs.specs.Machine.{Out}
+use Rattle.ir_runs.specs.Machine.{LeftAt}
 use Rattle.ir_thread.specs.State as thread
 use Rattle.ir_runs.specs.declared.access.Access.{Access}
 use Rattle.ir_runs.specs.declared.access.Access.TheVariants.{Reading, Writing}
@@ -144,7 +144,7 @@ version_load_is_allowed_if_seated k slots id o x (q ∷ [], c) seated asking =
 
 pub write_leave_is_allowed_if_seated : (k : Plan) (slots id o v : ℕ) (x : thread.ThreadState) (me : M) → IsSeated k me.0 x
     → IsAsking (trace_in k) x (Leave o Writing)
-    → EachRun (trace_in k) (λ run. Emits (machine_of (trace_in k)) (start_of (trace_in k)) run x.number x.steps (Out o Writing v))
+    → EachRun (trace_in k) (λ run. Emits (machine_of (trace_in k)) (start_of (trace_in k)) run x.number x.steps (LeftAt o Writing v))
     → Allows (Woven k) slots id me (word_place o) (λ _. (v + 1) * version_unit)
     (λ _. stepped_on (step slots (word_place o) ((v + 1) * version_unit) 0 none) me ((v + 1) * version_unit))
 write_leave_is_allowed_if_seated k slots id o v x ([], c) seated asking emits = absurd seated
@@ -152,10 +152,10 @@ write_leave_is_allowed_if_seated k slots id o v x (q ∷ r ∷ qs, c) seated ask
 write_leave_is_allowed_if_seated k slots id o v x (q ∷ [], c) seated asking emits =
     let ask : IsAsking (trace_in q.plan) x (Leave o Writing) = property_of_trace_holds_of_trace_of_equal_plan k q (λ f. IsAsking f x (Leave o Writing)) seated.0 asking in
     let emitted : EachRun (trace_in q.plan) (λ run. Emits (machine_of (trace_in q.plan)) (start_of (trace_in q.plan)) run q.thread x.steps
-    (Out o Writing v)) =
+    (LeftAt o Writing v)) =
     subst (λ z. EachRun (trace_in q.plan) (λ run. Emits (machine_of (trace_in q.plan)) (start_of (trace_in q.plan)) run z x.steps
-    (Out o Writing v))) seated.1.number
-    (property_of_trace_holds_of_trace_of_equal_plan k q (λ f. EachRun f (λ run. Emits (machine_of f) (start_of f) run x.number x.steps (Out o Writing v))) seated.0 emits) in
+    (LeftAt o Writing v))) seated.1.number
+    (property_of_trace_holds_of_trace_of_equal_plan k q (λ f. EachRun f (λ run. Emits (machine_of f) (start_of f) run x.number x.steps (LeftAt o Writing v))) seated.0 emits) in
     property_of_plan_holds_of_equal_plan k q (λ z. Allows (Woven z) slots id (q ∷ [], c) (word_place o) (λ _. (v + 1) * version_unit)
     (λ _. stepped_on (step slots (word_place o) ((v + 1) * version_unit) 0 none) (q ∷ [], c) ((v + 1) * version_unit))) seated.0
     (write_leave_is_allowed slots id o v x q c seated.1 (left_object_index_is_below_object_count (trace_in q.plan) q.thread q.position x o Writing seated.1 ask.asks) ask.asks
@@ -272,7 +272,7 @@ pub record VersionReport (k : Plan) (x : thread.ThreadState) (o : ℕ) (me w : M
   pub view : ◌≡◌ {A = M} w me
   pub small : n < 2 ^ 63
   pub version : EachRun (trace_in k) (λ run. Emits (machine_of (trace_in k)) (start_of (trace_in k)) run x.number x.steps
-      (Out o Writing (n / version_unit)))
+      (LeftAt o Writing (n / version_unit)))
 
 pub read_version_gives_version_report : (k : Plan) (o : ℕ) (x : thread.ThreadState) (me w : M) (n : ℕ) → IsSeated k me.0 x → IsAsking (trace_in k) x (Leave o Writing)
     → read_version (step 0 (word_place o) 0 0 none) me n w → VersionReport k x o me w n
@@ -283,13 +283,13 @@ read_version_gives_version_report k o x (q ∷ [], c) w n seated asking emitted 
     let ask : IsAsking f x (Leave o Writing) = property_of_trace_holds_of_trace_of_equal_plan k q (λ f. IsAsking f x (Leave o Writing)) seated.0 asking in
     let here : emitted.0 ≡ x.steps = next_object_is_unique f q.thread q.position emitted.0 x.steps seated.1.run emitted.1
     (step_is_next_on_object_if_not_alone f q.thread q.position x (Leave o Writing) seated.1 ask.asks (λ b. b)) in
-    let all : EachRun f (λ run. Emits (machine_of f) (start_of f) run q.thread emitted.0 (Out o Writing (n / version_unit))) =
+    let all : EachRun f (λ run. Emits (machine_of f) (start_of f) run q.thread emitted.0 (LeftAt o Writing (n / version_unit))) =
     λ run of. emitted.4 run of o refl (ap (ask_at f run q.thread) here ∙ ap (ask_of f.guest.code) (sym (seated.1.at run of).1)
     ∙ ask.asks) in record {
       view = emitted.2;
       small = emitted.3;
       version = subst (λ (z : Plan × ℕ × ℕ). EachRun (trace_in z.0)
-          (λ run. Emits (machine_of (trace_in z.0)) (start_of (trace_in z.0)) run z.1 z.2 (Out o Writing (n / version_unit))))
+          (λ run. Emits (machine_of (trace_in z.0)) (start_of (trace_in z.0)) run z.1 z.2 (LeftAt o Writing (n / version_unit))))
           (λ i. (seated.0 i, sym seated.1.number i, here i)) all;
     }
 

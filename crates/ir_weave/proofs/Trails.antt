@@ -1,7 +1,7 @@
 -- What a step of a thread in a run emits, and the thread after it, by the thread before it.
 use Rattle.std.proofs.Common.{◌≡◌, ◌≢◌, ℕ, suc, zero, List, [], ◌∷◌, refl, sym, ap, ◌∙◌, subst, inl, inr, eq-eqb, ne_eqb}
 use Rattle.std.proofs.lemmas.Bool.{cases_eq}
-use Rattle.ir_runs.specs.Machine.{Machine, Ask, act_of, upd, Object, target, reply, emitted, Admits, Label, Quiet, Answer, In, Refused, Out}
+use Rattle.ir_runs.specs.Machine.{Machine, Ask, act_of, upd, Object, target, reply, emitted, Admits, Label, Quiet, Answer, EnteredAt, FailedTry, LeftAt}
 use Rattle.ir_runs.specs.Machine as machine
 use Rattle.ir_runs.specs.declared.access.Access.{Access}
 use Rattle.ir_runs.specs.declared.access.Access.TheVariants.{Reading, Writing}
@@ -71,9 +71,9 @@ label_without_entry_needs_nothing b q r x ne nt n = none b (emitted (act_of q r)
     NotIn : Label → Type 0
     NotIn Quiet = Unit {0}
     NotIn (Answer k v) = Unit {0}
-    NotIn (In o a v l) = ⊥
-    NotIn (Refused o) = Unit {0}
-    NotIn (Out o a v) = Unit {0}
+    NotIn (EnteredAt o a v l) = ⊥
+    NotIn (FailedTry o) = Unit {0}
+    NotIn (LeftAt o a v) = Unit {0}
 
     quiet : (q : Ask) (r : ℕ) (x : Object) → ((o : ℕ) (a : Access) → q ≢ machine.Enter o a) → ((o : ℕ) → q ≢ machine.Try o)
         → NotIn (emitted (act_of q r) x)
@@ -87,16 +87,16 @@ label_without_entry_needs_nothing b q r x ne nt n = none b (emitted (act_of q r)
     quiet machine.Done r x ne nt = tt
 
     none : (b a : Label) → NotIn a → IsNeededBy b a → ⊥
-    none b (In o c v l) h n = h
-    none (Out o Reading w) Quiet h n = n
-    none (Out o Writing w) Quiet h n = n
-    none (Out o Reading w) (Answer k v) h n = n
-    none (Out o Writing w) (Answer k v) h n = n
-    none (Out o Reading w) (Refused p) h n = n
-    none (Out o Writing w) (Refused p) h n = n
-    none (Out o Reading w) (Out p c v) h n = n
-    none (Out o Writing w) (Out p c v) h n = n
+    none b (EnteredAt o c v l) h n = h
+    none (LeftAt o Reading w) Quiet h n = n
+    none (LeftAt o Writing w) Quiet h n = n
+    none (LeftAt o Reading w) (Answer k v) h n = n
+    none (LeftAt o Writing w) (Answer k v) h n = n
+    none (LeftAt o Reading w) (FailedTry p) h n = n
+    none (LeftAt o Writing w) (FailedTry p) h n = n
+    none (LeftAt o Reading w) (LeftAt p c v) h n = n
+    none (LeftAt o Writing w) (LeftAt p c v) h n = n
     none Quiet a h n = n
     none (Answer i u) a h n = n
-    none (In p d u m) a h n = n
-    none (Refused p) a h n = n
+    none (EnteredAt p d u m) a h n = n
+    none (FailedTry p) a h n = n

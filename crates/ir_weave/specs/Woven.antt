@@ -7,7 +7,7 @@ use Rattle.atomic_table.specs.Table.{State, Me, Step}
 use Rattle.atomic_table.specs.Seated.{TableId}
 use Rattle.atomic_table.specs.declared.shared.Seat.{Seat}
 use Rattle.ir_thread.specs.State.{ask_of, after_ask}
-use Rattle.ir_runs.specs.Machine.{Out}
+use Rattle.ir_runs.specs.Machine.{LeftAt}
 use Rattle.ir_thread.specs.State as thread
 use Rattle.ir_runs.specs.declared.access.Access.TheVariants.{Writing}
 use Rattle.ir_thread.specs.declared.ask.Ask.TheVariants as ask
@@ -145,7 +145,7 @@ Answers f t k n = EachRun f (λ run. (o i : ℕ) → ask_at f run t k ≡ ask.Ge
 -- where step k of thread t is a writer's leave of the object with this word, this is the version that it leaves
 abbrev pub Leaves : FittedTrace → ℕ → ℕ → ℕ → ℕ → Type 0
 Leaves f t k word v = EachRun f (λ run. (o : ℕ) → word ≡ word_place o → ask_at f run t k ≡ ask.Leave o Writing
-    → Emits (machine_of f) (start_of f) run t k (Out o Writing v))
+    → Emits (machine_of f) (start_of f) run t k (LeftAt o Writing v))
 
 -- what a load before an entry emits: the position is that of the entry, and the thread is granted it if the word is open to its event.
 -- Otherwise it wasn't admitted at the cut that the seat has met by this, which is at or above the one that it had met before

@@ -9,7 +9,7 @@ ghost use Rattle.ir_fit.specs.Ahead.{IsOpen};
 ghost use Rattle.ir_weave.specs.Ahead.{IsAsking, IsEntering};
 ghost use Rattle.ir_object.specs.Layout.{table_length};
 ghost use Rattle.ir_weave.specs.Woven.{trace_in, progress, met_of, Rises, HasMet, IsOpened, IsSeated, IsGranted, WasStopped, Opens, Answers};
-ghost use Rattle.ir_runs.specs.Machine.{Out};
+ghost use Rattle.ir_runs.specs.Machine.{LeftAt};
 ghost use Rattle.ir_runs.specs.declared.access.Access.TheVariants.{Writing};
 ghost use Rattle.ir_runs.specs.Run.{Emits};
 ghost use Rattle.ir_cut.specs.Positions.{machine_of, start_of, EachRun};
@@ -132,7 +132,7 @@ impl Weave {
         requires asking { IsAsking (trace_in self.now.table.shared.key) thread.now (ask.Leave object Writing) }
         ensures seat { (seat.new.table_id ≡ seat.old.table_id) × (seat.new.id ≡ seat.old.id) × (seat.new.me ≡ seat.old.me) }
         ensures small { result < 2 ^ 31 }
-        ensures version { EachRun (trace_in self.now.table.shared.key) (λ run. Emits (machine_of (trace_in self.now.table.shared.key)) (start_of (trace_in self.now.table.shared.key)) run thread.now.number thread.now.steps (Out object Writing result)) }
+        ensures version { EachRun (trace_in self.now.table.shared.key) (λ run. Emits (machine_of (trace_in self.now.table.shared.key)) (start_of (trace_in self.now.table.shared.key)) run thread.now.number thread.now.steps (LeftAt object Writing result)) }
     {
         let place = WORD_PLACE + APART * object as usize;
         self.table.shared.load::<ReadVersion>(seat, place) / Word::VERSION

@@ -3,7 +3,7 @@ use Rattle.std.proofs.Common.{◌≡◌, ℕ, zero, suc, ◌+◌, ◌-◌, ◌<�
 use Rattle.std.specs.Prelude.{slice_get}
 use Rattle.std.proofs.lemmas.Bool.{cases_lt}
 use Rattle.std.proofs.lemmas.Option.{same_Some, none-some, slice_get_within}
-use Rattle.ir_runs.specs.Machine.{In, Out}
+use Rattle.ir_runs.specs.Machine.{EnteredAt, LeftAt}
 use Rattle.ir_runs.specs.Run.{Emits}
 use Rattle.ir_runs.specs.declared.access.Access.TheVariants.{Reading, Writing}
 use Rattle.ir_log.specs.Logging.{label_of}
@@ -35,27 +35,27 @@ event_step_emits_its_label f h t i e there =
 
 -- so does the step that leaves a write entry, and a read entry
 leave_of_write_emits_out : (f : FittedTrace) (h : HasRun f) (u j k o v n : ℕ) → event_at f.recorded u j ≡ Some (Write o v n) → IsLeaveOf f u j k
-    → Emits (machine_of f) (start_of f) h.run u k (Out o Writing v)
+    → Emits (machine_of f) (start_of f) h.run u k (LeftAt o Writing v)
 leave_of_write_emits_out f h u j k o v n there left =
     (subst (λ z. EntryLeaves f u (entry_of f u j + 1) z k) there left.leaves).1 h.run h.whole
 
 leave_of_read_emits_out : (f : FittedTrace) (h : HasRun f) (u j k o v : ℕ) → event_at f.recorded u j ≡ Some (Read o v) → IsLeaveOf f u j k
-    → Emits (machine_of f) (start_of f) h.run u k (Out o Reading v)
+    → Emits (machine_of f) (start_of f) h.run u k (LeftAt o Reading v)
 leave_of_read_emits_out f h u j k o v there left =
     (subst (λ z. EntryLeaves f u (entry_of f u j + 1) z k) there left.leaves).1 h.run h.whole
 
 pub needed_event_is_left_before : (f : FittedTrace) → HasRun f → (t i u j k : ℕ) → Needs f.recorded t i u j → IsLeaveOf f u j k → (cut : List ℕ) → IsConsistentCut f cut
     → entry_of f t i < cut_of cut t → k < cut_of cut u
 needed_event_is_left_before f h t i u j k (inl maker) left cut consistent inside = elim maker.entry [
-  | inl read ↦ (consistent h.run h.whole).1 t (entry_of f t i) u k (In maker.object Reading (suc maker.version) 0) (Out maker.object Writing maker.version)
+  | inl read ↦ (consistent h.run h.whole).1 t (entry_of f t i) u k (EnteredAt maker.object Reading (suc maker.version) 0) (LeftAt maker.object Writing maker.version)
       (event_step_emits_its_label f h t i (Read maker.object (suc maker.version)) read)
       (leave_of_write_emits_out f h u j k maker.object maker.version maker.readers maker.made left) (refl, refl) inside
-  | inr write ↦ (consistent h.run h.whole).1 t (entry_of f t i) u k (In maker.object Writing (suc maker.version) write.0) (Out maker.object Writing maker.version)
+  | inr write ↦ (consistent h.run h.whole).1 t (entry_of f t i) u k (EnteredAt maker.object Writing (suc maker.version) write.0) (LeftAt maker.object Writing maker.version)
       (event_step_emits_its_label f h t i (Write maker.object (suc maker.version) write.0) write.1)
       (leave_of_write_emits_out f h u j k maker.object maker.version maker.readers maker.made left) (refl, refl) inside
 ]
 needed_event_is_left_before f h t i u j k (inr reader) left cut consistent inside =
-    (consistent h.run h.whole).1 t (entry_of f t i) u k (In reader.object Writing reader.version reader.readers) (Out reader.object Reading reader.version)
+    (consistent h.run h.whole).1 t (entry_of f t i) u k (EnteredAt reader.object Writing reader.version reader.readers) (LeftAt reader.object Reading reader.version)
     (event_step_emits_its_label f h t i (Write reader.object reader.version reader.readers) reader.write)
     (leave_of_read_emits_out f h u j k reader.object reader.version reader.read left) (refl, refl) inside
 

@@ -4,7 +4,7 @@ use Rattle.std.specs.List.{slice_index_or}
 use Rattle.std.specs.List.Sorted.{IsPermutation, IsNonDecreasingBy}
 use Rattle.ir_image.specs.Guest.{object_count}
 use Rattle.ir_mach.specs.Marks.{Marked}
-use Rattle.ir_runs.specs.Machine.{Out}
+use Rattle.ir_runs.specs.Machine.{LeftAt}
 use Rattle.ir_runs.specs.Run.{Emits}
 use Rattle.ir_runs.specs.declared.access.Access.TheVariants.{Writing}
 use Rattle.ir_trace.specs.Recorded.{recorded_thread}
@@ -35,7 +35,7 @@ pub record IsHold (f : FittedTrace) (o : ℕ) (p : Place) (h : Hold) : Type 0 wh
   pub entry : h.entry ≡ entry_of f p.thread p.event
   pub leave : IsLeaveOf f p.thread p.event h.leave
   pub version : ℕ
-  pub emits : EachRun f (λ run. Emits (machine_of f) (start_of f) run p.thread h.leave (Out o Writing version))
+  pub emits : EachRun f (λ run. Emits (machine_of f) (start_of f) run p.thread h.leave (LeftAt o Writing version))
   pub past : h.entry < h.leave
   pub within : h.leave < (recorded_thread f.recorded p.thread).steps
 

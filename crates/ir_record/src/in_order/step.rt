@@ -48,7 +48,7 @@ impl LoggedGuest<'_> {
     // What is logged of an entry to the object now.
     fn entry(&self, object: u8, access: Access) -> Event
         requires { object < length self.now.flat.objects }
-        ensures emitted { label_of result ≡ emitted (act.Entry object access 0) ((tables self.now.flat).objects object) }
+        ensures emitted { label_of result ≡ emitted (act.Entered object access 0) ((tables self.now.flat).objects object) }
         ensures fits { (profile : Profile) → IsEvent profile (length self.now.flat.objects) result }
     {
         let fields = self.flat.objects()[object as usize].fields();

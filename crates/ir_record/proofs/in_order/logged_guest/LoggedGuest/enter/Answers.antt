@@ -35,7 +35,7 @@ push-requires c = log_has_room_if_event_count_is_below_limit c.args.self.now.fla
     (event_count_is_below_limit_at_entry c.args.self.now.flat c.args.t c.args.object c.args.access c.requires.asked)
 
 abbrev told : (c : goal.After-self-1) → Label
-told c = emitted (machine.Entry c.args.object c.args.access 0) ((tables c.args.self.now.flat).objects c.args.object)
+told c = emitted (machine.Entered c.args.object c.args.access 0) ((tables c.args.self.now.flat).objects c.args.object)
 
 entering : (c : goal.After-self-1) → OneEventLogged c.args.self.now.flat c.take.new.self c.args.self.now.logs.items
     (set c.args.self.now.logs.items c.args.t c.push.new.self) c.args.t 0 (told c) c.entry-event.result

@@ -1,6 +1,6 @@
 use Rattle.std.proofs.Common.{[], ◌∷◌, ◌++◌, set, refl, ap, ◌∙◌}
 use Rattle.ir_lemmas.proofs.CallerLemmas.{ok_fact_if_error_refuted}
-use Rattle.ir_runs.specs.Machine.{Refused}
+use Rattle.ir_runs.specs.Machine.{FailedTry}
 use Rattle.ir_runs.specs.Run.{Can}
 use Rattle.ir_flat.specs.Flat.{tables, machine}
 use Rattle.ir_log.specs.Logged.{Logged}
@@ -18,7 +18,7 @@ push-requires c = log_has_room_if_event_count_is_below_limit c.args.self.now.fla
     c.index_mut.ensures.value) (event_count_is_below_limit_at_try c.args.self.now.flat c.args.t c.args.object c.requires.asked)
 
 refused : (c : goal.After-self-1) → OneEventLogged c.args.self.now.flat c.take.new.self c.args.self.now.logs.items
-    (set c.args.self.now.logs.items c.args.t c.push.new.self) c.args.t 0 (Refused c.args.object) (event.Try c.args.object)
+    (set c.args.self.now.logs.items c.args.t c.push.new.self) c.args.t 0 (FailedTry c.args.object) (event.Try c.args.object)
 refused c =
     let f = c.args.self.now.flat in
     let can = refused_try_can_be_taken f c.args.t c.args.object c.requires.asked in
@@ -40,11 +40,11 @@ refused c =
     })
 
 pub returns-clause-took : goal.returns-clause-took
-returns-clause-took c = λ answers. took_refused_turn_by_step c.args.t (Refused c.args.object) (progress c.args.self.now answers)
+returns-clause-took c = λ answers. took_refused_turn_by_step c.args.t (FailedTry c.args.object) (progress c.args.self.now answers)
     (record { flat = c.take.new.self; logs = set c.args.self.now.logs.items c.args.t c.push.new.self; answers = answers })
     (one_step_if_one_event_logged c.args.self.now.flat c.take.new.self c.args.self.now.logs.items (set c.args.self.now.logs.items c.args.t c.push.new.self)
-    c.args.t 0 (Refused c.args.object) (event.Try c.args.object) (refused c) answers)
+    c.args.t 0 (FailedTry c.args.object) (event.Try c.args.object) (refused c) answers)
 
 pub returns-clause-has_logs : goal.returns-clause-has_logs
 returns-clause-has_logs c = has_logs_after_logged_event c.args.self.now.flat c.take.new.self c.args.self.now.logs.items
-    (set c.args.self.now.logs.items c.args.t c.push.new.self) c.args.t 0 (Refused c.args.object) (event.Try c.args.object) (refused c)
+    (set c.args.self.now.logs.items c.args.t c.push.new.self) c.args.t 0 (FailedTry c.args.object) (event.Try c.args.object) (refused c)

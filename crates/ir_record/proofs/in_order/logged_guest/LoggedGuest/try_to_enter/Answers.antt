@@ -2,7 +2,7 @@ use Rattle.std.proofs.Common.{◌≡◌, ap, ◌∙◌, refl, sym, subst, [], �
 use Rattle.ir_lemmas.proofs.CallerLemmas.{ok_fact_if_error_refuted}
 use Rattle.ir_thread.specs.State.{ask_of}
 use Rattle.ir_thread.specs.declared.ask.Ask.TheVariants.{Try}
-use Rattle.ir_runs.specs.Machine.{Refused}
+use Rattle.ir_runs.specs.Machine.{FailedTry}
 use Rattle.ir_runs.specs.Run.{Can, after}
 use Rattle.ir_flat.specs.Flat.{thread_of, tables, machine}
 use Rattle.ir_flat.proofs.CallerLemmas.{tried_object_below_object_count}
@@ -89,13 +89,13 @@ left_out c =
 
 pub returns-in-Err-clause-took : goal.returns-in-Err-clause-took
 returns-in-Err-clause-took c = turn_taken_by_logged_event c.args.self.now.flat c.take-in-Err.new.self c.args.self.now.logs.items
-    (set c.args.self.now.logs.items c.args.t c.push-in-Err.new.self) c.args.t 0 (Refused c.args.object) (event.Try c.args.object)
+    (set c.args.self.now.logs.items c.args.t c.push-in-Err.new.self) c.args.t 0 (FailedTry c.args.object) (event.Try c.args.object)
     (refused_try_logs_one_event c.args.self.now.flat c.take-in-Err.new.self c.args.self.now.logs.items
     (set c.args.self.now.logs.items c.args.t c.push-in-Err.new.self) c.args.t c.args.object (left_out c))
     (λ o tries can. absurd (c.in-Err.ensures.refused can))
 
 pub returns-in-Err-clause-has_logs : goal.returns-in-Err-clause-has_logs
 returns-in-Err-clause-has_logs c = has_logs_after_logged_event c.args.self.now.flat c.take-in-Err.new.self c.args.self.now.logs.items
-    (set c.args.self.now.logs.items c.args.t c.push-in-Err.new.self) c.args.t 0 (Refused c.args.object) (event.Try c.args.object)
+    (set c.args.self.now.logs.items c.args.t c.push-in-Err.new.self) c.args.t 0 (FailedTry c.args.object) (event.Try c.args.object)
     (refused_try_logs_one_event c.args.self.now.flat c.take-in-Err.new.self c.args.self.now.logs.items
     (set c.args.self.now.logs.items c.args.t c.push-in-Err.new.self) c.args.t c.args.object (left_out c))
