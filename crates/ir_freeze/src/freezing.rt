@@ -9,12 +9,10 @@ ghost use Rattle.ir_freeze.specs.Frozen.{word, held_byte, end_bytes, change, cha
 use crate::basis::Basis;
 use crate::pages::page_in;
 use ir_live::Live;
-use ir_mach::{MEMORY_PAGES, Mach, PAGE_SIZE};
+use ir_mach::{MEMORY_PAGES, Mach, PAGE_SIZE, REGISTERS};
 use ir_runs::Access;
 use ir_thread::{End, Thread};
 use std::alloc::{AllocError, Global};
-
-const REGISTERS: u8 = 32;
 
 const GOES_ON: u8 = 0;
 

@@ -9,16 +9,10 @@ ghost use Rattle.ir_live.specs.Flow.{argument_count, has_answer, can_go_on, call
 ghost use Rattle.ir_live.specs.Ways.{LeadsTo, MayAsk};
 
 use ir_isa::{ImmediateOp, Inst, Register};
-use ir_thread::{Call, Profile};
+use ir_thread::{A0, A7, Call, Profile};
 
 /// One more than the highest number of a call.
 pub const CALL_LIMIT: u32 = 14;
-
-// The register of a call's first argument and of its answer.
-const A0: u8 = 10;
-
-/// The register of a call's number.
-pub const A7: u8 = 17;
 
 /// Where the code may go on.
 #[derive(Clone, Copy)]

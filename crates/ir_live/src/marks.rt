@@ -8,11 +8,12 @@ ghost use Rattle.ir_live.specs.Marks.{places_of_word};
 
 use crate::flow::CALL_LIMIT;
 use ir_image::CODE_START;
+use ir_mach::REGISTERS;
 use std::alloc::{AllocError, Global};
 use std::marker::Model;
 
-/// How many registers there are, each with a mark for each call.
-pub const REGISTERS: usize = 32;
+/// How many marks a call has at a word: those of the registers.
+pub const MARKS_EACH: usize = REGISTERS as usize;
 
 /// How many places there are for each word: 14 calls of 32 registers.
 pub const PLACES: usize = 448;
@@ -49,7 +50,7 @@ pub fn is_marked(marks: &[bool], pc: u32, number: u32, register: u8) -> bool
         return false;
     }
     let word = ((pc - CODE_START) / 4) as usize;
-    let place = (word * CALL_LIMIT as usize + number as usize) * REGISTERS + register as usize;
+    let place = (word * CALL_LIMIT as usize + number as usize) * MARKS_EACH + register as usize;
     place < marks.len() && marks[place]
 }
 
@@ -84,7 +85,7 @@ impl Marks {
         ensures found { result ≡ true → (next : ℕ) × (next % 4 ≡ 0) × (is_marked self.now (record { pc = next; number = number }) register ≡ true) }
         ensures none { result ≡ false → (next : ℕ) → next % 4 ≡ 0 → is_marked self.now (record { pc = next; number = number }) register ≡ true → ⊥ }
     {
-        self.anywhere[number as usize * REGISTERS + register as usize]
+        self.anywhere[number as usize * MARKS_EACH + register as usize]
     }
 
     /// Marks a place of a word, by its order.

@@ -10,7 +10,7 @@ ghost use Rattle.ir_live.specs.Marks.{places_of_word, point_at, IsSeen, AreLive,
 ghost use Rattle.ir_live.specs.Ways.{LeadsTo, MayAsk};
 
 use crate::flow::{CALL_LIMIT, Way, asked_after, reads, way_after, writes};
-use crate::marks::{Marks, PLACES, REGISTERS};
+use crate::marks::{MARKS_EACH, Marks, PLACES};
 use ir_image::{CODE_START, Code, Fetched};
 use ir_isa::Inst;
 
@@ -94,8 +94,8 @@ fn mark_if_seen(marks: &mut Marks, inst: &Inst, word: usize, place: usize) -> bo
     ensures swept { (code : List ℕ) → fetched code (code_start + 4 * word) ≡ Found inst.now → IsSwept code marks.old marks.new result (λ w p. (w ≡ word) × (p ≡ place)) }
 {
     let pc = CODE_START + 4 * word as u32;
-    let number = (place / REGISTERS) as u32;
-    let register = (place % REGISTERS) as u8;
+    let number = (place / MARKS_EACH) as u32;
+    let register = (place % MARKS_EACH) as u8;
     if marks.is_marked(pc, number, register) || !is_seen(marks, inst, pc, number, register) {
         return false;
     }

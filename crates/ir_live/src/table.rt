@@ -3,11 +3,12 @@
 ghost use Rattle.std.specs.Prelude.{◌≡◌, ◌<◌, IfOk};
 ghost use Rattle.ir_live.specs.Table.{IsLiveTable, is_marked, kept_value};
 
-use crate::flow::{A7, call_number};
+use crate::flow::call_number;
 use crate::marks::{Marks, is_marked};
 use crate::sweep::mark_live;
 use ir_image::Code;
 use ir_mach::Mach;
+use ir_thread::A7;
 use std::alloc::{AllocError, Global};
 use std::marker::Model;
 

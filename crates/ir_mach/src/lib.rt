@@ -18,4 +18,4 @@ pub use laws::{built_again, steps_together};
 pub use mach::{MEMORY_PAGES, Mach, PAGE_SIZE, joined};
 pub use marked::MarkedCode;
 pub use outcome::{Fault, Ran};
-pub use regs::Regs;
+pub use regs::{REGISTERS, Regs};

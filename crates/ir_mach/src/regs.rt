@@ -6,6 +6,9 @@ ghost use Rattle.ir_mach.specs.Pages.{RegisterFile};
 use crate::performing::Registers;
 use std::marker::Model;
 
+/// How many registers there are, x0 to x31.
+pub const REGISTERS: u8 = 32;
+
 /// A machine's pc and its registers x0 to x31; in clauses a `RegisterFile`.
 #[derive(Drop)]
 pub struct Regs {

@@ -5,13 +5,13 @@
 //! that threads at different objects don't wait for each other's lines. There is room for sixteen words of contents.
 
 // The words of a cache line.
-const LINE: usize = 8;
+const CACHE_LINE: usize = 8;
 
 /// The place of object 0's word.
-pub const WORD_PLACE: usize = LINE;
+pub const WORD_PLACE: usize = CACHE_LINE;
 
 /// The place of the first word of object 0's contents.
-pub const CONTENT_PLACE: usize = 2 * LINE;
+pub const CONTENT_PLACE: usize = 2 * CACHE_LINE;
 
 /// The places from one object's to the next one's.
-pub const APART: usize = 3 * LINE;
+pub const APART: usize = 3 * CACHE_LINE;

@@ -8,10 +8,8 @@ use crate::condition::{Condition, Fact, Literal};
 use crate::text::{cut, marks};
 use bstr::ByteSlice;
 use ir_command::parse_u32;
+use ir_thread::MOST_END;
 use std::alloc::{AllocError, Global};
-
-// The greatest number of an end.
-const MOST_END: u32 = 14;
 
 // Two numbers with a blank between them.
 #[tactic(auto, unfolding(crate::specs::Spelling::two_values))]

@@ -10,7 +10,7 @@ ghost use Rattle.ir_stream.specs.Writing.{WritesText};
 use arrayvec::ArrayVec;
 use ir_command::Refusal;
 use ir_isa::reg_name;
-use ir_mach::Mach;
+use ir_mach::{Mach, REGISTERS};
 use ir_stream::{DeviceErr, Sink, append, write_all};
 use itoa::Buffer;
 
@@ -19,8 +19,6 @@ pub const ROOM: usize = 1024;
 
 /// An answer that is put together before it is written.
 pub type Text = ArrayVec<u8, ROOM>;
-
-const REGISTERS: u8 = 32;
 
 /// Puts a word in eight digits at the end.
 pub fn put_word(text: &mut Text, word: u32)

@@ -9,6 +9,7 @@ mod holding;
 mod laws;
 mod limits;
 mod profile;
+mod registers;
 mod thread;
 
 pub use ask::{Ask, Reply};
@@ -16,6 +17,7 @@ pub use call::Call;
 pub use end::End;
 pub use frame::Frame;
 pub use laws::{built_again, closes, ends_by_the_first, runs_alone};
-pub use limits::{MOST_BUDGET, MOST_EVENTS, MOST_OUTPUT};
+pub use limits::{MOST_BUDGET, MOST_END, MOST_EVENTS, MOST_OUTPUT};
 pub use profile::Profile;
+pub use registers::{A0, A7};
 pub use thread::Thread;

@@ -14,9 +14,7 @@ use crate::route::Route;
 use crate::states::thread_of;
 use ir_object::OpenGate;
 use ir_replay::{State, advance_alone, advance_unmarked};
-use ir_thread::{Ask, Reply, Thread};
-
-const A0: u8 = 10;
+use ir_thread::{A0, Ask, Reply, Thread};
 
 /// How far a thread has gone on, and the call on the way, if there was one.
 #[derive(Clone, Copy)]

@@ -9,19 +9,12 @@ use crate::call::Call;
 use crate::end::End;
 use crate::holding::{highest, is_free_from};
 use crate::limits::{MOST_EVENTS, MOST_OUTPUT};
+use crate::registers::{A0, A1, A2, A7};
 use crate::thread::Thread;
 use ir_image::Code;
 use ir_mach::Ran;
 use ir_runs::Access;
 use itoa::Buffer;
-
-const A0: u8 = 10;
-
-const A1: u8 = 11;
-
-const A2: u8 = 12;
-
-const A7: u8 = 17;
 
 impl Thread {
     ghost use Rattle.ir_thread.specs.Permitted.{Permits, running_ask, leave_ask, get_ask, put_ask};

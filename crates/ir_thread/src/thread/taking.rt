@@ -6,13 +6,12 @@ ghost use Rattle.std.specs.Fmt.{signed_decimal};
 use crate::ask::{Ask, Reply};
 use crate::call::Call;
 use crate::end::End;
+use crate::registers::A0;
 use crate::thread::Thread;
 use ir_image::Code;
 use ir_mach::Ran;
 use ir_runs::Access;
 use itoa::Buffer;
-
-const A0: u8 = 10;
 
 const LINE_FEED: u8 = 10;
 
