@@ -11,7 +11,7 @@ use crate::values::{IMAGE, TRACE, UNTIL, given_text, image_arg, text_of};
 use clap::{Arg, ArgAction, ArgMatches, Command};
 use ir_explore::ExplorePlan;
 use ir_record_command::number_within;
-use ir_thread::Profile;
+use ir_thread::{MOST_BUDGET, Profile};
 use std::alloc::{AllocError, Global};
 
 /// What follows the help of `ir explore`.
@@ -68,7 +68,7 @@ const MOST_STATES: u64 = 100_000_000;
 
 const MOST_SWITCHES: u64 = 1_000_000;
 
-const MOST_PRIVATE: u64 = 1_000_000_000_000;
+const MOST_PRIVATE: u64 = MOST_BUDGET;
 
 /// How far a guest is explored.
 #[derive(Clone, Copy)]

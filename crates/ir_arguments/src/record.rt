@@ -7,8 +7,8 @@ use crate::recording::{RecordingOptions, no_number, options_of, with_options};
 use crate::seeds::{by_arg, way_by};
 use crate::values::{IMAGE, TRACE, file_arg, given_text, image_arg, text_of};
 use clap::{Arg, ArgAction, ArgMatches, Command};
-use ir_schedule::Way;
 use ir_record_command::{RecordPlan, number_within};
+use ir_schedule::Way;
 use std::alloc::{AllocError, Global};
 
 const ORDER: &str = "order";

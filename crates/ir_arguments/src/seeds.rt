@@ -1,9 +1,9 @@
 //! Seeds, and how they choose.
 
 use clap::{Arg, ArgMatches};
-use ir_schedule::Way;
 use ir_hunt::Seeds;
 use ir_record_command::number_within;
+use ir_schedule::Way;
 use std::alloc::{AllocError, Global};
 
 const BY: &str = "by";

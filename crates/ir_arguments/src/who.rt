@@ -28,7 +28,7 @@ version or a word that isn't there, 3 a refused image or trace, 4 an incoherent 
 const OBJECT: &str = "O";
 
 /// The version.
-const VERSION: &str = "V";
+const VERSION_NUMBER: &str = "V";
 
 /// The number of the word.
 const WORD: &str = "word";
@@ -61,7 +61,7 @@ pub fn with_arguments<'a>(alloc: Global, command: Command<'a>) -> Result<Command
     command
         .arg(file_arg(alloc, TRACE, "The file with the trace"))?
         .arg(file_arg(alloc, OBJECT, "The number of the object"))?
-        .arg(Arg::new(alloc, VERSION).help(
+        .arg(Arg::new(alloc, VERSION_NUMBER).help(
             "The number of the version; without it all versions are printed",
         ))?
         .arg(from_image_arg(
@@ -71,7 +71,7 @@ pub fn with_arguments<'a>(alloc: Global, command: Command<'a>) -> Result<Command
         .arg(
             word_arg(alloc)
                 .requires_arg(FROM_IMAGE)?
-                .conflicts_with(VERSION)?,
+                .conflicts_with(VERSION_NUMBER)?,
         )
 }
 
@@ -95,7 +95,7 @@ pub fn asked(alloc: Global, matches: &ArgMatches<'_>) -> Result<Asked, AllocErro
         Ok(object) => object,
         Err(why) => return Ok(Asked::Nothing(why)),
     };
-    let version = match given_number(alloc, matches, VERSION, VERSION)? {
+    let version = match given_number(alloc, matches, VERSION_NUMBER, VERSION_NUMBER)? {
         Ok(version) => version,
         Err(why) => return Ok(Asked::Nothing(why)),
     };

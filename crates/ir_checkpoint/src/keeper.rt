@@ -20,7 +20,7 @@ use std::alloc::{AllocError, AllocFailed, Global};
 use std::marker::Model;
 
 /// The most cuts that are kept: the start, and 64 beside it.
-pub const MOST_STATES: usize = 65;
+pub const MOST_CHECKPOINTS: usize = 65;
 
 /// Why a state isn't kept.
 #[derive(Debug, Drop)]
@@ -133,7 +133,7 @@ impl Keeper {
         ensures refused { OnErr result (self.new ≡ self.old) }
         ensures full { IsErrOf result Full ↔ (length self.old.kept ≡ most_states) }
     {
-        if self.entries.len() >= MOST_STATES {
+        if self.entries.len() >= MOST_CHECKPOINTS {
             return Err(KeepErr::Full);
         }
         let alloc = *self.entries.allocator();

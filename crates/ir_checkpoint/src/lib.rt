@@ -9,4 +9,4 @@ mod keeper;
 mod page;
 mod store;
 
-pub use keeper::{KeepErr, Keeper, MOST_STATES};
+pub use keeper::{KeepErr, Keeper, MOST_CHECKPOINTS};

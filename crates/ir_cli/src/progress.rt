@@ -3,13 +3,13 @@
 ghost use Rattle.std.specs.Prelude.{◌≡◌};
 
 use crossbeam_utils::CachePadded;
-use ir_search::Observer;
 use ir_hunt::{ERASED, ROW, ROW_END};
 use ir_image::MOST_THREADS;
 use ir_object::Gate;
 use ir_runs::Access;
-use ir_world::millis_since;
+use ir_search::Observer;
 use ir_stream::{DeviceErr, Sink};
+use ir_world::millis_since;
 use std::array;
 use std::sync::atomic::{AtomicBool, AtomicU32, AtomicU64, AtomicUsize, Ordering};
 use std::time::{Clock, Instant};

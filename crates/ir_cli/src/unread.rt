@@ -7,7 +7,7 @@ use std::io::{self, ErrorKind, Write};
 use std::sync::atomic::{AtomicBool, Ordering};
 
 // The line that reports that standard output can't be written.
-const LINE: &[u8] = b"ir: standard output can't be written\n";
+const UNWRITTEN: &[u8] = b"ir: standard output can't be written\n";
 
 /// Who reads standard output, by what writing it has shown.
 #[derive(Drop)]
@@ -103,7 +103,7 @@ impl<'a, S: Sink> Sparing<'a, S> {
         if !self.reader.is_gone() {
             return false;
         }
-        let rest = LINE.get(self.held..).unwrap_or_default();
+        let rest = UNWRITTEN.get(self.held..).unwrap_or_default();
         if !rest.starts_with(bytes) {
             return false;
         }
@@ -120,7 +120,7 @@ impl<'a, S: Sink> Sparing<'a, S> {
         ensures stays { OnOk result (S.broken self.new.sink ≡ S.broken self.old.sink) }
         ensures err { OnErr result (S.broken self.new.sink ≡ true) }
     {
-        let held = LINE.get(..self.held).unwrap_or_default();
+        let held = UNWRITTEN.get(..self.held).unwrap_or_default();
         self.held = 0;
         write_all(&mut self.sink, held)
     }

@@ -101,6 +101,9 @@ pub enum Keeping {
     Kept,
 }
 
+/// The most bytes that one command shows.
+pub const MOST_SHOWN: usize = 256;
+
 /// How many bytes are shown: 1 to 256.
 #[derive(Clone, Copy, Debug, PartialEq, Eq)]
 pub struct ByteCount {
@@ -124,14 +127,11 @@ impl ByteCount {
     ghost use Rattle.ir_command.specs.Commands.{most_bytes};
     ghost use Rattle.ir_command.specs.Cuts.{byte_count};
 
-    /// The most bytes that one command shows.
-    pub const MOST: u128 = 256;
-
     /// The count of these bytes, if one command may show as many.
     pub fn new(bytes: u128) -> Option<ByteCount>
         ensures { result ≡ byte_count bytes }
     {
-        if bytes == 0 || bytes > Self::MOST {
+        if bytes == 0 || bytes > MOST_SHOWN as u128 {
             return None;
         }
         Some(ByteCount {

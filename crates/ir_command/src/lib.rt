@@ -9,7 +9,7 @@ mod parse;
 mod refusal;
 mod words;
 
-pub use command::{ByteCount, Command, Direction, Keeping, Move, Point, Show};
+pub use command::{ByteCount, Command, Direction, Keeping, MOST_SHOWN, Move, Point, Show};
 pub use hit::Hit;
 pub use number::parse_u32;
 pub use parse::{MOST_LINE, parse_line};

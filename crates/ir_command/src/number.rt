@@ -7,16 +7,16 @@ ghost use Rattle.ir_command.specs.Cuts as cuts;
 use crate::command::ByteCount;
 use ir_numerals::number_in;
 
-const MOST_DECIMAL: usize = 20;
+const DECIMAL_DIGITS: usize = 20;
 
-const MOST_HEXADECIMAL: usize = 16;
+const HEXADECIMAL_DIGITS: usize = 16;
 
 // The number that a word writes in 1 to 20 decimal digits, or in `0x` and 1 to 16 hexadecimal digits of either case.
 #[tactic(auto, unfolding(crate::specs::Commands::number_of))]
 fn number(word: &[u8]) -> Option<u128>
     ensures { result ≡ number_of word.now }
 {
-    number_in(MOST_DECIMAL, MOST_HEXADECIMAL, word)
+    number_in(DECIMAL_DIGITS, HEXADECIMAL_DIGITS, word)
 }
 
 /// The number that a word writes, if it is one of 32 bits.

@@ -26,5 +26,6 @@ pub use ir_command::{Command, Hit, Refusal, parse_line};
 pub use ir_hits::NumberedPoint;
 pub use ir_stream::{DeviceErr, FromStd, Sink, Source};
 pub use opening::Opened;
+pub use points::MOST_POINTS;
 pub use serving::respond;
 pub use sessions::{MOST_INPUT, session, session_up_to};

@@ -8,22 +8,22 @@ ghost use Rattle.ir_explore.specs.Lines.{byte_line, byte_lines, spaced_words};
 use std::alloc::{AllocError, Global};
 
 // The most bytes of a line.
-const LINE: usize = 32;
+const LINE_BYTES: usize = 32;
 
-// The bytes from byte `LINE * number` on, as many as a line has.
+// The bytes from byte `LINE_BYTES * number` on, as many as a line has.
 fn line_of(bytes: &[u8], number: usize) -> &[u8]
     requires { 32 * number < length bytes.now }
     ensures { result.now ≡ take 32 (drop (32 * number) bytes.now) }
 {
-    let first = LINE * number;
-    if bytes.len() - first > LINE {
-        &bytes[first..first + LINE]
+    let first = LINE_BYTES * number;
+    if bytes.len() - first > LINE_BYTES {
+        &bytes[first..first + LINE_BYTES]
     } else {
         &bytes[first..]
     }
 }
 
-// Puts the line of the bytes from byte `LINE * number` on.
+// Puts the line of the bytes from byte `LINE_BYTES * number` on.
 fn put_line(
     alloc: Global,
     text: &mut Vec<u8>,
@@ -43,7 +43,7 @@ fn put_line(
 pub fn put_bytes(alloc: Global, text: &mut Vec<u8>, bytes: &[u8]) -> Result<(), AllocError>
     ensures { OnOk result (text.new.items ≡ text.old.items ++ byte_lines bytes.now (lines_for 32 (length bytes.now))) }
 {
-    for number in 0..bytes.len().div_ceil(LINE) {
+    for number in 0..bytes.len().div_ceil(LINE_BYTES) {
         put_line(alloc, text, bytes, number)?;
     }
     Ok(())

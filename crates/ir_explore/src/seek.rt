@@ -17,7 +17,7 @@ use ir_search::{Ended, Observer, Stop};
 use std::alloc::Global;
 
 // The most switches of the first search. Each further one goes over more than twice as many.
-const FIRST: usize = 1;
+const FIRST_SWITCHES: usize = 1;
 
 /// What a search came to, and the first outcome that fulfils each condition.
 #[derive(Drop)]
@@ -83,7 +83,7 @@ pub fn seek<'a, W: Observer>(
     ensures refused { IfErr result (λ why. IsStopReason image.now plan.now.explore why) }
 {
     let most = plan.explore.most();
-    let mut switches = FIRST.min(most);
+    let mut switches = FIRST_SWITCHES.min(most);
     'wider: loop {
         let sought = search(alloc, image, plan, switches)?;
         if is_last(&sought, switches, most) {

@@ -11,10 +11,10 @@ use std::io::{ErrorKind, Read};
 use thiserror::Error;
 
 /// The most bytes of a source, an image or a trace.
-pub const MOST_BYTES: u32 = 200_000_000;
+pub const MOST_FILE_BYTES: u32 = 200_000_000;
 
 /// The most bytes of a file that guests read.
-pub const MOST_INPUT: u32 = 1_048_576;
+pub const MOST_GUEST_INPUT: u32 = 1_048_576;
 
 /// Why a file was not read.
 #[derive(Debug, Drop, Error)]

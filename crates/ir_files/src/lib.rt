@@ -11,7 +11,7 @@ mod telling;
 mod whole_file;
 
 pub use exit_status::ExitStatus;
-pub use files::{FileErr, MOST_BYTES, MOST_INPUT, read_all, read_file};
+pub use files::{FileErr, MOST_FILE_BYTES, MOST_GUEST_INPUT, read_all, read_file};
 pub use folder::Folder;
 pub use output_files::{OutputFiles, OutputSink, output_paths};
 pub use places::{Found, loses};

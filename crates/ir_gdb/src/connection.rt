@@ -8,16 +8,13 @@ ghost use Rattle.ir_gdb.specs.Connection.{link_of, Wrote, WroteInPart, LeadsTo};
 
 use crate::remote::Remote;
 use ir_object::Hands;
-use ir_packet::Reader;
+use ir_packet::{MOST_PAYLOAD, Reader};
 use ir_stream::{Fault, Flow, Next, Served, Sink, Source, next_byte};
 use std::alloc::{AllocError, Global};
 use std::marker::Model;
 
 mod answering;
 mod writing;
-
-// Room for the payload of each reply.
-const MOST_PAYLOAD: usize = 4096;
 
 // Room for a payload as a packet.
 const MOST_PACKET: usize = 2 * MOST_PAYLOAD + 4;

@@ -6,12 +6,10 @@ ghost use Rattle.ir_gdb.specs.Setting.{is_same_break, is_same_watch, has_break, 
 ghost use Rattle.ir_gdb.specs.Stub.{is_shared, shared_of, most_stub_points};
 
 use crate::point::{Breakpoint, Watched};
+use ir_debug::MOST_POINTS;
 use ir_hits::OBJECTS_START;
 use std::alloc::{AllocError, Global};
 use std::marker::Model;
-
-/// The most breakpoints and watches together.
-pub const MOST_POINTS: usize = 64;
 
 // Whether two breakpoints are the same.
 pub fn is_same_break(a: Breakpoint, b: Breakpoint) -> bool

@@ -24,5 +24,5 @@ pub use laws::{
 };
 pub use point::{Breakpoint, Watched};
 pub use remote::Remote;
-pub use session::{MOST_INPUT, connect};
+pub use session::connect;
 pub use stopped::{Stopped, Told};

@@ -12,12 +12,9 @@ ghost use Rattle.ir_gdb.specs.Session.{first_link, ServesItems, EndsUnopened, Co
 
 use crate::connection::Connection;
 use crate::remote::Remote;
-use ir_debug::{Debugger, Ended, Opened, SessionErr, announce, open};
+use ir_debug::{Debugger, Ended, MOST_INPUT, Opened, SessionErr, announce, open};
 use ir_object::Hands;
 use ir_stream::{Fault, Served, Sink, Source};
-
-/// The most bytes that a connection reads.
-pub const MOST_INPUT: u64 = 1_073_741_824;
 
 // How a connection ends.
 fn ended(served: Result<Served, Fault>) -> Result<Ended, SessionErr>

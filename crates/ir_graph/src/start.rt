@@ -21,14 +21,11 @@ use crate::notes::Row;
 use crate::rest::run_to_rest;
 use crate::setup::Setup;
 use ir_freeze::Basis;
-use ir_image::Image;
+use ir_image::{Image, MEMORY_SIZE};
 use ir_search::Stop;
 use ir_store::{SourcedFlat, Store};
 use ir_thread::Profile;
 use std::alloc::{AllocError, Global};
-
-// The bytes of private memory.
-const MEMORY_SIZE: usize = 65_536;
 
 // Each thread runs on alone to its first entry or try.
 fn rest_all(state: &mut SourcedFlat<'_>, limit: u64) -> Result<(), Stop>
@@ -75,7 +72,7 @@ fn first_memory(alloc: Global, image: &Image) -> Result<Vec<u8>, AllocError>
     ensures { IfOk result (λ memory. vec_len memory ≡ memory_size) }
 {
     let mut memory = Vec::from_slice(alloc, image.bytes())?;
-    memory.resize(MEMORY_SIZE, 0)?;
+    memory.resize(MEMORY_SIZE as usize, 0)?;
     Ok(memory)
 }
 

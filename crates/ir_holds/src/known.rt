@@ -1,8 +1,7 @@
 //! What is known of the versions of objects while places are proposed.
 
-use crate::needing::FIRST;
 use ir_log::Event;
-use ir_picture::{Point, later};
+use ir_picture::{Point, START, later};
 use std::alloc::{AllocError, Global};
 
 // What is known of a version of an object.
@@ -19,7 +18,7 @@ struct Version {
 const NOTHING: Version = Version {
     made: None,
     readers: 0,
-    left: FIRST,
+    left: START,
 };
 
 /// What is known of each version of each object.
@@ -69,7 +68,7 @@ impl Known {
     // After what made a version, if that has its place; nothing made the first.
     fn after_maker(&self, object: u8, version: u32) -> Option<Point> {
         if version == 0 {
-            Some(FIRST)
+            Some(START)
         } else {
             self.at(object, version as usize).made
         }
@@ -78,8 +77,8 @@ impl Known {
     /// After all that an event needs, if all of that has its place.
     pub fn after_needs(&self, event: Event) -> Option<Point> {
         match event {
-            Event::Answer(..) => Some(FIRST),
-            Event::Try { .. } => Some(FIRST),
+            Event::Answer(..) => Some(START),
+            Event::Try { .. } => Some(START),
             Event::Read { object, version } => self.after_maker(object, version),
             Event::Write {
                 object,

@@ -10,12 +10,9 @@ ghost use Rattle.ir_holds.specs.Needing.{Makes, NeedsLike, OneNeedsLike, IsAfter
 
 use ir_log::Event;
 use ir_past::events_of;
-use ir_picture::{PlacedBox, Point, Table, Version, later, right_of};
+use ir_picture::{PlacedBox, Point, START, Table, Version, later, right_of};
 use ir_trace::Trace;
 use std::alloc::{AllocError, Global};
-
-/// The first place of all.
-pub const FIRST: Point = Point { x: 0, u: 1 };
 
 /// Of each object at each version the first place right of the boxes that enter it for writing, and of those that read it.
 #[derive(Drop)]
@@ -103,7 +100,7 @@ impl Ends {
         ensures { (r : Recorded) (boxes : List PlacedBox) → HoldsEnds r boxes self.now → IsAfterThese r boxes (Makes object version) result }
     {
         if version == 0 {
-            return FIRST;
+            return START;
         }
         let known = self.made.get(object, version as usize - 1);
         known.left
@@ -114,8 +111,8 @@ impl Ends {
         ensures { (r : Recorded) (boxes : List PlacedBox) → HoldsEnds r boxes self.now → IsAfterThese r boxes (NeedsLike event) result }
     {
         match event {
-            Event::Answer(..) => FIRST,
-            Event::Try { .. } => FIRST,
+            Event::Answer(..) => START,
+            Event::Try { .. } => START,
             Event::Read { object, version } => self.after_maker(object, version),
             Event::Write {
                 object,
@@ -132,7 +129,7 @@ impl Ends {
     pub fn after_needs_of(&self, events: &[Event]) -> Point
         ensures { (r : Recorded) (boxes : List PlacedBox) → HoldsEnds r boxes self.now → IsAfterThese r boxes (OneNeedsLike events.now) result }
     {
-        let mut place = FIRST;
+        let mut place = START;
         for event in events {
             place = later(place, self.after_needs(*event));
         }

@@ -19,9 +19,11 @@ use crate::plan::{HuntPlan, Seeds};
 use crate::report::{found_line, left_out_words, none_lines};
 use crate::search::{Found, Search, lowest_seed};
 use crate::seeker::{Lost, Seeker};
-use ir_schedule::Way;
 use ir_files::{ExitStatus, OutputSink, WholeSink, tell};
-use ir_record_command::{ParsedImage, RecordFault, RecordFiles, RecordPlan, Recording, record_by_list};
+use ir_record_command::{
+    ParsedImage, RecordFault, RecordFiles, RecordPlan, Recording, record_by_list,
+};
+use ir_schedule::Way;
 use ir_stream::{Sink, write_all};
 use ir_trace::Trace;
 use std::alloc::{AllocError, Global};

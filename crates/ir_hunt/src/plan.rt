@@ -1,7 +1,7 @@
 //! What is hunted, and how.
 
-use ir_schedule::{Condition, Way};
 use ir_record_command::RecordPlan;
+use ir_schedule::{Condition, Way};
 
 /// Seeds, from the first to the last. There is none where the first is above the last.
 #[derive(Clone, Copy, Debug, PartialEq, Eq)]

@@ -18,17 +18,17 @@ ghost use Rattle.ir_hunt.specs.Tried.{Fails};
 
 use crate::plan::HuntPlan;
 use crate::stale::is_wanted;
-use ir_schedule::{Choices, Chooser, Runner, Stop};
 use ir_flat::Flat;
 use ir_image::{Image, MOST_THREADS};
 use ir_order::list_of;
-use ir_world::{ProgramWorld, Time, worlds};
+use ir_schedule::{Choices, Chooser, Runner, Stop};
 use ir_thread::Profile;
+use ir_world::{ProgramWorld, Time, worlds};
 use std::alloc::{AllocError, Global};
 use std::time::Clock;
 
 /// The most turns of a run that a hunt follows.
-const MOST_TURNS: usize = 1 << 20;
+const MOST_NOTED_TURNS: usize = 1 << 20;
 
 /// Why the run of a seed wasn't followed to its end.
 #[derive(Clone, Copy, Debug, PartialEq, Eq)]
@@ -110,7 +110,7 @@ impl<'a, C: Clock> Seeker<'a, C> {
             record.random,
             record.input,
         )?;
-        let turns = Vec::with_capacity(alloc, MOST_TURNS)?;
+        let turns = Vec::with_capacity(alloc, MOST_NOTED_TURNS)?;
         Ok(Seeker {
             alloc,
             clock,
@@ -163,7 +163,7 @@ impl<'a, C: Clock> Seeker<'a, C> {
     {
         match self.run(&mut Chooser::rounds()) {
             Err(Lost::NoMem) => Err(AllocError),
-            Err(Lost::TooLong) => Ok([MOST_TURNS as u32; MOST_THREADS as usize]),
+            Err(Lost::TooLong) => Ok([MOST_NOTED_TURNS as u32; MOST_THREADS as usize]),
             Ok(choices) => Ok(choices),
         }
     }

@@ -13,8 +13,8 @@ use ir_object::OpenGate;
 use ir_record::{Turns, record_in_turns};
 use ir_record_command::RecordPlan;
 use ir_stale_run::has_rests;
-use ir_world::{Time, worlds};
 use ir_trace::Trace;
+use ir_world::{Time, worlds};
 use std::alloc::{AllocError, Global};
 use std::time::Clock;
 

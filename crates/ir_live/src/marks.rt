@@ -16,7 +16,7 @@ use std::marker::Model;
 pub const MARKS_EACH: usize = REGISTERS as usize;
 
 /// How many places there are for each word: 14 calls of 32 registers.
-pub const PLACES: usize = 448;
+pub const MARKS_A_WORD: usize = 448;
 
 // The most words of code below the end of all addresses.
 const MOST_WORDS: usize = 0x3fff_c000;
@@ -66,8 +66,8 @@ impl Marks {
         if words > MOST_WORDS {
             return Err(AllocError);
         }
-        let marks = vec![in alloc; false; words * PLACES]?;
-        let anywhere = vec![in alloc; false; PLACES]?;
+        let marks = vec![in alloc; false; words * MARKS_A_WORD]?;
+        let anywhere = vec![in alloc; false; MARKS_A_WORD]?;
         Ok(Marks { marks, anywhere })
     }
 
@@ -94,7 +94,7 @@ impl Marks {
         requires low { place < places_of_word }
         ensures { self.new ≡ slice_set self.old (word * places_of_word + place) true }
     {
-        self.marks[word * PLACES + place] = true;
+        self.marks[word * MARKS_A_WORD + place] = true;
         self.anywhere[place] = true;
     }
 

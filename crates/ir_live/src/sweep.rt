@@ -10,7 +10,7 @@ ghost use Rattle.ir_live.specs.Marks.{places_of_word, point_at, IsSeen, AreLive,
 ghost use Rattle.ir_live.specs.Ways.{LeadsTo, MayAsk};
 
 use crate::flow::{CALL_LIMIT, Way, asked_after, reads, way_after, writes};
-use crate::marks::{MARKS_EACH, Marks, PLACES};
+use crate::marks::{MARKS_A_WORD, MARKS_EACH, Marks};
 use ir_image::{CODE_START, Code, Fetched};
 use ir_isa::Inst;
 
@@ -111,7 +111,7 @@ fn sweep_places(marks: &mut Marks, inst: &Inst, word: usize) -> bool
     ensures swept { (code : List ℕ) → fetched code (code_start + 4 * word) ≡ Found inst.now → IsSwept code marks.old marks.new result (λ w p. (w ≡ word) × (p < places_of_word)) }
 {
     let mut any = false;
-    for place in 0..PLACES {
+    for place in 0..MARKS_A_WORD {
         if mark_if_seen(marks, inst, word, place) {
             any = true;
         }

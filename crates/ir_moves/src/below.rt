@@ -5,8 +5,8 @@ ghost use Rattle.ir_weave.specs.Standing.{flat_in, positions};
 ghost use Rattle.ir_moves.specs.Checkpoints.{AllStand, Stands};
 ghost use Rattle.ir_moves.specs.Below.{IsBelow};
 
-use ir_fit::Fitted;
 use ir_checkpoint::{Keeper, MOST_STATES};
+use ir_fit::Fitted;
 use ir_replay::State;
 use std::alloc::AllocError;
 

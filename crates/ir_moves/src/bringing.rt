@@ -18,7 +18,7 @@ use std::alloc::{AllocError, Global};
 const NEAR: u64 = 1 << 14;
 
 // The least steps from one stop to the next, far from the target.
-const LEAST_GAP: u64 = 1 << 20;
+const LEAST_STRIDE: u64 = 1 << 20;
 
 // Into how many such gaps a longer way is divided.
 const GAPS: u64 = 48;
@@ -70,7 +70,7 @@ pub fn steps_before(cut: &Cut) -> u64 {
 
 /// How many steps a move of `steps` steps goes from one stop to the next, far from its target.
 pub fn gap_of(steps: u64) -> u64 {
-    (steps / GAPS).max(LEAST_GAP)
+    (steps / GAPS).max(LEAST_STRIDE)
 }
 
 // Into how many pieces what is left is divided, of which the first leads to the next stop: by gaps, and near the target by halves.

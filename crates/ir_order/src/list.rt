@@ -7,13 +7,11 @@ ghost use Rattle.ir_record.specs.Refusing.{Turn};
 ghost use Rattle.ir_order.specs.Spelling.{item_text, with_item, Spells, IsListOf};
 
 use ir_record::{Item, Turns};
+use ir_record_command::MOST_TURNS;
 use std::alloc::{AllocError, Global};
 
 #[cfg(test)]
 mod tests;
-
-/// The most steps of an item.
-const MOST_TURNS: u64 = 1_000_000;
 
 // The text of an item.
 fn item_text(alloc: Global, item: Item) -> Result<String, AllocError>

@@ -23,7 +23,7 @@ pub use laws::{
     pieces_hold_what_the_stream_holds, reader_finds_what_the_stream_holds,
 };
 pub use parse::{put_line, request_of};
-pub use reader::Reader;
+pub use reader::{MOST_PAYLOAD, Reader};
 pub use reply::{Reason, Reply, Signal, Stop};
 pub use replying::{
     MOST_STOP, put_number, put_output, put_piece, put_stop, put_text, put_words, reply_text,

@@ -12,7 +12,7 @@ use std::alloc::{AllocError, Global};
 use std::marker::Model;
 
 /// The most bytes that may be between `$` and `#`.
-pub const MOST: usize = 4096;
+pub const MOST_PAYLOAD: usize = 4096;
 
 /// A reader of a stream of bytes in any pieces. It takes no memory once it is made.
 #[derive(Debug, Drop)]
@@ -40,8 +40,8 @@ impl Reader {
     {
         Ok(Reader {
             standing: Standing::Between,
-            raw: Vec::with_capacity(alloc, MOST + 1)?,
-            payload: Vec::with_capacity(alloc, MOST)?,
+            raw: Vec::with_capacity(alloc, MOST_PAYLOAD + 1)?,
+            payload: Vec::with_capacity(alloc, MOST_PAYLOAD)?,
         })
     }
 
@@ -109,7 +109,7 @@ fn inside(raw: &mut Vec<u8>, byte: u8) -> Standing
     if byte == b'#' {
         return Standing::Summing;
     }
-    if raw.len() <= MOST {
+    if raw.len() <= MOST_PAYLOAD {
         raw.push_reserved(byte);
     }
     Standing::Inside
@@ -121,7 +121,7 @@ fn whole(raw: &[u8], digits: Option<u8>, payload: &mut Vec<u8>) -> Found
     ensures found { (a b : _) → digits ≡ two_digits a b → item_found result payload.new.items ≡ packet_item raw.now a b }
     ensures capacity { vec_capacity payload.new ≡ vec_capacity payload.old }
 {
-    if raw.len() > MOST {
+    if raw.len() > MOST_PAYLOAD {
         return Found::TooLong;
     }
     if digits != Some(checksum(raw)) {

@@ -6,7 +6,7 @@ ghost use Rattle.ir_packet.specs.Packets.{digits_of, escaped, needs_escape, pack
 
 use crate::raw::ESCAPE;
 
-const DIGITS: [u8; 16] = *b"0123456789abcdef";
+const HEX_DIGITS: [u8; 16] = *b"0123456789abcdef";
 
 fn needs_escape(byte: u8) -> bool
     ensures { result ≡ needs_escape byte }
@@ -38,8 +38,8 @@ fn put_digits(out: &mut Vec<u8>, byte: u8)
     ensures len { vec_len out.new ≡ vec_len out.old + 2 }
     ensures capacity { vec_capacity out.new ≡ vec_capacity out.old }
 {
-    out.push_reserved(DIGITS[usize::from(byte / 16)]);
-    out.push_reserved(DIGITS[usize::from(byte % 16)]);
+    out.push_reserved(HEX_DIGITS[usize::from(byte / 16)]);
+    out.push_reserved(HEX_DIGITS[usize::from(byte % 16)]);
 }
 
 /// Puts a payload at the end, as a packet.

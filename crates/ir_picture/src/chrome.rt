@@ -22,7 +22,7 @@ use ir_stream::Sink;
 use ir_trace::Trace;
 use std::alloc::{AllocError, Global};
 
-const START: &str = "{\"traceEvents\":[
+const HEAD: &str = "{\"traceEvents\":[
 {\"name\":\"process_name\",\"ph\":\"M\",\"pid\":1,\"tid\":0,\"args\":{\"name\":\"guest\"}}";
 
 const END: &str = "
@@ -63,7 +63,7 @@ fn first_lines(alloc: Global, threads: u8) -> Result<Vec<u8>, AllocError>
     ensures { IfOk result (λ v. v.items ≡ chrome_start threads) }
 {
     let mut text = empty_text(alloc)?;
-    push_words(&mut text, START.as_bytes())?;
+    push_words(&mut text, HEAD.as_bytes())?;
     push_threads(&mut text, threads)?;
     Ok(text)
 }

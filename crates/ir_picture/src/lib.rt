@@ -49,6 +49,6 @@ pub use placing::{length_of, right_of};
 pub use repeats::{Habits, Repeat, are_alike};
 pub use rows::{push_box_start, push_fold, row_start};
 pub use run::{circle_answer, many_answer, view_run};
-pub use table::{Table, Version, later};
+pub use table::{START, Table, Version, later};
 pub use threads::events_in;
 pub use view_err::{Absent, ViewErr};

@@ -17,7 +17,7 @@ use std::alloc::{AllocError, Global};
 const PIECE: usize = 65_536;
 
 // The room of a text: a piece, and a line more.
-const ROOM: usize = PIECE + 1024;
+const PIECE_ROOM: usize = PIECE + 1024;
 
 /// An empty text, with room for a piece and a line.
 ///
@@ -26,7 +26,7 @@ const ROOM: usize = PIECE + 1024;
 pub fn empty_text(alloc: Global) -> Result<Vec<u8>, AllocError>
     ensures { IfOk result (λ v. v.items ≡ []) }
 {
-    Vec::with_capacity(alloc, ROOM)
+    Vec::with_capacity(alloc, PIECE_ROOM)
 }
 
 /// Adds words.

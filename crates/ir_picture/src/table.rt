@@ -9,8 +9,8 @@ use crate::placed_box::Point;
 use ir_log::Event;
 use std::alloc::{AllocError, Global};
 
-// The first place of all.
-const START: Point = Point { x: 0, u: 1 };
+/// The first place of all.
+pub const START: Point = Point { x: 0, u: 1 };
 
 /// Of two places the greater numbers of each kind.
 pub fn later(one: Point, other: Point) -> Point

@@ -19,7 +19,7 @@ pub mod trace;
 pub mod until;
 
 use ir_elf::ElfErr;
-use ir_files::{ExitStatus, Folder, MOST_BYTES, WholeSink, loses, read_file, tell_of};
+use ir_files::{ExitStatus, Folder, MOST_FILE_BYTES, WholeSink, loses, read_file, tell_of};
 use ir_make::image_bytes;
 use ir_stream::Sink;
 use std::alloc::Global;
@@ -93,7 +93,7 @@ pub fn image_in<D: Folder, E: Sink>(
     ensures kept { OnOk result (faults.new ≡ faults.old) }
     ensures bytes { IfOk result (λ v. IfSome (D.bytes_at folder.now path.now) (λ file. image_bytes file ≡ Ok v.items)) }
 {
-    match bytes_of(alloc, folder, faults, path, MOST_BYTES) {
+    match bytes_of(alloc, folder, faults, path, MOST_FILE_BYTES) {
         Some(file) => image_of_file(alloc, faults, path, file),
         None => Err(ExitStatus::Failed),
     }
@@ -110,7 +110,7 @@ pub fn explain_image<D: Folder, E: Sink>(
     if status != ExitStatus::Refused {
         return;
     }
-    let Ok(bytes) = read_file(alloc, folder, path, MOST_BYTES) else {
+    let Ok(bytes) = read_file(alloc, folder, path, MOST_FILE_BYTES) else {
         return;
     };
     if bytes.starts_with(b"IRT") {

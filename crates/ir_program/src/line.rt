@@ -13,7 +13,7 @@ use std::alloc::Global;
 pub const MOST_DIGITS: usize = 4_194_304;
 
 // The most bytes of a line that may hold this number of digits: a carriage return may follow them.
-const MOST_LINE: usize = MOST_DIGITS + 1;
+const MOST_CHARACTERS: usize = MOST_DIGITS + 1;
 
 /// Takes a line from the reader, without its line feed.
 pub fn read_line<R: Source>(alloc: Global, reader: &mut R) -> Result<Vec<u8>, ProgramErr>
@@ -23,7 +23,7 @@ pub fn read_line<R: Source>(alloc: Global, reader: &mut R) -> Result<Vec<u8>, Pr
     ensures fails { IfErr result (λ e. LineFails e (reader_of (R.left reader.old) (R.left reader.new) (R.broken reader.new))) }
 {
     let mut line = Vec::new(alloc);
-    for _ in 0..=MOST_LINE {
+    for _ in 0..=MOST_CHARACTERS {
         match next_byte(reader) {
             Next::Failed => return Err(ProgramErr::Read),
             Next::End => return Ok(line),

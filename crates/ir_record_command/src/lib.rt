@@ -11,7 +11,7 @@ mod recording;
 
 pub use files::{RecordFiles, Recording};
 pub use numeral::number_within;
-pub use order::{OrderErr, bad_item, read_order};
+pub use order::{MOST_TURNS, OrderErr, bad_item, read_order};
 pub use parsed_image::ParsedImage;
 pub use plan::RecordPlan;
 pub use record_fault::RecordFault;

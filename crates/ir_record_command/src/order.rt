@@ -15,7 +15,7 @@ use ir_record::Item;
 use std::alloc::{AllocError, AllocFailed, Global};
 
 /// The most steps of an item.
-const MOST_TURNS: u64 = 1_000_000;
+pub const MOST_TURNS: u64 = 1_000_000;
 
 /// Why a list is no order.
 #[derive(Clone, Copy, Debug, PartialEq, Eq)]

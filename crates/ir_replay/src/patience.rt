@@ -12,14 +12,14 @@ const MOST_LOOKS: u64 = 1 << 40;
 
 // How often it looks for one step before it sleeps between looks: by then it has waited longer than a sleep takes, so
 // that sleeping at most doubles its wait. Fewer looks cost more than they save: with 40, replay took five times as long.
-const LOOKS_AWAKE: u64 = 400;
+const LOOKS_BEFORE_SLEEP: u64 = 400;
 
 // What it asks for; the system adds some 50 to each sleep.
 const SLEEP_MICROS: u64 = 10;
 
 // How often it looks for one step once another worker has ended its round: what it waits for may then not come. Some one
 // millisecond longer than without sleeping, where a worker that ends has slept for five times as long.
-const LAST_LOOKS: u64 = LOOKS_AWAKE + 20;
+const LAST_LOOKS: u64 = LOOKS_BEFORE_SLEEP + 20;
 
 // After how many looks it asks for the time.
 const LOOKS_FOR_A_TIME: u64 = 16;
@@ -59,7 +59,7 @@ impl<'a, C: Clock> Patience<'a, C> {
             return false;
         }
         self.looks -= 1;
-        if looked < LOOKS_AWAKE {
+        if looked < LOOKS_BEFORE_SLEEP {
             backoff.snooze();
         } else {
             thread::sleep(self.clock, Duration::from_micros(SLEEP_MICROS));

@@ -13,9 +13,9 @@ use Rattle.ir_runs.specs.Verdicts.{left_log, Check, unlogged, Fits, Follows, IsM
 logged_prefix_append_rest_is_logged_whole : (k : Label) (xs ys zs : List Label) → xs ++ ys ≡ zs → logged k xs ++ ys ≡ logged k zs
 logged_prefix_append_rest_is_logged_whole Label.Quiet xs ys zs h = h
 logged_prefix_append_rest_is_logged_whole (Label.Answer i v) xs ys zs h = ap (λ z. Label.Answer i v ∷ z) h
-logged_prefix_append_rest_is_logged_whole (Label.In o a v l) xs ys zs h = ap (λ z. Label.In o a v l ∷ z) h
-logged_prefix_append_rest_is_logged_whole (Label.Refused o) xs ys zs h = ap (λ z. Label.Refused o ∷ z) h
-logged_prefix_append_rest_is_logged_whole (Label.Out o a v) xs ys zs h = h
+logged_prefix_append_rest_is_logged_whole (Label.EnteredAt o a v l) xs ys zs h = ap (λ z. Label.EnteredAt o a v l ∷ z) h
+logged_prefix_append_rest_is_logged_whole (Label.FailedTry o) xs ys zs h = ap (λ z. Label.FailedTry o ∷ z) h
+logged_prefix_append_rest_is_logged_whole (Label.LeftAt o a v) xs ys zs h = h
 
 pub events_then_left_log_is_log : {T : Type 0} (E : Check T) (n : ℕ) (es : List Label) (xs : List (T × Label)) → Fits E n es xs
     → events xs ++ left_log xs es ≡ es
@@ -68,9 +68,9 @@ maximal_follower_reaches_own_run E m law s good run own follower f top =
 unlogged_logged : (k : Label) (es : List Label) → unlogged k (logged k es) ≡ es
 unlogged_logged Label.Quiet es = refl
 unlogged_logged (Label.Answer i v) es = refl
-unlogged_logged (Label.In o a v l) es = refl
-unlogged_logged (Label.Refused o) es = refl
-unlogged_logged (Label.Out o a v) es = refl
+unlogged_logged (Label.EnteredAt o a v l) es = refl
+unlogged_logged (Label.FailedTry o) es = refl
+unlogged_logged (Label.LeftAt o a v) es = refl
 
 -- a thread's steps follow their own number and log
 pub trail_fits_own_log : {T : Type 0} (E : Check T) (xs : List (T × Label)) → Ends E xs → Fits E (length xs) (events xs) xs

@@ -4,7 +4,7 @@ ghost use Rattle.std.specs.Prelude.{◌≡◌};
 ghost use Rattle.ir_store.specs.Hashes as hashes;
 
 // The start and the factor of the hash FNV-1a, of 64 bits.
-const START: u64 = 0xcbf2_9ce4_8422_2325;
+const OFFSET_BASIS: u64 = 0xcbf2_9ce4_8422_2325;
 
 const FACTOR: u64 = 0x100_0000_01b3;
 
@@ -12,7 +12,7 @@ const FACTOR: u64 = 0x100_0000_01b3;
 pub fn empty_hash() -> u64
     ensures { result ≡ hashes.empty_hash }
 {
-    START
+    OFFSET_BASIS
 }
 
 /// The hash, after this number too.
@@ -24,7 +24,7 @@ pub fn after_number(hash: u64, number: u64) -> u64
 
 /// The hash of these numbers.
 pub fn hash_of_numbers(numbers: &[u64]) -> u64 {
-    let mut hash = START;
+    let mut hash = OFFSET_BASIS;
     for number in numbers {
         hash = after_number(hash, *number);
     }

@@ -9,8 +9,8 @@ ghost use Rattle.ir_thread.specs.Frames.{frame_of};
 
 use crate::packed::Packed;
 use ir_freeze::over;
-use ir_world::Sources;
 use ir_thread::{Frame, Thread};
+use ir_world::Sources;
 use std::alloc::{AllocError, Global};
 use std::marker::Model;
 

@@ -17,8 +17,8 @@ use crate::put::put;
 use crate::row::Row;
 use ir_freeze::{Basis, comes_back};
 use ir_image::ImageForm;
-use ir_world::Sources;
 use ir_thread::Thread;
+use ir_world::Sources;
 use std::alloc::{AllocError, Global};
 use std::marker::Model;
 

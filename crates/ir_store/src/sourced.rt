@@ -5,8 +5,8 @@ ghost use Rattle.ir_store.specs.Nodes as nodes;
 ghost use Rattle.ir_thread.specs.State.{ThreadState};
 
 use ir_flat::Flat;
-use ir_world::Sources;
 use ir_thread::Thread;
+use ir_world::Sources;
 use std::marker::Model;
 
 /// A guest's state, and what answers each of its threads.

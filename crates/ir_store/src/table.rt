@@ -22,8 +22,8 @@ use crate::rows::Rows;
 use crate::sourced::SourcedThread;
 use ir_freeze::{Basis, over, tells_apart};
 use ir_image::ImageForm;
-use ir_world::Sources;
 use ir_thread::Thread;
+use ir_world::Sources;
 use std::alloc::{AllocError, Global};
 use std::marker::Model;
 

@@ -12,6 +12,7 @@ use crate::next::code_word;
 use crate::room::{FULL, make_room};
 use crate::text::{ROOM, Text, put_number, put_word};
 use arrayvec::ArrayVec;
+use ir_command::MOST_SHOWN;
 use ir_image::{Code, MEMORY_START};
 use ir_stream::{DeviceErr, Sink, append, write_all};
 
@@ -20,9 +21,6 @@ const MEMORY_LINE: usize = 16;
 
 // How many bytes of output are in a line.
 const OUTPUT_LINE: usize = 32;
-
-// The most bytes of memory that are shown in one call.
-const MOST: usize = 256;
 
 // Bytes in hexadecimal.
 fn put_bytes(text: &mut Text, bytes: &[u8])
@@ -80,7 +78,7 @@ fn byte(code: &Code, memory: &[u8], address: u32) -> u8
     }
 }
 
-fn bytes_from(code: &Code, memory: &[u8], address: u32, size: usize) -> ArrayVec<u8, MOST>
+fn bytes_from(code: &Code, memory: &[u8], address: u32, size: usize) -> ArrayVec<u8, MOST_SHOWN>
     requires memory { length memory.now ≡ memory_size }
     requires few { size ≤ 256 }
     requires low { address ≤ 2 ^ 31 }

@@ -20,7 +20,7 @@ use ir_replay::State;
 use std::alloc::AllocError;
 
 // How many steps a search upwards goes from one state that it keeps to the next.
-const STRETCH: u64 = 1 << 20;
+const WINDOW: u64 = 1 << 20;
 
 // Where thread t is.
 fn position_of(state: &State, t: usize) -> u64
@@ -36,7 +36,7 @@ fn stretch_end(position: u64, last: u64) -> u64
     ensures above { position < result }
     ensures within { result ≤ last }
 {
-    position.saturating_add(STRETCH).min(last)
+    position.saturating_add(WINDOW).min(last)
 }
 
 /// Where a point first hits thread t above its present position, if one does. The threads and objects advance to there, or to the

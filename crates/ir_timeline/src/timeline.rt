@@ -9,11 +9,11 @@ ghost use Rattle.ir_timeline.specs.Replaying.{Replaying, IsReplaying};
 
 use crate::hand::InHand;
 use crate::searching::{hit_above, hit_below, hit_up_to};
-use ir_moves::Checkpoints;
 use ir_command::{Direction, Hit};
 use ir_cut::Cut;
 use ir_fit::{Fitted, PassedState};
 use ir_hits::NumberedPoint;
+use ir_moves::Checkpoints;
 use ir_object::{Hands, Object};
 use ir_replay::State;
 use ir_thread::Thread;

@@ -11,7 +11,7 @@ use ir_trace::Trace;
 use std::alloc::Global;
 
 // The most states that are kept.
-const MOST_STATES: u64 = 64;
+const MOST_SAVED: u64 = 64;
 
 // The most threads in all that are kept with them.
 const MOST_COPIES: u64 = 1024;
@@ -93,7 +93,7 @@ impl Passing {
         if steps < least || pauses.resize(count, 0).is_err() {
             return Passing::none(alloc);
         }
-        let most = (MOST_COPIES / threads.max(1)).min(MOST_STATES);
+        let most = (MOST_COPIES / threads.max(1)).min(MOST_SAVED);
         let gap = (steps / (most * 3 / 4).max(1)).max(least);
         let near = near_of(steps, threads);
         Passing {

@@ -11,7 +11,7 @@ use ir_packet::{Reply, put_output, put_packet, put_text, reply_text};
 use ir_stream::{Fault, Sink, write_all};
 
 // The most bytes of a session's answer in one packet.
-const PIECE: usize = 500;
+const MOST_PIECE: usize = 500;
 
 // Writes bytes.
 fn write<W: Sink>(writer: &mut W, bytes: &[u8]) -> Result<(), Fault>
@@ -91,7 +91,7 @@ impl Connection {
     {
         let mut rest = answer;
         'pieces: while !rest.is_empty() {
-            let (piece, more) = rest.split_at(PIECE.min(rest.len()));
+            let (piece, more) = rest.split_at(MOST_PIECE.min(rest.len()));
             self.send_piece(piece, writer)?;
             rest = more;
         }

@@ -15,7 +15,7 @@ use ir_hits::{OBJECT_SIZE, OBJECTS_START};
 use ir_image::{CODE_START, Code, MEMORY_START};
 
 /// The most bytes that `m` gives.
-pub const MOST_BYTES: usize = 2000;
+pub const MOST_READ: usize = 2000;
 
 // A byte of a word, from its lowest up.
 fn byte_of(word: u32, place: u32) -> u8
@@ -95,13 +95,13 @@ impl Remote {
     }
 
     #[tactic(auto, using(crate::proofs::Bytes::bytes_there_of_no_count, crate::proofs::Bytes::bytes_there_step, crate::proofs::Bytes::bytes_there_end_at_missing_byte, crate::proofs::Seen::no_byte_seen_at_high_address))]
-    // The bytes from an address on, as many as there are, at most this number and `MOST_BYTES`.
-    pub fn bytes_here(&self, address: u32, size: u32) -> ArrayVec<u8, MOST_BYTES>
+    // The bytes from an address on, as many as there are, at most this number and `MOST_READ`.
+    pub fn bytes_here(&self, address: u32, size: u32) -> ArrayVec<u8, MOST_READ>
         requires { IsThere self.now }
         ensures { EachRun self.now.stub.desk.fitted (λ run. result.items ≡ bytes_there (byte_seen run self.now.stub) (min size most_read_bytes) address) }
     {
         let mut bytes = ArrayVec::new();
-        let count = (size as usize).min(MOST_BYTES);
+        let count = (size as usize).min(MOST_READ);
         'bytes: for place in 0..count {
             let Some(at) = address.checked_add(place as u32) else {
                 break;

@@ -4,9 +4,10 @@ ghost use Rattle.std.specs.Prelude.{◌≡◌};
 ghost use Rattle.ir_mach.specs.Execution.{lies_in_memory};
 ghost use Rattle.ir_gdb.specs.Setting.{is_code_word, lies_in_objects, can_watch, room_setting, break_setting, watch_setting, setting_reply, with_break, with_watch, clear_break_reply, clear_watch_reply, without_break, without_watch};
 
-use crate::holders::{MOST_POINTS, has_break, has_watch};
+use crate::holders::{has_break, has_watch};
 use crate::point::{Breakpoint, Setting, Watched};
 use crate::remote::Remote;
+use ir_debug::MOST_POINTS;
 use ir_hits::{OBJECT_SIZE, OBJECTS_START};
 use ir_image::{CODE_START, Image, MEMORY_SIZE, MEMORY_START};
 use ir_packet::Reply;

@@ -8,7 +8,7 @@ use crate::commands::maps::labels_into;
 use crate::commands::{bytes_of, is_lost, put_in_place, shown_path};
 use ir_arguments::AssembleArguments;
 use ir_asm::Labels;
-use ir_files::{ExitStatus, Folder, MOST_BYTES, WholeFile};
+use ir_files::{ExitStatus, Folder, MOST_FILE_BYTES, WholeFile};
 use ir_make::asm_run;
 use ir_stream::Sink;
 use std::alloc::Global;
@@ -67,7 +67,7 @@ pub fn assemble_file<D: Folder, E: Sink>(
         return ExitStatus::BadArguments;
     }
     let source = arguments.source.as_str();
-    let Some(bytes) = bytes_of(alloc, folder, faults, source, MOST_BYTES) else {
+    let Some(bytes) = bytes_of(alloc, folder, faults, source, MOST_FILE_BYTES) else {
         return ExitStatus::Failed;
     };
     let mut file = WholeFile::new(alloc, folder, arguments.image.as_str());

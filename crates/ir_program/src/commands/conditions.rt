@@ -3,9 +3,9 @@
 ghost use Rattle.std.specs.Prelude.{◌≡◌, OnOk};
 
 use crate::commands::say;
-use ir_schedule::{Condition, condition_of};
 use ir_files::ExitStatus;
 use ir_record_command::ParsedImage;
+use ir_schedule::{Condition, condition_of};
 use ir_stream::Sink;
 use std::alloc::{AllocError, Global};
 

@@ -8,7 +8,7 @@ use crate::dispatch::Surroundings;
 use crate::gdb::gdb_run;
 use ir_arguments::DebugArguments;
 use ir_debug::{Sink, Source};
-use ir_files::{ExitStatus, Folder, MOST_BYTES};
+use ir_files::{ExitStatus, Folder, MOST_FILE_BYTES};
 use ir_image::read_image;
 use ir_object::{Gate, Given};
 use ir_stream::next_byte;
@@ -146,7 +146,13 @@ where
         Ok(image) => image,
         Err(status) => return status,
     };
-    let Some(trace) = bytes_of(alloc, folder, faults, arguments.trace.as_str(), MOST_BYTES) else {
+    let Some(trace) = bytes_of(
+        alloc,
+        folder,
+        faults,
+        arguments.trace.as_str(),
+        MOST_FILE_BYTES,
+    ) else {
         return ExitStatus::Failed;
     };
     let (image, trace) = (image.as_slice(), trace.as_slice());

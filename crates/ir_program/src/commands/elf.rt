@@ -5,7 +5,7 @@ ghost use Rattle.std.specs.Prelude.{◌≡◌, false};
 use crate::commands::{bytes_of, is_lost, put_in_place, say, shown_path};
 use ir_arguments::ElfArguments;
 use ir_elf::own_bytes;
-use ir_files::{ExitStatus, Folder, MOST_BYTES, WholeFile};
+use ir_files::{ExitStatus, Folder, MOST_FILE_BYTES, WholeFile};
 use ir_make::elf_run;
 use ir_stream::Sink;
 use std::alloc::Global;
@@ -44,7 +44,7 @@ pub fn convert_file<D: Folder, E: Sink>(
     ) {
         return ExitStatus::BadArguments;
     }
-    let Some(bytes) = bytes_of(alloc, folder, faults, elf, MOST_BYTES) else {
+    let Some(bytes) = bytes_of(alloc, folder, faults, elf, MOST_FILE_BYTES) else {
         return ExitStatus::Failed;
     };
     let explained = (explains || arguments.explain).then_some(shown_path(elf, "ELF"));

@@ -6,7 +6,7 @@ use crate::commands::debug::explain_files;
 use crate::commands::maps::names_in;
 use crate::commands::{bytes_of, image_of_file};
 use ir_arguments::EventsArguments;
-use ir_files::{ExitStatus, Folder, MOST_BYTES};
+use ir_files::{ExitStatus, Folder, MOST_FILE_BYTES};
 use ir_listing::events_run;
 use ir_stream::Sink;
 use std::alloc::Global;
@@ -23,10 +23,16 @@ pub fn events_file<D: Folder, O: Sink, E: Sink>(
     requires reports { E.broken faults.old ≡ false }
 {
     let path = arguments.image.as_str();
-    let Some(file) = bytes_of(alloc, folder, faults, path, MOST_BYTES) else {
+    let Some(file) = bytes_of(alloc, folder, faults, path, MOST_FILE_BYTES) else {
         return ExitStatus::Failed;
     };
-    let Some(trace) = bytes_of(alloc, folder, faults, arguments.trace.as_str(), MOST_BYTES) else {
+    let Some(trace) = bytes_of(
+        alloc,
+        folder,
+        faults,
+        arguments.trace.as_str(),
+        MOST_FILE_BYTES,
+    ) else {
         return ExitStatus::Failed;
     };
     let symbols = match names_in(alloc, folder, faults, &file, arguments.map.as_ref()) {

@@ -6,9 +6,9 @@ use crate::commands::image_in;
 use crate::commands::recording::input_of;
 use crate::dispatch::Surroundings;
 use ir_arguments::ExploreArguments;
-use ir_search::Observer;
 use ir_explore::explore_run;
 use ir_files::{ExitStatus, Folder};
+use ir_search::Observer;
 use ir_stream::Sink;
 
 // Prints the outcomes of the guest in a file.

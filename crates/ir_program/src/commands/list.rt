@@ -5,7 +5,7 @@ ghost use Rattle.std.specs.Prelude.{◌≡◌, false};
 use crate::commands::maps::names_in;
 use crate::commands::{bytes_of, image_of_file};
 use ir_arguments::ListArguments;
-use ir_files::{ExitStatus, Folder, MOST_BYTES};
+use ir_files::{ExitStatus, Folder, MOST_FILE_BYTES};
 use ir_listing::list_report;
 use ir_stream::Sink;
 use std::alloc::Global;
@@ -22,7 +22,7 @@ pub fn list_file<D: Folder, O: Sink, E: Sink>(
     requires reports { E.broken faults.old ≡ false }
 {
     let path = arguments.image.as_str();
-    let Some(file) = bytes_of(alloc, folder, faults, path, MOST_BYTES) else {
+    let Some(file) = bytes_of(alloc, folder, faults, path, MOST_FILE_BYTES) else {
         return ExitStatus::Failed;
     };
     let symbols = match names_in(alloc, folder, faults, &file, arguments.map.as_ref()) {

@@ -10,7 +10,7 @@ ghost use Rattle.ir_make.specs.Opening.{is_elf};
 use crate::commands::{bytes_of, put_in_place, say};
 use ir_asm::Labels;
 use ir_elf_symbols::elf_symbols;
-use ir_files::{ExitStatus, Folder, MOST_BYTES, WholeFile};
+use ir_files::{ExitStatus, Folder, MOST_FILE_BYTES, WholeFile};
 use ir_make::{is_elf, map_run};
 use ir_stream::Sink;
 use ir_symbols::{MapErr, SymbolTable, read_map};
@@ -63,7 +63,7 @@ pub fn names_in<D: Folder, E: Sink>(
         return own_names(alloc, faults, file);
     };
     let path = path.as_str();
-    let Some(bytes) = bytes_of(alloc, folder, faults, path, MOST_BYTES) else {
+    let Some(bytes) = bytes_of(alloc, folder, faults, path, MOST_FILE_BYTES) else {
         return Err(ExitStatus::Failed);
     };
     match read_map(alloc, bytes.as_slice()) {

@@ -6,7 +6,7 @@ use crate::commands::debug::{THE_TRACE, explain_files, explain_trace};
 use crate::commands::{bytes_of, image_in, say};
 use ir_arguments::{DiffArguments, StaleArguments, ViewArguments, WhoArguments, WhyArguments};
 use ir_diff::diff_run;
-use ir_files::{ExitStatus, Folder, MOST_BYTES};
+use ir_files::{ExitStatus, Folder, MOST_FILE_BYTES};
 use ir_past::stale_run;
 use ir_picture::{Around, Asked, Form, view_run};
 use ir_run_picture::view_fit_run;
@@ -51,7 +51,7 @@ fn files_of<D: Folder, E: Sink>(
 ) -> Result<Given, ExitStatus>
     ensures kept { OnOk result (faults.new ≡ faults.old) }
 {
-    let Some(trace) = bytes_of(alloc, folder, faults, trace.as_str(), MOST_BYTES) else {
+    let Some(trace) = bytes_of(alloc, folder, faults, trace.as_str(), MOST_FILE_BYTES) else {
         return Err(ExitStatus::Failed);
     };
     let Some(image) = image else {
@@ -199,10 +199,22 @@ pub fn diff_files<D: Folder, O: Sink, E: Sink>(
     requires writes { O.broken out.old ≡ false }
     requires reports { E.broken faults.old ≡ false }
 {
-    let Some(first) = bytes_of(alloc, folder, faults, arguments.first.as_str(), MOST_BYTES) else {
+    let Some(first) = bytes_of(
+        alloc,
+        folder,
+        faults,
+        arguments.first.as_str(),
+        MOST_FILE_BYTES,
+    ) else {
         return ExitStatus::Failed;
     };
-    let Some(second) = bytes_of(alloc, folder, faults, arguments.second.as_str(), MOST_BYTES) else {
+    let Some(second) = bytes_of(
+        alloc,
+        folder,
+        faults,
+        arguments.second.as_str(),
+        MOST_FILE_BYTES,
+    ) else {
         return ExitStatus::Failed;
     };
     let (first, second) = (first.as_slice(), second.as_slice());

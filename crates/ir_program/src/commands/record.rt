@@ -9,7 +9,7 @@ use crate::commands::{bytes_of, image_in, say};
 use crate::dispatch::Surroundings;
 use crate::ends::{all_ended, tell_ends};
 use ir_arguments::{Chaos, RecordArguments};
-use ir_files::{ExitStatus, Folder, MOST_BYTES};
+use ir_files::{ExitStatus, Folder, MOST_FILE_BYTES};
 use ir_hunt::order_of_seed;
 use ir_object::Gate;
 use ir_record_command::{ParsedImage, RecordPlan, Recording, record_run};
@@ -48,7 +48,7 @@ fn list_in<D: Folder, E: Sink>(
 ) -> Result<Option<String>, ExitStatus>
     ensures kept { OnOk result (faults.new ≡ faults.old) }
 {
-    let Some(bytes) = bytes_of(alloc, folder, faults, path, MOST_BYTES) else {
+    let Some(bytes) = bytes_of(alloc, folder, faults, path, MOST_FILE_BYTES) else {
         return Err(ExitStatus::Failed);
     };
     match String::from_utf8(bytes) {

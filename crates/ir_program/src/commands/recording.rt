@@ -3,7 +3,7 @@
 ghost use Rattle.std.specs.Prelude.{◌≡◌, OnSome, OnOk, false};
 
 use crate::commands::{bytes_of, is_lost, say};
-use ir_files::{ExitStatus, Folder, MOST_INPUT, OutputFiles, WholeFile, output_paths};
+use ir_files::{ExitStatus, Folder, MOST_GUEST_INPUT, OutputFiles, WholeFile, output_paths};
 use ir_record_command::{ParsedImage, RecordFiles};
 use ir_stream::Sink;
 use std::alloc::{AllocError, Global};
@@ -62,7 +62,7 @@ pub fn input_of<D: Folder, E: Sink>(
     ensures kept { OnSome result (faults.new ≡ faults.old) }
 {
     match file {
-        Some(path) => bytes_of(alloc, folder, faults, path.as_str(), MOST_INPUT),
+        Some(path) => bytes_of(alloc, folder, faults, path.as_str(), MOST_GUEST_INPUT),
         None => Some(Vec::new(alloc)),
     }
 }

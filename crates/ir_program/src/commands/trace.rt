@@ -6,7 +6,7 @@ use crate::commands::bytes_of;
 use crate::commands::debug::{THE_TRACE, explain_trace};
 use crate::tracing::trace_run;
 use ir_arguments::TraceArguments;
-use ir_files::{ExitStatus, Folder, MOST_BYTES};
+use ir_files::{ExitStatus, Folder, MOST_FILE_BYTES};
 use ir_stream::Sink;
 use std::alloc::Global;
 
@@ -21,7 +21,13 @@ pub fn trace_file<D: Folder, O: Sink, E: Sink>(
     requires writes { O.broken out.old ≡ false }
     requires reports { E.broken faults.old ≡ false }
 {
-    let Some(bytes) = bytes_of(alloc, folder, faults, arguments.trace.as_str(), MOST_BYTES) else {
+    let Some(bytes) = bytes_of(
+        alloc,
+        folder,
+        faults,
+        arguments.trace.as_str(),
+        MOST_FILE_BYTES,
+    ) else {
         return ExitStatus::Failed;
     };
     let status = trace_run(alloc, bytes.as_slice(), out, faults);

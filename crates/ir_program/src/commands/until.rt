@@ -10,10 +10,10 @@ use crate::commands::recording::{
 use crate::dispatch::Surroundings;
 use crate::ends::tell_ends;
 use ir_arguments::UntilArguments;
-use ir_search::Observer;
 use ir_explore::{HangPlan, UntilPlan, explore_hang, explore_until};
 use ir_files::{ExitStatus, Folder};
 use ir_record_command::ParsedImage;
+use ir_search::Observer;
 use ir_stream::Sink;
 use ir_trace::Trace;
 use std::alloc::Global;

@@ -18,7 +18,7 @@ invariant_of-self-2 c =
     let same : length c.args.state.now.threads ≡ thread_count entries =
     like_state_has_thread_count_of_store (thread_count entries) last entries c.args.state.now c.args.self.now c.self.invariant c.self.view_is c.requires.threads in
     let few : length entries < 65 =
-    omega (arith, c.if-len-ge-MOST_STATES.false, c.len.ensures, c.as_slice.ensures.len, ap length c.as_slice.ensures.value) in
+    omega (arith, c.if-len-ge-MOST_CHECKPOINTS.false, c.len.ensures, c.as_slice.ensures.len, ap length c.as_slice.ensures.value) in
     is_store_after_keep (thread_count entries) last c.args.state.now entries c.as_slice.result.now c.insert.new.self.items c.in_ok-entry.entry c.self.invariant few
     c.in_ok-entry.ensures.memories same (c.as_slice.ensures.value, c.in_ok-entry.ensures.value, c.in_ok-insert.ensures.items)
 
