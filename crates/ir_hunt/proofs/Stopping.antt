@@ -33,7 +33,7 @@ line_is_hunt_line seed_of list_of image plan (Some f) last left_out line h e = i
 -- what a search of an image's guest came to is what its hunt comes to
 pub search_is_hunt : {F : Type 0} (seed_of : F → ℕ) (list_of : F → List ℕ) (image : List ℕ) (plan : HuntPlan) (guest : Guest) (choices : List ℕ) (found : Option F)
     (last left_out : ℕ) → guest_at image ≡ Ok guest
-    → MatchOption found (IsTriedLast plan.seeds.last plan.seconds last × AreAllTried (hunt_of guest plan choices) plan.seeds.first last left_out)
+    → MatchOption found (IsTriedLast plan.seeds plan.seconds last × AreAllTried (hunt_of guest plan choices) plan.seeds.first last left_out)
     (λ f. IsLowestSeed (hunt_of guest plan choices) plan.seeds.first plan.seeds.last (seed_of f) left_out (list_of f))
     → MatchOption found (IsNoneIn image plan last left_out) (λ f. IsFoundIn image plan left_out (seed_of f) (list_of f))
 search_is_hunt seed_of list_of image plan guest choices None last left_out is h =

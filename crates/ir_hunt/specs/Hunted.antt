@@ -12,7 +12,7 @@ pub record IsNoneIn (image : List ℕ) (plan : HuntPlan) (last left_out : ℕ) :
   pub guest : Guest
   pub is : guest_at image ≡ Ok guest
   pub choices : List ℕ
-  pub ends : IsTriedLast plan.seeds.last plan.seconds last
+  pub ends : IsTriedLast plan.seeds plan.seconds last
   pub tried : AreAllTried (hunt_of guest plan choices) plan.seeds.first last left_out
 
 -- a seed is found, the lowest of the plan's, and the list spells the order of its run: each lower one was tried, and so many of these were left out

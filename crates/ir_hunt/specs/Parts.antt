@@ -24,7 +24,7 @@ pub record IsPartOf (hunt : Hunt) (seeds : Seeds) (part : Part) : Type 0 where
 -- and if none is found, these are all of them, or the time is bounded
 pub record IsPartWithin (hunt : Hunt) (seeds : Seeds) (seconds : Option ℕ) (part : Part) : Type 0 where
   pub begun : IsBegun hunt seeds part
-  pub ends : part.list ≡ None → IsTriedLast seeds.last seconds part.seeds.last
+  pub ends : part.list ≡ None → IsTriedLast seeds seconds part.seeds.last
 
 -- a worker of the hunt has tried the seeds of these parts
 pub record HasTried (hunt of : Hunt) (parts : List Part) : Type 0 where

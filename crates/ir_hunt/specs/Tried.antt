@@ -5,6 +5,7 @@ use Rattle.ir_order.specs.Recording.{IsPlanned}
 use Rattle.ir_hunt.specs.Finding.{IsOfSeed, FailsSome, IsFound}
 use Rattle.ir_hunt.specs.Hunt.{Hunt}
 use Rattle.ir_hunt.specs.Stale.{FailsStale}
+use Rattle.ir_hunt.specs.declared.plan.Seeds.{Seeds}
 
 -- The run by a seed was followed to its end. What the guest came to doesn't fulfil each condition, or the run hasn't what is wanted of its stale writes.
 pub record Fails (hunt : Hunt) (seed : ℕ) : Type 0 where
@@ -31,9 +32,9 @@ pub record IsLowestSeed (hunt : Hunt) (first last seed left_out : ℕ) (list : L
 abbrev pub AreAllTried : Hunt → ℕ → ℕ → ℕ → Type 0
 AreAllTried hunt first last left_out = AreTried hunt first (last + 1 - first) left_out
 
--- the seed that is tried last where none is found: the last of all, or an earlier one, but that only if the time is bounded
-abbrev pub IsTriedLast : ℕ → Option ℕ → ℕ → Type 0
-IsTriedLast last seconds tried = (tried ≡ last) ⊎ ((tried < last) × ((s : ℕ) × (seconds ≡ Some s)))
+-- the seed that is tried last where none is found: the last of these, or another of them, but that only if the time is bounded
+abbrev pub IsTriedLast : Seeds → Option ℕ → ℕ → Type 0
+IsTriedLast seeds seconds tried = (tried ≡ seeds.last) ⊎ ((seeds.first ≤ tried) × (tried < seeds.last) × ((s : ℕ) × (seconds ≡ Some s)))
 
 -- the seeds from the first to the last were tried, one after the other: all of them if there is no list, and else the last is found
 abbrev pub WereTried : Hunt → ℕ → ℕ → ℕ → Option (List ℕ) → Type 0

@@ -229,7 +229,7 @@ fn try_all<R: Threads + Clock + Sync + Eprint>(
 // What was found of seeds that were tried up to the first that is found, or until the time is over.
 fn found_in(part: Part) -> Search
     ensures { (hunt : Hunt) (seeds : Seeds) (seconds : Option ℕ) → IsPartWithin hunt seeds seconds part
-        → MatchOption result.found (IsTriedLast seeds.last seconds result.last × AreAllTried hunt seeds.first result.last result.left_out)
+        → MatchOption result.found (IsTriedLast seeds seconds result.last × AreAllTried hunt seeds.first result.last result.left_out)
         (λ f. IsLowestSeed hunt seeds.first seeds.last f.seed result.left_out (string_bytes f.list)) }
 {
     let Part {
@@ -267,7 +267,7 @@ pub fn lowest_seed<R: Threads + Clock + Sync + Eprint>(
 ) -> Result<Search, AllocError>
     requires { IsAllowed plan.now.record.profile image.now }
     ensures { IfOk result (λ s. (choices : List ℕ)
-        × MatchOption s.found (IsTriedLast plan.now.seeds.last plan.now.seconds s.last × AreAllTried (hunt_of image.now plan.now choices) plan.now.seeds.first s.last s.left_out)
+        × MatchOption s.found (IsTriedLast plan.now.seeds plan.now.seconds s.last × AreAllTried (hunt_of image.now plan.now choices) plan.now.seeds.first s.last s.left_out)
         (λ f. IsLowestSeed (hunt_of image.now plan.now choices) plan.now.seeds.first plan.now.seeds.last f.seed s.left_out (string_bytes f.list))) }
 {
     let seeds = plan.seeds;

@@ -22,7 +22,7 @@ returns g c =
     let seconds = c.args.plan.now.seconds in
     let search = c.found_in.result in (
       own.choices,
-      subst (λ h. MatchOption search.found (IsTriedLast seeds.last seconds search.last × AreAllTried h seeds.first search.last search.left_out)
+      subst (λ h. MatchOption search.found (IsTriedLast seeds seconds search.last × AreAllTried h seeds.first search.last search.left_out)
           (λ f. IsLowestSeed h seeds.first seeds.last f.seed search.left_out (string_bytes f.list)))
           c.in_ok-own.ensures (c.found_in.ensures own seeds seconds c.in_ok-part.ensures),
     )
