@@ -6,8 +6,9 @@ mod standard;
 mod unread;
 
 use ir_arguments::collected;
+use ir_commands::Surroundings;
 use ir_files::ExitStatus;
-use ir_program::{Invocation, Surroundings, Terminals, program};
+use ir_program::{Invocation, Terminals, program};
 use ir_stream::FromStd;
 use progress::{Progress, Wiping};
 use standard::stand_ins;

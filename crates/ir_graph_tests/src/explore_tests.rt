@@ -5,9 +5,9 @@ ghost use Rattle.std.specs.Prelude.{◌≤◌};
 use crate::guests::{ENDLESS_LOOP, LOST_UPDATE, POLLS, PRINTS};
 use crate::page::{ENDLESS, Page, empty_page};
 use ir_asm::assemble;
-use ir_search::Unobserved;
 use ir_explore::{ExplorePlan, explore_run};
 use ir_image::write_image;
+use ir_search::Unobserved;
 use ir_thread::Profile;
 use std::test::Fail;
 

@@ -5,10 +5,10 @@ ghost use Rattle.ir_thread.specs.declared.profile.Profile.TheVariants.{One};
 ghost use Rattle.std.specs.Prelude.{◌≡◌, IfOk};
 
 use ir_asm::assemble;
-use ir_search::Unobserved;
 use ir_graph::{Bounds, Setup};
 use ir_image::Image;
 use ir_outcomes::{Explored, explore};
+use ir_search::Unobserved;
 use ir_thread::Profile;
 use std::alloc::Global;
 use std::test::Fail;

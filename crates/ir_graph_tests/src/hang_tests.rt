@@ -1,9 +1,9 @@
 //! Runs that can't be brought to an end any more.
 
 use crate::guests::{LOST_UPDATE, LOST_WAKE_UP, guest, setup_of};
-use ir_search::{Ended, Unobserved};
 use ir_graph::Bounds;
 use ir_outcomes::explore;
+use ir_search::{Ended, Unobserved};
 use ir_thread::Profile;
 use std::test::Fail;
 

@@ -1,8 +1,8 @@
 //! How many states guests have, and their outcomes.
 
 use crate::guests::{LOST_UPDATE, OWN_OBJECTS, explored, guest};
-use ir_search::Ended;
 use ir_flat::Flat;
+use ir_search::Ended;
 use ir_store::Store;
 use std::test::Fail;
 

@@ -5,10 +5,10 @@ ghost use Rattle.ir_thread.specs.declared.profile.Profile.TheVariants.{Two};
 
 use crate::explore_tests::{printed, within};
 use crate::guests::{guest_of, setup_of};
-use ir_search::{Ended, Unobserved};
 use ir_graph::Bounds;
 use ir_image::Image;
 use ir_outcomes::{Explored, explore};
+use ir_search::{Ended, Unobserved};
 use ir_thread::Profile;
 use std::alloc::Global;
 use std::test::Fail;

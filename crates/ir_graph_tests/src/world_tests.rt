@@ -2,10 +2,10 @@
 
 use crate::explore_tests::printed;
 use crate::guests::guest;
-use ir_search::{Ended, Unobserved};
 use ir_explore::ExplorePlan;
 use ir_graph::{Bounds, Setup};
 use ir_outcomes::explore;
+use ir_search::{Ended, Unobserved};
 use ir_thread::Profile;
 use std::test::Fail;
 

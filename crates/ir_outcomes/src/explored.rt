@@ -8,8 +8,8 @@ ghost use Rattle.ir_thread.specs.State.{IsAllowed};
 
 use crate::exploring::Exploring;
 use crate::shown::Shown;
-use ir_search::{Ended, Observer, Stop};
 use ir_graph::{Bounds, Setup, States};
+use ir_search::{Ended, Observer, Stop};
 use std::alloc::Global;
 
 /// What was found out about a guest.

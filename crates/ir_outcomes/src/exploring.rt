@@ -15,8 +15,8 @@ use crate::explored::Explored;
 use crate::hang::{count_lost, find_hang};
 use crate::listing::{Listing, show_new};
 use crate::shown::Shown;
-use ir_search::{Ended, Observer, Stop};
 use ir_graph::{Bounds, Setup, States};
+use ir_search::{Ended, Observer, Stop};
 use std::alloc::Global;
 
 /// A guest whose outcomes are looked for.

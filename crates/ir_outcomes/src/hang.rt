@@ -16,8 +16,8 @@ ghost use Rattle.ir_outcomes.specs.declared.shown.Shown.{Shown};
 use crate::path::path_to;
 use crate::rerun::run_to_node;
 use crate::shown::Shown;
-use ir_search::Stop;
 use ir_graph::States;
+use ir_search::Stop;
 use std::alloc::Global;
 
 /// How many of the states aren't marked.

@@ -9,8 +9,8 @@ ghost use Rattle.ir_outcomes.specs.Exploring.{HasShown};
 ghost use Rattle.ir_thread.specs.State.{IsAllowed};
 
 use crate::shown::{Shown, show};
-use ir_search::Stop;
 use ir_graph::{States, has_new_outcome};
+use ir_search::Stop;
 use std::alloc::Global;
 
 /// The different outcomes that were found.

@@ -21,9 +21,9 @@ ghost use Rattle.ir_outcomes.specs.declared.rerun_error.RerunError.TheVariants.{
 
 use crate::path::refusals_to;
 use crate::rerun_error::RerunError;
-use ir_search::{Origin, Refusal, Stop};
 use ir_graph::{States, run_to_rest, same_state, way_result};
 use ir_record::Item;
+use ir_search::{Origin, Refusal, Stop};
 use ir_store::SourcedFlat;
 use std::alloc::Global;
 

@@ -13,9 +13,9 @@ ghost use Rattle.ir_outcomes.specs.Shown.{IsShown};
 
 use crate::path::path_to;
 use crate::rerun::run_to_node;
-use ir_search::Stop;
 use ir_graph::States;
 use ir_record::Item;
+use ir_search::Stop;
 use std::alloc::Global;
 
 /// An outcome: a node that has it first, and turns that lead to it.

@@ -1,5 +1,5 @@
 pub mod Bundle
 pub mod Connecting
 pub mod Leaving
-pub mod Listing
+pub mod Refused
 pub mod Taking

@@ -11,9 +11,10 @@ ghost use Rattle.ir_program.specs.Taking.{reader_of, TakesBytes, LineFails};
 
 use crate::fault::ProgramErr;
 use crate::line::{bytes_of, read_line};
-use ir_debug::{Ended, Sink, Source, session};
+use ir_debug::{Ended, session};
 use ir_files::{ExitStatus, tell};
 use ir_object::Hands;
+use ir_stream::{Sink, Source};
 use std::alloc::Global;
 
 // The bytes of the next line of hexadecimal digits.

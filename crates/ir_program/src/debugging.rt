@@ -11,9 +11,10 @@ ghost use Rattle.ir_debug.specs.declared.ended.SessionErr.{SessionErr};
 
 use crate::bundles::status;
 use crate::fault::ProgramErr;
-use ir_debug::{Sink, Source, session};
+use ir_debug::session;
 use ir_files::{ExitStatus, tell};
 use ir_object::Hands;
+use ir_stream::{Sink, Source};
 
 /// Runs the session of an image and a trace over the lines of the reader, and gives the exit status: that of the session
 /// if it ended, and `Failed` for a fault, which is reported in one line.

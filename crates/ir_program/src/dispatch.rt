@@ -3,26 +3,19 @@
 ghost use Rattle.std.specs.Prelude.{◌≡◌, false};
 
 use crate::bundles::bundle;
-use crate::commands::assemble::assemble_file;
-use crate::commands::debug::{Opening, Speech, debug_files};
-use crate::commands::elf::convert_file;
-use crate::commands::events::events_file;
-use crate::commands::explore::explore_file;
-use crate::commands::hunt::hunt_file;
-use crate::commands::list::list_file;
-use crate::commands::past::{diff_files, stale_file, view_file, who_file, why_file};
-use crate::commands::record::record_file;
-use crate::commands::trace::trace_file;
-use crate::commands::until::until_file;
-use crate::commands::{explain_image, say};
+use crate::debug::{Opening, Speech, debug_files};
 use crate::ends_once::EndsOnce;
 use crate::prompting::Prompting;
 use ir_arguments::{Asked, Make, Print, parsed};
-use ir_debug::{Sink, Source};
+use ir_commands::{
+    Surroundings, assemble_file, convert_file, diff_files, events_file, explain_image,
+    explore_file, hunt_file, list_file, record_file, say, stale_file, trace_file, until_file,
+    view_file, who_file, why_file,
+};
 use ir_files::{ExitStatus, Folder};
 use ir_object::{Gate, Given, Hands};
 use ir_search::Observer;
-use ir_stream::write_all;
+use ir_stream::{Sink, Source, write_all};
 use std::alloc::Global;
 use std::sync::Wait;
 use std::thread::Threads;
@@ -151,18 +144,6 @@ where
             over_image(alloc, folder, image, status, faults)
         }
     }
-}
-
-/// What the program uses beside its streams.
-#[derive(Clone, Copy)]
-pub struct Surroundings<'a, R, D, G> {
-    /// Memory, the clock, and the threads that record or replay.
-    pub rt: &'a R,
-    /// The files that the arguments name.
-    pub folder: &'a D,
-    /// What is told of what threads do while they record, while a session opens a recording, moves and searches, and while all outcomes
-    /// are looked for.
-    pub gate: &'a G,
 }
 
 /// Does what the arguments ask for, and gives the exit status.

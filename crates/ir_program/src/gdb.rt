@@ -12,10 +12,10 @@ ghost use Rattle.ir_debug.specs.declared.ended.SessionErr.{SessionErr};
 
 use crate::bundles::status;
 use crate::fault::ProgramErr;
-use ir_debug::{Sink, Source};
 use ir_files::{ExitStatus, tell};
 use ir_gdb::connect;
 use ir_object::Hands;
+use ir_stream::{Sink, Source};
 
 /// Answers the packets of the reader about the run of an image and a trace, and gives the exit status: that of the connection if it ended,
 /// and `Failed` for a fault, which is reported in one line.

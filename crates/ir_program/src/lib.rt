@@ -2,21 +2,18 @@
 #![tactic(auto)]
 
 mod bundles;
-mod commands;
+mod debug;
 mod debugging;
 mod dispatch;
-mod ends;
 mod ends_once;
 mod fault;
 mod gdb;
 mod hints;
+mod laws;
 mod line;
-mod listing;
-mod print_err;
 mod prompting;
-mod tracing;
 
 pub use bundles::{bundle, bundled};
-pub use dispatch::{Invocation, Surroundings, Terminals, program};
+pub use dispatch::{Invocation, Terminals, program};
 pub use fault::ProgramErr;
-pub use tracing::trace_run;
+pub use laws::trace_refused_alike;

@@ -4,8 +4,7 @@ ghost use Rattle.std.specs.Prelude.{◌≡◌};
 
 use crate::hints::advise;
 use arrayvec::ArrayVec;
-use ir_debug::{DeviceErr, Source};
-use ir_stream::{KEPT, keep};
+use ir_stream::{DeviceErr, KEPT, Source, keep};
 
 const PROMPT: &str = "(ir) ";
 

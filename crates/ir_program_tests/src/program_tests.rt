@@ -3,10 +3,11 @@
 
 use crate::device_tests::{Bytes, ENDLESS, Page, empty_page};
 use crate::shelf::Shelf;
-use ir_search::Observer;
+use ir_commands::Surroundings;
 use ir_object::Gate;
-use ir_program::{Invocation, Surroundings, Terminals, program};
+use ir_program::{Invocation, Terminals, program};
 use ir_runs::Access;
+use ir_search::Observer;
 use std::alloc::{AllocError, AllocGlobal, Global};
 use std::sync::Wait;
 use std::test::Fail;

@@ -4,8 +4,8 @@ ghost use Rattle.std.specs.Prelude.{◌≤◌};
 
 use crate::device_tests::{ENDLESS, Page, empty_page};
 use crate::kept_outputs::{KeptOutputs, no_outputs};
-use ir_make::asm_run;
 use ir_log::Event;
+use ir_make::asm_run;
 use ir_object::OpenGate;
 use ir_record_command::{ParsedImage, RecordFiles, RecordPlan, Recording, record_run};
 use ir_runs::EnvKind;

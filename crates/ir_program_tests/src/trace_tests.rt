@@ -1,7 +1,7 @@
 //! Traces in lines over fakes: all kinds of events, refusals, a writer that fails at each of its calls.
 
 use crate::device_tests::{ENDLESS, Page, empty_page};
-use ir_program::trace_run;
+use ir_commands::trace_run;
 use std::test::Fail;
 
 // Two threads and two objects: the first logs an event of each kind, the second none.

@@ -6,9 +6,9 @@ ghost use Rattle.std.specs.Prelude.{IfOk};
 
 use crate::silent::{Silent, worlds};
 use ir_asm::assemble;
-use ir_schedule::{Choices, Chooser, Runner, Stop, Way};
 use ir_flat::Flat;
 use ir_image::Image;
+use ir_schedule::{Choices, Chooser, Runner, Stop, Way};
 use ir_thread::Profile;
 use std::alloc::Global;
 use std::test::Fail;

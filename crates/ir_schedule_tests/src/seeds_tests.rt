@@ -4,9 +4,9 @@ ghost use Rattle.ir_thread.specs.State.{IsAllowed};
 ghost use Rattle.ir_thread.specs.declared.profile.Profile.TheVariants.{One};
 
 use crate::guests::{ENTRIES, lost_update, run};
-use ir_schedule::{Stop, Way, condition_of};
 use ir_image::Image;
 use ir_record::Turns;
+use ir_schedule::{Stop, Way, condition_of};
 use std::alloc::{AllocError, Global};
 use std::test::Fail;
 

@@ -1,0 +1,87 @@
+//! `ir asm`: a source in a file is assembled into another.
+
+ghost use Rattle.std.specs.Prelude.{◌≡◌, false};
+ghost use Rattle.std.specs.List.{All};
+ghost use Rattle.ir_make.specs.Mapping.{IsNamed};
+
+use crate::files::{bytes_of, is_lost, put_in_place, shown_path};
+use crate::maps::labels_into;
+use ir_arguments::AssembleArguments;
+use ir_asm::Labels;
+use ir_files::{ExitStatus, Folder, MOST_FILE_BYTES, WholeFile};
+use ir_make::asm_run;
+use ir_stream::Sink;
+use std::alloc::Global;
+
+// Whether a file would be written over one that is read, or over another that is written, which is reported.
+fn loses_file<D: Folder, E: Sink>(folder: &D, faults: &mut E, arguments: &AssembleArguments) -> bool
+    ensures kept { result ≡ false → faults.new ≡ faults.old }
+{
+    let source = arguments.source.as_str();
+    let image = arguments.image.as_str();
+    let would = "IMAGE would be written over SOURCE";
+    if is_lost(folder, faults, would, source, image) {
+        return true;
+    }
+    let Some(map) = &arguments.map else {
+        return false;
+    };
+    let map = map.as_str();
+    let would = "MAP would be written over SOURCE";
+    if is_lost(folder, faults, would, source, map) {
+        return true;
+    }
+    let would = "MAP would be written over IMAGE";
+    is_lost(folder, faults, would, image, map)
+}
+
+// Writes the labels to a file, once the image is in its place: only then two names of a file that wasn't there are known to be of one.
+fn put_labels<D: Folder, E: Sink>(
+    alloc: Global,
+    folder: &D,
+    labels: &Labels,
+    image: &str,
+    map: &str,
+    faults: &mut E,
+) -> ExitStatus
+    requires { All IsNamed labels.now }
+{
+    let would = "MAP would be written over IMAGE";
+    if is_lost(folder, faults, would, image, map) {
+        return ExitStatus::BadArguments;
+    }
+    labels_into(alloc, folder, labels, map, faults)
+}
+
+// Assembles a file into another, and its labels into a third if one is named; each is in its place only once it is whole.
+pub fn assemble_file<D: Folder, E: Sink>(
+    alloc: Global,
+    folder: &D,
+    arguments: &AssembleArguments,
+    explains: bool,
+    faults: &mut E,
+) -> ExitStatus
+    requires reports { E.broken faults.old ≡ false }
+{
+    if loses_file(folder, faults, arguments) {
+        return ExitStatus::BadArguments;
+    }
+    let source = arguments.source.as_str();
+    let Some(bytes) = bytes_of(alloc, folder, faults, source, MOST_FILE_BYTES) else {
+        return ExitStatus::Failed;
+    };
+    let mut file = WholeFile::new(alloc, folder, arguments.image.as_str());
+    let explained = (explains || arguments.explain).then_some(shown_path(source, "SOURCE"));
+    let labels = match asm_run(alloc, bytes.as_slice(), explained, &mut file, faults) {
+        Ok(labels) => labels,
+        Err(status) => return put_in_place(&mut file, status, source, faults),
+    };
+    let status = put_in_place(&mut file, ExitStatus::Done, source, faults);
+    match &arguments.map {
+        Some(map) if status == ExitStatus::Done => {
+            let image = arguments.image.as_str();
+            put_labels(alloc, folder, &labels, image, map.as_str(), faults)
+        }
+        _ => status,
+    }
+}

@@ -1,0 +1,55 @@
+//! Conditions that arguments give.
+
+ghost use Rattle.std.specs.Prelude.{◌≡◌, OnOk};
+
+use crate::files::say;
+use ir_files::ExitStatus;
+use ir_record_command::ParsedImage;
+use ir_schedule::{Condition, condition_of};
+use ir_stream::Sink;
+use std::alloc::{AllocError, Global};
+
+// The conditions that these texts write.
+fn read_conditions(alloc: Global, texts: &[String]) -> Result<Vec<Condition<'_>>, AllocError> {
+    let mut conditions = Vec::with_capacity(alloc, texts.len())?;
+    for text in texts {
+        if let Some(condition) = condition_of(alloc, text.as_bytes())? {
+            conditions.push(condition)?;
+        }
+    }
+    Ok(conditions)
+}
+
+// The text of the first of these conditions that is about a thread, an object or a word that the image hasn't.
+fn about_nothing<'a>(
+    image: &ParsedImage<'_>,
+    conditions: &[Condition<'_>],
+    texts: &'a [String],
+) -> Option<&'a str> {
+    let guest = image.guest()?;
+    let place = conditions
+        .iter()
+        .position(|condition| !condition.is_about(guest))?;
+    texts.get(place).map(|text| text.as_str())
+}
+
+/// The conditions that these texts write; if they can't be given, the reason is reported.
+pub fn conditions_of<'a, E: Sink>(
+    alloc: Global,
+    faults: &mut E,
+    image: &ParsedImage<'_>,
+    texts: &'a [String],
+) -> Result<Vec<Condition<'a>>, ExitStatus>
+    ensures kept { OnOk result (faults.new ≡ faults.old) }
+{
+    let Ok(conditions) = read_conditions(alloc, texts) else {
+        say(faults, "memory ran out", "", "");
+        return Err(ExitStatus::Failed);
+    };
+    if let Some(text) = about_nothing(image, conditions.as_slice(), texts) {
+        let why = ": the image has no such thread, object or word";
+        say(faults, text, why, "");
+        return Err(ExitStatus::Refused);
+    }
+    Ok(conditions)
+}

@@ -1,0 +1,57 @@
+//! `ir elf`: a program in an ELF file is made the image of a guest in another.
+
+ghost use Rattle.std.specs.Prelude.{◌≡◌, false};
+
+use crate::files::{bytes_of, is_lost, put_in_place, say, shown_path};
+use ir_arguments::ElfArguments;
+use ir_elf::own_bytes;
+use ir_files::{ExitStatus, Folder, MOST_FILE_BYTES, WholeFile};
+use ir_make::elf_run;
+use ir_stream::Sink;
+use std::alloc::Global;
+
+// Reports how many bytes of variables each thread has for itself, if it has any.
+fn tell_own_bytes<E: Sink>(alloc: Global, elf: &str, file: &[u8], faults: &mut E) {
+    if let Ok(count) = own_bytes(alloc, file)
+        && count > 0
+        && let Ok(what) = format!(in alloc;
+            "{count} bytes of variables, and each thread has its own"
+        )
+    {
+        say(faults, elf, ": ", what.as_str());
+    }
+}
+
+// Makes an image of an ELF file, which is in its place only once it is whole.
+pub fn convert_file<D: Folder, E: Sink>(
+    alloc: Global,
+    folder: &D,
+    arguments: &ElfArguments,
+    explains: bool,
+    faults: &mut E,
+) -> ExitStatus
+    requires reports { E.broken faults.old ≡ false }
+{
+    let elf = arguments.elf.as_str();
+    let image = arguments.image.as_str();
+    let mut file = WholeFile::new(alloc, folder, image);
+    if is_lost(
+        folder,
+        faults,
+        "IMAGE would be written over ELF",
+        elf,
+        image,
+    ) {
+        return ExitStatus::BadArguments;
+    }
+    let Some(bytes) = bytes_of(alloc, folder, faults, elf, MOST_FILE_BYTES) else {
+        return ExitStatus::Failed;
+    };
+    let explained = (explains || arguments.explain).then_some(shown_path(elf, "ELF"));
+    let status = elf_run(alloc, bytes.as_slice(), explained, &mut file, faults);
+    let status = put_in_place(&mut file, status, elf, faults);
+    if status == ExitStatus::Done && explained.is_some() {
+        tell_own_bytes(alloc, elf, bytes.as_slice(), faults);
+    }
+    status
+}

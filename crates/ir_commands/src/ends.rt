@@ -1,0 +1,68 @@
+//! How the threads of a recording ended, in words.
+
+use crate::files::say;
+use ir_stream::Sink;
+use ir_thread::{End, Profile};
+use ir_trace::Trace;
+use std::alloc::{AllocError, Global};
+
+// What an end is, in the words of the help of `ir record`.
+fn words(end: End) -> &'static str {
+    match end {
+        End::Exit(_) => "END",
+        End::Breakpoint => "EBREAK",
+        End::IllegalWord => "no instruction",
+        End::TargetMisaligned => "a misaligned jump",
+        End::OutsideCode => "outside the code",
+        End::BadLoad => "a bad load",
+        End::BadStore => "a bad store",
+        End::UnknownCall => "an unknown call",
+        End::NoSuchObject => "no such object or word",
+        End::EntryOutOfOrder => "an entry out of order",
+        End::NotHeld => "an object that isn't held",
+        End::OutputFull => "too much output",
+        End::BudgetSpent => "the budget is spent",
+        End::LogFull => "too many events",
+    }
+}
+
+// The end of a thread in a line.
+fn line(alloc: Global, number: usize, end: End) -> Result<String, AllocError> {
+    let words = words(end);
+    match end {
+        End::Exit(code) => format!(in alloc; "thread {number} ended by {words} with code {code}"),
+        _ => format!(in alloc; "thread {number} ended: {words}"),
+    }
+}
+
+/// Whether each thread ended by END with code 0.
+pub fn all_ended(trace: &Trace) -> bool {
+    trace
+        .threads()
+        .iter()
+        .all(|thread| thread.end() == End::Exit(0))
+}
+
+// Whether a thread ended by a call that may be known in the second profile.
+fn has_unknown_call(trace: &Trace) -> bool {
+    let is_first = trace.profile() == Profile::One;
+    is_first
+        && trace
+            .threads()
+            .iter()
+            .any(|thread| thread.end() == End::UnknownCall)
+}
+
+/// Reports each other end, in a line each. If a call was unknown that the second profile may have, that is said.
+pub fn tell_ends<E: Sink>(alloc: Global, trace: &Trace, faults: &mut E) {
+    for (number, thread) in trace.threads().iter().enumerate() {
+        if thread.end() != End::Exit(0) {
+            if let Ok(line) = line(alloc, number, thread.end()) {
+                say(faults, line.as_str(), "", "");
+            }
+        }
+    }
+    if has_unknown_call(trace) {
+        say(faults, "TRY_WRITE is a call with --profile 2 only", "", "");
+    }
+}

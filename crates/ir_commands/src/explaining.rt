@@ -1,0 +1,88 @@
+//! Why files are refused, in words.
+
+use crate::files::say;
+use ir_files::ExitStatus;
+use ir_image::read_image;
+use ir_stream::Sink;
+use ir_trace::read_trace;
+use std::alloc::{AllocError, Global};
+
+// What a session reads.
+#[derive(Clone, Copy)]
+struct Files<'a> {
+    image: &'a [u8],
+    trace: &'a [u8],
+}
+
+impl Files<'_> {
+    // Whether each begins as the other should.
+    fn are_exchanged(self) -> bool {
+        self.image.starts_with(b"IRT") && self.trace.starts_with(b"IRI")
+    }
+
+    // Why the image, or else the trace, is refused, in words.
+    fn refusal(self, alloc: Global) -> Result<String, AllocError> {
+        let Err(why) = read_image(alloc, self.image) else {
+            return match read_trace(alloc, self.trace) {
+                Ok(_) => Ok(String::new(alloc)),
+                Err(why) => format!(in alloc; "the trace is refused: {why}"),
+            };
+        };
+        format!(in alloc; "the image is refused: {why}")
+    }
+}
+
+// Says in words why the image or the trace is refused.
+fn explain_refusal<E: Sink>(alloc: Global, files: Files<'_>, faults: &mut E) {
+    if files.are_exchanged() {
+        say(faults, "IMAGE and TRACE are exchanged", "", "");
+    } else if let Ok(why) = files.refusal(alloc) {
+        say(faults, why.as_str(), "", "");
+    }
+}
+
+// Says in words why a session opened nothing, if it didn't.
+fn explain<E: Sink>(alloc: Global, files: Files<'_>, status: ExitStatus, faults: &mut E) {
+    match status {
+        ExitStatus::Refused => explain_refusal(alloc, files, faults),
+        ExitStatus::NotFit => {
+            let why =
+                "no run of this image has this trace: it may be another image's, or the image was changed";
+            say(faults, why, "", "");
+        }
+        _ => {}
+    }
+}
+
+// The name of the one trace that there is.
+pub const THE_TRACE: &str = "the trace";
+
+// Says in words why a trace alone is refused, if it is. The name says which trace it is.
+pub fn explain_trace<E: Sink>(
+    alloc: Global,
+    name: &str,
+    trace: &[u8],
+    status: ExitStatus,
+    faults: &mut E,
+) {
+    if status != ExitStatus::Refused {
+        return;
+    }
+    let Err(why) = read_trace(alloc, trace) else {
+        return;
+    };
+    if let Ok(words) = format!(in alloc; "{name} is refused: {why}") {
+        say(faults, words.as_str(), "", "");
+    }
+}
+
+// Says in words why an image and a trace opened nothing, if they didn't.
+pub fn explain_files<E: Sink>(
+    alloc: Global,
+    image: &[u8],
+    trace: &[u8],
+    status: ExitStatus,
+    faults: &mut E,
+) {
+    explain(alloc, Files { image, trace }, status, faults);
+}

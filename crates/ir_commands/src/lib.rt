@@ -1,0 +1,38 @@
+//! The commands of the program that make, record and explain files, a file each: they read what their arguments name, say what is wrong, and give
+//! the exit status. The commands that open a session are ir_program's.
+#![tactic(auto)]
+
+mod assemble;
+mod conditions;
+mod elf;
+mod ends;
+mod events;
+mod explaining;
+mod explore;
+mod files;
+mod hunt;
+mod list;
+mod listing;
+mod maps;
+mod past;
+mod record;
+mod recording;
+mod surroundings;
+mod trace;
+mod tracing;
+mod until;
+
+pub use assemble::assemble_file;
+pub use elf::convert_file;
+pub use events::events_file;
+pub use explaining::explain_files;
+pub use explore::explore_file;
+pub use files::{bytes_of, explain_image, image_in, say};
+pub use hunt::hunt_file;
+pub use list::list_file;
+pub use past::{diff_files, stale_file, view_file, who_file, why_file};
+pub use record::record_file;
+pub use surroundings::Surroundings;
+pub use trace::trace_file;
+pub use tracing::trace_run;
+pub use until::until_file;

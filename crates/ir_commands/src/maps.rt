@@ -1,0 +1,88 @@
+//! Maps of names: those that are read, and the one of a source's labels.
+
+ghost use Rattle.std.specs.Prelude.{◌≡◌, [], OnOk, IfOk, false, if◌then◌else◌};
+ghost use Rattle.std.specs.List.{All};
+ghost use Rattle.ir_symbols.specs.Tables.{IsSortOf};
+ghost use Rattle.ir_elf_symbols.specs.Symbols.{elf_symbols};
+ghost use Rattle.ir_make.specs.Mapping.{IsNamed};
+ghost use Rattle.ir_make.specs.Opening.{is_elf};
+
+use crate::files::{bytes_of, put_in_place, say};
+use ir_asm::Labels;
+use ir_elf_symbols::elf_symbols;
+use ir_files::{ExitStatus, Folder, MOST_FILE_BYTES, WholeFile};
+use ir_make::{is_elf, map_run};
+use ir_stream::Sink;
+use ir_symbols::{MapErr, SymbolTable, read_map};
+use std::alloc::Global;
+
+// Says why a map isn't read; the status.
+fn refused<E: Sink>(alloc: Global, faults: &mut E, path: &str, why: MapErr) -> ExitStatus {
+    let MapErr::Line(number) = why else {
+        say(faults, "memory ran out", "", "");
+        return ExitStatus::Failed;
+    };
+    match format!(in alloc; "line {number} is no symbol as nm prints it") {
+        Ok(why) => say(faults, path, ": ", why.as_str()),
+        Err(_) => say(faults, path, ": ", "a line is no symbol as nm prints it"),
+    }
+    ExitStatus::Refused
+}
+
+// The names of addresses that a file has itself: the symbols of an ELF file, and none of any other.
+fn own_names<E: Sink>(alloc: Global, faults: &mut E, file: &[u8]) -> Result<SymbolTable, ExitStatus>
+    ensures kept { OnOk result (faults.new ≡ faults.old) }
+    ensures symbols { IfOk result (λ table. IsSortOf (if is_elf file.now then elf_symbols file.now else []) table) }
+{
+    let symbols = if is_elf(file) {
+        elf_symbols(alloc, file)
+    } else {
+        SymbolTable::of(alloc, Vec::new(alloc))
+    };
+    match symbols {
+        Ok(symbols) => Ok(symbols),
+        Err(_) => {
+            say(faults, "memory ran out", "", "");
+            Err(ExitStatus::Failed)
+        }
+    }
+}
+
+// The names of addresses in a map, or those that the guest's file has itself if no map is named. If the map can't be read, the reason is
+// reported.
+pub fn names_in<D: Folder, E: Sink>(
+    alloc: Global,
+    folder: &D,
+    faults: &mut E,
+    file: &[u8],
+    path: Option<&String>,
+) -> Result<SymbolTable, ExitStatus>
+    ensures kept { OnOk result (faults.new ≡ faults.old) }
+{
+    let Some(path) = path else {
+        return own_names(alloc, faults, file);
+    };
+    let path = path.as_str();
+    let Some(bytes) = bytes_of(alloc, folder, faults, path, MOST_FILE_BYTES) else {
+        return Err(ExitStatus::Failed);
+    };
+    match read_map(alloc, bytes.as_slice()) {
+        Ok(symbols) => Ok(symbols),
+        Err(why) => Err(refused(alloc, faults, path, why)),
+    }
+}
+
+// Writes the labels of a source into a file, which is in its place only once it is whole.
+pub fn labels_into<D: Folder, E: Sink>(
+    alloc: Global,
+    folder: &D,
+    labels: &Labels,
+    path: &str,
+    faults: &mut E,
+) -> ExitStatus
+    requires { All IsNamed labels.now }
+{
+    let mut file = WholeFile::new(alloc, folder, path);
+    let status = map_run(alloc, labels, &mut file);
+    put_in_place(&mut file, status, path, faults)
+}

@@ -1,0 +1,220 @@
+//! `ir record`: a guest in a file is recorded, its trace and what its threads print go into others.
+
+ghost use Rattle.std.specs.Prelude.{◌≡◌, OnOk, false};
+
+use crate::ends::{all_ended, tell_ends};
+use crate::files::{bytes_of, image_in, say};
+use crate::recording::{RecordingPaths, input_of, loses_input, output_places, record_files};
+use crate::surroundings::Surroundings;
+use ir_arguments::{Chaos, RecordArguments};
+use ir_files::{ExitStatus, Folder, MOST_FILE_BYTES};
+use ir_hunt::order_of_seed;
+use ir_object::Gate;
+use ir_record_command::{ParsedImage, RecordPlan, Recording, record_run};
+use ir_stream::Sink;
+use ir_trace::Trace;
+use std::alloc::Global;
+use std::sync::Wait;
+use std::thread::Threads;
+use std::time::Clock;
+
+// Without the line feed, and the carriage return before it, at its end.
+fn without_end(list: &str) -> &str {
+    let line = list.strip_suffix('\n').unwrap_or(list);
+    line.strip_suffix('\r').unwrap_or(line)
+}
+
+// A copy of a list. If memory runs out, that is reported.
+fn copied<E: Sink>(alloc: Global, faults: &mut E, list: &str) -> Result<Option<String>, ExitStatus>
+    ensures kept { OnOk result (faults.new ≡ faults.old) }
+{
+    match String::from_str(alloc, list) {
+        Ok(list) => Ok(Some(list)),
+        Err(_) => {
+            say(faults, "memory ran out", "", "");
+            Err(ExitStatus::Failed)
+        }
+    }
+}
+
+// The list of a file, which a line feed may end. If there is none, the reason is reported.
+fn list_in<D: Folder, E: Sink>(
+    alloc: Global,
+    folder: &D,
+    faults: &mut E,
+    path: &str,
+) -> Result<Option<String>, ExitStatus>
+    ensures kept { OnOk result (faults.new ≡ faults.old) }
+{
+    let Some(bytes) = bytes_of(alloc, folder, faults, path, MOST_FILE_BYTES) else {
+        return Err(ExitStatus::Failed);
+    };
+    match String::from_utf8(bytes) {
+        Ok(list) => copied(alloc, faults, without_end(list.as_str())),
+        Err(_) => {
+            say(faults, path, ": ", "LIST is no text");
+            Err(ExitStatus::Refused)
+        }
+    }
+}
+
+// The list that writes the order out, if there is one.
+fn list_of<D: Folder, E: Sink>(
+    alloc: Global,
+    folder: &D,
+    faults: &mut E,
+    arguments: &RecordArguments,
+) -> Result<Option<String>, ExitStatus>
+    ensures kept { OnOk result (faults.new ≡ faults.old) }
+{
+    match (&arguments.order_file, &arguments.order) {
+        (Some(path), _) => list_in(alloc, folder, faults, path.as_str()),
+        (None, Some(list)) => copied(alloc, faults, list.as_str()),
+        (None, None) => Ok(None),
+    }
+}
+
+// The list of a seed.
+fn list_of_seed<C: Clock, E: Sink>(
+    alloc: Global,
+    clock: &C,
+    faults: &mut E,
+    image: &ParsedImage<'_>,
+    plan: RecordPlan<'_>,
+    chaos: Chaos,
+) -> Result<Option<String>, ExitStatus>
+    ensures kept { OnOk result (faults.new ≡ faults.old) }
+{
+    let Chaos { seed, way } = chaos;
+    match order_of_seed(alloc, clock, image, plan, way, seed) {
+        Ok(Some(list)) => Ok(Some(list)),
+        Ok(None) => {
+            say(
+                faults,
+                "the run of this seed has too many turns to be followed",
+                "",
+                "",
+            );
+            Err(ExitStatus::Failed)
+        }
+        Err(why) => {
+            say(faults, why.words(), "", "");
+            Err(why.status())
+        }
+    }
+}
+
+// The files of a recording.
+fn paths(arguments: &RecordArguments) -> RecordingPaths<'_> {
+    RecordingPaths {
+        image: arguments.image.as_str(),
+        trace: arguments.trace.as_str(),
+        input: arguments.options.input.as_ref(),
+        list: arguments.order_file.as_ref(),
+        output: arguments.options.output.as_ref(),
+    }
+}
+
+// What a recording reads beside its image, and where what its threads print goes.
+#[derive(Drop)]
+struct Beside {
+    outputs: Option<Vec<String>>,
+    input: Vec<u8>,
+    list: Option<String>,
+}
+
+impl Beside {
+    // Reads it; if it can't be read, the reason is reported.
+    fn of<C: Clock, D: Folder, E: Sink>(
+        alloc: Global,
+        clock: &C,
+        folder: &D,
+        faults: &mut E,
+        arguments: &RecordArguments,
+        image: &ParsedImage<'_>,
+    ) -> Result<Beside, ExitStatus>
+        ensures kept { OnOk result (faults.new ≡ faults.old) }
+    {
+        let paths = paths(arguments);
+        let outputs = output_places(alloc, folder, faults, &paths, image)?;
+        let Some(input) = input_of(alloc, folder, faults, paths.input) else {
+            return Err(ExitStatus::Failed);
+        };
+        let list = match arguments.chaos {
+            Some(chaos) => {
+                let plan = arguments.plan(None, input.as_slice());
+                list_of_seed(alloc, clock, faults, image, plan, chaos)?
+            }
+            None => list_of(alloc, folder, faults, arguments)?,
+        };
+        Ok(Beside {
+            outputs,
+            input,
+            list,
+        })
+    }
+}
+
+// The exit status of a recording, whose ends are reported in words if a person looks on.
+fn status_of<E: Sink>(
+    alloc: Global,
+    trace: &Trace,
+    asks: bool,
+    explains: bool,
+    faults: &mut E,
+) -> ExitStatus {
+    if explains {
+        tell_ends(alloc, trace, faults);
+    }
+    if asks && !all_ended(trace) {
+        ExitStatus::NotSo
+    } else {
+        ExitStatus::Done
+    }
+}
+
+// Records a guest into a file, and what its threads print into others where they are asked for.
+pub fn record_file<R, D, G, O, E>(
+    around: &Surroundings<'_, R, D, G>,
+    arguments: &RecordArguments,
+    explains: bool,
+    out: &mut O,
+    faults: &mut E,
+) -> ExitStatus
+where
+    R: Threads + Wait + Sync + Clock + AllocGlobal,
+    D: Folder,
+    G: Gate + Sync,
+    O: Sink,
+    E: Sink,
+    requires writes { O.broken out.old ≡ false }
+    requires reports { E.broken faults.old ≡ false }
+{
+    let (rt, folder) = (around.rt, around.folder);
+    let alloc = rt.alloc();
+    if loses_input(folder, faults, &paths(arguments)) {
+        return ExitStatus::BadArguments;
+    }
+    let image = match image_in(alloc, folder, faults, arguments.image.as_str()) {
+        Ok(image) => image,
+        Err(status) => return status,
+    };
+    let image = ParsedImage::new(alloc, image.as_slice());
+    let beside = match Beside::of(alloc, rt, folder, faults, arguments, &image) {
+        Ok(beside) => beside,
+        Err(status) => return status,
+    };
+    let input = beside.input.as_slice();
+    let order = beside.list.as_ref().map(|list| list.as_str());
+    let paths = beside.outputs.as_ref().map(|paths| paths.as_slice());
+    let plan = arguments.plan(order, input);
+    let mut files = record_files(alloc, folder, arguments.trace.as_str(), paths);
+    let recording = Recording {
+        image: &image,
+        plan: &plan,
+    };
+    match record_run(rt, around.gate, &recording, &mut files, out, faults) {
+        Ok(recorded) => status_of(alloc, &recorded, arguments.status, explains, faults),
+        Err(status) => status,
+    }
+}

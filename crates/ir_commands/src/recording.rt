@@ -1,0 +1,174 @@
+//! What a recording reads and writes.
+
+ghost use Rattle.std.specs.Prelude.{◌≡◌, OnSome, OnOk, false};
+
+use crate::files::{bytes_of, is_lost, say};
+use ir_files::{ExitStatus, Folder, MOST_GUEST_INPUT, OutputFiles, WholeFile, output_paths};
+use ir_record_command::{ParsedImage, RecordFiles};
+use ir_stream::Sink;
+use std::alloc::{AllocError, Global};
+
+/// What a recording reads and writes.
+#[derive(Clone, Copy)]
+pub struct RecordingPaths<'a> {
+    /// The image.
+    pub image: &'a str,
+    /// The trace.
+    pub trace: &'a str,
+    /// The file that guests read, if there is one.
+    pub input: Option<&'a String>,
+    /// The file with the list, if there is one.
+    pub list: Option<&'a String>,
+    /// What the paths of the files of what threads print begin with, if they are asked for.
+    pub output: Option<&'a String>,
+}
+
+/// Where a recording goes.
+#[derive(Clone, Copy)]
+pub struct Places<'a, 'b> {
+    /// The trace.
+    pub trace: &'a str,
+    /// What each thread prints, if it is asked for.
+    pub outputs: Option<&'b [String]>,
+}
+
+/// Where a recording goes: its trace to one path, and what each thread prints to these, if it is asked for.
+pub fn record_files<'a, D: Folder>(
+    alloc: Global,
+    folder: &'a D,
+    trace: &'a str,
+    outputs: Option<&'a [String]>,
+) -> RecordFiles<WholeFile<'a, D>, OutputFiles<'a, D>>
+    ensures folder { result.trace.folder.now ≡ folder.now }
+    ensures place { result.trace.place.now ≡ trace.now }
+    ensures folders { result.outputs.folder.now ≡ folder.now }
+    ensures paths { result.outputs.paths ≡ outputs.entry }
+    ensures writes { result.trace.failed ≡ false }
+    ensures puts { result.outputs.failed ≡ false }
+{
+    RecordFiles {
+        trace: WholeFile::new(alloc, folder, trace),
+        outputs: OutputFiles::new(alloc, folder, outputs, trace),
+    }
+}
+
+/// The bytes that guests read, none without a file.
+pub fn input_of<D: Folder, E: Sink>(
+    alloc: Global,
+    folder: &D,
+    faults: &mut E,
+    file: Option<&String>,
+) -> Option<Vec<u8>>
+    ensures kept { OnSome result (faults.new ≡ faults.old) }
+{
+    match file {
+        Some(path) => bytes_of(alloc, folder, faults, path.as_str(), MOST_GUEST_INPUT),
+        None => Some(Vec::new(alloc)),
+    }
+}
+
+// Whether the file that is read, if one was given, would be lost by writing to a path, which is reported.
+fn loses_given<D: Folder, E: Sink>(
+    folder: &D,
+    faults: &mut E,
+    would: &str,
+    file: Option<&String>,
+    written: &str,
+) -> bool
+    ensures kept { result ≡ false → faults.new ≡ faults.old }
+{
+    match file {
+        Some(file) => is_lost(folder, faults, would, file.as_str(), written),
+        None => false,
+    }
+}
+
+/// Whether a recording's trace would be written over one of the files that it reads.
+pub fn loses_input<D: Folder, E: Sink>(
+    folder: &D,
+    faults: &mut E,
+    paths: &RecordingPaths<'_>,
+) -> bool
+    ensures kept { result ≡ false → faults.new ≡ faults.old }
+{
+    const OVER_IMAGE: &str = "TRACE would be written over IMAGE";
+    const OVER_FILE: &str = "TRACE would be written over FILE";
+    const OVER_LIST: &str = "TRACE would be written over LISTFILE";
+    let trace = paths.trace;
+    is_lost(folder, faults, OVER_IMAGE, paths.image, trace)
+        || loses_given(folder, faults, OVER_FILE, paths.input, trace)
+        || loses_given(folder, faults, OVER_LIST, paths.list, trace)
+}
+
+// The paths of what the threads of an image print, if they are asked for.
+fn paths_of(
+    alloc: Global,
+    paths: &RecordingPaths<'_>,
+    image: &ParsedImage<'_>,
+) -> Result<Option<Vec<String>>, AllocError> {
+    let Some(prefix) = paths.output else {
+        return Ok(None);
+    };
+    let each = output_paths(alloc, prefix.as_str(), image.threads()?)?;
+    Ok(Some(each))
+}
+
+// Whether what a thread prints would be written over another file of its recording.
+fn loses_other<D: Folder, E: Sink>(
+    folder: &D,
+    faults: &mut E,
+    paths: &RecordingPaths<'_>,
+    path: &str,
+) -> bool
+    ensures kept { result ≡ false → faults.new ≡ faults.old }
+{
+    const OVER_IMAGE: &str = "PREFIX.T would be written over IMAGE";
+    const OVER_TRACE: &str = "PREFIX.T would be written over TRACE";
+    const OVER_FILE: &str = "PREFIX.T would be written over FILE";
+    const OVER_LIST: &str = "PREFIX.T would be written over LISTFILE";
+    is_lost(folder, faults, OVER_IMAGE, paths.image, path)
+        || is_lost(folder, faults, OVER_TRACE, paths.trace, path)
+        || loses_given(folder, faults, OVER_FILE, paths.input, path)
+        || loses_given(folder, faults, OVER_LIST, paths.list, path)
+}
+
+// The same of any of these threads.
+fn any_loses<D: Folder, E: Sink>(
+    folder: &D,
+    faults: &mut E,
+    paths: &RecordingPaths<'_>,
+    outputs: &[String],
+) -> bool
+    ensures kept { result ≡ false → faults.new ≡ faults.old }
+{
+    for path in outputs {
+        if loses_other(folder, faults, paths, path.as_str()) {
+            return true;
+        }
+    }
+    false
+}
+
+/// The paths of what the threads of an image print, if they are asked for. If memory runs out, or one would be written
+/// over another file of the recording, that is reported, and the exit status is answered.
+pub fn output_places<D: Folder, E: Sink>(
+    alloc: Global,
+    folder: &D,
+    faults: &mut E,
+    paths: &RecordingPaths<'_>,
+    image: &ParsedImage<'_>,
+) -> Result<Option<Vec<String>>, ExitStatus>
+    ensures kept { OnOk result (faults.new ≡ faults.old) }
+{
+    let Ok(outputs) = paths_of(alloc, paths, image) else {
+        say(faults, "memory ran out", "", "");
+        return Err(ExitStatus::Failed);
+    };
+    match &outputs {
+        Some(each) if any_loses(folder, faults, paths, each.as_slice()) => {
+            return Err(ExitStatus::BadArguments);
+        }
+        _ => {}
+    }
+    Ok(outputs)
+}

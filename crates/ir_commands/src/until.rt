@@ -1,0 +1,160 @@
+//! `ir explore --until`: the first outcome that fulfils conditions is recorded.
+
+ghost use Rattle.std.specs.Prelude.{◌≡◌, OnOk, false};
+
+use crate::conditions::conditions_of;
+use crate::ends::tell_ends;
+use crate::files::image_in;
+use crate::recording::{
+    Places, RecordingPaths, input_of, loses_input, output_places, record_files,
+};
+use crate::surroundings::Surroundings;
+use ir_arguments::UntilArguments;
+use ir_explore::{HangPlan, UntilPlan, explore_hang, explore_until};
+use ir_files::{ExitStatus, Folder};
+use ir_record_command::ParsedImage;
+use ir_search::Observer;
+use ir_stream::Sink;
+use ir_trace::Trace;
+use std::alloc::Global;
+use std::time::Clock;
+
+// The files of the recording.
+fn paths(arguments: &UntilArguments) -> RecordingPaths<'_> {
+    RecordingPaths {
+        image: arguments.explore.image.as_str(),
+        trace: arguments.trace.as_str(),
+        input: arguments.explore.input.as_ref(),
+        list: None,
+        output: arguments.output.as_ref(),
+    }
+}
+
+// Where what the threads print goes, if it is asked for, and the bytes that they read. If there are none, the reason is reported.
+fn beside_of<D: Folder, E: Sink>(
+    alloc: Global,
+    folder: &D,
+    faults: &mut E,
+    paths: &RecordingPaths<'_>,
+    image: &ParsedImage<'_>,
+) -> Result<(Option<Vec<String>>, Vec<u8>), ExitStatus>
+    ensures kept { OnOk result (faults.new ≡ faults.old) }
+{
+    let outputs = output_places(alloc, folder, faults, paths, image)?;
+    match input_of(alloc, folder, faults, paths.input) {
+        Some(input) => Ok((outputs, input)),
+        None => Err(ExitStatus::Failed),
+    }
+}
+
+// Looks for an outcome of a guest, whose trace and outputs go into files at these paths.
+fn found_into<R, D, G, O, E>(
+    around: &Surroundings<'_, R, D, G>,
+    places: Places<'_, '_>,
+    plan: &UntilPlan<'_, '_, '_, G>,
+    out: &mut O,
+    faults: &mut E,
+) -> Result<Trace, ExitStatus>
+where
+    R: Clock + AllocGlobal,
+    D: Folder,
+    G: Observer,
+    O: Sink,
+    E: Sink,
+    requires writes { O.broken out.old ≡ false }
+    requires reports { E.broken faults.old ≡ false }
+{
+    let Surroundings { rt, folder, .. } = *around;
+    let mut files = record_files(rt.alloc(), folder, places.trace, places.outputs);
+    explore_until(rt, plan, &mut files, out, faults)
+}
+
+// Looks for a run of a guest that hangs, whose trace and outputs go into files at these paths.
+fn hang_into<R, D, G, O, E>(
+    around: &Surroundings<'_, R, D, G>,
+    places: Places<'_, '_>,
+    plan: &UntilPlan<'_, '_, '_, G>,
+    out: &mut O,
+    faults: &mut E,
+) -> Result<Trace, ExitStatus>
+where
+    R: Clock + AllocGlobal,
+    D: Folder,
+    G: Observer,
+    O: Sink,
+    E: Sink,
+    requires writes { O.broken out.old ≡ false }
+    requires reports { E.broken faults.old ≡ false }
+{
+    let Surroundings { rt, folder, .. } = *around;
+    let mut files = record_files(rt.alloc(), folder, places.trace, places.outputs);
+    let hang = HangPlan {
+        image: plan.image,
+        explore: plan.explore.within(plan.explore.most()),
+        observer: plan.observer,
+    };
+    explore_hang(rt, &hang, &mut files, out, faults)
+}
+
+// Looks for an outcome of a guest, or a run that hangs, and records such a run into a file, and what its threads print into others where they are asked
+// for.
+pub fn until_file<R, D, G, O, E>(
+    around: &Surroundings<'_, R, D, G>,
+    arguments: &UntilArguments,
+    explains: bool,
+    out: &mut O,
+    faults: &mut E,
+) -> ExitStatus
+where
+    R: Clock + AllocGlobal,
+    D: Folder,
+    G: Observer,
+    O: Sink,
+    E: Sink,
+    requires writes { O.broken out.old ≡ false }
+    requires reports { E.broken faults.old ≡ false }
+{
+    let folder = around.folder;
+    let alloc = around.rt.alloc();
+    let paths = paths(arguments);
+    if loses_input(folder, faults, &paths) {
+        return ExitStatus::BadArguments;
+    }
+    let image = match image_in(alloc, folder, faults, paths.image) {
+        Ok(image) => image,
+        Err(status) => return status,
+    };
+    let image = ParsedImage::new(alloc, image.as_slice());
+    let conditions = match conditions_of(alloc, faults, &image, arguments.until.as_slice()) {
+        Ok(conditions) => conditions,
+        Err(status) => return status,
+    };
+    let (outputs, input) = match beside_of(alloc, folder, faults, &paths, &image) {
+        Ok(beside) => beside,
+        Err(status) => return status,
+    };
+    let places = Places {
+        trace: paths.trace,
+        outputs: outputs.as_ref().map(|each| each.as_slice()),
+    };
+    let plan = UntilPlan {
+        image: &image,
+        explore: arguments.explore.plan(input.as_slice()),
+        conditions: conditions.as_slice(),
+        observer: around.gate,
+    };
+    let found = if arguments.hang {
+        hang_into(around, places, &plan, out, faults)
+    } else {
+        found_into(around, places, &plan, out, faults)
+    };
+    match found {
+        Ok(recorded) => {
+            if explains {
+                tell_ends(alloc, &recorded, faults);
+            }
+            ExitStatus::Done
+        }
+        Err(status) => status,
+    }
+}

@@ -1,6 +1,0 @@
-use Rattle.std.proofs.Common.{◌≡◌}
-use Rattle.ir_program.proofs.commands.recording.any_loses.Given as goal
-
--- nothing was reported
-abbrev pub invariant-loop-path : goal.invariant-loop-path
-invariant-loop-path g l = l.faults ≡ l.fn.faults
