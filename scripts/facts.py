@@ -9,8 +9,8 @@ A part stands between the lines `<!-- facts: NAME -->` and `<!-- end -->`.
 - `base` and `further` of theorem.md: what the headline and other calls rest on (scripts/definitions.py).
 
 With --check it writes nothing, prints a line for each difference and then fails; scripts/rooms.py prints these lines too. It also refuses a constant
-that the limits of architecture.md name of a crate without it, one that stands with the same name and number in two crates and isn't among those that the
-page lists, a subcommand without a row there, and a crate of the program that the picture lacks.
+that the limits of architecture.md name of a crate without it, a name that two crates give to constants, a number above 64 that stands in constants of two
+crates and isn't among those that the page lists, a subcommand without a row there, and a crate of the program that the picture lacks.
 """
 import re
 import sys
@@ -32,6 +32,8 @@ WORD = re.compile(r"\b[a-z_]\w*\b(?!::\w)")
 EMPTY = re.compile(r"\n\{\s*\}\s*(?:///.*\s*)*$")
 CONSTANT = re.compile(r"\bconst ([A-Z][A-Z_0-9]*): \w+ = ([^;]+);")
 LINES = ("src", "specs", "proofs")
+# A number up to this may stand in constants of several crates.
+MOST_FREE = 64
 
 
 def functions(crates):
@@ -160,14 +162,20 @@ def named_faults():
     for crate, constant in re.findall(r"\b(ir_\w+) (?:`\w+::)?`?(?:\w+::)?([A-Z][A-Z_0-9]+)`", limits):
         if constant not in constants.get(crate, {}):
             yield f"docs/internals/architecture.md: {crate} has no constant {constant}"
-    repeated = limits.partition("\n| Stands more than once |")[2]
-    places = {}
+    equal = limits.partition("\n| Equal numbers |")[2]
+    names, numbers = {}, {}
     for crate, found in sorted(constants.items()):
-        for constant in found.items():
-            places.setdefault(constant, []).append(crate)
-    for (constant, number), crates in places.items():
-        if len(crates) > 1 and constant not in repeated:
-            yield f"docs/internals/architecture.md: {constant} = {number} stands in {' and in '.join(crates)}: cite the lowest, or list it there"
+        for name, number in found.items():
+            names.setdefault(name, []).append(crate)
+            if isinstance(number, int) and number > MOST_FREE:
+                numbers.setdefault(number, []).append((crate, name))
+    for name, crates in names.items():
+        if len(crates) > 1:
+            yield f"docs/internals/architecture.md: {' and '.join(crates)} have a constant {name} each: cite the lowest, or name them for what they are"
+    for number, places in numbers.items():
+        unlisted = [f"{crate} `{name}`" for crate, name in places if f"{crate} `{name}`" not in equal]
+        if len({crate for crate, _ in places}) > 1 and unlisted:
+            yield f"docs/internals/architecture.md: {number} stands in {' and '.join(f'{c} {n}' for c, n in places)}: cite the lowest, or list {', '.join(unlisted)}"
     table = (TOP / "crates" / "ir_arguments" / "src" / "subcommands.rt").read_text(encoding="utf-8")
     for name in re.findall(r'^ +name: "(\w+)"', table, re.MULTILINE):
         if not re.search(rf"^\| (?:.*, )?`ir {name}`", text, re.MULTILINE):

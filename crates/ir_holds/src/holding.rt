@@ -22,7 +22,7 @@ use crate::nearing::nearest;
 use crate::proposing::proposed;
 use crate::settling::settled;
 use crate::span::Span;
-use crate::spot::{NOWHERE, Spot};
+use crate::spot::{NOT_PLACED, Spot};
 use ir_past::thread_count;
 use ir_picture::{EventBox, PlacedBox, Point};
 use ir_trace::Trace;
@@ -56,7 +56,7 @@ fn box_at(events: EventBox, row: usize, spot: Spot, span: &Span) -> PlacedBox
 fn spot_at(spots: &[Spot], number: usize) -> Spot {
     match spots.get(number) {
         Some(spot) => *spot,
-        None => NOWHERE,
+        None => NOT_PLACED,
     }
 }
 

@@ -3,7 +3,7 @@
 use crate::known::Known;
 use crate::moments::{Moment, moments_of};
 use crate::span::Span;
-use crate::spot::{NOWHERE, Spot};
+use crate::spot::{NOT_PLACED, Spot};
 use ir_log::Event;
 use ir_picture::{EventBox, Point, later, length_of};
 use ir_trace::Trace;
@@ -107,7 +107,7 @@ impl Proposing {
             })?;
         }
         let mut spots = Vec::new(alloc);
-        spots.resize(given.spans.len(), NOWHERE)?;
+        spots.resize(given.spans.len(), NOT_PLACED)?;
         let known = Known::new(alloc, given.trace.objects())?;
         Ok(Proposing {
             spots,

@@ -14,7 +14,7 @@ pub struct Spot {
 }
 
 /// Where a box is that has no place yet.
-pub const NOWHERE: Spot = Spot {
+pub const NOT_PLACED: Spot = Spot {
     start: Point { x: 0, u: 0 },
     end: Point { x: 0, u: 0 },
     came: 0,

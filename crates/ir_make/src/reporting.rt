@@ -9,7 +9,7 @@ use ir_asm::Cause;
 use std::alloc::{AllocError, Global};
 
 // The most bytes of a line that are shown.
-const MOST_SHOWN: usize = 200;
+const MOST_LINE_SHOWN: usize = 200;
 
 // A cause in words, which are those of the help.
 fn words_of(cause: Cause) -> &'static str
@@ -55,7 +55,7 @@ fn line_at(text: &str, number: usize) -> &str
 fn shown_part(line: &[u8]) -> &[u8]
     ensures { result.now ≡ take most_shown line.now }
 {
-    line.split_at(MOST_SHOWN.min(line.len())).0
+    line.split_at(MOST_LINE_SHOWN.min(line.len())).0
 }
 
 // Bytes as they are shown.
