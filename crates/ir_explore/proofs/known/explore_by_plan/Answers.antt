@@ -2,7 +2,7 @@ use Rattle.std.proofs.Common.{subst}
 use Rattle.ir_outcomes.specs.Explored.{IsExplored}
 use Rattle.ir_explore.specs.Plan.{ExplorePlan}
 use Rattle.ir_explore.proofs.Printed.{explored_is_known}
-use Rattle.ir_explore.proofs.known.known.Goals as goal
+use Rattle.ir_explore.proofs.known.explore_by_plan.Goals as goal
 
 pub returns-clause-known : goal.returns-clause-known
 returns-clause-known g c =
