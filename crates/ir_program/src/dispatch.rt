@@ -10,7 +10,7 @@ use ir_arguments::{Asked, Make, Print, parsed};
 use ir_commands::{
     Surroundings, assemble_file, convert_file, diff_files, events_file, explain_image,
     explore_file, hunt_file, list_file, record_file, say, stale_file, trace_file, until_file,
-    view_file, who_file, why_file,
+    view_file, who_file, why_file, within_file,
 };
 use ir_files::{ExitStatus, Folder};
 use ir_object::{Gate, Given, Hands};
@@ -138,6 +138,12 @@ where
         Print::Why(arguments) => why_file(alloc, folder, arguments, out, faults),
         Print::Diff(arguments) => diff_files(alloc, folder, arguments, out, faults),
         Print::View(arguments) => view_file(alloc, folder, arguments, out, faults),
+        Print::Within(arguments) => {
+            let status = within_file(around, arguments, out, faults);
+            let image = arguments.explore.image.as_str();
+            let status = over_image(alloc, folder, image, status, faults);
+            over_image(alloc, folder, arguments.other.as_str(), status, faults)
+        }
         Print::Outcomes(arguments) => {
             let status = explore_file(around, arguments, out, faults);
             let image = arguments.image.as_str();
