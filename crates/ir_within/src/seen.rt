@@ -115,7 +115,39 @@ pub fn seen_of(alloc: Global, aspects: Aspects<'_>, flat: &Flat<'_>) -> Result<S
     })
 }
 
-// Whether the rows of two tables are the same.
+// Whether two threads ended alike.
+fn same_end(one: Option<End>, other: Option<End>) -> bool
+    ensures same { result ≡ true → one ≡ other }
+    ensures different { result ≡ false → one ≢ other }
+{
+    one == other
+}
+
+// Whether all threads ended alike.
+fn same_ends(one: &[Option<End>], other: &[Option<End>]) -> bool
+    ensures same { result ≡ true → one.now ≡ other.now }
+    ensures different { result ≡ false → one.now ≢ other.now }
+{
+    if one.len() != other.len() {
+        return false;
+    }
+    for i in 0..one.len() {
+        if !same_end(one[i], other[i]) {
+            return false;
+        }
+    }
+    true
+}
+
+// Whether two rows of bytes are the same.
+fn same_row(one: &[u8], other: &[u8]) -> bool
+    ensures same { result ≡ true → one.now ≡ other.now }
+    ensures different { result ≡ false → one.now ≢ other.now }
+{
+    one == other
+}
+
+// Whether the rows of two tables of bytes are the same.
 fn same_bytes(one: &[Vec<u8>], other: &[Vec<u8>]) -> bool
     ensures same { result ≡ true → map (λ v. v.items) one.now ≡ map (λ v. v.items) other.now }
     ensures different { result ≡ false → map (λ v. v.items) one.now ≢ map (λ v. v.items) other.now }
@@ -124,14 +156,22 @@ fn same_bytes(one: &[Vec<u8>], other: &[Vec<u8>]) -> bool
         return false;
     }
     for i in 0..one.len() {
-        if one[i].as_slice() != other[i].as_slice() {
+        if !same_row(one[i].as_slice(), other[i].as_slice()) {
             return false;
         }
     }
     true
 }
 
-// The same of words.
+// Whether two objects' words are the same.
+fn same_object(one: &[u32], other: &[u32]) -> bool
+    ensures same { result ≡ true → one.now ≡ other.now }
+    ensures different { result ≡ false → one.now ≢ other.now }
+{
+    one == other
+}
+
+// Whether the words of all objects are the same.
 fn same_words(one: &[Vec<u32>], other: &[Vec<u32>]) -> bool
     ensures same { result ≡ true → map (λ v. v.items) one.now ≡ map (λ v. v.items) other.now }
     ensures different { result ≡ false → map (λ v. v.items) one.now ≢ map (λ v. v.items) other.now }
@@ -140,7 +180,7 @@ fn same_words(one: &[Vec<u32>], other: &[Vec<u32>]) -> bool
         return false;
     }
     for i in 0..one.len() {
-        if one[i].as_slice() != other[i].as_slice() {
+        if !same_object(one[i].as_slice(), other[i].as_slice()) {
             return false;
         }
     }
@@ -153,8 +193,12 @@ impl Seen {
         ensures same { result ≡ true → value_of self.now ≡ value_of other.now }
         ensures different { result ≡ false → value_of self.now ≢ value_of other.now }
     {
-        self.ends.as_slice() == other.ends.as_slice()
-            && same_bytes(self.outputs.as_slice(), other.outputs.as_slice())
-            && same_words(self.words.as_slice(), other.words.as_slice())
+        if !same_ends(self.ends.as_slice(), other.ends.as_slice()) {
+            return false;
+        }
+        if !same_bytes(self.outputs.as_slice(), other.outputs.as_slice()) {
+            return false;
+        }
+        same_words(self.words.as_slice(), other.words.as_slice())
     }
 }
