@@ -5,7 +5,7 @@ ghost use Rattle.ir_weave.specs.Standing.{flat_in, positions};
 ghost use Rattle.ir_moves.specs.Checkpoints.{AllStand, Stands};
 ghost use Rattle.ir_moves.specs.Below.{IsBelow};
 
-use ir_checkpoint::{Keeper, MOST_STATES};
+use ir_checkpoint::{Keeper, MOST_CHECKPOINTS};
 use ir_fit::Fitted;
 use ir_replay::State;
 use std::alloc::AllocError;
@@ -56,7 +56,7 @@ pub fn last_below(fitted: &Fitted, keeper: &Keeper, t: usize, position: u64) -> 
     ensures { IfSome result (IsBelow keeper.now.kept t position) }
 {
     let mut best: Option<Found> = None;
-    for place in 0..MOST_STATES {
+    for place in 0..MOST_CHECKPOINTS {
         if let Some(found) = below_at(fitted, keeper, place, t, position) {
             if is_further(best, found) {
                 best = Some(found);

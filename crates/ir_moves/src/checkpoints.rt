@@ -11,7 +11,7 @@ ghost use Rattle.ir_moves.specs.Below.{IsBefore};
 use crate::below::{is_further, last_below, restore_found};
 use crate::bringing::{gap_of, is_past, is_there, next_stop, steps_before, steps_of};
 use crate::passed::{MOST_PASSED, Passed, PassedCut};
-use ir_checkpoint::{KeepErr, Keeper, MOST_STATES};
+use ir_checkpoint::{KeepErr, Keeper, MOST_CHECKPOINTS};
 use ir_cut::Cut;
 use ir_fit::Fitted;
 use ir_object::Hands;
@@ -75,7 +75,7 @@ fn is_at(keeper: &Keeper, number: u32, cut: &Cut) -> bool {
 
 // The greatest number of a state that is kept at a cut, but for the start's.
 fn last_at(keeper: &Keeper, cut: &Cut) -> Option<u32> {
-    for place in 0..MOST_STATES {
+    for place in 0..MOST_CHECKPOINTS {
         let number = keeper.number_at(place)?;
         if number != 0 && is_at(keeper, number, cut) {
             return Some(number);
