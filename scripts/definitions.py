@@ -84,6 +84,14 @@ CLAIMS = [
         ("ir_explore", "Until", "`IsSought`, `IsVain`"),
         ("ir_explore", "Hang", "`FindsHang`, `IsHangTold`"),
     ], (411, 267)),
+    Claim("Comparing", "`ir explore --within` says whether each outcome of a guest is one of another's.", {
+        "ir_within/src/run.rt": ["within_run"],
+        "ir_within/src/laws.rt": ["within_is_each", "outside_is_some"],
+    }, [
+        ("ir_within", "Aspects", "`Aspects`, `seen`: what of an outcome counts"),
+        ("ir_within", "Within", "`IsCompared`, `IsWithinAnswer`: what is printed"),
+        ("ir_within", "Laws", "the laws"),
+    ], (420, 200)),
     Claim("Hunting", "`ir hunt` says which seeds it tried, and which is the lowest that it found.", {"ir_hunt/src/hunting.rt": ["hunt_run"]}, [
         ("ir_schedule", "Schedules", "`IsSchedule`: the run by a chooser"),
         ("ir_hunt", "Hunt", "`Hunt`: what is hunted"),

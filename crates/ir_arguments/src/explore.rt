@@ -1,6 +1,6 @@
 //! The arguments of `ir explore`.
 
-ghost use Rattle.std.specs.Prelude.{◌≡◌, ◌≤◌, IfOk};
+ghost use Rattle.std.specs.Prelude.{◌≤◌, IfOk};
 
 use crate::asked::{Asked, Print};
 use crate::conditions::{hang_by, outcome_conditions_of};
@@ -10,7 +10,6 @@ use crate::recording::{
 use crate::values::{IMAGE, TRACE, UNTIL, given_text, image_arg, text_of};
 use crate::within::{WITHIN, WithinArguments, counted_of, only_arg, other_of, within_arg};
 use clap::{Arg, ArgAction, ArgMatches, Command};
-use ir_explore::ExplorePlan;
 use ir_record_command::number_within;
 use ir_thread::{MOST_BUDGET, Profile};
 use std::alloc::{AllocError, Global};
@@ -82,10 +81,13 @@ const MOST_PRIVATE: u64 = MOST_BUDGET;
 
 /// How far a guest is explored.
 #[derive(Clone, Copy)]
-struct Reach {
-    states: usize,
-    private: u64,
-    switches: usize,
+pub struct Reach {
+    /// The most states.
+    pub states: usize,
+    /// The most steps of a thread up to its next entry or try.
+    pub private: u64,
+    /// The most switches.
+    pub switches: usize,
     ghost some: { 1 ≤ states },
 }
 
@@ -94,34 +96,14 @@ struct Reach {
 pub struct ExploreArguments {
     /// The file of the image.
     pub image: String,
-    // How far its guest is explored.
-    reach: Reach,
-    // Which system calls there are.
-    profile: Profile,
-    // Where random words start.
-    random: u64,
+    /// How far its guest is explored.
+    pub reach: Reach,
+    /// Which system calls there are.
+    pub profile: Profile,
+    /// Where random words start.
+    pub random: u64,
     /// The file that guests read.
     pub input: Option<String>,
-}
-
-impl ExploreArguments {
-    /// How the guest is explored, which reads these bytes.
-    pub fn plan<'a>(&self, input: &'a [u8]) -> ExplorePlan<'a>
-        ensures states { result.bounds.nodes ≡ self.now.reach.states }
-        ensures private { result.bounds.private ≡ self.now.reach.private }
-        ensures switches { result.switches ≡ self.now.reach.switches }
-        ensures profile { result.profile ≡ self.now.profile }
-        ensures random { result.random ≡ self.now.random }
-        ensures input { result.input ≡ input.now }
-    {
-        let Reach {
-            states,
-            private,
-            switches,
-            ..
-        } = self.reach;
-        ExplorePlan::new(states, private, switches, self.profile, self.random, input)
-    }
 }
 
 /// Which outcome is looked for, and where a run that has it goes.

@@ -6,9 +6,8 @@ use crate::recording::{RecordingOptions, options_of, with_options};
 use crate::seeds::{by_arg, seeds_by, way_by};
 use crate::values::{IMAGE, TRACE, UNTIL, file_arg, image_arg, text_of};
 use clap::{Arg, ArgAction, ArgMatches, Command};
-use ir_hunt::Seeds;
 use ir_record_command::number_within;
-use ir_schedule::Way;
+use ir_schedule::{Seeds, Way};
 use std::alloc::{AllocError, Global};
 
 const SEEDS: &str = "seeds";

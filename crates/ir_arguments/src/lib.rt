@@ -32,7 +32,7 @@ pub use debug::{DEBUG_AFTER, DebugArguments};
 pub use diff::DiffArguments;
 pub use elf::ElfArguments;
 pub use events::EventsArguments;
-pub use explore::{ExploreArguments, UntilArguments};
+pub use explore::{ExploreArguments, Reach, UntilArguments};
 pub use gdb::GDB_AFTER;
 pub use hunt::HuntArguments;
 pub use list::ListArguments;

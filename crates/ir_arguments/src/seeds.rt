@@ -1,9 +1,8 @@
 //! Seeds, and how they choose.
 
 use clap::{Arg, ArgMatches};
-use ir_hunt::Seeds;
 use ir_record_command::number_within;
-use ir_schedule::Way;
+use ir_schedule::{Seeds, Way};
 use std::alloc::{AllocError, Global};
 
 const BY: &str = "by";

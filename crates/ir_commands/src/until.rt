@@ -4,6 +4,7 @@ ghost use Rattle.std.specs.Prelude.{◌≡◌, OnOk, false};
 
 use crate::conditions::conditions_of;
 use crate::ends::tell_ends;
+use crate::explore::plan_of;
 use crate::files::image_in;
 use crate::recording::{
     Places, RecordingPaths, input_of, loses_input, output_places, record_files,
@@ -139,7 +140,7 @@ where
     };
     let plan = UntilPlan {
         image: &image,
-        explore: arguments.explore.plan(input.as_slice()),
+        explore: plan_of(&arguments.explore, input.as_slice()),
         conditions: conditions.as_slice(),
         observer: around.gate,
     };

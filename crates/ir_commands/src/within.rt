@@ -2,6 +2,7 @@
 
 ghost use Rattle.std.specs.Prelude.{◌≡◌, false};
 
+use crate::explore::plan_of;
 use crate::files::{image_in, say};
 use crate::recording::input_of;
 use crate::surroundings::Surroundings;
@@ -81,7 +82,7 @@ where
     let plan = WithinPlan {
         image: &image,
         other: &other,
-        explore: arguments.explore.plan(input.as_slice()),
+        explore: plan_of(&arguments.explore, input.as_slice()),
         aspects: aspects_of(&arguments.counted),
         observer: around.gate,
     };

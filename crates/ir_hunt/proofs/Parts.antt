@@ -6,7 +6,7 @@ use Rattle.std.proofs.lemmas.List.Elements.{All-push}
 use Rattle.ir_hunt.specs.Parts.{IsTried, IsBegun, IsPartOf, HasTried}
 use Rattle.ir_hunt.specs.Tried.{Fails, AreTried, AreAllTried, IsLowestSeed, WereTried}
 use Rattle.ir_hunt.specs.declared.part.Part.{Part}
-use Rattle.ir_hunt.specs.declared.plan.Seeds.{Seeds}
+use Rattle.ir_schedule.specs.declared.seeds.Seeds.{Seeds}
 
 -- seeds that were tried, and those after them
 tried_with_those_after : (h : Hunt) (first n m k a b c : ℕ) → k ≡ n + m → c ≡ a + b → AreTried h first n a → AreTried h (first + n) m b

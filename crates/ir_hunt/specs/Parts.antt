@@ -4,7 +4,7 @@ use Rattle.std.specs.String.{string_bytes}
 use Rattle.ir_hunt.specs.Hunt.{Hunt}
 use Rattle.ir_hunt.specs.Tried.{WereTried, IsTriedLast}
 use Rattle.ir_hunt.specs.declared.part.Part.{Part}
-use Rattle.ir_hunt.specs.declared.plan.Seeds.{Seeds}
+use Rattle.ir_schedule.specs.declared.seeds.Seeds.{Seeds}
 
 -- the seeds of the part were tried
 abbrev pub IsTried : Hunt → Part → Type 0

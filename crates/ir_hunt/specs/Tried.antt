@@ -5,7 +5,7 @@ use Rattle.ir_order.specs.Recording.{IsPlanned}
 use Rattle.ir_hunt.specs.Finding.{IsOfSeed, FailsSome, IsFound}
 use Rattle.ir_hunt.specs.Hunt.{Hunt}
 use Rattle.ir_hunt.specs.Stale.{FailsStale}
-use Rattle.ir_hunt.specs.declared.plan.Seeds.{Seeds}
+use Rattle.ir_schedule.specs.declared.seeds.Seeds.{Seeds}
 
 -- The run by a seed was followed to its end. What the guest came to doesn't fulfil each condition, or the run hasn't what is wanted of its stale writes.
 pub record Fails (hunt : Hunt) (seed : ℕ) : Type 0 where

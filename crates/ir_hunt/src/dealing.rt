@@ -2,7 +2,7 @@
 
 ghost use Rattle.std.specs.Prelude.{◌<◌, ◌≤◌, IfSome};
 
-use crate::plan::Seeds;
+use ir_schedule::Seeds;
 use std::sync::atomic::{AtomicU64, Ordering};
 
 // How many hands there are for each worker. So no worker waits long for another at the end of a stretch.

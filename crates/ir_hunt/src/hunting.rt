@@ -15,7 +15,7 @@ ghost use Rattle.ir_hunt.specs.Hunted.{IsFoundIn, IsNoneIn, IsFinding};
 ghost use Rattle.ir_hunt.specs.Lines.{found_line, left_out_words, none_lines};
 ghost use Rattle.ir_hunt.specs.Stopping.{RefusesHunt, IsTold, IsHuntLine, TellsLeftOut, none_status};
 
-use crate::plan::{HuntPlan, Seeds};
+use crate::plan::HuntPlan;
 use crate::report::{found_line, left_out_words, none_lines};
 use crate::search::{Found, Search, lowest_seed};
 use crate::seeker::{Lost, Seeker};
@@ -23,7 +23,7 @@ use ir_files::{ExitStatus, OutputSink, WholeSink, tell};
 use ir_record_command::{
     ParsedImage, RecordFault, RecordFiles, RecordPlan, Recording, record_by_list,
 };
-use ir_schedule::Way;
+use ir_schedule::{Seeds, Way};
 use ir_stream::{Sink, write_all};
 use ir_trace::Trace;
 use std::alloc::{AllocError, Global};

@@ -15,5 +15,5 @@ mod tries;
 mod worker;
 
 pub use hunting::{hunt_run, order_of_seed};
-pub use plan::{HuntPlan, Seeds};
+pub use plan::HuntPlan;
 pub use shown::{ERASED, ROW, ROW_END};

@@ -3,7 +3,7 @@
 ghost use Rattle.std.specs.Prelude.{◌≡◌, ◌≤◌, ◌<◌, ◌+◌, ◌-◌, None, IfOk, true, false};
 ghost use Rattle.std.specs.String.{string_bytes};
 
-use crate::plan::Seeds;
+use ir_schedule::Seeds;
 use std::alloc::{AllocError, Global};
 
 /// Seeds that were tried, from the first to the last.

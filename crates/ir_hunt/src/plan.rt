@@ -1,16 +1,7 @@
 //! What is hunted, and how.
 
 use ir_record_command::RecordPlan;
-use ir_schedule::{Condition, Way};
-
-/// Seeds, from the first to the last. There is none where the first is above the last.
-#[derive(Clone, Copy, Debug, PartialEq, Eq)]
-pub struct Seeds {
-    /// The first.
-    pub first: u64,
-    /// The last.
-    pub last: u64,
-}
+use ir_schedule::{Condition, Seeds, Way};
 
 /// What is hunted, and how.
 #[derive(Drop)]

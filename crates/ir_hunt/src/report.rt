@@ -4,7 +4,7 @@ ghost use Rattle.std.specs.Prelude.{◌≡◌, ◌<◌, IfOk, MatchOption};
 ghost use Rattle.std.specs.String.{string_bytes};
 ghost use Rattle.ir_hunt.specs.Lines.{found_line, left_out_words, none_line, none_lines};
 
-use crate::plan::Seeds;
+use ir_schedule::Seeds;
 use std::alloc::{AllocError, Global};
 
 /// The line of a seed that was found, with the list that spells its order.

@@ -1,6 +1,6 @@
 //! How many seeds were tried, on standard error.
 
-use crate::plan::Seeds;
+use ir_schedule::Seeds;
 use ir_world::millis_since;
 use std::time::{Clock, Instant};
 

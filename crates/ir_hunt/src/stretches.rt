@@ -2,7 +2,7 @@
 
 ghost use Rattle.std.specs.Prelude.{◌≡◌, ◌≤◌};
 
-use crate::plan::Seeds;
+use ir_schedule::Seeds;
 
 // The most seeds of a stretch, for each worker.
 const MOST_EACH: u64 = 1 << 20;

@@ -6,10 +6,10 @@ ghost use Rattle.ir_hunt.specs.Parts.{IsPartOf};
 ghost use Rattle.ir_thread.specs.State.{IsAllowed};
 
 use crate::part::Part;
-use crate::plan::{HuntPlan, Seeds};
+use crate::plan::HuntPlan;
 use crate::seeker::{Lost, Seeker};
 use ir_image::Image;
-use ir_schedule::Choices;
+use ir_schedule::{Choices, Seeds};
 use std::alloc::{AllocError, Global};
 use std::marker::Model;
 use std::time::Clock;

@@ -7,9 +7,9 @@ ghost use Rattle.ir_hunt.specs.Parts.{IsTried, HasTried};
 
 use crate::dealing::Dealer;
 use crate::part::Part;
-use crate::plan::Seeds;
 use crate::tries::Tries;
 use crossbeam_utils::CachePadded;
+use ir_schedule::Seeds;
 use std::alloc::AllocError;
 use std::thread::{self, Threads};
 use std::time::Clock;

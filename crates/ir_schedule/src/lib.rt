@@ -1,4 +1,4 @@
-//! Orders of a guest's threads that a seed gives.
+//! Orders of a guest's threads that a seed gives, and conditions of what a run comes to.
 #![tactic(auto)]
 
 mod chooser;
@@ -11,6 +11,7 @@ mod place;
 mod ranking;
 mod run;
 mod runner;
+mod seeds;
 mod spelling;
 mod step;
 mod stop;
@@ -22,6 +23,7 @@ pub use condition::{Condition, Fact, Literal};
 pub use laws::{schedules_are_of_threads, schedules_are_orders};
 pub use run::Choices;
 pub use runner::Runner;
+pub use seeds::Seeds;
 pub use spelling::condition_of;
 pub use stop::Stop;
 pub use way::Way;
