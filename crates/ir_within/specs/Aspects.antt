@@ -25,8 +25,8 @@ counted_words None words = words
 counted_words (Some objects) words = map (λ o. slice_index_or words o []) objects
 
 -- what counts of what a run came to; the rest is left out
-abbrev pub counted : Aspects → EndState → EndState
-counted a x = record {
+abbrev pub what_counts : Aspects → EndState → EndState
+what_counts a x = record {
   ends = if a.ends then x.ends else [];
   outputs = if a.outputs then x.outputs else [];
   words = counted_words a.objects x.words;
@@ -34,7 +34,7 @@ counted a x = record {
 
 -- what counts of an outcome of the guest
 abbrev pub seen : Aspects → Guest → RunOutcome → EndState
-seen a guest x = counted a (seen_outcome guest x)
+seen a guest x = what_counts a (seen_outcome guest x)
 
 -- the guest has each object whose words count
 abbrev pub AreObjectsOf : Guest → Option (List ℕ) → Type 0

@@ -5,12 +5,12 @@ use Rattle.ir_outcomes.specs.Explored.{ShowsState}
 use Rattle.ir_outcomes.specs.declared.shown.Shown.{Shown}
 use Rattle.ir_schedule.specs.Conditions.{EndState, end_state}
 use Rattle.ir_store.specs.Nodes.{SourcedFlat}
-use Rattle.ir_within.specs.Aspects.{Aspects, counted}
+use Rattle.ir_within.specs.Aspects.{Aspects, what_counts}
 
 -- what counts of each listed outcome
 pub record AreSeen (a : Aspects) (flats : List SourcedFlat) (outcomes : List Shown) (all : List EndState) : Type 0 where
   pub count : length all ≡ length outcomes
-  pub each : (i : ℕ) (x : Shown) (s : SourcedFlat) → ShowsState flats outcomes i x s → slice_get all i ≡ Some (counted a (end_state s.flat))
+  pub each : (i : ℕ) (x : Shown) (s : SourcedFlat) → ShowsState flats outcomes i x s → slice_get all i ≡ Some (what_counts a (end_state s.flat))
   pub flat : (i : ℕ) (x : Shown) (s : SourcedFlat) → ShowsState flats outcomes i x s → IsFlat s.flat
 
 -- one of these is this
@@ -21,7 +21,7 @@ HasSame all x = (j : ℕ) × (slice_get all j ≡ Some x)
 pub record AreCompared (a : Aspects) (flats : List SourcedFlat) (outcomes : List Shown) (others : List EndState) (outside : List Bool) : Type 0 where
   pub count : length outside ≡ length outcomes
   pub among : (i : ℕ) (x : Shown) (s : SourcedFlat) → ShowsState flats outcomes i x s → slice_get outside i ≡ Some false
-      → HasSame others (counted a (end_state s.flat))
+      → HasSame others (what_counts a (end_state s.flat))
   pub none : (i : ℕ) (x : Shown) (s : SourcedFlat) → ShowsState flats outcomes i x s → slice_get outside i ≡ Some true
-      → HasSame others (counted a (end_state s.flat)) → ⊥
+      → HasSame others (what_counts a (end_state s.flat)) → ⊥
   pub flat : (i : ℕ) (x : Shown) (s : SourcedFlat) → ShowsState flats outcomes i x s → IsFlat s.flat

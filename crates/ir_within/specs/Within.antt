@@ -31,9 +31,9 @@ searched_line (Ok k) = end_line k.ended k.levels (length k.outcomes) (length k.f
 searched_line (Err why) = end_line (Stopped why) 0 0 0 0 false
 
 -- it found all outcomes
-abbrev pub IsFinished : Searched → Type 0
-IsFinished (Ok k) = k.ended ≡ Finished
-IsFinished (Err why) = ⊥
+abbrev pub FoundAll : Searched → Type 0
+FoundAll (Ok k) = k.ended ≡ Finished
+FoundAll (Err why) = ⊥
 
 -- some of the other guest's listed outcomes is the same in what counts
 abbrev pub IsAmong : Aspects → Guest → Guest → Known → RunOutcome → Type 0
@@ -90,7 +90,7 @@ ending image other verdict =
 pub record IsOtherUnknown (other : Guest) (plan : ExplorePlan) (verdict : Verdict) (text : List ℕ) : Type 0 where
   pub searched : Searched
   pub is : IsSearched other plan searched
-  pub unfinished : IsFinished searched → ⊥
+  pub unfinished : FoundAll searched → ⊥
   pub unknown : verdict ≡ Unknown
   pub whole : text ≡ codes "other " ++ (searched_line searched ++ verdict_line Unknown)
 

@@ -11,7 +11,7 @@ ghost use Rattle.ir_outcomes.specs.declared.shown.Shown.{Shown};
 ghost use Rattle.ir_schedule.specs.Conditions.{end_state};
 ghost use Rattle.ir_store.specs.Nodes.{SourcedFlat};
 ghost use Rattle.ir_within.specs.Plans.{aspects_of};
-ghost use Rattle.ir_within.specs.Aspects.{counted};
+ghost use Rattle.ir_within.specs.Aspects.{what_counts};
 ghost use Rattle.ir_within.specs.Judging.{AreSeen, HasSame, AreCompared};
 ghost use Rattle.ir_within.specs.Seen.{value_of};
 ghost use Rattle.ir_within.specs.Within.{AreJudged};

@@ -10,7 +10,7 @@ ghost use Rattle.ir_search.specs.declared.search.Ended.TheVariants.{Finished};
 ghost use Rattle.ir_thread.specs.State.{IsAllowed};
 ghost use Rattle.ir_within.specs.Faults.{TellsWithin, ToldNone, AreFaultWords, IsAnswerFor, within_fault_status};
 ghost use Rattle.ir_within.specs.Plans.{aspects_of, comparison_of};
-ghost use Rattle.ir_within.specs.Within.{IsWithinAnswer, Searched, IsSearched, IsFinished, searched_line, verdict_line, verdict_status};
+ghost use Rattle.ir_within.specs.Within.{IsWithinAnswer, Searched, IsSearched, FoundAll, searched_line, verdict_line, verdict_status};
 ghost use Rattle.ir_within.specs.declared.fault.WithinFault.{WithinFault};
 ghost use Rattle.ir_within.specs.declared.verdict.Verdict.TheVariants.{Unknown};
 

@@ -4,7 +4,7 @@ ghost use Rattle.std.specs.Prelude.{◌≡◌, ◌≢◌, ◌++◌, [], List, ma
 ghost use Rattle.std.specs.List.{slice_index_or};
 ghost use Rattle.ir_schedule.specs.Conditions.{end_state};
 ghost use Rattle.ir_within.specs.Plans.{aspects_of};
-ghost use Rattle.ir_within.specs.Aspects.{counted, counted_words};
+ghost use Rattle.ir_within.specs.Aspects.{what_counts, counted_words};
 ghost use Rattle.ir_within.specs.Seen.{value_of};
 
 use crate::aspects::Aspects;
@@ -97,7 +97,7 @@ fn counted_words(
 /// # Errors
 /// Out of memory.
 pub fn seen_of(alloc: Global, aspects: Aspects<'_>, flat: &Flat<'_>) -> Result<Seen, AllocError>
-    ensures { IfOk result (λ s. value_of s ≡ counted (aspects_of aspects.entry) (end_state flat.now)) }
+    ensures { IfOk result (λ s. value_of s ≡ what_counts (aspects_of aspects.entry) (end_state flat.now)) }
 {
     let mut ends = Vec::new(alloc);
     if aspects.ends {

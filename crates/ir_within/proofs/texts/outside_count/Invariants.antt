@@ -4,6 +4,6 @@ use Rattle.ir_within.proofs.texts.outside_count.Given as goal
 
 abbrev pub invariant-loop-is_outside : goal.invariant-loop-is_outside
 invariant-loop-is_outside l = record {
-  counted : l.count ≡ outside_count (take l.is_outside-index l.outside);
+  tally : l.count ≡ outside_count (take l.is_outside-index l.outside);
   few : l.count ≤ l.is_outside-index;
 }
