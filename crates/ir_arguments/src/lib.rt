@@ -24,6 +24,7 @@ mod view;
 mod who;
 mod why;
 mod within;
+mod wrong_condition;
 
 pub use arguments::{collected, parsed};
 pub use asked::{Asked, Make, Print};
