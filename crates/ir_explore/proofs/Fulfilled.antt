@@ -56,14 +56,19 @@ outcome_equals_seen_outcome guest f threads objects words = λ i. record {
 pub outcomes_decide : OutcomesDecide
 outcomes_decide guest c f threads objects words = ap (fulfils c) (outcome_equals_seen_outcome guest f threads objects words)
 
+-- the same of a state to which some run leads
+pub end_state_is_seen : (setup : Setup) (s : SourcedFlat) → IsReached setup s → IsFlat s.flat
+    → conditions.end_state s.flat ≡ seen_outcome setup.guest (run_outcome (tables s.flat))
+end_state_is_seen setup s reached flat =
+    outcome_equals_seen_outcome setup.guest s.flat
+    (reached.like.threads ∙ length_of_start_threads setup.guest most_budget setup.profile 0 (length setup.guest.entries))
+    (reached.like.objects ∙ length_of_start_cells setup.guest 0 (object_count setup.guest)) (λ o l. (flat.objects o l).words)
+
 -- whether a state's outcome fulfils each condition
 pub reached_state_fulfils_conditions_as_its_outcome_does : (setup : Setup) (cs : List Condition) (s : SourcedFlat) → IsReached setup s → IsFlat s.flat
     → list_all (λ c. fulfils c (conditions.end_state s.flat)) cs ≡ fulfils_each setup.guest cs (run_outcome (tables s.flat))
 reached_state_fulfils_conditions_as_its_outcome_does setup cs s reached flat =
-    ap (λ z. list_all (λ c. fulfils c z) cs)
-    (outcome_equals_seen_outcome setup.guest s.flat
-    (reached.like.threads ∙ length_of_start_threads setup.guest most_budget setup.profile 0 (length setup.guest.entries))
-    (reached.like.objects ∙ length_of_start_cells setup.guest 0 (object_count setup.guest)) (λ o l. (flat.objects o l).words))
+    ap (λ z. list_all (λ c. fulfils c z) cs) (end_state_is_seen setup s reached flat)
 
 -- the same of conditions as the code has them
 pub reached_state_fulfils_declared_conditions_as_outcome_does : (setup : Setup) (cs : List declared.Condition) (s : SourcedFlat) → IsReached setup s → IsFlat s.flat

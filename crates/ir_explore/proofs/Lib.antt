@@ -6,3 +6,4 @@ mod Sought
 mod Printed
 mod Recorded
 mod Untimed
+pub mod CallerLemmas

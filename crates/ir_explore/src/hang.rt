@@ -20,7 +20,7 @@ ghost use Rattle.ir_explore.specs.Plan.{ExplorePlan};
 use crate::answer::{known_text, stopped_text};
 use crate::fault::ExploreFault;
 use crate::hang_order::HangOrder;
-use crate::known::known;
+use crate::known::explore_by_plan;
 use crate::plan::{ExplorePlan, HangPlan};
 use crate::until::guest_of;
 use ir_files::{ExitStatus, OutputSink, WholeSink, tell};
@@ -134,7 +134,7 @@ fn text_about<W: Observer>(
     requires { IsAllowed plan.now.explore.profile image.now }
     ensures { IfOk result (λ told. IsHangTold image.now plan.now.explore told.found told.text.items) }
 {
-    match known(alloc, image, &plan.explore, plan.observer) {
+    match explore_by_plan(alloc, image, &plan.explore, plan.observer) {
         Ok(explored) => known_about(alloc, image, &plan.explore, &explored),
         Err(why) => {
             let (text, answered) = stopped_text(alloc, why)?;

@@ -14,7 +14,7 @@ use std::alloc::Global;
 ///
 /// # Errors
 /// The search doesn't begin.
-pub fn known<'a, W: Observer>(
+pub fn explore_by_plan<'a, W: Observer>(
     alloc: Global,
     image: &'a Image,
     plan: &ExplorePlan<'a>,

@@ -24,10 +24,15 @@ pub use conditions::outcomes_decide;
 pub use fault::ExploreFault;
 pub use hang::explore_hang;
 pub use hang_order::HangOrder;
+pub use known::explore_by_plan;
 pub use laws::{
     hangs_never_complete, recordings_are_listed, recordings_are_untimed, recordings_have_outcomes,
     recordings_never_fulfil, untimed_recordings_are_listed,
 };
+pub use outcome::outcome_text;
 pub use plan::{ExplorePlan, HangPlan, UntilPlan};
 pub use run::explore_run;
-pub use until::explore_until;
+pub use started::Started;
+pub use states::state_of;
+pub use texts::{Ending, end_line};
+pub use until::{explore_until, guest_of};

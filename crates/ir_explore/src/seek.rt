@@ -9,7 +9,7 @@ ghost use Rattle.ir_explore.specs.Texts.{IsStopReason, AreKnown, known_of};
 ghost use Rattle.ir_explore.specs.Until.{IsSought};
 
 use crate::conditions::first_fulfilling;
-use crate::known::known;
+use crate::known::explore_by_plan;
 use crate::plan::UntilPlan;
 use ir_image::Image;
 use ir_outcomes::Explored;
@@ -41,7 +41,7 @@ fn search<'a, W: Observer>(
     ensures refused { IfErr result (λ why. IsStopReason image.now plan.now.explore why) }
 {
     let explore = plan.explore.within(switches);
-    let explored = known(alloc, image, &explore, plan.observer)?;
+    let explored = explore_by_plan(alloc, image, &explore, plan.observer)?;
     let flats = &explored.states.graph.flats;
     let first = first_fulfilling(flats, explored.outcomes.as_slice(), plan.conditions)?;
     Ok(Sought { explored, first })
