@@ -1,6 +1,6 @@
 -- Outcomes that are compared one by one.
 use Rattle.std.proofs.Common.{◌≡◌, ℕ, suc, zero, ◌+◌, ◌<◌, Bool, true, false, List, [], ◌∷◌, ◌++◌, Some, length, length-append, map, take, get_or, refl, sym, ap, ◌∙◌, subst, arith, inl, inr}
-use Rattle.std.specs.Prelude.{slice_get}
+use Rattle.std.specs.Prelude.{slice_get, Result, Ok, Err, IfOk}
 use Rattle.std.proofs.lemmas.Option.{same_Some, slice_get_within}
 use Rattle.ir_lemmas.proofs.CallerLemmas.{added_element_is_last, element_below_length_exists, slice_get_after_push_cases, slice_get_kept_by_append}
 use Rattle.ir_explore.proofs.CallerLemmas.{end_state_is_seen}
@@ -21,6 +21,15 @@ use Rattle.ir_within.specs.Within.{AreJudged, IsAmong}
 
 pushed_at_end : {A : Type 0} (xs : List A) (x : A) (n : ℕ) → n ≡ length xs → slice_get (xs ++ x ∷ []) n ≡ Some x
 pushed_at_end xs x n e = ap (slice_get (xs ++ x ∷ [])) e ∙ added_element_is_last xs x
+
+pub map_after_push : {A B : Type 0} (f : A → B) (xs : List A) (x : A) → map f (xs ++ x ∷ []) ≡ map f xs ++ f x ∷ []
+map_after_push f [] x = refl
+map_after_push f (y ∷ xs) x = ap (λ z. f y ∷ z) (map_after_push f xs x)
+
+-- what holds of a value, if there is one, by what else holds of it
+pub on_ok : {A E : Type 0} (P Q : A → Type 0) (r : Result A E) → ((x : A) → P x → Q x) → IfOk r P → IfOk r Q
+on_ok P Q (Ok x) f h = f x h
+on_ok P Q (Err e) f h = tt
 
 -- the same state at the same place
 shown_once : (flats : List SourcedFlat) (x y : Shown) (s u : SourcedFlat) → x ≡ y → slice_get flats x.node ≡ Some s → slice_get flats y.node ≡ Some u → s ≡ u
@@ -68,11 +77,11 @@ one_more_compared a flats xs others marks x s c mark done at is_flat is some non
   count = let p = length-append xs (x ∷ []) in let q = length-append marks (mark ∷ []) in let n = done.count in omega (arith, p, q, n);
   among = λ i y u there marked. elim (slice_get_after_push_cases xs x i y there.0) [
     | inl old ↦ done.among i y u (old, there.1) (before i y false old marked)
-    | inr p ↦ subst (HasSame others) (counts y u p there.1) (some (last i false p.0 marked))
+    | inr p ↦ subst (HasSame others) (counts y u p.1 there.1) (some (last i false p.0 marked))
   ];
   none = λ i y u there marked same. elim (slice_get_after_push_cases xs x i y there.0) [
     | inl old ↦ done.none i y u (old, there.1) (before i y true old marked) same
-    | inr p ↦ none (last i true p.0 marked) (subst (HasSame others) (sym (counts y u p there.1)) same)
+    | inr p ↦ none (last i true p.0 marked) (subst (HasSame others) (sym (counts y u p.1 there.1)) same)
   ];
   flat = λ i y u there. elim (slice_get_after_push_cases xs x i y there.0) [
     | inl old ↦ done.flat i y u (old, there.1)
@@ -80,8 +89,8 @@ one_more_compared a flats xs others marks x s c mark done at is_flat is some non
   ];
 }
   where
-    counts : (y : Shown) (u : SourcedFlat) → (i : ℕ) × (x ≡ y) → slice_get flats y.node ≡ Some u → c ≡ what_counts a (end_state u.flat)
-    counts y u p there = is ∙ ap (λ (z : SourcedFlat). what_counts a (end_state z.flat)) (shown_once flats x y s u p.1 at there)
+    counts : (y : Shown) (u : SourcedFlat) → x ≡ y → slice_get flats y.node ≡ Some u → c ≡ what_counts a (end_state u.flat)
+    counts y u e there = is ∙ ap (λ (z : SourcedFlat). what_counts a (end_state z.flat)) (shown_once flats x y s u e at there)
     before : (i : ℕ) (y : Shown) (b : Bool) → slice_get xs i ≡ Some y → slice_get (marks ++ mark ∷ []) i ≡ Some b → slice_get marks i ≡ Some b
     before i y b old marked = elim (slice_get_after_push_cases marks mark i b marked) [
       | inl kept ↦ kept

@@ -1,3 +1,4 @@
 mod Compared
+mod Lines
 mod Meaning
 mod Rows

@@ -1,6 +1,6 @@
 -- Tables whose rows are compared one by one.
-use Rattle.std.proofs.Common.{◌≡◌, ℕ, suc, zero, ◌+◌, ◌<◌, Bool, true, false, refl, take, List, [], ◌∷◌, length, map, get_or, ap, arith}
-use Rattle.std.specs.Prelude.{if◌then◌else◌}
+use Rattle.std.proofs.Common.{◌≡◌, ℕ, suc, zero, ◌+◌, ◌<◌, Bool, true, false, refl, take, List, [], ◌∷◌, ◌++◌, ◌∙◌, length, map, get_or, ap, arith}
+use Rattle.std.proofs.lemmas.List.{take_more}
 use Rattle.ir_within.specs.Within.{outside_count}
 
 -- rows of equal tables are equal
@@ -11,14 +11,22 @@ rows_equal f (x ∷ xs) [] i d e less within same = absurd (omega (arith, within
 rows_equal f (x ∷ xs) (y ∷ ys) zero d e less within same = cc same
 rows_equal f (x ∷ xs) (y ∷ ys) (suc i) d e less within same = rows_equal f xs ys i d e (omega (arith, less)) (omega (arith, within)) (cc same)
 
+-- ---- marks
+
+outside_count_append : (xs ys : List Bool) → outside_count (xs ++ ys) ≡ outside_count xs + outside_count ys
+outside_count_append [] ys = omega arith
+outside_count_append (true ∷ xs) ys = let e = outside_count_append xs ys in omega (arith, e)
+outside_count_append (false ∷ xs) ys = outside_count_append xs ys
+
 -- one mark more
-pub outside_count_more : (outside : List Bool) (i : ℕ) (b : Bool) → i < length outside → b ≡ get_or outside i b
-    → outside_count (take (i + 1) outside) ≡ (if b then outside_count (take i outside) + 1 else outside_count (take i outside))
-outside_count_more [] i b less same = absurd (omega (arith, less))
-outside_count_more (true ∷ outside) zero true less same = refl
-outside_count_more (true ∷ outside) zero false less same = absurd (cc same)
-outside_count_more (false ∷ outside) zero true less same = absurd (cc same)
-outside_count_more (false ∷ outside) zero false less same = refl
-outside_count_more (true ∷ outside) (suc i) true less same = ap suc (outside_count_more outside i true (omega (arith, less)) same)
-outside_count_more (true ∷ outside) (suc i) false less same = ap suc (outside_count_more outside i false (omega (arith, less)) same)
-outside_count_more (false ∷ outside) (suc i) b less same = outside_count_more outside i b (omega (arith, less)) same
+pub outside_count_more : (xs : List Bool) (i : ℕ) (d : Bool) → i < length xs
+    → outside_count (take (i + 1) xs) ≡ outside_count (take i xs) + outside_count (get_or xs i d ∷ [])
+outside_count_more xs i d less = ap outside_count (take_more xs i d less) ∙ outside_count_append (take i xs) (get_or xs i d ∷ [])
+
+pub outside_count_of_marked : (b : Bool) → b ≡ true → outside_count (b ∷ []) ≡ 1
+outside_count_of_marked true e = refl
+outside_count_of_marked false e = absurd (cc e)
+
+pub outside_count_of_unmarked : (b : Bool) → b ≡ false → outside_count (b ∷ []) ≡ 0
+outside_count_of_unmarked true e = absurd (cc e)
+outside_count_of_unmarked false e = refl
