@@ -13,7 +13,6 @@ use ir_arguments::HuntArguments;
 use ir_files::{ExitStatus, Folder};
 use ir_hunt::{HuntPlan, hunt_run};
 use ir_record_command::ParsedImage;
-use ir_schedule::Condition;
 use ir_stream::Sink;
 use ir_trace::Trace;
 use std::thread::Threads;
@@ -27,25 +26,6 @@ fn paths(arguments: &HuntArguments) -> RecordingPaths<'_> {
         input: arguments.options.input.as_ref(),
         list: None,
         output: arguments.options.output.as_ref(),
-    }
-}
-
-// What a hunt asks for, with the conditions and the input that were read.
-fn plan_of<'a>(
-    arguments: &'a HuntArguments,
-    conditions: &'a [Condition<'a>],
-    input: &'a [u8],
-    is_shown: bool,
-) -> HuntPlan<'a> {
-    HuntPlan {
-        record: arguments.options.plan(None, input),
-        way: arguments.way,
-        seeds: arguments.seeds,
-        conditions,
-        stale: arguments.stale,
-        jobs: arguments.jobs,
-        seconds: arguments.seconds,
-        is_shown,
     }
 }
 
@@ -109,7 +89,16 @@ where
     let Some(input) = input_of(alloc, folder, faults, paths(arguments).input) else {
         return ExitStatus::Failed;
     };
-    let plan = plan_of(arguments, conditions.as_slice(), input.as_slice(), explains);
+    let plan = HuntPlan {
+        record: arguments.options.plan(None, input.as_slice()),
+        way: arguments.way,
+        seeds: arguments.seeds,
+        conditions: conditions.as_slice(),
+        stale: arguments.stale,
+        jobs: arguments.jobs,
+        seconds: arguments.seconds,
+        is_shown: explains,
+    };
     let places = Places {
         trace: arguments.trace.as_str(),
         outputs: outputs.as_ref().map(|each| each.as_slice()),

@@ -1,18 +1,19 @@
 //! A trace in lines.
 
-ghost use Rattle.std.specs.Prelude.{◌≡◌, OnOk, IfOk, IfErr, length, false};
+ghost use Rattle.std.specs.Prelude.{◌≡◌, OnOk, IfOk, IfErr, length, unwrap_or, false};
 ghost use Rattle.std.specs.String.{string_bytes};
 ghost use Rattle.std.specs.Io.KnownBytes.{Appends};
 ghost use Rattle.ir_commands.specs.Listing.{profile_number, header_line, thread_listing, threads_listing, listing};
-ghost use Rattle.ir_past.specs.Answers.{Stops};
+ghost use Rattle.ir_past.specs.Answers.{refused_line, Stops};
+ghost use Rattle.ir_trace.specs.Recorded.{trace_fault_number};
 ghost use Rattle.ir_files.specs.Writers.{writer_of};
 
-use ir_past::PastErr;
+use ir_past::{PastErr, Refusal, refuse};
 use ir_record_command::thread_line;
 use ir_stream::{Sink, write_all};
 use ir_text::write_log;
 use ir_thread::Profile;
-use ir_trace::{ThreadTrace, Trace};
+use ir_trace::{ThreadTrace, Trace, TraceErr};
 use std::alloc::{AllocError, Global};
 
 fn profile_number(profile: Profile) -> u8
@@ -90,4 +91,19 @@ pub fn write_listing<W: Sink>(alloc: Global, trace: &Trace, out: &mut W) -> Resu
     )?;
     write_all(out, header.as_bytes())?;
     put_threads(alloc, threads, out)
+}
+
+/// Writes the line that refuses a trace for its fault.
+///
+/// # Errors
+/// Out of memory, or the writer failed; then a prefix of the line was written.
+pub fn write_refusal<W: Sink>(alloc: Global, error: &TraceErr, out: &mut W) -> Result<(), PastErr>
+    requires { W.broken out.old ≡ false }
+    ensures ok { OnOk result (Appends (W.written out.old) (W.written out.new) (refused_line (unwrap_or (trace_fault_number error.now) 0))) }
+    ensures works { OnOk result (W.broken out.new ≡ false) }
+    ensures fails { IfErr result (λ e. Stops e (writer_of (W.written out.old) (W.written out.new) (W.broken out.new)) (refused_line (unwrap_or (trace_fault_number error.now) 0))) }
+{
+    let number = error.number().unwrap_or(0);
+    refuse(alloc, &Refusal::NoTrace(number), out)?;
+    Ok(())
 }

@@ -9,9 +9,9 @@ ghost use Rattle.ir_files.specs.Writers.{writer_of, Took, Reports, fault_text};
 ghost use Rattle.ir_files.specs.declared.exit_status.ExitStatus.TheVariants.{Failed};
 ghost use Rattle.ir_past.specs.declared.past_err.PastErr.{PastErr};
 
-use crate::listing::write_listing;
+use crate::listing::{write_listing, write_refusal};
 use ir_files::{ExitStatus, tell};
-use ir_past::{PastErr, Refusal, refuse};
+use ir_past::PastErr;
 use ir_stream::Sink;
 use ir_trace::{TraceErr, read_trace};
 use std::alloc::Global;
@@ -30,8 +30,8 @@ fn show<W: Sink>(alloc: Global, trace: &[u8], out: &mut W) -> Result<ExitStatus,
         }
         Err(TraceErr::NoMem) => Err(PastErr::NoMem),
         Err(error) => {
-            let number = error.number().unwrap_or(0);
-            refuse(alloc, &Refusal::NoTrace(number), out)
+            write_refusal(alloc, &error, out)?;
+            Ok(ExitStatus::Refused)
         }
     }
 }
