@@ -1,5 +1,5 @@
 -- Outcomes that are compared one by one.
-use Rattle.std.proofs.Common.{◌≡◌, ℕ, suc, zero, ◌+◌, ◌<◌, Bool, true, false, List, [], ◌∷◌, ◌++◌, Some, length, length-append, map, take, get_or, refl, sym, ap, ◌∙◌, subst, arith, inl, inr}
+use Rattle.std.proofs.Common.{◌≡◌, ℕ, ◌<◌, Bool, true, false, List, [], ◌∷◌, ◌++◌, Some, length, length-append, map, refl, sym, ap, ◌∙◌, subst, arith, inl, inr}
 use Rattle.std.specs.Prelude.{slice_get, Result, Ok, Err, IfOk}
 use Rattle.std.proofs.lemmas.Option.{same_Some, slice_get_within}
 use Rattle.ir_lemmas.proofs.CallerLemmas.{added_element_is_last, element_below_length_exists, slice_get_after_push_cases, slice_get_kept_by_append}
@@ -15,7 +15,7 @@ use Rattle.ir_schedule.specs.Conditions.{EndState, end_state}
 use Rattle.ir_store.specs.Nodes.{SourcedFlat}
 use Rattle.ir_within.specs.Aspects.{Aspects, what_counts, seen}
 use Rattle.ir_within.specs.Judging.{AreSeen, HasSame, AreCompared}
-use Rattle.ir_within.specs.Within.{AreJudged, IsAmong}
+use Rattle.ir_within.specs.Within.{AreJudged}
 
 -- ---- lists that grow at the end
 
@@ -30,6 +30,10 @@ map_after_push f (y ∷ xs) x = ap (λ z. f y ∷ z) (map_after_push f xs x)
 pub on_ok : {A E : Type 0} (P Q : A → Type 0) (r : Result A E) → ((x : A) → P x → Q x) → IfOk r P → IfOk r Q
 on_ok P Q (Ok x) f h = f x h
 on_ok P Q (Err e) f h = tt
+
+pub on_ok_of_both : {A E : Type 0} (P Q R : A → Type 0) (r : Result A E) → ((x : A) → P x → Q x → R x) → IfOk r P → IfOk r Q → IfOk r R
+on_ok_of_both P Q R (Ok x) f p q = f x p q
+on_ok_of_both P Q R (Err e) f p q = tt
 
 -- the same state at the same place
 shown_once : (flats : List SourcedFlat) (x y : Shown) (s u : SourcedFlat) → x ≡ y → slice_get flats x.node ≡ Some s → slice_get flats y.node ≡ Some u → s ≡ u
@@ -91,11 +95,13 @@ one_more_compared a flats xs others marks x s c mark done at is_flat is some non
   where
     counts : (y : Shown) (u : SourcedFlat) → x ≡ y → slice_get flats y.node ≡ Some u → c ≡ what_counts a (end_state u.flat)
     counts y u e there = is ∙ ap (λ (z : SourcedFlat). what_counts a (end_state z.flat)) (shown_once flats x y s u e at there)
+
     before : (i : ℕ) (y : Shown) (b : Bool) → slice_get xs i ≡ Some y → slice_get (marks ++ mark ∷ []) i ≡ Some b → slice_get marks i ≡ Some b
     before i y b old marked = elim (slice_get_after_push_cases marks mark i b marked) [
       | inl kept ↦ kept
       | inr q ↦ absurd (let less = slice_get_within xs i y old in let n = done.count in let e = q.0 in omega (arith, less, n, e))
     ]
+
     last : (i : ℕ) (b : Bool) → i ≡ length xs → slice_get (marks ++ mark ∷ []) i ≡ Some b → mark ≡ b
     last i b end marked = elim (slice_get_after_push_cases marks mark i b marked) [
       | inl kept ↦ absurd (let less = slice_get_within marks i b kept in let n = done.count in omega (arith, less, n, end))
@@ -137,6 +143,6 @@ judged_if_compared a guest other plan k m all outside are others_are others comp
         others.each among.0 among.1 among.2 among.3 ∙ ap Some (sym (
             seen_by_state a guest plan k are i x s at (compared.flat i x s at) ∙ among.4
             ∙ sym (seen_by_state a other plan m others_are among.0 among.1 among.2 among.3 (others.flat among.0 among.1 among.2 among.3))
-        )),
+            )),
       );
 }

@@ -16,8 +16,8 @@ use Rattle.ir_explore.specs.Texts.{Known}
 use Rattle.ir_graph.specs.Setup.{Setup}
 use Rattle.ir_within.specs.Aspects.{Aspects, seen}
 use Rattle.ir_within.specs.Laws.{HasLike, WithinIsEach, OutsideIsSome}
-use Rattle.ir_within.specs.Within.{IsAmong, IsCompared, IsWithinAnswer, outside_count, verdict_of}
-use Rattle.ir_within.specs.declared.verdict.Verdict.TheVariants.{Within, Outside, Unknown}
+use Rattle.ir_within.specs.Within.{IsAmong, IsCompared, outside_count, verdict_of}
+use Rattle.ir_within.specs.declared.verdict.Verdict.TheVariants.{Within, Outside}
 
 -- ---- the verdict
 

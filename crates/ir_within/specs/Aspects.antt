@@ -1,9 +1,9 @@
 -- What of an outcome counts, so that outcomes of different guests can be compared.
-use Rattle.std.specs.Prelude.{◌≡◌, ◌<◌, ⊤, ℕ, Bool, true, List, [], Option, Some, None, map, slice_get, if◌then◌else◌}
+use Rattle.std.specs.Prelude.{ℕ, Bool, true, List, [], Option, Some, None, map, if◌then◌else◌}
 use Rattle.std.specs.List.{slice_index_or}
 use Rattle.ir_schedule.specs.Conditions.{EndState}
 use Rattle.ir_graph.specs.Outcomes.{RunOutcome}
-use Rattle.ir_image.specs.Guest.{Guest, object_count}
+use Rattle.ir_image.specs.Guest.{Guest}
 use Rattle.ir_explore.specs.Conditions.{seen_outcome}
 
 -- what of an outcome counts
@@ -35,8 +35,3 @@ what_counts a x = record {
 -- what counts of an outcome of the guest
 abbrev pub seen : Aspects → Guest → RunOutcome → EndState
 seen a guest x = what_counts a (seen_outcome guest x)
-
--- the guest has each object whose words count
-abbrev pub AreObjectsOf : Guest → Option (List ℕ) → Type 0
-AreObjectsOf guest None = ⊤
-AreObjectsOf guest (Some objects) = (i o : ℕ) → slice_get objects i ≡ Some o → o < object_count guest

@@ -1,11 +1,10 @@
 -- Why there is no answer, or not all of it, and what that leaves.
-use Rattle.std.specs.Prelude.{◌≡◌, ◌⊎◌, ℕ, List, [], ◌++◌, codes, Ok}
+use Rattle.std.specs.Prelude.{◌≡◌, ◌⊎◌, ℕ, List, [], ◌++◌, codes}
 use Rattle.ir_files.specs.Writers.{Writer, Took, Failed}
 use Rattle.ir_files.specs.declared.exit_status.ExitStatus.{ExitStatus}
 use Rattle.ir_image.specs.Guest.{Guest}
 use Rattle.ir_explore.specs.Faults.{HasNoGuest, IsExplorable, explore_fault_status, explore_fault_words}
 use Rattle.ir_explore.specs.Plan.{ExplorePlan}
-use Rattle.ir_explore.specs.declared.fault.ExploreFault.{ExploreFault}
 use Rattle.ir_explore.specs.declared.fault.ExploreFault.TheVariants as explore
 use Rattle.ir_within.specs.Aspects.{Aspects}
 use Rattle.ir_within.specs.Within.{IsWithinAnswer, verdict_status}

@@ -1,6 +1,6 @@
 //! Whether each outcome of a guest is one of another guest's.
 
-ghost use Rattle.std.specs.Prelude.{◌≡◌, ◌⊎◌, ◌++◌, ℕ, List, Ok, Err, codes, IfOk, IfErr, false};
+ghost use Rattle.std.specs.Prelude.{◌≡◌, ◌≢◌, ◌⊎◌, ◌++◌, ℕ, List, Ok, Err, codes, IfOk, IfErr, false, true};
 ghost use Rattle.std.specs.String.{string_bytes};
 ghost use Rattle.std.specs.Io.KnownBytes.{Appends};
 ghost use Rattle.ir_explore.specs.Texts.{AreKnown, IsStopReason, known_of};
@@ -128,6 +128,14 @@ fn told_beside<W: Observer>(
     }
 }
 
+// Whether a search found all outcomes.
+fn is_finished(ended: Ended) -> bool
+    ensures finished { result ≡ true → ended ≡ Finished }
+    ensures unfinished { result ≡ false → ended ≢ Finished }
+{
+    matches!(ended, Ended::Finished)
+}
+
 // What is written about two guests.
 fn told_of<W: Observer>(
     alloc: Global,
@@ -141,7 +149,7 @@ fn told_of<W: Observer>(
 {
     match explore_by_plan(alloc, other, &plan.explore, plan.observer) {
         Ok(others) => {
-            if others.ended == Ended::Finished {
+            if is_finished(others.ended) {
                 return told_beside(alloc, image, plan, &others);
             }
             let line = known_line(alloc, &others)?;

@@ -32,8 +32,9 @@ pub fn outside_text(
     let mut text = Vec::new(alloc);
     for i in 0..outcomes.len() {
         if outside[i] {
-            let state = state_of(flats, &outcomes[i])?;
-            let own = outcome_text(alloc, started, &state.flat, i + 1, &outcomes[i])?;
+            let shown = &outcomes[i];
+            let state = state_of(flats, shown)?;
+            let own = outcome_text(alloc, started, &state.flat, i + 1, shown)?;
             text.extend_from_slice(own.as_slice())?;
         }
     }

@@ -1,4 +1,4 @@
-use Rattle.std.proofs.Common.{◌≡◌, ◌∙◌, ℕ, Some, length, map, refl, sym, ap, subst, arith, inl, inr}
+use Rattle.std.proofs.Common.{◌≡◌, ◌∙◌, Some, map, refl, sym, ap, subst, arith, inl, inr}
 use Rattle.std.specs.Prelude.{slice_get}
 use Rattle.std.proofs.lemmas.Bool.{cases_lt}
 use Rattle.std.proofs.lemmas.List.{length-map}
@@ -17,7 +17,7 @@ loop-each-preserved c = λ j less at. elim (cases_lt j c.loop-each.each-index) [
       slice_get-map value_of all c.loop-each.each-index
       ∙ ap (option_map value_of) (slice_get-get_or all c.loop-each.each-index c.each-item.result c.loop-each-test.true ∙ ap Some (sym c.each-item.is)) in
       c.if-is_same.ensures.different refl (same_Some (value_of c.each-item.result) (value_of c.args.one.now) (
-          sym here ∙ subst (λ z. slice_get (map value_of all) z ≡ Some (value_of c.args.one.now)) place at
+      sym here ∙ subst (λ z. slice_get (map value_of all) z ≡ Some (value_of c.args.one.now)) place at
       ))
 ]
 

@@ -1,4 +1,3 @@
-use Rattle.std.proofs.Common.{ℕ}
 use Rattle.ir_explore.specs.Texts.{objects_in, known_of}
 use Rattle.ir_within.specs.Within.{AreOutsideTexts}
 use Rattle.ir_within.proofs.texts.outside_text.Given as goal
