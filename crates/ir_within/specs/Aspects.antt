@@ -1,5 +1,5 @@
 -- What of an outcome counts, so that outcomes of different guests can be compared.
-use Rattle.std.specs.Prelude.{ℕ, Bool, true, List, [], Option, Some, None, map, if◌then◌else◌}
+use Rattle.std.specs.Prelude.{ℕ, Bool, List, [], Option, Some, None, map, if◌then◌else◌}
 use Rattle.std.specs.List.{slice_index_or}
 use Rattle.ir_schedule.specs.Conditions.{EndState}
 use Rattle.ir_graph.specs.Outcomes.{RunOutcome}
@@ -14,10 +14,6 @@ pub record Aspects : Type 0 where
   pub ends : Bool
   -- the words of these objects, in this order; or of all
   pub objects : Option (List ℕ)
-
--- all of it
-abbrev pub all_aspects : Aspects
-all_aspects = record { outputs = true; ends = true; objects = None }
 
 -- the words of objects that count
 abbrev pub counted_words : Option (List ℕ) → List (List ℕ) → List (List ℕ)
