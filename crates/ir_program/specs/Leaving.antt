@@ -1,11 +1,13 @@
 -- What a bundled session leaves of its reader and its writer.
-use Rattle.std.specs.Prelude.{◌≡◌, ◌⊎◌, ℕ, true, false, List, Option, IfSome, Result, Err, None}
+use Rattle.std.specs.Prelude.{◌≡◌, ◌≢◌, ◌⊎◌, ℕ, true, false, List, Option, IfSome, Result, Ok, Err, None}
 use Rattle.ir_stream.specs.Answers.{ReadsUpTo}
 use Rattle.ir_debug.specs.Session.{Session, AnsweredWhole, AnsweredInPart, most_input}
 use Rattle.ir_debug.specs.declared.ended.Ended.{Ended}
 use Rattle.ir_debug.specs.declared.ended.SessionErr.{SessionErr}
 use Rattle.ir_debug.specs.declared.ended.SessionErr.TheVariants as session
-use Rattle.ir_program.specs.Bundle.{bundle_of, Bundled}
+use Rattle.ir_files.specs.declared.exit_status.ExitStatus.{ExitStatus}
+use Rattle.ir_files.specs.declared.exit_status.ExitStatus.TheVariants.{Failed}
+use Rattle.ir_program.specs.Bundle.{bundle_of, status_of, Bundled}
 use Rattle.ir_program.specs.Taking.{Reader, TakesBytes, IsInLines}
 use Rattle.ir_files.specs.Writers.{Writer}
 use Rattle.ir_program.specs.declared.fault.ProgramErr.{ProgramErr}
@@ -68,6 +70,11 @@ Stops image trace session.Read reader writer same = (reader.failed ≡ true) × 
 Stops image trace session.Write reader writer same = (reader.failed ≡ false) × (writer.failed ≡ true)
     × ReadsUpTo most_input reader.before reader.after (AnsweredInPart image trace reader.after writer.before writer.after)
 Stops image trace session.TooLong reader writer same = Ends image trace (Err session.TooLong) reader writer
+
+-- their session was held: it ended with a status, or a fault stopped it
+pub record HeldSession (image trace : List ℕ) (answered : ExitStatus) (reader : Reader) (writer : Writer) (same : Type 0) : Type 0 where
+  pub ended : answered ≢ Failed → (e : Ended) × (answered ≡ status_of e) × Ends image trace (Ok e) reader writer
+  pub stopped : answered ≡ Failed → (e : SessionErr) × Stops image trace e reader writer same
 
 -- the fault that is reported
 abbrev pub fault_of : SessionErr → ProgramErr

@@ -3,7 +3,7 @@
 ghost use Rattle.std.specs.Prelude.{◌≡◌, false};
 
 use crate::bundles::bundle;
-use crate::debug::{Opening, Speech, debug_files};
+use crate::debug::{debug_files, gdb_files};
 use crate::ends_once::EndsOnce;
 use crate::prompting::Prompting;
 use ir_arguments::{Asked, Make, Print, parsed};
@@ -195,19 +195,11 @@ where
         }
         Asked::Debug(arguments) => {
             let mut input = Prompting::new(input, rt, terminals.input);
-            let opening = Opening {
-                arguments: &arguments,
-                speech: Speech::Lines,
-            };
-            debug_files(&around, opening, &mut input, out, faults)
+            debug_files(&around, &arguments, &mut input, out, faults)
         }
         Asked::Gdb(arguments) => {
             let mut input = input;
-            let opening = Opening {
-                arguments: &arguments,
-                speech: Speech::Packets,
-            };
-            debug_files(&around, opening, &mut input, out, faults)
+            gdb_files(&around, &arguments, &mut input, out, faults)
         }
         Asked::Print(mut what) => print(&around, &mut what, out, faults),
         Asked::Help(text) => help(text.as_str(), out, faults),
