@@ -78,6 +78,13 @@ def many(threads, times):
     return MANY.format(threads="        .thread main\n" * threads, times=times)
 
 
+def ending_badly(threads, times):
+    """The text of such a guest whose last thread ends by a load that no memory has, and whose others end with their numbers as codes."""
+    ends = f"        addi    t0, zero, {threads - 1}\n        bne     s3, t0, done\n        lw      a0, 0(zero)\ndone:   addi    a0, s3, 0\n"
+    large = "        .large\n" if threads > 8 else ""
+    return large + many(threads, times).replace("        addi    a0, zero, 0\n        addi    a7, zero, 1 ", ends + "        addi    a7, zero, 1 ")
+
+
 def guests():
     """The texts of small guests by name: those of examples/, and three that poll or add for longer."""
     texts = {name: (TOP / "examples" / f"{name}.s").read_text(encoding="ascii") for name in EXAMPLES}
@@ -90,7 +97,7 @@ def record(program, folder, name, text, seed):
     """The trace of a recording of a guest's text in the order of a seed."""
     source, image, trace = (folder / f"{name}.{end}" for end in ("s", "img", "trc"))
     source.write_text(text, encoding="ascii")
-    profile = ["--profile", "2"] if "TRY_WRITE" in text else []
+    profile = ["--profile", "2"] if "TRY_WRITE" in text or ".large" in text else []
     for words in (["asm", source, image], ["record", image, trace, "--chaos", seed, "--budget", 200000, *profile]):
         subprocess.run([program, *map(str, words)], check=True, stdout=subprocess.DEVNULL)
     return trace

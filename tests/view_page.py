@@ -5,7 +5,9 @@ python3 tests/view_page.py PROGRAM [FOLDER]
 
 Records guests of examples/ and larger ones that this file has, opens the page of each recording, light and dark, and keeps pictures in FOLDER if
 it is given. Looks whether the browser reports an error, whether each key and each click does what the page's help says, whether contrast is at
-least 4.5 for text and 3 for lines, and whether the data is digits alone. Wants `chromium`, or another browser that CHROMIUM names.
+least 4.5 for text and 3 for lines, and whether the data is digits alone. In windows of three sizes: whether All has all boxes and ends in sight, also
+after the size changes, whether nothing crosses the words at the ends, and whether versions of six digits can be read. Wants `chromium`, or another
+browser that CHROMIUM names.
 """
 import base64
 import json
@@ -16,7 +18,7 @@ import tempfile
 from pathlib import Path
 
 from lib import parser_of_program
-from view_guests import guests, many, record
+from view_guests import ending_badly, guests, many, record
 
 DATA = re.compile(r'<script type="application/json" id="run">(.*?)</script>', re.DOTALL)
 # What the data may have beside digits: brackets, commas, line feeds, and these names and words.
@@ -41,6 +43,42 @@ CONTRAST = """(() => {
     lines.push(['line ' + k, ratio(drawn, c.lane)], ['edge of read ' + k, ratio(drawn, mix(full, c.card, PALE))]);
   });
   return { texts, lines };
+})()"""
+
+# The sizes of windows in which All has to show all.
+SIZES = ((420, 800), (1000, 600), (1920, 1080))
+# After the page has been laid out.
+SETTLED = "new Promise(done => requestAnimationFrame(() => requestAnimationFrame(() => requestAnimationFrame(() => done(true)))))"
+# What isn't in sight: boxes and ends of threads outside of the lanes, lanes outside of the window. A bar in red says that a thread ended badly.
+OUTSIDE = """(() => {
+  const found = [], canvas = main.getBoundingClientRect(), frame = scroll.getBoundingClientRect(), info = el('info').getBoundingClientRect();
+  const within = (name, x, y, x2, y2) => { if (x < GUT || y < 0 || x2 > scroll.clientWidth || y2 > scroll.clientHeight) found.push([name, x, y, x2, y2]); };
+  for (const b of boxes) within(`box ${b.t} ${b.i}`, sx(X0(b)), yOf(b), sx(X0(b)) + wide(b), yOf(b) + BH);
+  run.threads.forEach((th, t) => {
+    const x = sx(endOf(th)), y = laneTop[t] + PAD, d = devicePixelRatio, c = g.getImageData(Math.floor(x * d), Math.floor((y + 1) * d), 1, 1).data;
+    within(`end ${t}`, x - 1.5, y, x + 5 + widthOf(endWords(th), endSize()), y + RH - 2);
+    if (isBad(th) && Math.abs(c[0] - c[1]) < 60) found.push([`the bar of thread ${t} isn't red`, ...c]);
+  });
+  if (canvas.top < frame.top || canvas.bottom > frame.bottom + 1 || frame.bottom > innerHeight || info.bottom > innerHeight) found.push(['window', canvas.bottom, frame.bottom, info.bottom]);
+  if (document.documentElement.scrollWidth > innerWidth || document.documentElement.scrollHeight > innerHeight) found.push(['the page scrolls']);
+  if (el('legend').offsetHeight > 36) found.push(['the legend has more than a row']);
+  return found;
+})()"""
+# Of each end in sight whether another thing is drawn over its words or below them: the picture is the same with lanes and ends alone.
+CROSSED = """(() => {
+  const d = devicePixelRatio, ends = run.threads.map((th, t) => [sx(endOf(th)), laneTop[t] + PAD + RH / 2, widthOf(endWords(th), endSize())])
+    .filter(([x, y, w]) => x >= GUT && x + 5 + w <= W);
+  const look = () => ends.map(([x, y, w]) => [...g.getImageData(Math.ceil((x + 3) * d), Math.round((y - endSize() / 2 + 1) * d), Math.floor((w + 3) * d), Math.floor((endSize() - 2) * d)).data]);
+  draw(); const all = look();
+  g.clearRect(0, 0, W, tall); drawLanes(); drawEnds(); const alone = look(); draw();
+  return [ends.length, all.filter((a, k) => a.some((v, i) => v !== alone[k][i])).length];
+})()"""
+# The texts that are drawn, each with its place.
+TEXTS = """(() => {
+  const said = [], put = g.fillText;
+  g.fillText = function (s, x, y) { const w = g.measureText(s).width; said.push([s, g.textAlign === 'center' ? x : x + w / 2, y, w]); put.call(g, s, x, y); };
+  draw(); delete g.fillText;
+  return said;
 })()"""
 
 
@@ -275,6 +313,77 @@ def check_steps(browser, data):
         assert len(row) == 7 and row[6] in (0, 1) and row[4] != row[5], row
 
 
+def resize(browser, width, height):
+    """Changes the size of the window."""
+    browser.call("Emulation.setDeviceMetricsOverride", width=width, height=height, deviceScaleFactor=1, mobile=False)
+    browser.value(SETTLED)
+
+
+def check_all(browser, address, name, kept):
+    """All has all boxes and ends in sight in each size, by the address, by the button, and after the size changes. Pictures go to a folder, if one is given."""
+    for width, height in SIZES:
+        browser.open(address + "#all", width=width, height=height)
+        browser.value(SETTLED)
+        assert not browser.value(OUTSIDE), (name, width, browser.value(OUTSIDE))
+        words, crossed = browser.value(CROSSED)
+        assert words == browser.value("lanes.length") and crossed == 0, (name, width, words, crossed)
+        if kept:
+            browser.picture(kept / f"{name}_all_{width}.png")
+        browser.open(address, width=width, height=height)
+        browser.value(SETTLED)
+        if browser.value("lanes.length") <= 16 and browser.value("rowsOf.every(r => r === 1)"):
+            assert browser.value("tall <= scroll.clientHeight"), (name, width)
+        browser.value("zoom(3, GUT + 50)")
+        browser.click_on("#whole")
+        for again in ((width, height), SIZES[SIZES.index((width, height)) - 1]):
+            resize(browser, *again)
+            assert not browser.value(OUTSIDE), (name, width, again, browser.value(OUTSIDE))
+
+
+def check_legend(browser, address):
+    """The legend has a row, and More shows all of it if that isn't all."""
+    for width, height in SIZES:
+        browser.open(address, width=width, height=height)
+        browser.value(SETTLED)
+        hidden = "[...el('signs').children].filter(c => c.getBoundingClientRect().top > el('signs').getBoundingClientRect().bottom - 10).length"
+        folded = browser.value(hidden)
+        assert (folded > 0) != browser.value("el('more').hidden"), (width, folded)
+        if folded:
+            browser.click_on("#more")
+            assert browser.value(hidden) == 0 and browser.value("el('more').textContent") == "Less"
+            browser.click_on("#more")
+            assert browser.value(hidden) == folded and browser.value("el('more').textContent") == "More"
+
+
+def check_versions(browser, address):
+    """Of each entry in sight the version, which has six digits, is drawn in its box or below it where the page opens, and is in the tip."""
+    for width, height in SIZES:
+        browser.open(address, width=width, height=height)
+        browser.value(SETTLED)
+        texts = browser.value(TEXTS)
+        near = browser.value("boxes.filter(b => isEntry(b) && sx(X0(b)) > GUT + 20 && sx(X1(b)) < W - 20)"
+                             ".map(b => [String(b.v), sx(X0(b)) + wide(b) / 2, midOf(b), b.t, b.i, wide(b)])")
+        assert near
+        for version, x, y, thread, event, wide in near:
+            found = [text for text in texts if version in text[0] and abs(text[1] - x) < 2 and abs(text[2] - y) < 22]
+            assert found, (width, thread, event, version)
+            assert all(text[3] < wide for text in found) or all(text[2] > y + 5 for text in found), (width, thread, event, found)
+        version, x, y, *_ = near[0]
+        left, top = browser.value("(r => [r.x, r.y])(main.getBoundingClientRect())")
+        browser.mouse("mouseMoved", left + x, top + y)
+        assert version in browser.value("el('tip').textContent") and browser.value("el('tip').style.display") == "block"
+
+
+def with_long_versions(page, data):
+    """The page with versions that have six digits."""
+    changed = json.loads(json.dumps(data))
+    for box in changed["boxes"]:
+        box[5] += 99_995 * (box[3] in (4, 5))
+        for read in box[15] if len(box) > 15 else []:
+            read[1] += 99_995
+    return DATA.sub(lambda found: found[0].replace(found[1], json.dumps(changed)), page)
+
+
 def check_contrast(browser, name):
     """Texts have a contrast of 4.5 or more, lines of 3 or more."""
     found = browser.value(CONTRAST)
@@ -293,7 +402,7 @@ def main():
         folder = Path(folder)
         kept = asked.kept or folder
         kept.mkdir(exist_ok=True)
-        texts = guests() | {"many": many(4, 12), "large": many(8, 1500)}
+        texts = guests() | {"many": many(4, 12), "sixteen": ending_badly(16, 3), "large": many(8, 1500)}
         browser = Browser(folder / "profile")
         try:
             for name, text in texts.items():
@@ -315,13 +424,19 @@ def main():
                         check_mouse(browser, data)
                     if form == "_steps":
                         check_steps(browser, data)
+                    if form != "_part":
+                        check_all(browser, path.as_uri(), name + form, asked.kept)
+                    if name in ("many", "sixteen"):
+                        check_legend(browser, path.as_uri())
+                        path.write_text(with_long_versions(page, data), encoding="ascii")
+                        check_versions(browser, path.as_uri())
                     assert not browser.errors, browser.errors
                     print(f"{name}{form}: {len(data['boxes'])} boxes, least contrast {least[0]:.1f} for text and {least[1]:.1f} for lines")
             browser.close()
         finally:
             browser.process.kill()
             browser.process.wait()
-    print("view page: no error, keys and clicks do what the help says, contrast suffices, the data is digits")
+    print("view page: no error, keys and clicks do what the help says, All shows all, contrast suffices, the data is digits")
 
 
 if __name__ == "__main__":

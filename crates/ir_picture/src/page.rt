@@ -22,11 +22,11 @@ pub const HEAD_1: &str = "<!DOCTYPE html>
 * { box-sizing: border-box; } html, body { height: 100%; margin: 0; }
 body { display: flex; flex-direction: column; background: var(--page); color: var(--ink); }
 body { font: 14px/1.45 system-ui, \"DejaVu Sans\", sans-serif; }
-header { display: flex; flex-wrap: wrap; gap: 6px 10px; align-items: center; padding: 10px 14px 6px; }
-h1 { font-size: 16px; margin: 0 6px 0 0; font-weight: 650; } .grow { flex: 1; }
+header { display: flex; flex-wrap: wrap; gap: 6px; align-items: center; padding: 8px 14px 6px; }
+h1 { font-size: 16px; margin: 0 4px 0 0; font-weight: 650; } .grow { flex: 1; }
 button, input {
   font: inherit; font-size: 13px; color: var(--ink); background: var(--card); border: 1px solid var(--edge);
-  border-radius: 7px; padding: 3px 10px;
+  border-radius: 7px; padding: 3px 9px;
 }
 button { cursor: pointer; } input { width: 8em; } input[aria-invalid=\"true\"] { border-color: var(--mark); outline-color: var(--mark); }
 input::placeholder { color: var(--soft); opacity: 1; }
@@ -35,15 +35,18 @@ button[aria-pressed=\"true\"] { background: var(--ink); color: var(--page); bord
 button.bad { color: var(--mark); border-color: var(--mark); font-weight: 600; }
 .chip { display: inline-flex; gap: 6px; align-items: center; border-radius: 999px; padding: 2px 10px 2px 6px; }
 .chip i { width: 14px; height: 14px; border-radius: 4px; }
-#legend { display: flex; flex-wrap: wrap; gap: 6px; align-items: center; padding: 0 14px 8px; color: var(--soft); font-size: 13px; }
-#legend svg { vertical-align: -3px; } #legend span { margin-left: 8px; white-space: nowrap; }
+#legend { display: flex; gap: 6px; align-items: flex-start; padding: 0 14px 6px; color: var(--soft); font-size: 13px; }
+#signs { display: flex; flex-wrap: wrap; gap: 6px; align-items: center; flex: 1; min-width: 0; max-height: 26px; overflow: hidden; }
+#signs.open { max-height: none; } #signs > * { min-height: 26px; } #legend > button { padding: 2px 10px; }
+#legend svg { vertical-align: -3px; } #legend span { margin-left: 8px; white-space: nowrap; line-height: 26px; }
 #over, #scroll { background: var(--card); border: 1px solid var(--line); border-radius: 8px; margin: 0 14px; }
 #over { display: block; width: calc(100% - 28px); margin-bottom: 8px; cursor: ew-resize; flex: none; }
 #scroll { flex: 0 1 auto; min-height: 120px; overflow: hidden auto; }
 #main { display: block; cursor: grab; touch-action: pan-y; } #main.drag { cursor: grabbing; }
 #tip { position: fixed; display: none; white-space: pre; padding: 3px 8px; font-size: 12px; border-radius: 6px; }
 #tip { pointer-events: none; background: var(--ink); color: var(--page); }
-#info { display: grid; grid-template-columns: minmax(0, 1fr) auto; gap: 4px 24px; padding: 10px 14px 12px; min-height: 128px; }
+#info { display: grid; grid-template-columns: minmax(0, 1fr) auto; gap: 4px 24px; padding: 8px 14px; align-content: start; }
+#info { flex: none; height: clamp(124px, 22vh, 200px); overflow: auto; }
 #info h2 { font-size: 15px; margin: 0 0 2px; font-weight: 650; } #info p { margin: 2px 0; }
 .mark { color: var(--mark); } #info .mark { font-weight: 600; }
 #info button.ev { padding: 0 7px; margin: 0 2px; font-size: 12.5px; }
@@ -57,8 +60,9 @@ pub const HEAD_2: &str =
     "kbd { border: 1px solid var(--line); border-bottom-width: 2px; border-radius: 4px; padding: 0 5px; }
 dialog { color: var(--ink); background: var(--card); border: 1px solid var(--line); border-radius: 10px; max-width: 560px; }
 dialog td { padding: 2px 12px 2px 0; vertical-align: top; } dialog td:first-child { white-space: nowrap; }
-@media (max-width: 760px) { #info { grid-template-columns: minmax(0, 1fr); } }
-@media print { header button, header input, #tip { display: none; } }
+@media (max-width: 1100px) { h1 { font-size: 14px; } button, input { padding: 3px 6px; } }
+@media (max-width: 760px) { #info { grid-template-columns: minmax(0, 1fr); height: clamp(124px, 28vh, 260px); } }
+@media print { header button, header input, #legend > button, #tip { display: none; } #signs { max-height: none; } #info { height: auto; } }
 </style>
 </head>
 <body>
@@ -75,7 +79,7 @@ dialog td { padding: 2px 12px 2px 0; vertical-align: top; } dialog td:first-chil
   <button id=\"in\" title=\"key +\" aria-label=\"Nearer\">+</button>
   <button id=\"help\" title=\"key ?\">Keys</button>
 </header>
-<div id=\"legend\"></div>
+<div id=\"legend\"><div id=\"signs\"></div><button id=\"more\" aria-expanded=\"false\" aria-controls=\"signs\" hidden>More</button></div>
 <canvas id=\"over\" height=\"48\" role=\"img\" aria-label=\"The whole run, small. Drag to move.\"></canvas>
 <div id=\"scroll\">
   <canvas id=\"main\" tabindex=\"0\" role=\"application\" aria-describedby=\"info\" aria-label=\"The run: a lane for each
@@ -177,12 +181,22 @@ function oversOf(b) {             // writes of other threads over what b read
 
 // ---- places --------------------------------------------------------------------------------------------------------
 const main = el('main'), over = el('over'), scroll = el('scroll'), g = main.getContext('2d'), og = over.getContext('2d');
-const GUT = 118, PAD = lanes.length > 8 ? 7 : 15, FACE = 'system-ui, \"DejaVu Sans\", sans-serif';
-let css, W = 0, H = 0, scale = 20, left = 0, steps = false, chosen = null, hover = null, only = -1, drag = null;
+const FACE = 'system-ui, \"DejaVu Sans\", sans-serif';
+let css, W = 0, scale = 20, left = 0, steps = false, chosen = null, hover = null, only = -1, drag = null;
 const rowsOf = lanes.map(l => 1 + l.reduce((m, b) => Math.max(m, b.row), 0));
-const deep = Math.max(...rowsOf), RH = deep > 8 ? 14 : deep > 3 || lanes.length > 8 ? 20 : 26, BH = RH - 4;
-const laneTop = rowsOf.map((r, t) => 6 + rowsOf.slice(0, t).reduce((y, q) => y + q * RH + 2 * PAD, 0));
-const tall = 12 + rowsOf.reduce((y, q) => y + q * RH + 2 * PAD, 0);
+// How high a row is, and what is above and below the rows of a lane: the first of these with which all lanes fit into the window.
+// Those behind the first LOW are only for All; if it isn't asked for, lanes that don't fit are scrolled to.
+const HEIGHTS = [[26, 15], [26, 11], [22, 9], [20, 7], [18, 5], [16, 3], [14, 2], [12, 2], [10, 1], [8, 1], [6, 1], [4, 0]], LOW = 8;
+let GUT = 118, RH = 26, PAD = 15, BH = 22, tall = 0, laneTop = [], all = false;   // all: whether all is shown, and stays so in other sizes
+const tallWith = ([h, pad]) => 12 + rowsOf.reduce((y, q) => y + q * h + 2 * pad, 0);
+function layout() {               // of the lanes, in what is left of the window: whether all of them are in sight
+  const below = scroll.getBoundingClientRect().top + scrollY, free = document.documentElement.clientHeight - below - el('info').offsetHeight - 2;
+  const some = all ? HEIGHTS : HEIGHTS.slice(0, LOW), found = some.find(h => tallWith(h) <= Math.max(free, 118)), used = found || some[some.length - 1];
+  [RH, PAD] = used; BH = RH - (RH > 12 ? 4 : 2); tall = tallWith(used);
+  laneTop = rowsOf.map((r, t) => 6 + rowsOf.slice(0, t).reduce((y, q) => y + q * RH + 2 * PAD, 0));
+  main.style.height = tall + 'px'; W = scroll.clientWidth; GUT = W < 560 ? 80 : 118;
+  return Boolean(found);
+}
 const X0 = b => steps ? b.u0 : b.x0, X1 = b => steps ? b.u1 : b.x1, endOf = th => steps ? th.u : th.x;
 const least = f => boxes.reduce((m, b) => Math.min(m, f(b)), Infinity), most = f => boxes.reduce((m, b) => Math.max(m, f(b)), 0);
 const edge = { x: part ? least(b => b.x0) : 0, u: part ? least(b => b.u0) : 0 };
@@ -191,7 +205,8 @@ const limit = { x: part ? most(b => b.x1) + 1 : last(th => th.x), u: part ? most
 const start = () => steps ? edge.u : edge.x, span = () => (steps ? limit.u - edge.u : limit.x - edge.x) + 0.6;
 const sx = x => GUT + 8 + (x - left) * scale, wide = b => Math.max((X1(b) - X0(b)) * scale, 3);
 const yOf = b => laneTop[b.t] + PAD + b.row * RH + 2, midOf = b => yOf(b) + BH / 2;
-const wordRoom = () => Math.max(56, ...run.threads.map(th => widthOf(endWords(th), 11) + 16));   // right of the last box
+const endSize = () => Math.min(11, Math.max(8, RH + 2 * PAD - 3));
+const wordRoom = () => Math.max(56, ...run.threads.map(th => widthOf(endWords(th), endSize()) + 16));   // right of the last box
 const room = () => W - GUT - Math.min(wordRoom(), (W - GUT) / 2);
 function clamp() {
   const f = room() / span();
@@ -213,12 +228,12 @@ function nameOf(b) {
   if (b.k === WRITE) return `write ${b.o} v${b.v}\\u2192${b.v + 1}`;
   return b.k === READ ? `read ${b.o} v${b.v}` : `${KIND[b.k]} ${b.o}`;
 }
-function text(s, x, y, colour, size = 11, align = 'left', weight = '') {
-  g.font = `${weight} ${size}px ${FACE}`; g.textAlign = align; g.textBaseline = 'middle'; g.fillStyle = colour; g.fillText(s, x, y);
 ";
 
 /// Part 2 of what comes after the data.
-pub const TAIL_2: &str = "}
+pub const TAIL_2: &str = "function text(s, x, y, colour, size = 11, align = 'left', weight = '') {
+  g.font = `${weight} ${size}px ${FACE}`; g.textAlign = align; g.textBaseline = 'middle'; g.fillStyle = colour; g.fillText(s, x, y);
+}
 function widthOf(s, size) { g.font = `${size}px ${FACE}`; return g.measureText(s).width; }
 function path(x, y, w, h, r) { g.beginPath(); g.roundRect(x, y, w, h, Math.min(r, w / 2, h / 2)); }
 function outline(colour, width, dash = []) { g.strokeStyle = colour; g.lineWidth = width; g.setLineDash(dash); g.stroke(); g.setLineDash([]); }
@@ -242,11 +257,22 @@ function drawBox(b) {
   if (b.stale.length) outline(css.mark, 2.5);
   if (ring) { path(x - 3, y - 3, w + 6, BH + 6, 8); outline(css.ink, ring); }
   const size = RH > 18 ? 12 : 10, short = b.n > 1 ? `\\u00d7${b.n}` : b.k === TRY ? '\\u2715' : `v${b.v}`, digits = short.replace('v', '');
-  const fits = [[nameOf(b), size, 10], [short, size, 4], [digits, 10, 3]].find(([s, z, more]) => w > 12 && widthOf(s, z) + more < w);
+  const fits = [[nameOf(b), size, 10], [short, size, 4], [digits, 10, 3], [digits, 8, 2]].find(([s, z, more]) => w > 12 && BH >= z && widthOf(s, z) + more < w);
   if (fits) text(fits[0], x + w / 2, midOf(b) + 0.5, write ? on : css.ink, fits[1], 'center');
+  b.bare = !fits && isEntry(b);
   if (b.stale.length) badge(x + w, y); g.globalAlpha = 1;
 }
+function drawBelow(boxes) {       // versions that had no room in their boxes: below them, where that is free
+  const ends = lanes.map(() => GUT);
+  for (const b of boxes) {
+    const size = PAD > 12 ? 10 : 9, s = `v${b.v}`, w = widthOf(s, size), a = sx(X0(b)) + (wide(b) - w) / 2, y = yOf(b) + BH + (PAD > 12 ? 4 : 2);
+    if (!b.bare || PAD < 9 || b.row < rowsOf[b.t] - 1 || a < ends[b.t] + 4 || a + w > W) continue;
+    ends[b.t] = a + w;
+    g.globalAlpha = dim(b) ? DIM : 1; g.fillStyle = css.lane; g.fillRect(a - 1, y, w + 2, size + 1); text(s, a, y + size / 2 + 1, css.ink, size); g.globalAlpha = 1;
+  }
+}
 function badge(x, y) {
+  if (RH < 18) return triangle(x, y - 4, x + 5, y + 5, x - 5, y + 5, css.mark);
   triangle(x, y - 9, x + 8, y + 5, x - 8, y + 5, css.mark); outline(css.card, 1.5);
   text('!', x, y + 0.5, css.card, 10, 'center', 'bold');
 }
@@ -260,9 +286,10 @@ function arrow(a, b, colour, width, dash, alpha) {
 function drawStale(s, width) {    // from the read to the write that rests on it
   const y = laneTop[s.t] + PAD + Math.min(s.read.row, s.box.row) * RH + 1, x = sx(X0(s.read)) + wide(s.read) - 5, x2 = sx(X0(s.box)) + 7;
   if (x2 < GUT || x > W) return;
-  g.beginPath(); g.moveTo(x, y); g.bezierCurveTo(x + 6, y - 15, x2 - 6, y - 15, x2, y); outline(css.mark, width, [5, 3]);
+  const up = Math.min(15, PAD + 6);
+  g.beginPath(); g.moveTo(x, y); g.bezierCurveTo(x + 6, y - up, x2 - 6, y - up, x2, y); outline(css.mark, width, [5, 3]);
   const label = `read v${s.read.v}, now v${s.box.v}`, w = widthOf(label, 11), m = (x + x2) / 2;
-  if (x2 - x > w + 30) { g.fillStyle = css.lane; g.fillRect(m - w / 2 - 4, y - 19, w + 8, 13); text(label, m, y - 12, css.mark, 11, 'center'); }
+  if (PAD > 12 && x2 - x > w + 30) { g.fillStyle = css.lane; g.fillRect(m - w / 2 - 4, y - 19, w + 8, 13); text(label, m, y - 12, css.mark, 11, 'center'); }
 }
 function drawLanes() {
   run.threads.forEach((th, t) => {
@@ -273,19 +300,23 @@ function drawLanes() {
 }
 function drawEnds() {
   run.threads.forEach((th, t) => {
-    const x = sx(endOf(th)), y = laneTop[t] + PAD, word = endWords(th), w = widthOf(word, 11), colour = isBad(th) ? css.mark : css.soft;
+    const size = endSize(), x = sx(endOf(th)), y = laneTop[t] + PAD, word = endWords(th), w = widthOf(word, size), colour = isBad(th) ? css.mark : css.soft;
     if (x < GUT) return;
-    g.fillStyle = colour; g.fillRect(x - 1.5, y, 3, RH - 2);
-    if (x + 8 + w > W) return;
-    g.fillStyle = css.lane; g.fillRect(x + 3, y + RH / 2 - 8, w + 4, 15);
-    text(word, x + 5, y + RH / 2, colour);
+    g.fillStyle = css.lane; g.fillRect(x - 3, y, 6, RH - 2); g.fillStyle = colour; g.fillRect(x - 1.5, y, 3, RH - 2);
+    if (x + 5 + w > W) return;
+    g.fillStyle = css.lane; g.fillRect(x + 1.5, y + RH / 2 - size / 2 - 2, w + 7, size + 4);
+    text(word, x + 5, y + RH / 2, colour, size);
   });
 }
 function drawGutter() {
+  const x = GUT < 100 ? 6 : 12;
   g.fillStyle = css.card; g.fillRect(0, 0, GUT, tall);
   run.threads.forEach((th, t) => {
-    text(`thread ${t}`, 12, laneTop[t] + PAD + RH / 2 - 7, css.ink, 13, 'left', '600');
-    text(`${th.events} events`, 12, laneTop[t] + PAD + RH / 2 + 8, css.soft);
+    const y = laneTop[t] + PAD + RH / 2, low = RH + 2 * PAD < 32, name = `thread ${t}`, events = many(th.events, 'event');
+    if (!low) { text(name, x, y - 7, css.ink, 13, 'left', '600'); text(events, x, y + 8, css.soft); return; }
+    const size = Math.min(13, Math.max(7, RH + 2 * PAD - 2)), w = widthOf(name, size) * 1.1;
+    text(name, x, y, css.ink, size, 'left', '600');
+    if (x + w + 6 + widthOf(events, size - 2) < GUT) text(events, GUT - 5, y, css.soft, size - 2, 'right');
   });
   line(GUT + 0.5, 0, GUT + 0.5, tall, css.line, 1);
 }
@@ -317,13 +348,13 @@ function drawNear(boxes) {
   g.globalAlpha = 0.5;
   if (steps) for (const b of boxes) if (b.u0 > b.came) line(sx(b.came), midOf(b), sx(b.u0) - 2, midOf(b), css.soft, 5, [2, 5]);
   g.globalAlpha = 1;
-  const many = boxes.length > 260;
+  const dense = boxes.length > 260;
   for (const b of boxes) for (const a of needsOf(b)) {
     const sees = a.k === WRITE;
-    if (a === chosen || b === chosen || (sees ? !b.fresh : many)) continue;
-    arrow(a, b, stroke(b.o), sees && !many ? 1.6 : 1.1, sees ? [] : [2, 3], dim(b) ? DIM : 1);
+    if (a === chosen || b === chosen || (sees ? !b.fresh : dense)) continue;
+    arrow(a, b, stroke(b.o), sees && !dense ? 1.6 : 1.1, sees ? [] : [2, 3], dim(b) ? DIM : 1);
   }
-  boxes.forEach(drawBox);
+  boxes.forEach(drawBox); drawBelow(boxes);
   for (const s of stales) if (s.box !== chosen) drawStale(s, 1.5);
 }
 function drawChosen() {
@@ -338,7 +369,11 @@ function drawChosen() {
   }
 }
 function sharp(canvas, c, w, h) {
-  const d = window.devicePixelRatio || 1, pw = Math.round(w * d), ph = Math.round(h * d);
+";
+
+/// Part 3 of what comes after the data.
+pub const TAIL_3: &str =
+    "  const d = window.devicePixelRatio || 1, pw = Math.round(w * d), ph = Math.round(h * d);
   if (canvas.width !== pw || canvas.height !== ph) {
     canvas.width = pw; canvas.height = ph; canvas.style.height = h + 'px'; canvas.small = null;
   }
@@ -346,19 +381,17 @@ function sharp(canvas, c, w, h) {
   return d;
 }
 function draw() {
-  sharp(main, g, W, H); main.style.width = W + 'px';
+  sharp(main, g, W, tall); main.style.width = W + 'px';
   const a = left - 2, z = left + (W - GUT) / scale + 2, visible = boxes.filter(b => X1(b) >= a && X0(b) <= z);
   drawLanes();
   if (visible.length < 1500 && visible.length * 7 < (W - GUT) * lanes.length) drawNear(visible); else drawStrips(visible);
-";
-
-/// Part 3 of what comes after the data.
-pub const TAIL_3: &str = "  if (chosen) drawChosen();
+  if (chosen) drawChosen();
   drawEnds(); drawGutter(); drawOver();
 }
+const overLane = () => Math.max(2, Math.min(9, Math.min(64, innerHeight / 12) / lanes.length)), overTall = () => Math.round(overLane() * lanes.length + 8);
 function drawOver() {
-  const w = over.clientWidth, lh = Math.max(3, Math.min(9, 64 / lanes.length)), h = Math.round(lh * lanes.length + 8), f = (w - 8) / span();
-  const d = sharp(over, og, w, h), is = [steps, only, css.card, w].join();
+  const w = over.clientWidth, lh = overLane(), h = overTall(), f = (w - 8) / span();
+  const d = sharp(over, og, w, h), is = [steps, only, css.card, w, h].join();
   if (!over.small || over.is !== is) {
     const c = document.createElement('canvas'), q = c.getContext('2d');
     c.width = over.width; c.height = over.height; q.scale(d, d);
@@ -398,7 +431,7 @@ function tell() {
   const b = chosen;
   if (!b) {
     const more = stales.length ? 'N goes to the stale writes.' : 'No stale write was found.';
-    const ends = bads.map(t => `<p class=\"mark\">Thread ${t} ended: ${endWords(run.threads[t])}.</p>`).join('');
+    const ends = bads.length ? `<p class=\"mark\">${bads.map(t => `Thread ${t} ended: ${endWords(run.threads[t])}.`).join(' ')}</p>` : '';
     el('what').innerHTML = `<h2>Nothing is chosen</h2><p>Click a box, or press an arrow key. ${more}</p>${ends}`; el('cmds').innerHTML = '';
     return;
   }
@@ -427,27 +460,40 @@ function legend() {
   const dull = '<rect x=\"2\" y=\"2\" width=\"22\" height=\"12\" rx=\"6\" stroke-dasharray=\"4 3\"/>';
   if (boxes.some(b => b.n > 1 || b.k === TRY)) items.push([dull, 'again, or refused']);
   if (steps) items.push(['<path d=\"M1 8H25\" stroke-width=\"5\" stroke-dasharray=\"2 4\"/>', 'waits']);
-  el('legend').innerHTML = used.map(o => `<button class=\"chip\" data-object=\"${o}\" aria-pressed=\"${only === o}\">` +
+  el('signs').innerHTML = used.map(o => `<button class=\"chip\" data-object=\"${o}\" aria-pressed=\"${only === o}\">` +
     `<i style=\"background:${paint(o)[0]}\"></i>${used.length > 16 ? o : `object ${o}`}</button>`).join('') +
     items.map(([s, w]) => `<span>${pic(s)} ${w}</span>`).join('') +
     (stales.length ? `<span class=\"mark\">${pic('<path d=\"M13 1l8 13H5z\" fill=\"currentColor\"/>')} stale write</span>` : '');
 }
+function fold() {                 // the legend into its first row, if it doesn't fit there; More shows the rest
+  const signs = el('signs'), more = el('more'), open = signs.classList.contains('open');
+  more.hidden = true; signs.classList.remove('open');
+  more.hidden = signs.scrollHeight < signs.clientHeight + 8;
+  signs.classList.toggle('open', open && !more.hidden);
+  more.textContent = open ? 'Less' : 'More'; more.setAttribute('aria-expanded', String(open));
+}
+function unfold() { el('signs').classList.toggle('open'); size(); }
 
 // ---- moving --------------------------------------------------------------------------------------------------------
 function choose(b, show) {
   chosen = b || null;
   history.replaceState(null, '', b ? `#${b.t}.${b.i}` : location.pathname + location.search);
   if (b && show) {
-    if (sx(X0(b)) < GUT + 40 || sx(X1(b)) > W - 40) left = X0(b) - room() / scale * 0.4;
-    const y = laneTop[b.t];
-    if (y < scroll.scrollTop || y + 70 > scroll.scrollTop + scroll.clientHeight) scroll.scrollTop = y;
+    if (!all && (sx(X0(b)) < GUT + 40 || sx(X1(b)) > W - 40)) left = X0(b) - room() / scale * 0.4;
+    const y = laneTop[b.t], end = y + rowsOf[b.t] * RH + 2 * PAD;
+    if (y < scroll.scrollTop || end > scroll.scrollTop + scroll.clientHeight) scroll.scrollTop = y;
   }
   clamp(); tell(); draw();
 }
-function zoom(f, px) { const x = left + (px - GUT - 8) / scale; scale *= f; clamp(); left = x - (px - GUT - 8) / scale; clamp(); draw(); }
+function zoom(f, px) { leaveAll(); const x = left + (px - GUT - 8) / scale; scale *= f; clamp(); left = x - (px - GUT - 8) / scale; clamp(); draw(); }
 const middle = () => chosen ? Math.min(Math.max(sx(X0(chosen)), GUT), W) : (W + GUT) / 2;
-const fit = () => { scale = room() / span(); left = start(); };
-function whole() { fit(); clamp(); draw(); }
+const near = () => Math.max(30, widthOf(String(boxes.reduce((m, b) => Math.max(m, b.v), 0)), 10) + 6);   // boxes that have room for their versions
+const fit = () => { scale = Math.min(room() / span(), 140); left = start(); };
+";
+
+/// Part 4 of what comes after the data.
+pub const TAIL_4: &str = "function whole() { all = true; scroll.scrollTop = 0; size(); }
+function leaveAll() { if (all) { all = false; layout(); } }   // from here on not all has to be in sight
 function nextStale(d) {
   if (!stales.length) return;
   let k = chosen ? stales.findIndex(s => s.box === chosen) : -1;
@@ -458,10 +504,7 @@ function nextBad() {
   const there = bads.filter(t => lanes[t].length), at = chosen ? there.indexOf(chosen.t) : -1;
   if (there.length) choose(lastOf(there[(at + 1) % there.length]), true);
 }
-";
-
-/// Part 4 of what comes after the data.
-pub const TAIL_4: &str = "function along(d) {
+function along(d) {
   if (!chosen) return choose((lanes.find(l => l.length) || [])[0], true);
   const l = lanes[chosen.t];
   choose(l[Math.min(Math.max(l.indexOf(chosen) + d, 0), l.length - 1)], true);
@@ -474,10 +517,10 @@ function across(d) {
 function spacing() {
   if (!spaced) return;
   const at = middle();
-  steps = !steps; fit(); scale = Math.max(scale, steps ? 0 : 30);
-  if (chosen) left = X0(chosen) - (at - GUT) / scale;
+  steps = !steps; fit(); if (!all) scale = Math.max(scale, steps ? 0 : near());
+  if (chosen && !all) left = X0(chosen) - (at - GUT) / scale;
   el('spacing').textContent = `Spacing: ${steps ? 'steps' : 'even'}`;
-  legend(); clamp(); draw();
+  legend(); size();
 }
 function copy(s, button) {
   const label = button && (button.dataset.label || button.textContent);
@@ -518,7 +561,7 @@ main.addEventListener('pointerdown', e => {
 main.addEventListener('pointermove', e => {
   if (drag) {
     drag.far = drag.far || Math.abs(e.clientX - drag.x) > 3;
-    if (drag.far) { left = drag.left - (e.clientX - drag.x) / scale; clamp(); draw(); }
+    if (drag.far) { leaveAll(); left = drag.left - (e.clientX - drag.x) / scale; clamp(); draw(); }
     return;
   }
   const b = hit(e), tip = el('tip');
@@ -533,12 +576,12 @@ main.addEventListener('wheel', e => {
   const pan = Math.abs(e.deltaX) > Math.abs(e.deltaY) || e.shiftKey;
   if (!pan && !e.ctrlKey && tall > scroll.clientHeight) return;
   e.preventDefault();
-  if (pan) { left += (e.deltaX || e.deltaY) / scale; clamp(); draw(); }
+  if (pan) { leaveAll(); left += (e.deltaX || e.deltaY) / scale; clamp(); draw(); }
   else zoom(Math.exp(-e.deltaY * 0.0015), e.clientX - main.getBoundingClientRect().left);
 }, { passive: false });
 function seek(e) {
   const r = over.getBoundingClientRect();
-  left = start() + (e.clientX - r.left - 4) / (r.width - 8) * span() - room() / scale / 2; clamp(); draw();
+  leaveAll(); left = start() + (e.clientX - r.left - 4) / (r.width - 8) * span() - room() / scale / 2; clamp(); draw();
 }
 over.addEventListener('pointerdown', e => { over.setPointerCapture(e.pointerId); seek(e); over.onpointermove = seek; });
 over.addEventListener('pointerup', () => { over.onpointermove = null; });
@@ -546,9 +589,10 @@ document.addEventListener('click', e => {
   const at = q => e.target.closest(`[data-${q}]`), b = at('box'), c = at('copy'), o = at('object');
   if (b) { choose(boxes[+b.dataset.box], true); main.focus(); }
   if (c) copy(c.dataset.copy, c);
-  if (o) { only = only === +o.dataset.object ? -1 : +o.dataset.object; legend(); draw(); }
+  if (o) { only = only === +o.dataset.object ? -1 : +o.dataset.object; legend(); fold(); draw(); }
 });
 for (const [id, k] of [['whole', 0], ['spacing', 'l'], ['help', '?'], ['bad', 'b'], ['stale', 'n'], ['in', '+'], ['out', '-']]) el(id).onclick = KEYS[k];
+el('more').onclick = unfold;
 el('find').addEventListener('keydown', e => {
   if (e.key === 'Escape') main.focus();
   if (e.key !== 'Enter') return;
@@ -565,8 +609,10 @@ function theme() {
 }
 function size() {
   const first = !W;
-  W = scroll.clientWidth; H = tall;
-  if (first) { fit(); scale = Math.max(scale, 30); }
+  over.style.height = overTall() + 'px'; fold();
+  const inSight = layout();
+  if (all || first) fit();
+  if (first) { all = inSight && scale >= near(); scale = Math.max(scale, near()); }
   clamp(); draw();
 }
 el('title').textContent = [many(lanes.length, 'thread'), many(run.objects, 'object'), many(total, 'event')].join(', ') +
@@ -585,9 +631,12 @@ else if (!(wanted && find(+wanted[1], +wanted[2]))) {
   const bad = bads.find(t => lanes[t].length);
   choose(part ? boxAt(part[0], part[1]) : stales.length ? stales[0].box : bad === undefined ? null : lastOf(bad), true);
 }
-addEventListener('hashchange', () => { const m = location.hash.match(/^#(\\d+)\\.(\\d+)/); if (m) find(+m[1], +m[2]); });
+addEventListener('hashchange', () => {
+  const m = location.hash.match(/^#(\\d+)\\.(\\d+)/);
+  if (m) find(+m[1], +m[2]); else if (location.hash === '#all') whole();
+});
 matchMedia('(prefers-color-scheme: dark)').addEventListener('change', () => { theme(); draw(); });
-new ResizeObserver(size).observe(scroll);
+new ResizeObserver(() => requestAnimationFrame(size)).observe(scroll); addEventListener('resize', size);
 </script>
 </body>
 </html>
