@@ -46,7 +46,7 @@ button.bad { color: var(--mark); border-color: var(--mark); font-weight: 600; }
 #tip { position: fixed; display: none; white-space: pre; padding: 3px 8px; font-size: 12px; border-radius: 6px; }
 #tip { pointer-events: none; background: var(--ink); color: var(--page); }
 #info { display: grid; grid-template-columns: minmax(0, 1fr) auto; gap: 4px 24px; padding: 8px 14px; align-content: start; }
-#info { flex: none; height: clamp(124px, 22vh, 200px); overflow: auto; }
+#info { flex: 1 0 clamp(124px, 22vh, 200px); overflow: auto; }
 #info h2 { font-size: 15px; margin: 0 0 2px; font-weight: 650; } #info p { margin: 2px 0; }
 .mark { color: var(--mark); } #info .mark { font-weight: 600; }
 #info button.ev { padding: 0 7px; margin: 0 2px; font-size: 12.5px; }
@@ -61,8 +61,8 @@ pub const HEAD_2: &str =
 dialog { color: var(--ink); background: var(--card); border: 1px solid var(--line); border-radius: 10px; max-width: 560px; }
 dialog td { padding: 2px 12px 2px 0; vertical-align: top; } dialog td:first-child { white-space: nowrap; }
 @media (max-width: 1100px) { h1 { font-size: 14px; } button, input { padding: 3px 6px; } }
-@media (max-width: 760px) { #info { grid-template-columns: minmax(0, 1fr); height: clamp(124px, 28vh, 260px); } }
-@media print { header button, header input, #legend > button, #tip { display: none; } #signs { max-height: none; } #info { height: auto; } }
+@media (max-width: 760px) { #info { grid-template-columns: minmax(0, 1fr); flex-basis: clamp(124px, 28vh, 260px); } }
+@media print { header button, header input, #legend > button, #tip { display: none; } #signs { max-height: none; } #info { flex: none; } }
 </style>
 </head>
 <body>
@@ -190,7 +190,8 @@ const HEIGHTS = [[26, 15], [26, 11], [22, 9], [20, 7], [18, 5], [16, 3], [14, 2]
 let GUT = 118, RH = 26, PAD = 15, BH = 22, tall = 0, laneTop = [], all = false;   // all: whether all is shown, and stays so in other sizes
 const tallWith = ([h, pad]) => 12 + rowsOf.reduce((y, q) => y + q * h + 2 * pad, 0);
 function layout() {               // of the lanes, in what is left of the window: whether all of them are in sight
-  const below = scroll.getBoundingClientRect().top + scrollY, free = document.documentElement.clientHeight - below - el('info').offsetHeight - 2;
+  const below = scroll.getBoundingClientRect().top + scrollY, least = parseFloat(getComputedStyle(el('info')).flexBasis);
+  const free = document.documentElement.clientHeight - below - least - 2;
   const some = all ? HEIGHTS : HEIGHTS.slice(0, LOW), found = some.find(h => tallWith(h) <= Math.max(free, 118)), used = found || some[some.length - 1];
   [RH, PAD] = used; BH = RH - (RH > 12 ? 4 : 2); tall = tallWith(used);
   laneTop = rowsOf.map((r, t) => 6 + rowsOf.slice(0, t).reduce((y, q) => y + q * RH + 2 * PAD, 0));
@@ -227,11 +228,11 @@ function nameOf(b) {
   if (b.n > 1) return `${b.k === TRY ? 'tried' : 'read'} again \\u00d7${b.n}`;
   if (b.k === WRITE) return `write ${b.o} v${b.v}\\u2192${b.v + 1}`;
   return b.k === READ ? `read ${b.o} v${b.v}` : `${KIND[b.k]} ${b.o}`;
-}
 ";
 
 /// Part 2 of what comes after the data.
-pub const TAIL_2: &str = "function text(s, x, y, colour, size = 11, align = 'left', weight = '') {
+pub const TAIL_2: &str = "}
+function text(s, x, y, colour, size = 11, align = 'left', weight = '') {
   g.font = `${weight} ${size}px ${FACE}`; g.textAlign = align; g.textBaseline = 'middle'; g.fillStyle = colour; g.fillText(s, x, y);
 }
 function widthOf(s, size) { g.font = `${size}px ${FACE}`; return g.measureText(s).width; }
