@@ -1,5 +1,5 @@
 #!/usr/bin/env python3
-"""Tells which lemma statements stand in two crates, and which lines are too long: what scripts/rooms.py refuses of them.
+"""Tells which lemma statements stand in two crates, which names of lemmas and which lines are too long: what scripts/rooms.py refuses of them.
 
 python3 scripts/statements.py
 
@@ -13,7 +13,7 @@ import sys
 from pathlib import Path
 
 TOP = Path(__file__).resolve().parent.parent
-MOST_LINE = 200
+MOST_LINE, MOST_NAME = 200, 40
 # Files with texts that stand in one line: guests of tests, gdb's description of the target, an example of printed texts, and the page of `ir view`.
 TEXTS = {f"crates/{name}" for name in ("ir_elf_tests/src/files.rt", "ir_gdb/src/texts.rt", "ir_gdb/specs/Texts.antt", "ir_debug/proofs/Guests.antt", "ir_picture/src/page.rt")}
 HEAD = re.compile(r"^(?:pub )?(?P<name>[a-z][^\s:(){}.,;@\"]*)\s*:\s+(?P<rest>.*)$")
@@ -97,9 +97,11 @@ class Crates:
 
 
 def copies():
-    """Each lemma statement that stands in more than one crate, as a line."""
+    """Each lemma statement that stands in more than one crate, and each lemma of a long name, as a line."""
     crates, found = Crates(), collections.defaultdict(list)
     for module, line, name, statement in crates.lemmas():
+        if len(name) > MOST_NAME:
+            yield f"{crates.texts[module][0].relative_to(TOP)}:{line}: {name} has {len(name)} characters, over {MOST_NAME}"
         if "→" in statement or "≡" in statement:
             found[crates.normal(module, statement)].append((module, line, name))
     for places in found.values():
