@@ -29,7 +29,9 @@ pub fn outcomes_text(
     requires until { until ≤ length outcomes.now }
     requires objects { (v : ℕ) (s : SourcedFlat) → slice_get flats.now.items v ≡ Some s → length s.flat.objects ≡ length started.first.now }
     requires nodes { (i : ℕ) (x : Shown) → slice_get outcomes.now i ≡ Some x → x.node < length flats.now.items }
-    ensures { IfOk result (λ text. (before : List ℕ) → AreTexts (objects_in started.entry) flats.now.items outcomes.now from before → AreTexts (objects_in started.entry) flats.now.items outcomes.now until (before ++ text.items)) }
+    ensures { IfOk result
+        (λ text. (before : List ℕ) → AreTexts (objects_in started.entry) flats.now.items outcomes.now from before
+        → AreTexts (objects_in started.entry) flats.now.items outcomes.now until (before ++ text.items)) }
 {
     let mut text = Vec::new(alloc);
     for i in from..until {

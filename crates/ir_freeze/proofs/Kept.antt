@@ -56,9 +56,9 @@ either_of_test b number P seventeen marked is = elim (cases_eq number 17) [
   | inr n ↦ marked (subst (λ t. t || b ≡ true) (ne_eqb number 17 n) is)
 ]
 
-kept_values_equal_if_agree : (code : List ℕ) (live : List Bool) → IsLiveTable code live → (x y : Core) → AgreeOnLive code x y
+kept_value_agrees : (code : List ℕ) (live : List Bool) → IsLiveTable code live → (x y : Core) → AgreeOnLive code x y
     → (number : ℕ) → number < 32 → kept_value live x number ≡ kept_value live y number
-kept_values_equal_if_agree code live table x y agree number less =
+kept_value_agrees code live table x y agree number less =
     ap (λ p. cond ((number == 17) || is_marked live p number) (register x number) 0) (at_same_point x y agree.pc agree.call)
     ∙ chosen_values_equal ((number == 17) || is_marked live (point_of y) number) (register x number) (register y number)
     (either_of_test (is_marked live (point_of y) number) number (register x number ≡ register y number)
@@ -67,11 +67,11 @@ kept_values_equal_if_agree code live table x y agree number less =
     (subst (λ p. IsLiveRegister code p number) (sym (at_same_point x y agree.pc agree.call))
     ((table (point_of y) number (call_number_below_limit (register y 17)) less).0 marked))))
 
-pub kept_registers_equal_if_agree : (code : List ℕ) (live : List Bool) → IsLiveTable code live → (x y : Core) → AgreeOnLive code x y
+pub kept_registers_agree : (code : List ℕ) (live : List Bool) → IsLiveTable code live → (x y : Core) → AgreeOnLive code x y
     → kept_registers live x ≡ kept_registers live y
 unfolding kept_registers
-kept_registers_equal_if_agree code live table x y agree =
-    maps_equal_on_range (kept_value live x) (kept_value live y) 0 32 (λ number less. kept_values_equal_if_agree code live table x y agree number less)
+kept_registers_agree code live table x y agree =
+    maps_equal_on_range (kept_value live x) (kept_value live y) 0 32 (λ number less. kept_value_agrees code live table x y agree number less)
 
 value_is_kept : (b : Bool) (number value : ℕ) → b ≡ true → cond ((number == 17) || b) value 0 ≡ value
 value_is_kept b number value is = by (number == 17)
@@ -80,12 +80,12 @@ value_is_kept b number value is = by (number == 17)
     by true = refl
     by false = ap (λ z. cond z value 0) is
 
-register_past_last_is_zero : (core : Core) → IsCore core → (number : ℕ) → 32 ≤ number → register core number ≡ 0
-register_past_last_is_zero core ok number past = get_or_past core.registers number 0 (subst (λ n. n ≤ number) (sym ok.register_count) past)
+register_past_last : (core : Core) → IsCore core → (number : ℕ) → 32 ≤ number → register core number ≡ 0
+register_past_last core ok number past = get_or_past core.registers number 0 (subst (λ n. n ≤ number) (sym ok.register_count) past)
 
-pub agree_if_kept_registers_equal : (code : List ℕ) (live : List Bool) → IsLiveTable code live → (x y : Core) → IsCore x → IsCore y
+pub kept_equal_agrees : (code : List ℕ) (live : List Bool) → IsLiveTable code live → (x y : Core) → IsCore x → IsCore y
     → x.pc ≡ y.pc → x.memory ≡ y.memory → kept_registers live x ≡ kept_registers live y → AgreeOnLive code x y
-agree_if_kept_registers_equal code live table x y ok fine pc memory kept =
+kept_equal_agrees code live table x y ok fine pc memory kept =
     let each : (number : ℕ) → number < 32 → kept_value live x number ≡ kept_value live y number = λ number less.
     sym (kept_register_at live x number less) ∙ ap (λ l. get_or l number 0) kept ∙ kept_register_at live y number less in
     let call : register x 17 ≡ register y 17 = each 17 (omega arith) in
@@ -103,6 +103,6 @@ agree_if_kept_registers_equal code live table x y ok fine pc memory kept =
             let also : is_marked live (point_of y) number ≡ true = subst (λ p. is_marked live p number ≡ true) points marked in
             sym (value_is_kept (is_marked live (point_of x) number) number (register x number) marked) ∙ each number less
             ∙ value_is_kept (is_marked live (point_of y) number) number (register y number) also
-        | inr past ↦ register_past_last_is_zero x ok number past ∙ sym (register_past_last_is_zero y fine number past)
+        | inr past ↦ register_past_last x ok number past ∙ sym (register_past_last y fine number past)
       ];
     }

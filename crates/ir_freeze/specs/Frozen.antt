@@ -28,10 +28,10 @@ abbrev pub change : ℕ → ℕ → ℕ → List ℕ
 change place old new = if new == old then [] else to_le_bytes w16 place ++ new ∷ []
 
 -- the same of each byte from a place on
-abbrev pub changes : ℕ → List ℕ → List ℕ → List ℕ
-changes place [] memory = []
-changes place (old ∷ start) [] = []
-changes place (old ∷ start) (new ∷ memory) = change place old new ++ changes (suc place) start memory
+abbrev pub page_changes : ℕ → List ℕ → List ℕ → List ℕ
+page_changes place [] memory = []
+page_changes place (old ∷ start) [] = []
+page_changes place (old ∷ start) (new ∷ memory) = change place old new ++ page_changes (suc place) start memory
 
 -- whether a thread has ended and holds nothing
 abbrev pub is_over : ThreadState → Bool
@@ -43,7 +43,7 @@ fixed_bytes basis s mark = word s.core.pc ++ flat_map word (kept_registers basis
 
 -- these, the output after its length, and what private memory has that it hadn't at the start
 abbrev pub going_bytes : Basis → ThreadState → List ℕ → List ℕ
-going_bytes basis s mark = fixed_bytes basis s mark ++ word (length s.output) ++ s.output ++ changes 0 basis.memory s.core.memory
+going_bytes basis s mark = fixed_bytes basis s mark ++ word (length s.output) ++ s.output ++ page_changes 0 basis.memory s.core.memory
 
 -- The bytes of a thread. Its end comes first. Of a thread that is over there is its output beside that, of any other all that it may still
 -- see of itself.

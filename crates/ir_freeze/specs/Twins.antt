@@ -7,7 +7,7 @@ use Rattle.ir_thread.specs.State.{end_code, ThreadState, most_output}
 use Rattle.ir_thread.specs.Frames.{frame_of}
 use Rattle.ir_seen.specs.Seen.{Same, view}
 use Rattle.ir_freeze.specs.Basis.{Basis, IsBasis}
-use Rattle.ir_freeze.specs.Frozen.{changes, frozen, is_over}
+use Rattle.ir_freeze.specs.Frozen.{page_changes, frozen, is_over}
 use Rattle.ir_freeze.specs.Thawed.{before_changes, thawed}
 
 -- two moments of the thread of one number in one guest
@@ -29,11 +29,11 @@ TellsApart = (basis : Basis) → IsBasis basis → (x y : ThreadState) → AreTw
     → (frozen basis x m ≡ frozen basis y n) ↔ Same basis.code (view x, m) (view y, n)
 
 -- a thread that isn't over comes back from its bytes and its frame as it was
-abbrev pub ComesBack : Type 0
-ComesBack = (basis : Basis) → IsBasis basis → (s : ThreadState) → KeepsBounds s → (mark : List ℕ) → is_over s ≡ false
+abbrev pub IsThawedAgain : Type 0
+IsThawedAgain = (basis : Basis) → IsBasis basis → (s : ThreadState) → KeepsBounds s → (mark : List ℕ) → is_over s ≡ false
     → thawed basis.memory (frame_of s) (before_changes s (length mark)) (frozen basis s mark) ≡ s
 
 -- a thread comes back from its frame and what is changed in its private memory, whether it is over or not
 abbrev pub ChangesComeBack : Type 0
 ChangesComeBack = (start : List ℕ) → length start ≡ memory_size → (s : ThreadState) → length s.core.memory ≡ memory_size
-    → thawed start (frame_of s) 0 (changes 0 start s.core.memory) ≡ s
+    → thawed start (frame_of s) 0 (page_changes 0 start s.core.memory) ≡ s

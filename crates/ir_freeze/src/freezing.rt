@@ -4,7 +4,7 @@ ghost use Rattle.std.specs.Prelude.{◌≡◌, ◌+◌, ◌≤◌, ◌^◌, ◌+
 ghost use Rattle.ir_live.specs.Table.{kept_registers};
 ghost use Rattle.ir_mach.specs.Core.{memory_size};
 ghost use Rattle.ir_thread.specs.State.{highest};
-ghost use Rattle.ir_freeze.specs.Frozen.{word, held_byte, end_bytes, change, changes, is_over, fixed_bytes, going_bytes, frozen};
+ghost use Rattle.ir_freeze.specs.Frozen.{word, held_byte, end_bytes, change, page_changes, is_over, fixed_bytes, going_bytes, frozen};
 
 use crate::basis::Basis;
 use crate::pages::page_in;
@@ -84,7 +84,7 @@ fn put_change(out: &mut Vec<u8>, place: u16, old: u8, new: u8) -> Result<(), All
 fn put_page(out: &mut Vec<u8>, first: u16, old: &[u8], new: &[u8]) -> Result<(), AllocError>
     requires size { length new.now ≡ length old.now }
     requires room { first + length old.now ≤ 2 ^ 16 }
-    ensures { OnOk result (out.new.items ≡ out.old.items ++ changes first old.now new.now) }
+    ensures { OnOk result (out.new.items ≡ out.old.items ++ page_changes first old.now new.now) }
 {
     if old == new {
         return Ok(());
@@ -98,7 +98,7 @@ fn put_page(out: &mut Vec<u8>, first: u16, old: &[u8], new: &[u8]) -> Result<(),
 // What private memory has that it hadn't.
 fn put_changes(out: &mut Vec<u8>, start: &[u8], thread: &Thread) -> Result<(), AllocError>
     requires { length start.now ≡ memory_size }
-    ensures { OnOk result (out.new.items ≡ out.old.items ++ changes 0 start.now thread.now.core.memory) }
+    ensures { OnOk result (out.new.items ≡ out.old.items ++ page_changes 0 start.now thread.now.core.memory) }
 {
     for i in 0..MEMORY_PAGES {
         let first = PAGE_SIZE * i;
@@ -113,7 +113,7 @@ fn put_changes(out: &mut Vec<u8>, start: &[u8], thread: &Thread) -> Result<(), A
 /// Out of memory.
 pub fn changes_of(alloc: Global, start: &[u8], thread: &Thread) -> Result<Vec<u8>, AllocError>
     requires { length start.now ≡ memory_size }
-    ensures { IfOk result (λ bytes. bytes.items ≡ changes 0 start.now thread.now.core.memory) }
+    ensures { IfOk result (λ bytes. bytes.items ≡ page_changes 0 start.now thread.now.core.memory) }
 {
     let mut out = Vec::new(alloc);
     put_changes(&mut out, start, thread)?;

@@ -1,6 +1,6 @@
 //! Laws of frozen threads, each the contract of a function without parameters.
 
-ghost use Rattle.ir_freeze.specs.Twins.{ChangesComeBack, ComesBack, TellsApart};
+ghost use Rattle.ir_freeze.specs.Twins.{ChangesComeBack, IsThawedAgain, TellsApart};
 
 /// Two moments of a thread have equal bytes exactly where no thread can tell them apart.
 pub fn tells_apart()
@@ -9,7 +9,7 @@ pub fn tells_apart()
 
 /// A thread that goes on comes back from its bytes and its frame as it was.
 pub fn comes_back()
-    ensures { ComesBack }
+    ensures { IsThawedAgain }
 {}
 
 /// A thread comes back from its frame and what is changed in its private memory.

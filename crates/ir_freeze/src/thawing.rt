@@ -2,7 +2,7 @@
 
 ghost use Rattle.std.specs.Prelude.{◌≡◌, drop, length, vec_len, IfOk, IfSome};
 ghost use Rattle.ir_mach.specs.Core.{memory_size};
-ghost use Rattle.ir_freeze.specs.Thawed.{before_changes, changed, thawed};
+ghost use Rattle.ir_freeze.specs.Thawed.{before_changes, changed_pages, thawed};
 
 use ir_thread::{Frame, Thread};
 use std::alloc::{AllocError, Global};
@@ -16,7 +16,7 @@ const BEFORE: usize = 142;
 // Writes each change to the memory.
 fn change(memory: &mut Vec<u8>, changes: &[u8])
     requires { vec_len memory.old ≡ memory_size }
-    ensures value { memory.new.items ≡ changed memory.old.items changes.now }
+    ensures value { memory.new.items ≡ changed_pages memory.old.items changes.now }
     ensures size { vec_len memory.new ≡ memory_size }
 {
     for k in 0..changes.len() / CHANGE {

@@ -40,7 +40,10 @@ pub fn spots_of(
     numbers: &[u8],
 ) -> Result<Option<Vec<Spot>>, AllocError>
     requires { node < length flats.now.items }
-    ensures { IfOk result (λ found. IfSome found (λ spots. (s : SourcedFlat) → slice_get flats.now.items node ≡ Some s → AllPairs (IsAtSpot flats.now.shared.words s.flat.objects) numbers.now spots.items)) }
+    ensures { IfOk result
+        (λ found. IfSome found
+        (λ spots. (s : SourcedFlat) → slice_get flats.now.items node ≡ Some s
+        → AllPairs (IsAtSpot flats.now.shared.words s.flat.objects) numbers.now spots.items)) }
 {
     let mut spots = Vec::with_capacity(alloc, numbers.len())?;
     for number in numbers {

@@ -1,7 +1,7 @@
 //! The states that can be brought to an end.
 
 ghost use Rattle.std.specs.Prelude.{◌≡◌, ℕ, Some, length, slice_get, IfOk};
-ghost use Rattle.ir_search.specs.Following.{IsOpen};
+ghost use Rattle.ir_search.specs.Following.{IsNodeOpen};
 ghost use Rattle.ir_flat.specs.Flat.{machine, tables};
 ghost use Rattle.ir_graph.specs.Hangs.{AreWays};
 ghost use Rattle.ir_graph.specs.Notes.{noted_by};
@@ -16,8 +16,8 @@ use std::alloc::{AllocError, Global};
 // Which of these states have all threads done.
 fn done_states(alloc: Global, flats: &Store<'_>) -> Result<Vec<bool>, AllocError>
     ensures nodes { IfOk result (λ done. length done.items ≡ length flats.now.items) }
-    ensures done { IfOk result (λ done. (v : ℕ) (s : SourcedFlat) → slice_get flats.now.items v ≡ Some s → IsOpen done.items v → IsDone (machine s.flat) (tables s.flat)) }
-    ensures marked { IfOk result (λ done. (v : ℕ) (s : SourcedFlat) → slice_get flats.now.items v ≡ Some s → IsDone (machine s.flat) (tables s.flat) → IsOpen done.items v) }
+    ensures done { IfOk result (λ done. (v : ℕ) (s : SourcedFlat) → slice_get flats.now.items v ≡ Some s → IsNodeOpen done.items v → IsDone (machine s.flat) (tables s.flat)) }
+    ensures marked { IfOk result (λ done. (v : ℕ) (s : SourcedFlat) → slice_get flats.now.items v ≡ Some s → IsDone (machine s.flat) (tables s.flat) → IsNodeOpen done.items v) }
 {
     let mut done = Vec::with_capacity(alloc, flats.len())?;
     for v in 0..flats.len() {

@@ -4,7 +4,7 @@ ghost use Rattle.std.specs.Prelude.{◌≡◌, ◌⊎◌, ℕ, suc, ◌<◌, ◌
 ghost use Rattle.ir_search.specs.declared.stop.Stop.TheVariants.{Nodes, Memory};
 ghost use Rattle.ir_graph.specs.Ahead.{AreTurns, IsTurnOf};
 ghost use Rattle.ir_graph.specs.Nodes.{LookAlike, AllRest, AreNodes, NodesStay, LeadsFrom};
-ghost use Rattle.ir_graph.specs.Plain.{IsLike};
+ghost use Rattle.ir_graph.specs.Plain.{LooksAlike};
 ghost use Rattle.ir_graph.specs.Reached.{IsReached, AllReached};
 ghost use Rattle.ir_graph.specs.Stops.{MayStop};
 ghost use Rattle.ir_graph.specs.Setup.{Setup};
@@ -41,7 +41,7 @@ fn node_of<'a>(
     requires nodes { AreNodes flats.old.items }
     requires is { IsNode flats.old.shared new }
     requires code { flats.old.code ≡ new.code }
-    requires like { (v : ℕ) (s : SourcedFlat) → slice_get flats.old.items v ≡ Some s → IsLike (sourced_in flats.old.shared new).flat s.flat }
+    requires like { (v : ℕ) (s : SourcedFlat) → slice_get flats.old.items v ≡ Some s → LooksAlike (sourced_in flats.old.shared new).flat s.flat }
     requires rest { AllRest (sourced_in flats.old.shared new).flat }
     requires room { length flats.old.items ≤ most }
     ensures nodes { AreNodes flats.new.items }

@@ -10,8 +10,8 @@ use Rattle.ir_live.specs.Agreement.{point_of, AgreeOnLive, DifferInDead}
 pub at_same_point : (x y : Core) → x.pc ≡ y.pc → register x 17 ≡ register y 17 → point_of x ≡ point_of y
 at_same_point x y pc call = λ i. record { pc = pc i; number = call_number (call i) }
 
-agree_on_live_is_symmetric : (code : List ℕ) (x y : Core) → AgreeOnLive code x y → AgreeOnLive code y x
-agree_on_live_is_symmetric code x y agree = record {
+agree_on_live_sym : (code : List ℕ) (x y : Core) → AgreeOnLive code x y → AgreeOnLive code y x
+agree_on_live_sym code x y agree = record {
   first = agree.second;
   second = agree.first;
   pc = sym agree.pc;
@@ -21,8 +21,8 @@ agree_on_live_is_symmetric code x y agree = record {
       (subst (λ p. IsLiveRegister code p number) (sym (at_same_point x y agree.pc agree.call)) way));
 }
 
-agree_on_live_is_transitive : (code : List ℕ) (x y z : Core) → AgreeOnLive code x y → AgreeOnLive code y z → AgreeOnLive code x z
-agree_on_live_is_transitive code x y z one two = record {
+agree_on_live_trans : (code : List ℕ) (x y z : Core) → AgreeOnLive code x y → AgreeOnLive code y z → AgreeOnLive code x z
+agree_on_live_trans code x y z one two = record {
   first = one.first;
   second = two.second;
   pc = one.pc ∙ two.pc;
@@ -32,14 +32,14 @@ agree_on_live_is_transitive code x y z one two = record {
       ∙ two.live number (subst (λ p. IsLiveRegister code p number) (at_same_point x y one.pc one.call) way);
 }
 
-pub differ_in_dead_is_symmetric : (code : List ℕ) (x y : ThreadState) → DifferInDead code x y → DifferInDead code y x
-differ_in_dead_is_symmetric code x y differ = record {
+pub differ_in_dead_sym : (code : List ℕ) (x y : ThreadState) → DifferInDead code x y → DifferInDead code y x
+differ_in_dead_sym code x y differ = record {
   rest = sym (ap (λ (t : ThreadState). record t { core = x.core }) differ.rest);
-  cores = agree_on_live_is_symmetric code x.core y.core differ.cores;
+  cores = agree_on_live_sym code x.core y.core differ.cores;
 }
 
-pub differ_in_dead_is_transitive : (code : List ℕ) (x y z : ThreadState) → DifferInDead code x y → DifferInDead code y z → DifferInDead code x z
-differ_in_dead_is_transitive code x y z one two = record {
+pub differ_in_dead_trans : (code : List ℕ) (x y z : ThreadState) → DifferInDead code x y → DifferInDead code y z → DifferInDead code x z
+differ_in_dead_trans code x y z one two = record {
   rest = ap (λ (t : ThreadState). record t { core = z.core }) one.rest ∙ two.rest;
-  cores = agree_on_live_is_transitive code x.core y.core z.core one.cores two.cores;
+  cores = agree_on_live_trans code x.core y.core z.core one.cores two.cores;
 }

@@ -3,28 +3,28 @@ use Rattle.std.proofs.Common.{◌≡◌, ℕ, zero, suc, ◌+◌, ◌-◌, ◌*�
 use Rattle.std.specs.Prelude.{replicate}
 use Rattle.std.specs.List.{slice_index_or}
 use Rattle.std.proofs.lemmas.Bool.{cases_eq}
-use Rattle.ir_lemmas.proofs.CallerLemmas.{get_or_after_set, get_or_after_set_elsewhere}
+use Rattle.ir_lemmas.proofs.CallerLemmas.{get_or_after_set, get_or_set_elsewhere}
 use Rattle.ir_image.specs.Guest.{code_start}
 use Rattle.ir_live.specs.Flow.{call_limit}
-use Rattle.ir_live.specs.Table.{place_of, is_marked}
+use Rattle.ir_live.specs.Table.{mark_place, is_marked}
 use Rattle.ir_live.specs.Marks.{places_of_word, AreAnywhere}
-use Rattle.ir_live.proofs.Places.{marked_point_cases, mark_of_point_is_at_its_place}
+use Rattle.ir_live.proofs.Places.{marked_point_cases, mark_of_point_place}
 
-pub element_of_replicated_false_is_false : (count k : ℕ) → slice_index_or (replicate count false) k false ≡ false
-element_of_replicated_false_is_false zero k = refl
-element_of_replicated_false_is_false (suc count) zero = refl
-element_of_replicated_false_is_false (suc count) (suc k) = element_of_replicated_false_is_false count k
+pub replicated_false_element : (count k : ℕ) → slice_index_or (replicate count false) k false ≡ false
+replicated_false_element zero k = refl
+replicated_false_element (suc count) zero = refl
+replicated_false_element (suc count) (suc k) = replicated_false_element count k
 
-none_is_anywhere_at_first : (count : ℕ) → AreAnywhere (replicate count false) (replicate places_of_word false)
-none_is_anywhere_at_first count place less = (
-  λ is. absurd (true≢false (sym is ∙ element_of_replicated_false_is_false places_of_word place)),
-  λ found. absurd (true≢false (sym found.1 ∙ element_of_replicated_false_is_false count (found.0 * places_of_word + place))),
+none_anywhere_at_first : (count : ℕ) → AreAnywhere (replicate count false) (replicate places_of_word false)
+none_anywhere_at_first count place less = (
+  λ is. absurd (true≢false (sym is ∙ replicated_false_element places_of_word place)),
+  λ found. absurd (true≢false (sym found.1 ∙ replicated_false_element count (found.0 * places_of_word + place))),
 )
 
-pub anywhere_lasts_after_setting : (marks anywhere : List Bool) (word place : ℕ) → AreAnywhere marks anywhere → length anywhere ≡ places_of_word
+pub anywhere_after_setting : (marks anywhere : List Bool) (word place : ℕ) → AreAnywhere marks anywhere → length anywhere ≡ places_of_word
     → word * places_of_word + place < length marks → place < places_of_word
     → AreAnywhere (slice_set marks (word * places_of_word + place) true) (slice_set anywhere place true)
-anywhere_lasts_after_setting marks anywhere word place are size within less other few = (to, from)
+anywhere_after_setting marks anywhere word place are size within less other few = (to, from)
   where
     to : slice_index_or (slice_set anywhere place true) other false ≡ true
         → (w : ℕ) × (slice_index_or (slice_set marks (word * places_of_word + place) true) (w * places_of_word + other) false ≡ true)
@@ -35,9 +35,9 @@ anywhere_lasts_after_setting marks anywhere word place are size within less othe
             ∙ get_or_after_set marks (word * places_of_word + place) true false within,
       )
       | inr ne ↦
-          let old = (are other few).0 (sym (get_or_after_set_elsewhere anywhere place other true false ne) ∙ is) in (
+          let old = (are other few).0 (sym (get_or_set_elsewhere anywhere place other true false ne) ∙ is) in (
             old.0,
-            get_or_after_set_elsewhere marks (word * places_of_word + place) (old.0 * places_of_word + other) true false
+            get_or_set_elsewhere marks (word * places_of_word + place) (old.0 * places_of_word + other) true false
                 (λ e. ne (omega (arith, e, less, few))) ∙ old.1,
           )
     ]
@@ -47,48 +47,48 @@ anywhere_lasts_after_setting marks anywhere word place are size within less othe
     from found = elim (cases_eq place other) [
       | inl same ↦ ap (λ (k : ℕ). slice_index_or (slice_set anywhere place true) k false) (sym same)
           ∙ get_or_after_set anywhere place true false (omega (arith, size, less))
-      | inr ne ↦ get_or_after_set_elsewhere anywhere place other true false ne
+      | inr ne ↦ get_or_set_elsewhere anywhere place other true false ne
           ∙ (are other few).1 (
             found.0,
-            sym (get_or_after_set_elsewhere marks (word * places_of_word + place) (found.0 * places_of_word + other) true false
+            sym (get_or_set_elsewhere marks (word * places_of_word + place) (found.0 * places_of_word + other) true false
                 (λ e. ne (omega (arith, e, less, few)))) ∙ found.1,
           )
     ]
 
-pub mark_anywhere_is_mark_at_word : (marks anywhere : List Bool) (number register : ℕ) → AreAnywhere marks anywhere → number < call_limit → register < 32
+pub anywhere_mark_has_word : (marks anywhere : List Bool) (number register : ℕ) → AreAnywhere marks anywhere → number < call_limit → register < 32
     → slice_index_or anywhere (number * 32 + register) false ≡ true
     → (next : ℕ) × (next % 4 ≡ 0) × (is_marked marks (record { pc = next; number = number }) register ≡ true)
-mark_anywhere_is_mark_at_word marks anywhere number register are low few is =
+anywhere_mark_has_word marks anywhere number register are low few is =
     let found = (are (number * 32 + register) (omega arith)).0 is in
-    let place : place_of (record { pc = code_start + 4 * found.0; number = number }) register ≡ found.0 * places_of_word + (number * 32 + register) = omega arith in (
+    let place : mark_place (record { pc = code_start + 4 * found.0; number = number }) register ≡ found.0 * places_of_word + (number * 32 + register) = omega arith in (
       code_start + 4 * found.0,
       omega arith,
-      mark_of_point_is_at_its_place marks (record { pc = code_start + 4 * found.0; number = number }) register (omega arith) (omega arith)
+      mark_of_point_place marks (record { pc = code_start + 4 * found.0; number = number }) register (omega arith) (omega arith)
           ∙ (ap (λ (k : ℕ). slice_index_or marks k false) place ∙ found.1),
     )
 
-pub no_mark_anywhere_is_none_at_words : (marks anywhere : List Bool) (number register : ℕ) → AreAnywhere marks anywhere → number < call_limit → register < 32
+pub no_mark_anywhere : (marks anywhere : List Bool) (number register : ℕ) → AreAnywhere marks anywhere → number < call_limit → register < 32
     → slice_index_or anywhere (number * 32 + register) false ≡ false
     → (next : ℕ) → next % 4 ≡ 0 → is_marked marks (record { pc = next; number = number }) register ≡ true → ⊥
-no_mark_anywhere_is_none_at_words marks anywhere number register are low few unset next aligned is =
+no_mark_anywhere marks anywhere number register are low few unset next aligned is =
     elim (marked_point_cases marks (record { pc = next; number = number }) register is) [
       | inl odd ↦ odd aligned
       | inr so ↦
-          let place : (next - code_start) / 4 * places_of_word + (number * 32 + register) ≡ place_of (record { pc = next; number = number }) register = omega arith in
+          let place : (next - code_start) / 4 * places_of_word + (number * 32 + register) ≡ mark_place (record { pc = next; number = number }) register = omega arith in
           let marked : slice_index_or marks ((next - code_start) / 4 * places_of_word + (number * 32 + register)) false ≡ true =
           ap (λ (k : ℕ). slice_index_or marks k false) place ∙ so.2 in
           true≢false (sym ((are (number * 32 + register) (omega arith)).1 ((next - code_start) / 4, marked)) ∙ unset)
     ]
 
-pub none_is_anywhere_if_none_is_marked : (marks anywhere : List Bool) (count : ℕ) → marks ≡ replicate count false → anywhere ≡ replicate places_of_word false
+pub unmarked_none_anywhere : (marks anywhere : List Bool) (count : ℕ) → marks ≡ replicate count false → anywhere ≡ replicate places_of_word false
     → (length anywhere ≡ places_of_word) × AreAnywhere marks anywhere
-none_is_anywhere_if_none_is_marked marks anywhere count none fresh = (
+unmarked_none_anywhere marks anywhere count none fresh = (
   ap length fresh,
   subst (λ (z : List Bool). AreAnywhere z anywhere) (sym none)
-      (subst (λ (z : List Bool). AreAnywhere (replicate count false) z) (sym fresh) (none_is_anywhere_at_first count)),
+      (subst (λ (z : List Bool). AreAnywhere (replicate count false) z) (sym fresh) (none_anywhere_at_first count)),
 )
 
-pub element_that_is_read_is_element : (marks : List Bool) (k : ℕ) (mark : Bool) → k < length marks → mark ≡ slice_index_or marks k mark → slice_index_or marks k false ≡ mark
-element_that_is_read_is_element [] k mark less is = absurd (omega arith)
-element_that_is_read_is_element (m ∷ marks) zero mark less is = sym is
-element_that_is_read_is_element (m ∷ marks) (suc k) mark less is = element_that_is_read_is_element marks k mark (omega arith) is
+pub slice_index_or_read : (marks : List Bool) (k : ℕ) (mark : Bool) → k < length marks → mark ≡ slice_index_or marks k mark → slice_index_or marks k false ≡ mark
+slice_index_or_read [] k mark less is = absurd (omega arith)
+slice_index_or_read (m ∷ marks) zero mark less is = sym is
+slice_index_or_read (m ∷ marks) (suc k) mark less is = slice_index_or_read marks k mark (omega arith) is

@@ -18,14 +18,14 @@ use Rattle.ir_live.proofs.Steps.{call_asked, read_register_agrees, cores_agree_a
 
 -- ---- calls by their numbers
 
-call_of_13_is_second_profile_alone : (n : ℕ) (c : Call) → (n == 13) ≡ true → call_of One n ≡ Some c → ⊥
-call_of_13_is_second_profile_alone n c is found = let never : None ≡ Some c = ap (call_of One) (sym (equal is)) ∙ found in cc
+call_13_not_in_first : (n : ℕ) (c : Call) → (n == 13) ≡ true → call_of One n ≡ Some c → ⊥
+call_13_not_in_first n c is found = let never : None ≡ Some c = ap (call_of One) (sym (equal is)) ∙ found in cc
   where
     equal : (n == 13) ≡ true → n ≡ 13
     equal e = grind (arith, nat_tests)
 
-profiles_share_other_calls : (n : ℕ) → (n == 13) ≡ false → call_of One n ≡ call_of Two n
-profiles_share_other_calls n is = rw is refl
+profiles_share_calls : (n : ℕ) → (n == 13) ≡ false → call_of One n ≡ call_of Two n
+profiles_share_calls n is = rw is refl
 
 -- what is a call in a profile is the same call in the second
 call_of_second_profile : (profile : Profile) (n : ℕ) (c : Call) → call_of profile n ≡ Some c → call_of Two n ≡ Some c
@@ -33,11 +33,11 @@ call_of_second_profile Two n c found = found
 call_of_second_profile One n c found = by (n == 13) refl
   where
     by : (b : Bool) → (n == 13) ≡ b → call_of Two n ≡ Some c
-    by true is = absurd (call_of_13_is_second_profile_alone n c is found)
-    by false is = sym (profiles_share_other_calls n is) ∙ found
+    by true is = absurd (call_13_not_in_first n c is found)
+    by false is = sym (profiles_share_calls n is) ∙ found
 
-number_past_limit_differs : (n k : ℕ) → nat_lt n call_limit ≡ false → k < call_limit → (n == k) ≡ false
-number_past_limit_differs n k past below = grind (arith, nat_tests)
+past_limit_differs : (n k : ℕ) → nat_lt n call_limit ≡ false → k < call_limit → (n == k) ≡ false
+past_limit_differs n k past below = grind (arith, nat_tests)
 
 no_call_past_limit : (n : ℕ) → nat_lt n call_limit ≡ false → call_of Two n ≡ None
 no_call_past_limit n past = rw (
@@ -57,7 +57,7 @@ no_call_past_limit n past = rw (
 ) refl
   where
     differs : (k : ℕ) → k < call_limit → (n == k) ≡ false
-    differs k below = number_past_limit_differs n k past below
+    differs k below = past_limit_differs n k past below
 
 pub call_of_call_number : (n : ℕ) → call_of Two (call_number n) ≡ call_of Two n
 call_of_call_number n = by (nat_lt n call_limit) refl
@@ -68,12 +68,12 @@ call_of_call_number n = by (nat_lt n call_limit) refl
 
 -- ---- two cores at a call
 
-call_writes_a0_if_answered : (n : ℕ) (answered : Bool) → answered ≡ true → ((n == 10) && answered) ≡ ((10 == n) && nat_lt 0 n)
-call_writes_a0_if_answered n true is = grind (arith, nat_tests)
-call_writes_a0_if_answered n false is = absurd (cc is)
+answered_writes_a0 : (n : ℕ) (answered : Bool) → answered ≡ true → ((n == 10) && answered) ≡ ((10 == n) && nat_lt 0 n)
+answered_writes_a0 n true is = grind (arith, nat_tests)
+answered_writes_a0 n false is = absurd (cc is)
 
-call_writes_nothing_unanswered : (n : ℕ) (answered : Bool) → answered ≡ false → ((n == 10) && answered) ≡ false
-call_writes_nothing_unanswered n answered is = ap (λ b. (n == 10) && b) is ∙ conjunction_with_false (n == 10)
+unanswered_writes_nothing : (n : ℕ) (answered : Bool) → answered ≡ false → ((n == 10) && answered) ≡ false
+unanswered_writes_nothing n answered is = ap (λ b. (n == 10) && b) is ∙ conjunction_with_false (n == 10)
 
 module _ (code : List ℕ) (x y : Core) (agree : AgreeOnLive code x y) (at : fetched code x.pc ≡ Found Ecall)
     (profile : Profile) (c : Call) (found : call_of profile (register x 17) ≡ Some c) where
@@ -88,12 +88,12 @@ module _ (code : List ℕ) (x y : Core) (agree : AgreeOnLive code x y) (at : fet
   pub cores_agree_past_call : can_go_on (Some c) ≡ true → has_answer (Some c) ≡ false → AgreeOnLive code (past_call x None) (past_call y None)
   cores_agree_past_call on none = cores_agree_without_write code Ecall x y agree at (next_pc x.pc) (next_pc y.pc) x.memory y.memory
       (ap next_pc agree.pc) agree.memory
-      (λ n. call_writes_nothing_unanswered n (has_answer (call_of Two (call_asked x))) (ap has_answer call_of_a7_in_second_profile ∙ none))
+      (λ n. unanswered_writes_nothing n (has_answer (call_of Two (call_asked x))) (ap has_answer call_of_a7_in_second_profile ∙ none))
       (ap can_go_on call_of_a7_in_second_profile ∙ on, refl)
 
   pub cores_agree_past_answered_call : (value : ℕ) → can_go_on (Some c) ≡ true → has_answer (Some c) ≡ true
       → AgreeOnLive code (past_call x (Some value)) (past_call y (Some value))
   cores_agree_past_answered_call value on answered = cores_agree_after_write code Ecall x y agree at 10 value value (next_pc x.pc) (next_pc y.pc)
       x.memory y.memory (omega arith) refl (ap next_pc agree.pc) agree.memory
-      (λ n. call_writes_a0_if_answered n (has_answer (call_of Two (call_asked x))) (ap has_answer call_of_a7_in_second_profile ∙ answered))
+      (λ n. answered_writes_a0 n (has_answer (call_of Two (call_asked x))) (ap has_answer call_of_a7_in_second_profile ∙ answered))
       (ap can_go_on call_of_a7_in_second_profile ∙ on, refl) tt

@@ -3,7 +3,7 @@ use Rattle.std.proofs.Common.{◌≡◌, ℕ, ◌+◌, ◌*◌, ◌/◌, ◌%◌
 use Rattle.std.specs.Prelude.{ℤ, ◌==◌, ◌&&◌, if◌then◌else◌, pos, ◌+ℤ◌}
 use Rattle.std.proofs.lemmas.Bool.{cond_both}
 use Rattle.std.proofs.lemmas.Bool.Decides.{nat_tests}
-use Rattle.ir_lemmas.proofs.CallerLemmas.{or_true_from_left, or_true_from_right}
+use Rattle.ir_lemmas.proofs.CallerLemmas.{or_true_from_left, or_true_from_right, byte_equals_itself}
 use Rattle.ir_isa.specs.declared.inst.Inst.{Inst}
 use Rattle.ir_isa.specs.declared.inst.Inst.TheVariants.{Lui, Auipc, Jal, Jalr, Branch, Load, Store, OpImm, Shift, Op, Fence, Ecall, Ebreak}
 use Rattle.ir_isa.specs.declared.inst.ImmediateOp.{ImmediateOp}
@@ -16,7 +16,6 @@ use Rattle.ir_mach.specs.Execution.{low_32, immediate_result, shift_result, regi
 use Rattle.ir_mach.specs.Execution as execution
 use Rattle.ir_live.specs.Flow.{constant_of, writes_register, MayGoTo}
 use Rattle.ir_live.specs.Agreement.{AgreeOnLive}
-use Rattle.ir_live.proofs.Registers.{number_equals_itself}
 use Rattle.ir_live.proofs.Steps.{call_asked, IsConstant, read_register_agrees, cores_agree_after_write, cores_agree_without_write}
 
 -- two outcomes are a core each, which agree again, or the same end, or a system call each
@@ -101,85 +100,85 @@ module _ (code : List ℕ) (inst : Inst) (x y : Core) (agree : AgreeOnLive code 
 -- ---- the instructions
 
 -- what an operation with x0 gives is what is taken to be written
-immediate_result_is_its_constant : (op : ImmediateOp) (x : Core) (number : ℕ) (imm : ℤ) → register x 0 ≡ 0
+immediate_is_constant : (op : ImmediateOp) (x : Core) (number : ℕ) (imm : ℤ) → register x 0 ≡ 0
     → IsConstant (if number == 0 then Some (immediate_result op 0 imm) else None) (immediate_result op (register x number) imm)
-immediate_result_is_its_constant op x number imm zero_register =
+immediate_is_constant op x number imm zero_register =
     cond_both (number == 0) (Some (immediate_result op 0 imm)) None (λ c. IsConstant c (immediate_result op (register x number) imm))
     (λ is. ap (λ v. immediate_result op v imm) (ap (register x) (equal is) ∙ zero_register)) (λ _. tt)
   where
     equal : (number == 0) ≡ true → number ≡ 0
     equal is = grind (arith, nat_tests)
 
-executed_instructions_are_alike : (code : List ℕ) (inst : Inst) (x y : Core) → AgreeOnLive code x y → fetched code x.pc ≡ Found inst
+executed_alike : (code : List ℕ) (inst : Inst) (x y : Core) → AgreeOnLive code x y → fetched code x.pc ≡ Found inst
     → AreAlike code x (execute code inst x) (execute code inst y)
-executed_instructions_are_alike code (Lui rd imm) x y agree at =
+executed_alike code (Lui rd imm) x y agree at =
     writes_of_agreeing_cores_are_alike code (Lui rd imm) x y agree at rd.number imm.value imm.value rd.in_range refl (λ n. refl) refl refl
-executed_instructions_are_alike code (Auipc rd imm) x y agree at = writes_of_agreeing_cores_are_alike code (Auipc rd imm) x y agree at rd.number ((x.pc + imm.value) % 2 ^ 32)
+executed_alike code (Auipc rd imm) x y agree at = writes_of_agreeing_cores_are_alike code (Auipc rd imm) x y agree at rd.number ((x.pc + imm.value) % 2 ^ 32)
     ((y.pc + imm.value) % 2 ^ 32) rd.in_range (ap (λ pc. (pc + imm.value) % 2 ^ 32) agree.pc) (λ n. refl) refl tt
-executed_instructions_are_alike code (Jal rd offset) x y agree at = jumps_of_agreeing_cores_are_alike code (Jal rd offset) x y agree at rd.number (low_32 (pos x.pc +ℤ offset.value))
+executed_alike code (Jal rd offset) x y agree at = jumps_of_agreeing_cores_are_alike code (Jal rd offset) x y agree at rd.number (low_32 (pos x.pc +ℤ offset.value))
     (low_32 (pos y.pc +ℤ offset.value)) rd.in_range (ap (λ pc. low_32 (pos pc +ℤ offset.value)) agree.pc) (λ n. refl) (λ aligned. (refl, aligned)) tt
-executed_instructions_are_alike code (Jalr rd rs1 imm) x y agree at =
+executed_alike code (Jalr rd rs1 imm) x y agree at =
     let same : register x rs1.number ≡ register y rs1.number =
-    read_register_agrees code (Jalr rd rs1 imm) x y agree at rs1.number (number_equals_itself rs1.number) in
+    read_register_agrees code (Jalr rd rs1 imm) x y agree at rs1.number (byte_equals_itself rs1.number) in
     jumps_of_agreeing_cores_are_alike code (Jalr rd rs1 imm) x y agree at rd.number (sum_of x rs1.number imm.value / 2 * 2) (sum_of y rs1.number imm.value / 2 * 2)
     rd.in_range (ap (λ v. low_32 (pos v +ℤ imm.value) / 2 * 2) same) (λ n. refl) (λ aligned. aligned) tt
-executed_instructions_are_alike code (Branch op rs1 rs2 offset) x y agree at =
+executed_alike code (Branch op rs1 rs2 offset) x y agree at =
     let first : register x rs1.number ≡ register y rs1.number = read_register_agrees code (Branch op rs1 rs2 offset) x y agree at rs1.number
-    (or_true_from_left (rs1.number == rs1.number) (rs2.number == rs1.number) (number_equals_itself rs1.number)) in
+    (or_true_from_left (rs1.number == rs1.number) (rs2.number == rs1.number) (byte_equals_itself rs1.number)) in
     let second : register x rs2.number ≡ register y rs2.number = read_register_agrees code (Branch op rs1 rs2 offset) x y agree at rs2.number
-    (or_true_from_right (rs1.number == rs2.number) (rs2.number == rs2.number) (number_equals_itself rs2.number)) in
+    (or_true_from_right (rs1.number == rs2.number) (rs2.number == rs2.number) (byte_equals_itself rs2.number)) in
     branches_of_agreeing_cores_are_alike code (Branch op rs1 rs2 offset) x y agree at (is_taken op (register x rs1.number) (register x rs2.number))
     (is_taken op (register y rs1.number) (register y rs2.number)) (low_32 (pos x.pc +ℤ offset.value)) (low_32 (pos y.pc +ℤ offset.value))
     (ap (λ v. is_taken op v (register x rs2.number)) first ∙ ap (λ v. is_taken op (register y rs1.number) v) second)
     (ap (λ pc. low_32 (pos pc +ℤ offset.value)) agree.pc) (λ n. refl) (λ aligned. inr (refl, aligned)) (inl refl)
-executed_instructions_are_alike code (Load op rd rs1 imm) x y agree at =
+executed_alike code (Load op rd rs1 imm) x y agree at =
     let same : register x rs1.number ≡ register y rs1.number =
-    read_register_agrees code (Load op rd rs1 imm) x y agree at rs1.number (number_equals_itself rs1.number) in
+    read_register_agrees code (Load op rd rs1 imm) x y agree at rs1.number (byte_equals_itself rs1.number) in
     loads_of_agreeing_cores_are_alike code (Load op rd rs1 imm) x y agree at rd.number (loaded op code x.memory (sum_of x rs1.number imm.value))
     (loaded op code y.memory (sum_of y rs1.number imm.value)) rd.in_range
     (ap (λ v. loaded op code x.memory (low_32 (pos v +ℤ imm.value))) same ∙ ap (λ m. loaded op code m (sum_of y rs1.number imm.value)) agree.memory)
     (λ n. refl) refl refl
-executed_instructions_are_alike code (Store op rs1 rs2 imm) x y agree at =
+executed_alike code (Store op rs1 rs2 imm) x y agree at =
     let first : register x rs1.number ≡ register y rs1.number = read_register_agrees code (Store op rs1 rs2 imm) x y agree at rs1.number
-    (or_true_from_left (rs1.number == rs1.number) (rs2.number == rs1.number) (number_equals_itself rs1.number)) in
+    (or_true_from_left (rs1.number == rs1.number) (rs2.number == rs1.number) (byte_equals_itself rs1.number)) in
     let second : register x rs2.number ≡ register y rs2.number = read_register_agrees code (Store op rs1 rs2 imm) x y agree at rs2.number
-    (or_true_from_right (rs1.number == rs2.number) (rs2.number == rs2.number) (number_equals_itself rs2.number)) in
+    (or_true_from_right (rs1.number == rs2.number) (rs2.number == rs2.number) (byte_equals_itself rs2.number)) in
     stores_of_agreeing_cores_are_alike code (Store op rs1 rs2 imm) x y agree at (stored op (sum_of x rs1.number imm.value) (register x rs2.number) x.memory)
     (stored op (sum_of y rs1.number imm.value) (register y rs2.number) y.memory)
     (ap (λ v. stored op (low_32 (pos v +ℤ imm.value)) (register x rs2.number) x.memory) first
     ∙ ap (λ v. stored op (sum_of y rs1.number imm.value) v x.memory) second
     ∙ ap (λ m. stored op (sum_of y rs1.number imm.value) (register y rs2.number) m) agree.memory) (λ n. refl) refl
-executed_instructions_are_alike code (OpImm op rd rs1 imm) x y agree at =
+executed_alike code (OpImm op rd rs1 imm) x y agree at =
     let same : register x rs1.number ≡ register y rs1.number =
-    read_register_agrees code (OpImm op rd rs1 imm) x y agree at rs1.number (number_equals_itself rs1.number) in
+    read_register_agrees code (OpImm op rd rs1 imm) x y agree at rs1.number (byte_equals_itself rs1.number) in
     writes_of_agreeing_cores_are_alike code (OpImm op rd rs1 imm) x y agree at rd.number (immediate_result op (register x rs1.number) imm.value)
     (immediate_result op (register y rs1.number) imm.value) rd.in_range (ap (λ v. immediate_result op v imm.value) same) (λ n. refl) refl
-    (immediate_result_is_its_constant op x rs1.number imm.value agree.first.zero_register)
-executed_instructions_are_alike code (Shift op rd rs1 amount) x y agree at =
+    (immediate_is_constant op x rs1.number imm.value agree.first.zero_register)
+executed_alike code (Shift op rd rs1 amount) x y agree at =
     let same : register x rs1.number ≡ register y rs1.number =
-    read_register_agrees code (Shift op rd rs1 amount) x y agree at rs1.number (number_equals_itself rs1.number) in
+    read_register_agrees code (Shift op rd rs1 amount) x y agree at rs1.number (byte_equals_itself rs1.number) in
     writes_of_agreeing_cores_are_alike code (Shift op rd rs1 amount) x y agree at rd.number (shift_result op (register x rs1.number) amount.bits)
     (shift_result op (register y rs1.number) amount.bits) rd.in_range (ap (λ v. shift_result op v amount.bits) same) (λ n. refl) refl tt
-executed_instructions_are_alike code (Op op rd rs1 rs2) x y agree at =
+executed_alike code (Op op rd rs1 rs2) x y agree at =
     let first : register x rs1.number ≡ register y rs1.number = read_register_agrees code (Op op rd rs1 rs2) x y agree at rs1.number
-    (or_true_from_left (rs1.number == rs1.number) (rs2.number == rs1.number) (number_equals_itself rs1.number)) in
+    (or_true_from_left (rs1.number == rs1.number) (rs2.number == rs1.number) (byte_equals_itself rs1.number)) in
     let second : register x rs2.number ≡ register y rs2.number = read_register_agrees code (Op op rd rs1 rs2) x y agree at rs2.number
-    (or_true_from_right (rs1.number == rs2.number) (rs2.number == rs2.number) (number_equals_itself rs2.number)) in
+    (or_true_from_right (rs1.number == rs2.number) (rs2.number == rs2.number) (byte_equals_itself rs2.number)) in
     writes_of_agreeing_cores_are_alike code (Op op rd rs1 rs2) x y agree at rd.number (register_result op (register x rs1.number) (register x rs2.number))
     (register_result op (register y rs1.number) (register y rs2.number)) rd.in_range
     (ap (λ v. register_result op v (register x rs2.number)) first ∙ ap (λ v. register_result op (register y rs1.number) v) second)
     (λ n. refl) refl tt
-executed_instructions_are_alike code (Fence rd rs1 imm) x y agree at = cores_agree_without_write code (Fence rd rs1 imm) x y agree at (next_pc x.pc) (next_pc y.pc)
+executed_alike code (Fence rd rs1 imm) x y agree at = cores_agree_without_write code (Fence rd rs1 imm) x y agree at (next_pc x.pc) (next_pc y.pc)
     x.memory y.memory (ap next_pc agree.pc) agree.memory (λ n. refl) refl
-executed_instructions_are_alike code Ecall x y agree at = at
-executed_instructions_are_alike code Ebreak x y agree at = refl
+executed_alike code Ecall x y agree at = at
+executed_alike code Ebreak x y agree at = refl
 
 -- what the next instruction comes to
-pub outcomes_of_agreeing_cores_are_alike : (code : List ℕ) (x y : Core) → AgreeOnLive code x y → AreAlike code x (outcome_of code x) (outcome_of code y)
-outcomes_of_agreeing_cores_are_alike code x y agree =
+pub outcomes_alike : (code : List ℕ) (x y : Core) → AgreeOnLive code x y → AreAlike code x (outcome_of code x) (outcome_of code y)
+outcomes_alike code x y agree =
     subst (λ pc. AreAlike code x (outcome_of code x) (execute_fetched code (fetched code pc) y)) agree.pc (by (fetched code x.pc) refl)
   where
     by : (f : Fetched) → fetched code x.pc ≡ f → AreAlike code x (execute_fetched code f x) (execute_fetched code f y)
     by Outside is = refl
     by Illegal is = refl
-    by (Found inst) is = executed_instructions_are_alike code inst x y agree is
+    by (Found inst) is = executed_alike code inst x y agree is

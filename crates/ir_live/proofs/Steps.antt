@@ -11,7 +11,7 @@ use Rattle.ir_mach.specs.Core.{Core, register, put}
 use Rattle.ir_live.specs.Flow.{call_limit, call_number, constant_of, reads_register, writes_register, AsksAfter, MayGoTo}
 use Rattle.ir_live.specs.Live.{Point, IsLiveAlong}
 use Rattle.ir_live.specs.Agreement.{point_of, IsRegisterFile, AgreeOnLive}
-use Rattle.ir_live.proofs.Registers.{written_register_has_value, other_register_is_kept, register_file_after_put, register_file_of_kept_registers}
+use Rattle.ir_live.proofs.Registers.{written_register_value, other_register_is_kept, register_file_after_put, kept_register_file}
 
 -- ---- which call a7 asks for
 
@@ -87,10 +87,10 @@ module _ (code : List ℕ) (inst : Inst) (x y : Core) (agree : AgreeOnLive code 
       fits_second = subst (λ k. rd < k) (sym agree.second.count) fits
 
       has_first : (n : ℕ) → writes_register inst (call_asked x) n ≡ true → slice_index (put x.registers rd value) n ≡ value
-      has_first n w = written_register_has_value x.registers rd value n fits_first (sym (is n) ∙ w)
+      has_first n w = written_register_value x.registers rd value n fits_first (sym (is n) ∙ w)
 
       has_second : (n : ℕ) → writes_register inst (call_asked x) n ≡ true → slice_index (put y.registers rd other) n ≡ other
-      has_second n w = written_register_has_value y.registers rd other n fits_second (sym (is n) ∙ w)
+      has_second n w = written_register_value y.registers rd other n fits_second (sym (is n) ∙ w)
 
       keeps_first : (n : ℕ) → writes_register inst (call_asked x) n ≡ false → slice_index (put x.registers rd value) n ≡ register x n
       keeps_first n w = other_register_is_kept x.registers rd value n (sym (is n) ∙ w)
@@ -105,7 +105,7 @@ module _ (code : List ℕ) (inst : Inst) (x y : Core) (agree : AgreeOnLive code 
       → AgreeOnLive code (record { pc = pc; registers = x.registers; memory = memory })
       (record { pc = other_pc; registers = y.registers; memory = other_memory })
   cores_agree_without_write pc other_pc memory other_memory pcs memories none goes =
-      cores_agree_after_step _ _ (register_file_of_kept_registers x pc memory agree.first)
-      (register_file_of_kept_registers y other_pc other_memory agree.second) pcs memories goes
+      cores_agree_after_step _ _ (kept_register_file x pc memory agree.first)
+      (kept_register_file y other_pc other_memory agree.second) pcs memories goes
       (subst (λ b. AsksAfter b (constant_of inst) (call_asked x) (call_asked x)) (sym (none 17)) refl)
       (λ n w. absurd (true_is_not_false _ w (none n))) (λ n w. (refl, refl))

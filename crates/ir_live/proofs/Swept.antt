@@ -4,9 +4,9 @@ use Rattle.ir_isa.specs.declared.inst.Inst.{Inst}
 use Rattle.ir_image.specs.Guest.{fetched, code_start}
 use Rattle.ir_image.specs.declared.fetched.Fetched.TheVariants.{Found}
 use Rattle.ir_live.specs.Table.{is_marked, IsLiveTable}
-use Rattle.ir_live.specs.Marks.{places_of_word, point_at, unmarked, IsSeen, AreLive, IsClosedAt, IsSwept}
-use Rattle.ir_live.proofs.Places.{mark_at_place_of_word, fewer_unmarked_after_setting}
-use Rattle.ir_live.proofs.Marked.{marks_are_live_after_live_mark, closed_marks_of_live_registers_are_table}
+use Rattle.ir_live.specs.Marks.{places_of_word, point_at, unmarked, IsMarkSeen, AreMarksLive, IsClosedAt, IsSwept}
+use Rattle.ir_live.proofs.Places.{mark_at_place_of_word, setting_lowers_unmarked}
+use Rattle.ir_live.proofs.Marked.{live_after_live_mark, closed_marks_are_table}
 
 -- where nothing has changed
 pub swept_without_change : (code : List ℕ) (marks : List Bool) (Over : ℕ → ℕ → Type 0)
@@ -35,10 +35,10 @@ swept_with_change code old mid new false First Second Over a b = record {
 }
 
 -- and then nothing changed
-pub swept_further_without_change : (code : List ℕ) (old mid new : List Bool) (changed : Bool) (First Second Over : ℕ → ℕ → Type 0)
+pub swept_on_unchanged : (code : List ℕ) (old mid new : List Bool) (changed : Bool) (First Second Over : ℕ → ℕ → Type 0)
     → IsSwept code old mid changed First → IsSwept code mid new false Second → ((word place : ℕ) → Over word place → First word place ⊎ Second word place)
     → IsSwept code old new changed Over
-swept_further_without_change code old mid new changed First Second Over a b over = record {
+swept_on_unchanged code old mid new changed First Second Over a b over = record {
   live = λ are. b.live (a.live are);
   fewer = λ is. subst (λ (z : List Bool). unmarked z < unmarked old) (sym (b.same refl)) (a.fewer is);
   same = λ still. b.same refl ∙ a.same still;
@@ -49,31 +49,31 @@ swept_further_without_change code old mid new changed First Second Over a b over
 }
 
 -- a place is marked
-pub place_is_swept_with_mark : (code : List ℕ) (marks : List Bool) (word place : ℕ) (inst : Inst) (Over : ℕ → ℕ → Type 0)
+pub swept_with_mark : (code : List ℕ) (marks : List Bool) (word place : ℕ) (inst : Inst) (Over : ℕ → ℕ → Type 0)
     → fetched code (code_start + 4 * word) ≡ Found inst → place < places_of_word → word * places_of_word + place < length marks
-    → is_marked marks (point_at word place) (place % 32) ≡ false → IsSeen marks inst (point_at word place) (place % 32)
+    → is_marked marks (point_at word place) (place % 32) ≡ false → IsMarkSeen marks inst (point_at word place) (place % 32)
     → IsSwept code marks (slice_set marks (word * places_of_word + place) true) true Over
-place_is_swept_with_mark code marks word place inst Over at less within unset seen = record {
-  live = marks_are_live_after_live_mark code marks word place inst less at seen;
-  fewer = λ _. fewer_unmarked_after_setting marks (word * places_of_word + place) within (sym (mark_at_place_of_word marks word place) ∙ unset);
+swept_with_mark code marks word place inst Over at less within unset seen = record {
+  live = live_after_live_mark code marks word place inst less at seen;
+  fewer = λ _. setting_lowers_unmarked marks (word * places_of_word + place) within (sym (mark_at_place_of_word marks word place) ∙ unset);
   same = λ wrong. absurd (true≢false wrong);
   closed = λ wrong. absurd (true≢false wrong);
 }
 
-found_instructions_are_the_same : (code : List ℕ) (pc : ℕ) (x y : Inst) → fetched code pc ≡ Found x → fetched code pc ≡ Found y → x ≡ y
-found_instructions_are_the_same code pc x y a b = cc (a, b)
+found_instructions_same : (code : List ℕ) (pc : ℕ) (x y : Inst) → fetched code pc ≡ Found x → fetched code pc ≡ Found y → x ≡ y
+found_instructions_same code pc x y a b = cc (a, b)
 
 -- a place stays as it is
-pub place_is_swept_without_mark : (code : List ℕ) (marks : List Bool) (word place : ℕ) (inst : Inst)
+pub swept_without_mark : (code : List ℕ) (marks : List Bool) (word place : ℕ) (inst : Inst)
     → fetched code (code_start + 4 * word) ≡ Found inst
-    → (IsSeen marks inst (point_at word place) (place % 32) → is_marked marks (point_at word place) (place % 32) ≡ true)
+    → (IsMarkSeen marks inst (point_at word place) (place % 32) → is_marked marks (point_at word place) (place % 32) ≡ true)
     → IsSwept code marks marks false (λ w p. (w ≡ word) × (p ≡ place))
-place_is_swept_without_mark code marks word place inst at closed =
+swept_without_mark code marks word place inst at closed =
     swept_without_change code marks (λ w p. (w ≡ word) × (p ≡ place)) by
   where
     here : IsClosedAt code marks word place
-    here other found seen = closed (subst (λ (i : Inst). IsSeen marks i (point_at word place) (place % 32))
-        (found_instructions_are_the_same code (code_start + 4 * word) other inst found at) seen)
+    here other found seen = closed (subst (λ (i : Inst). IsMarkSeen marks i (point_at word place) (place % 32))
+        (found_instructions_same code (code_start + 4 * word) other inst found at) seen)
 
     by : (w p : ℕ) → (w ≡ word) × (p ≡ place) → IsClosedAt code marks w p
     by w p (same, there) = subst (λ (z : ℕ). IsClosedAt code marks z p) (sym same) (subst (λ (z : ℕ). IsClosedAt code marks word z) (sym there) here)
@@ -87,7 +87,7 @@ swept_further code old mid new changed more after First Second Over a b over (in
     (swept_with_change code old mid new changed First Second Over a (subst (λ (z : Bool). IsSwept code mid new z Second) did b))
 swept_further code old mid new changed more after First Second Over a b over (inr (still, is)) =
     subst (λ (z : Bool). IsSwept code old new z Over) (sym is)
-    (swept_further_without_change code old mid new changed First Second Over a (subst (λ (z : Bool). IsSwept code mid new z Second) still b) over)
+    (swept_on_unchanged code old mid new changed First Second Over a (subst (λ (z : Bool). IsSwept code mid new z Second) still b) over)
 
 -- over fewer places
 pub swept_over_fewer : (code : List ℕ) (old new : List Bool) (changed : Bool) (First Over : ℕ → ℕ → Type 0)
@@ -99,9 +99,9 @@ swept_over_fewer code old new changed First Over a fewer = record {
   closed = λ still word place is. a.closed still word place (fewer word place is);
 }
 
-pub marks_are_table_after_sweep_without_change : (code : List ℕ) (old new : List Bool) (changed : Bool) (words : ℕ) → changed ≡ false → words ≡ length code
-    → AreLive code old → IsSwept code old new changed (λ w p. (w < words) × (p < places_of_word)) → IsLiveTable code new
-marks_are_table_after_sweep_without_change code old new changed words still size live a =
-    closed_marks_of_live_registers_are_table code new (a.live live)
+pub unchanged_sweep_is_table : (code : List ℕ) (old new : List Bool) (changed : Bool) (words : ℕ) → changed ≡ false → words ≡ length code
+    → AreMarksLive code old → IsSwept code old new changed (λ w p. (w < words) × (p < places_of_word)) → IsLiveTable code new
+unchanged_sweep_is_table code old new changed words still size live a =
+    closed_marks_are_table code new (a.live live)
     (λ word place inside. subst (λ (z : List Bool). IsClosedAt code z word place) (sym (a.same still))
     (a.closed still word place (let less = inside.0 in omega arith, inside.1)))

@@ -9,7 +9,10 @@ use Rattle.ir_mach.specs.Core.{Core, register, Outcome, Goes, Calls, Ends}
 use Rattle.ir_mach.specs.Execution.{outcome_of, past_call, signed}
 use Rattle.ir_runs.specs.declared.access.Access.{Access}
 use Rattle.ir_runs.specs.declared.access.Access.TheVariants.{Reading, Writing}
-use Rattle.ir_thread.specs.State.{ThreadState, a0, a1, a2, call_of, call_at, call_output, byte_text, number_text, print_ask, logged_ask, is_object, has_word, entry_ask, leave_held, get_held, put_held, held_at, highest, is_above, call_ask, outcome_ask, release_ask, ask_by, ask_of, core_after, core_left, after_ask, after_reply, reply_of, most_events, most_output, end_of_fault}
+use Rattle.ir_thread.specs.State.{ThreadState, a0, a1, a2, call_of, call_at, call_output, byte_text, number_text, print_ask, logged_ask}
+use Rattle.ir_thread.specs.State.{is_object, has_word, entry_ask, leave_held, get_held, put_held, held_at, highest, is_above, call_ask}
+use Rattle.ir_thread.specs.State.{outcome_ask, release_ask, ask_by, ask_of, core_after, core_left, after_ask, after_reply, reply_of}
+use Rattle.ir_thread.specs.State.{most_events, most_output, end_of_fault}
 use Rattle.ir_thread.specs.declared.ask.Ask.{Ask}
 use Rattle.ir_thread.specs.declared.ask.Ask.TheVariants as ask
 use Rattle.ir_thread.specs.declared.call.Call.{Call}
@@ -19,7 +22,7 @@ use Rattle.ir_thread.specs.declared.end.End.TheVariants as end
 use Rattle.ir_live.specs.Flow.{argument_count, has_answer, can_go_on}
 use Rattle.ir_live.specs.Agreement.{AgreeOnLive, DifferInDead, AgreementLasts}
 use Rattle.ir_live.proofs.Calls.{argument_agrees, cores_agree_past_call, cores_agree_past_answered_call}
-use Rattle.ir_live.proofs.Instructions.{AreAlike, outcomes_of_agreeing_cores_are_alike}
+use Rattle.ir_live.proofs.Instructions.{AreAlike, outcomes_alike}
 
 -- a thread with another core
 abbrev pub with_core : ThreadState → Core → ThreadState
@@ -33,10 +36,10 @@ differ_after_end : (code : List ℕ) (s : ThreadState) (y : Core) (e : End) → 
 differ_after_end code s y e agree value = record { rest = refl; cores = agree }
 
 -- where a test fails, the thread ends
-differ_after_conditional_ask : (code : List ℕ) (s : ThreadState) (y : Core) (b : Bool) (q : Ask) (e : End) → AgreeOnLive code s.core y → DifferAfter code s y q
+conditional_ask_differs : (code : List ℕ) (s : ThreadState) (y : Core) (b : Bool) (q : Ask) (e : End) → AgreeOnLive code s.core y → DifferAfter code s y q
     → DifferAfter code s y (cond b q (ask.End e))
-differ_after_conditional_ask code s y true q e agree asked = asked
-differ_after_conditional_ask code s y false q e agree asked = differ_after_end code s y e agree
+conditional_ask_differs code s y true q e agree asked = asked
+conditional_ask_differs code s y false q e agree asked = differ_after_end code s y e agree
 
 -- ---- a thread that hasn't ended, at a call
 
@@ -112,37 +115,37 @@ module _ (code : List ℕ) (s : ThreadState) (y : Core) (agree : AgreeOnLive cod
   }
 
   differ_after_entry : (q : Ask) → DifferAfter code s y q → DifferAfter code s y (entry_ask s q)
-  differ_after_entry q asked = differ_after_conditional_ask code s y (is_object s (a0 s)) _ end.NoSuchObject agree
-      (differ_after_conditional_ask code s y (is_above (highest s.held) (a0 s)) _ end.EntryOutOfOrder agree
-      (differ_after_conditional_ask code s y (nat_lt s.events most_events) q end.LogFull agree asked))
+  differ_after_entry q asked = conditional_ask_differs code s y (is_object s (a0 s)) _ end.NoSuchObject agree
+      (conditional_ask_differs code s y (is_above (highest s.held) (a0 s)) _ end.EntryOutOfOrder agree
+      (conditional_ask_differs code s y (nat_lt s.events most_events) q end.LogFull agree asked))
 
   differ_after_call : (c : Option Call) → call_at s ≡ c → DifferAfter code s y (call_ask c s)
   differ_after_call None found = differ_after_end code s y end.UnknownCall agree
   differ_after_call (Some call.End) found = differ_after_end code s y (end.Exit (a0 s)) agree
   differ_after_call (Some call.PutByte) found =
-      differ_after_conditional_ask code s y (nat_le (length s.output + length (byte_text s)) most_output) ask.Print end.OutputFull agree
+      conditional_ask_differs code s y (nat_le (length s.output + length (byte_text s)) most_output) ask.Print end.OutputFull agree
       (differ_after_print call.PutByte found refl refl (ap (λ a. (a % 2 ^ 8) ∷ []) (call_argument_agrees call.PutByte found 10 refl)))
   differ_after_call (Some call.PutNumber) found =
-      differ_after_conditional_ask code s y (nat_le (length s.output + length (number_text s)) most_output) ask.Print end.OutputFull agree
+      conditional_ask_differs code s y (nat_le (length s.output + length (number_text s)) most_output) ask.Print end.OutputFull agree
       (differ_after_print call.PutNumber found refl refl (ap (λ a. signed_decimal (signed a) ++ 10 ∷ []) (call_argument_agrees call.PutNumber found 10 refl)))
-  differ_after_call (Some (call.Env kind)) found = differ_after_conditional_ask code s y (nat_lt s.events most_events) (ask.Env kind) end.LogFull agree
+  differ_after_call (Some (call.Env kind)) found = conditional_ask_differs code s y (nat_lt s.events most_events) (ask.Env kind) end.LogFull agree
       (λ value. record { rest = refl; cores = agree_past_answered_call (call.Env kind) found value refl refl })
   differ_after_call (Some (call.Enter access)) found = differ_after_entry (ask.Enter (a0 s) access)
       (λ value. record { rest = refl; cores = agree_past_unanswered_call (call.Enter access) found refl refl })
   differ_after_call (Some call.Leave) found =
-      differ_after_conditional_ask code s y (is_object s (a0 s)) (leave_held (a0 s) (held_at s.held (a0 s))) end.NoSuchObject agree (by (held_at s.held (a0 s)))
+      conditional_ask_differs code s y (is_object s (a0 s)) (leave_held (a0 s) (held_at s.held (a0 s))) end.NoSuchObject agree (by (held_at s.held (a0 s)))
     where
       by : (h : Option Access) → DifferAfter code s y (leave_held (a0 s) h)
       by None = differ_after_end code s y end.NotHeld agree
       by (Some access) = differ_after_leave found (a0 s) access
   differ_after_call (Some call.Get) found =
-      differ_after_conditional_ask code s y (has_word s) (get_held (a0 s) (a1 s) (held_at s.held (a0 s))) end.NoSuchObject agree (by (held_at s.held (a0 s)))
+      conditional_ask_differs code s y (has_word s) (get_held (a0 s) (a1 s) (held_at s.held (a0 s))) end.NoSuchObject agree (by (held_at s.held (a0 s)))
     where
       by : (h : Option Access) → DifferAfter code s y (get_held (a0 s) (a1 s) h)
       by None = differ_after_end code s y end.NotHeld agree
       by (Some access) = λ value. record { rest = refl; cores = agree_past_answered_call call.Get found value refl refl }
   differ_after_call (Some call.Put) found =
-      differ_after_conditional_ask code s y (has_word s) (put_held (a0 s) (a1 s) (a2 s) (held_at s.held (a0 s))) end.NoSuchObject agree (by (held_at s.held (a0 s)))
+      conditional_ask_differs code s y (has_word s) (put_held (a0 s) (a1 s) (a2 s) (held_at s.held (a0 s))) end.NoSuchObject agree (by (held_at s.held (a0 s)))
     where
       by : (h : Option Access) → DifferAfter code s y (put_held (a0 s) (a1 s) (a2 s) h)
       by None = differ_after_end code s y end.NotHeld agree
@@ -158,9 +161,9 @@ module _ (code : List ℕ) (s : ThreadState) (y : Core) (agree : AgreeOnLive cod
 abbrev pub AreAskedAlike : List ℕ → ThreadState → Core → Ask → Ask → Type 0
 AreAskedAlike code s y q other = (q ≡ other) × DifferAfter code s y q
 
-outcomes_are_asked_alike : (code : List ℕ) (s : ThreadState) (y : Core) → AgreeOnLive code s.core y → s.ended ≡ None
+outcomes_asked_alike : (code : List ℕ) (s : ThreadState) (y : Core) → AgreeOnLive code s.core y → s.ended ≡ None
     → AreAskedAlike code s y (outcome_ask (outcome_of code s.core) s) (outcome_ask (outcome_of code y) (with_core s y))
-outcomes_are_asked_alike code s y agree runs = by (outcome_of code s.core) (outcome_of code y) refl refl (outcomes_of_agreeing_cores_are_alike code s.core y agree)
+outcomes_asked_alike code s y agree runs = by (outcome_of code s.core) (outcome_of code y) refl refl (outcomes_alike code s.core y agree)
   where
     by : (o p : Outcome) → outcome_of code s.core ≡ o → outcome_of code y ≡ p → AreAlike code s.core o p
         → AreAskedAlike code s y (outcome_ask o s) (outcome_ask p (with_core s y))
@@ -187,39 +190,39 @@ outcomes_are_asked_alike code s y agree runs = by (outcome_of code s.core) (outc
     by Calls (Ends f) goes goes_too alike = absurd alike
 
 -- a thread that has ended releases what it holds, and its core stays
-differ_after_release_of_highest : (code : List ℕ) (s : ThreadState) (y : Core) (e : End) → AgreeOnLive code s.core y → s.ended ≡ Some e
+release_highest_differs : (code : List ℕ) (s : ThreadState) (y : Core) (e : End) → AgreeOnLive code s.core y → s.ended ≡ Some e
     → (top : Option (ℕ × Access)) → DifferAfter code s y (release_ask top)
-differ_after_release_of_highest code s y e agree is None = λ value. record { rest = refl; cores = agree }
-differ_after_release_of_highest code s y e agree is (Some top) = λ value. record {
+release_highest_differs code s y e agree is None = λ value. record { rest = refl; cores = agree }
+release_highest_differs code s y e agree is (Some top) = λ value. record {
   rest = refl;
   cores = subst (λ d. AgreeOnLive code (core_left d s.core) (core_left d y)) (sym is) agree;
 }
 
-differing_threads_are_asked_alike : (code : List ℕ) (s : ThreadState) (y : Core) → AgreeOnLive code s.core y
+threads_asked_alike : (code : List ℕ) (s : ThreadState) (y : Core) → AgreeOnLive code s.core y
     → AreAskedAlike code s y (ask_of code s) (ask_of code (with_core s y))
-differing_threads_are_asked_alike code s y agree = by s.ended refl
+threads_asked_alike code s y agree = by s.ended refl
   where
     tested : (b : Bool) → s.ended ≡ None → AreAskedAlike code s y (cond b (ask.End end.BudgetSpent) (outcome_ask (outcome_of code s.core) s))
         (cond b (ask.End end.BudgetSpent) (outcome_ask (outcome_of code y) (with_core s y)))
     tested true runs = (refl, differ_after_end code s y end.BudgetSpent agree)
-    tested false runs = outcomes_are_asked_alike code s y agree runs
+    tested false runs = outcomes_asked_alike code s y agree runs
 
     by : (e : Option End) → s.ended ≡ e → AreAskedAlike code s y (ask_by code e s) (ask_by code e (with_core s y))
-    by (Some e) is = (refl, differ_after_release_of_highest code s y e agree is (highest s.held))
+    by (Some e) is = (refl, release_highest_differs code s y e agree is (highest s.held))
     by None is = tested (nat_le s.budget s.steps) is
 
 differ_after_same_reply : (code : List ℕ) (s : ThreadState) (y : Core) → AgreeOnLive code s.core y → (value : ℕ)
     → DifferInDead code (after_reply code s (reply_of (ask_of code s) value))
     (after_reply code (with_core s y) (reply_of (ask_of code (with_core s y)) value))
 unfolding after_reply
-differ_after_same_reply code s y agree value = let alike = differing_threads_are_asked_alike code s y agree in
+differ_after_same_reply code s y agree value = let alike = threads_asked_alike code s y agree in
     subst (λ q. DifferInDead code (after_ask code s (ask_of code s) (reply_of (ask_of code s) value)) (after_ask code (with_core s y) q (reply_of q value)))
     alike.0 (alike.1 value)
 
 -- threads that differ in registers that aren't live alone ask the same, and differ so again
 pub differ_in_dead_lasts : AgreementLasts
 differ_in_dead_lasts code x y differ = (
-  (differing_threads_are_asked_alike code x y.core differ.cores).0 ∙ ap (ask_of code) differ.rest,
+  (threads_asked_alike code x y.core differ.cores).0 ∙ ap (ask_of code) differ.rest,
   λ value. subst (λ t. DifferInDead code (after_reply code x (reply_of (ask_of code x) value)) (after_reply code t (reply_of (ask_of code t) value)))
       differ.rest (differ_after_same_reply code x y.core differ.cores value),
 )

@@ -33,21 +33,21 @@ IsMarkedAfter marks inst p register = (next : Point) × MayGoTo inst p.number p.
     × AsksAfter (writes_register inst p.number 17) (constant_of inst) p.number next.number × (is_marked marks next register ≡ true)
 
 -- the instruction at a point reads a register, or leaves it to a point where it is marked
-abbrev pub IsSeen : List Bool → Inst → Point → ℕ → Type 0
-IsSeen marks inst p register = (reads_register inst p.number register ≡ true) ⊎ ((writes_register inst p.number register ≡ false) × IsMarkedAfter marks inst p register)
+abbrev pub IsMarkSeen : List Bool → Inst → Point → ℕ → Type 0
+IsMarkSeen marks inst p register = (reads_register inst p.number register ≡ true) ⊎ ((writes_register inst p.number register ≡ false) × IsMarkedAfter marks inst p register)
 
 -- live registers alone are marked
-abbrev pub AreLive : List ℕ → List Bool → Type 0
-AreLive code marks = (p : Point) (register : ℕ) → p.number < call_limit → register < 32 → is_marked marks p register ≡ true → IsLiveRegister code p register
+abbrev pub AreMarksLive : List ℕ → List Bool → Type 0
+AreMarksLive code marks = (p : Point) (register : ℕ) → p.number < call_limit → register < 32 → is_marked marks p register ≡ true → IsLiveRegister code p register
 
 -- a register that is seen at this place of a word is marked there
 abbrev pub IsClosedAt : List ℕ → List Bool → ℕ → ℕ → Type 0
 IsClosedAt code marks word place = (inst : Inst) → fetched code (code_start + 4 * word) ≡ Found inst
-    → IsSeen marks inst (point_at word place) (place % 32) → is_marked marks (point_at word place) (place % 32) ≡ true
+    → IsMarkSeen marks inst (point_at word place) (place % 32) → is_marked marks (point_at word place) (place % 32) ≡ true
 
 -- what becomes of marks where it is gone over these places, of each word some
 pub record IsSwept (code : List ℕ) (old new : List Bool) (changed : Bool) (Over : ℕ → ℕ → Type 0) : Type 0 where
-  pub live : AreLive code old → AreLive code new
+  pub live : AreMarksLive code old → AreMarksLive code new
   pub fewer : changed ≡ true → unmarked new < unmarked old
   pub same : changed ≡ false → new ≡ old
   pub closed : changed ≡ false → (word place : ℕ) → Over word place → IsClosedAt code old word place

@@ -8,13 +8,13 @@ use Rattle.ir_live.specs.Flow.{call_limit}
 use Rattle.ir_live.specs.Live.{Point, IsLiveRegister}
 
 -- the place of the mark of a register at a point: words by their order, of each word the calls, of each call the registers
-abbrev pub place_of : Point → ℕ → ℕ
-place_of p number = ((p.pc - code_start) / 4 * call_limit + p.number) * 32 + number
+abbrev pub mark_place : Point → ℕ → ℕ
+mark_place p number = ((p.pc - code_start) / 4 * call_limit + p.number) * 32 + number
 
 -- whether a register is marked at a point; before the code none is, and where a pc isn't that of a word all are
 abbrev pub is_marked : List Bool → Point → ℕ → Bool
 is_marked marks p number =
-    if p.pc % 4 == 0 then nat_le code_start p.pc && slice_index_or marks (place_of p number) false else true
+    if p.pc % 4 == 0 then nat_le code_start p.pc && slice_index_or marks (mark_place p number) false else true
 
 -- exactly the live registers of this code are marked
 abbrev pub IsLiveTable : List ℕ → List Bool → Type 0

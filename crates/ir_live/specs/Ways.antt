@@ -5,11 +5,11 @@ use Rattle.ir_live.specs.declared.flow.Way.{Way}
 use Rattle.ir_live.specs.declared.flow.Way.TheVariants.{Nowhere, To, Either, Anywhere}
 
 -- the way leads to this pc, of a word
-abbrev pub LeadsTo : Way → ℕ → Type 0
-LeadsTo Nowhere next = ⊥
-LeadsTo (To there) next = (next ≡ there) × (next % 4 ≡ 0)
-LeadsTo (Either first second) next = ((next ≡ first) ⊎ (next ≡ second)) × (next % 4 ≡ 0)
-LeadsTo Anywhere next = next % 4 ≡ 0
+abbrev pub LeadsToWord : Way → ℕ → Type 0
+LeadsToWord Nowhere next = ⊥
+LeadsToWord (To there) next = (next ≡ there) × (next % 4 ≡ 0)
+LeadsToWord (Either first second) next = ((next ≡ first) ⊎ (next ≡ second)) × (next % 4 ≡ 0)
+LeadsToWord Anywhere next = next % 4 ≡ 0
 
 -- a7 may ask for this call: it is the known call, or no call is known
 abbrev pub MayAsk : Option ℕ → ℕ → Type 0

@@ -6,7 +6,7 @@ ghost use Rattle.ir_mach.specs.Execution.{immediate_result, low_32};
 ghost use Rattle.ir_thread.specs.State.{call_of};
 ghost use Rattle.ir_thread.specs.declared.profile.Profile.TheVariants.{Two};
 ghost use Rattle.ir_live.specs.Flow.{argument_count, has_answer, can_go_on, call_limit, call_number, is_one, is_written, reads_register, writes_register, constant_of, AsksAfter, MayGoTo};
-ghost use Rattle.ir_live.specs.Ways.{LeadsTo, MayAsk};
+ghost use Rattle.ir_live.specs.Ways.{LeadsToWord, MayAsk};
 
 use ir_isa::{ImmediateOp, Inst, Register};
 use ir_thread::{A0, A7, Call, Profile};
@@ -231,8 +231,8 @@ fn target(pc: u32, offset: i32) -> u32
 
 fn call_way(number: u32, pc: u32) -> Way
     requires { pc % 4 ≡ 0 }
-    ensures leads { (next : ℕ) → LeadsTo result next → (can_go_on (call_of Two number) ≡ true) × (next ≡ next_pc pc) }
-    ensures only { (next : ℕ) → (can_go_on (call_of Two number) ≡ true) × (next ≡ next_pc pc) → LeadsTo result next }
+    ensures leads { (next : ℕ) → LeadsToWord result next → (can_go_on (call_of Two number) ≡ true) × (next ≡ next_pc pc) }
+    ensures only { (next : ℕ) → (can_go_on (call_of Two number) ≡ true) × (next ≡ next_pc pc) → LeadsToWord result next }
 {
     if can_go_on(Call::of_number(Profile::Two, number)) {
         Way::To(next_pc(pc))
@@ -244,8 +244,8 @@ fn call_way(number: u32, pc: u32) -> Way
 /// Where the code may go on after an instruction at this pc, where a7 asks for this call.
 pub fn way_after(inst: &Inst, number: u32, pc: u32) -> Way
     requires { pc % 4 ≡ 0 }
-    ensures leads { (next : ℕ) → LeadsTo result next → MayGoTo inst.now number pc next }
-    ensures only { (next : ℕ) → MayGoTo inst.now number pc next → LeadsTo result next }
+    ensures leads { (next : ℕ) → LeadsToWord result next → MayGoTo inst.now number pc next }
+    ensures only { (next : ℕ) → MayGoTo inst.now number pc next → LeadsToWord result next }
 {
     match *inst {
         Inst::Lui { .. } => Way::To(next_pc(pc)),

@@ -6,8 +6,8 @@ ghost use Rattle.ir_image.specs.declared.fetched.Fetched.TheVariants.{Found};
 ghost use Rattle.ir_live.specs.Flow.{call_limit};
 ghost use Rattle.ir_live.specs.Live.{Point};
 ghost use Rattle.ir_live.specs.Table.{is_marked, IsLiveTable};
-ghost use Rattle.ir_live.specs.Marks.{places_of_word, point_at, IsSeen, AreLive, IsSwept};
-ghost use Rattle.ir_live.specs.Ways.{LeadsTo, MayAsk};
+ghost use Rattle.ir_live.specs.Marks.{places_of_word, point_at, IsMarkSeen, AreMarksLive, IsSwept};
+ghost use Rattle.ir_live.specs.Ways.{LeadsToWord, MayAsk};
 
 use crate::flow::{CALL_LIMIT, Way, asked_after, reads, way_after, writes};
 use crate::marks::{MARKS_A_WORD, MARKS_EACH, Marks};
@@ -26,8 +26,8 @@ fn is_marked_at(marks: &Marks, pc: u32, number: u32, register: u8) -> bool
 fn is_marked_by(marks: &Marks, way: Way, number: u32, register: u8) -> bool
     requires call { number < call_limit }
     requires register { register < 32 }
-    ensures found { result ≡ true → (next : ℕ) × LeadsTo way next × (is_marked marks.now (record { pc = next; number = number }) register ≡ true) }
-    ensures none { result ≡ false → (next : ℕ) → LeadsTo way next → is_marked marks.now (record { pc = next; number = number }) register ≡ true → ⊥ }
+    ensures found { result ≡ true → (next : ℕ) × LeadsToWord way next × (is_marked marks.now (record { pc = next; number = number }) register ≡ true) }
+    ensures none { result ≡ false → (next : ℕ) → LeadsToWord way next → is_marked marks.now (record { pc = next; number = number }) register ≡ true → ⊥ }
 {
     match way {
         Way::Nowhere => false,
@@ -43,8 +43,8 @@ fn is_marked_by(marks: &Marks, way: Way, number: u32, register: u8) -> bool
 // Whether the way leads to where a register is marked, whatever a7 asks for.
 fn is_marked_by_any(marks: &Marks, way: Way, register: u8) -> bool
     requires { register < 32 }
-    ensures found { result ≡ true → (next : Point) × LeadsTo way next.pc × (next.number < call_limit) × (is_marked marks.now next register ≡ true) }
-    ensures none { result ≡ false → (next : Point) → LeadsTo way next.pc → next.number < call_limit → is_marked marks.now next register ≡ true → ⊥ }
+    ensures found { result ≡ true → (next : Point) × LeadsToWord way next.pc × (next.number < call_limit) × (is_marked marks.now next register ≡ true) }
+    ensures none { result ≡ false → (next : Point) → LeadsToWord way next.pc → next.number < call_limit → is_marked marks.now next register ≡ true → ⊥ }
 {
     for number in 0..CALL_LIMIT {
         if is_marked_by(marks, way, number, register) {
@@ -58,8 +58,8 @@ fn is_marked_by_any(marks: &Marks, way: Way, register: u8) -> bool
 fn is_marked_after(marks: &Marks, way: Way, asked: Option<u32>, register: u8) -> bool
     requires call { IfSome asked (λ known. known < call_limit) }
     requires register { register < 32 }
-    ensures found { result ≡ true → (next : Point) × LeadsTo way next.pc × MayAsk asked next.number × (is_marked marks.now next register ≡ true) }
-    ensures none { result ≡ false → (next : Point) → LeadsTo way next.pc → MayAsk asked next.number → is_marked marks.now next register ≡ true → ⊥ }
+    ensures found { result ≡ true → (next : Point) × LeadsToWord way next.pc × MayAsk asked next.number × (is_marked marks.now next register ≡ true) }
+    ensures none { result ≡ false → (next : Point) → LeadsToWord way next.pc → MayAsk asked next.number → is_marked marks.now next register ≡ true → ⊥ }
 {
     match asked {
         Some(known) => is_marked_by(marks, way, known, register),
@@ -72,8 +72,8 @@ fn is_seen(marks: &Marks, inst: &Inst, pc: u32, number: u32, register: u8) -> bo
     requires word { pc % 4 ≡ 0 }
     requires call { number < call_limit }
     requires register { register < 32 }
-    ensures found { result ≡ true → IsSeen marks.now inst.now (record { pc = pc; number = number }) register }
-    ensures none { result ≡ false → IsSeen marks.now inst.now (record { pc = pc; number = number }) register → ⊥ }
+    ensures found { result ≡ true → IsMarkSeen marks.now inst.now (record { pc = pc; number = number }) register }
+    ensures none { result ≡ false → IsMarkSeen marks.now inst.now (record { pc = pc; number = number }) register → ⊥ }
 {
     if reads(inst, number, register) {
         return true;
@@ -154,7 +154,7 @@ fn sweep(code: &Code, words: usize, marks: &mut Marks) -> bool
 pub fn mark_live(code: &Code, marks: &mut Marks)
     requires fits { code_start + 4 * length code.now ≤ 2 ^ 32 }
     requires within { length marks.old ≡ length code.now * places_of_word }
-    requires live { AreLive code.now marks.old }
+    requires live { AreMarksLive code.now marks.old }
     ensures { IsLiveTable code.now marks.new }
 {
     let words = code.words().len();

@@ -10,18 +10,18 @@ use Rattle.ir_flat.specs.Room.{object_with}
 use Rattle.ir_search_laws.specs.Views.{viewed}
 use Rattle.ir_seen.specs.Seen.{view}
 
-start_thread_view_ignores_budget : (guest : Guest) (b c : ℕ) (profile : Profile) (from n t : ℕ)
+thread_view_any_budget : (guest : Guest) (b c : ℕ) (profile : Profile) (from n t : ℕ)
     → view (slice_index_or (start_threads guest b profile from n) t idle) ≡ view (slice_index_or (start_threads guest c profile from n) t idle)
-start_thread_view_ignores_budget guest b c profile from zero t = refl
-start_thread_view_ignores_budget guest b c profile from (suc n) zero = refl
-start_thread_view_ignores_budget guest b c profile from (suc n) (suc t) = start_thread_view_ignores_budget guest b c profile (suc from) n t
+thread_view_any_budget guest b c profile from zero t = refl
+thread_view_any_budget guest b c profile from (suc n) zero = refl
+thread_view_any_budget guest b c profile from (suc n) (suc t) = thread_view_any_budget guest b c profile (suc from) n t
 
 -- a guest starts as one state, seen so, whatever its budget
-pub start_view_ignores_budget : (guest : Guest) (b c : ℕ) (profile : Profile)
+pub start_view_any_budget : (guest : Guest) (b c : ℕ) (profile : Profile)
     → viewed view (tables (start_flat guest b profile)) ≡ viewed view (tables (start_flat guest c profile))
-start_view_ignores_budget guest b c profile =
+start_view_any_budget guest b c profile =
     let same : (t : ℕ) → view (thread_of (start_flat guest b profile) t) ≡ view (thread_of (start_flat guest c profile) t) =
-    λ t. start_thread_view_ignores_budget guest b c profile 0 (length guest.entries) t in
+    λ t. thread_view_any_budget guest b c profile 0 (length guest.entries) t in
     λ i. record {
       now = λ t. same t i;
       objects = λ o. object_with (cell_of (start_flat guest b profile) o) (λ t. held_at (same t i).held o);

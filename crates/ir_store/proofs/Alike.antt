@@ -3,22 +3,22 @@ use Rattle.std.proofs.Common.{◌≡◌, ◌⊎◌, ◌<◌, ◌≤◌, ◌++◌
 use Rattle.std.specs.Prelude.{slice_get}
 use Rattle.std.proofs.lemmas.List.{length-append}
 use Rattle.std.proofs.lemmas.Option.{same_Some, slice_get_within, slice_get-get_or}
-use Rattle.ir_lemmas.proofs.CallerLemmas.{slice_get_after_push_cases}
+use Rattle.ir_lemmas.proofs.CallerLemmas.{slice_get-push_cases}
 use Rattle.ir_freeze.specs.Basis.{Basis, IsBasis}
 use Rattle.ir_freeze.specs.Frozen.{frozen, is_over}
 use Rattle.ir_freeze.specs.Twins.{AreTwins, TellsApart, KeepsBounds}
-use Rattle.ir_freeze.proofs.CallerLemmas.{over_if_shared_ask_done, over_together_if_frozen_bytes_equal}
+use Rattle.ir_freeze.proofs.CallerLemmas.{over_if_shared_ask_done, same_bytes_over_same}
 use Rattle.ir_seen.specs.Seen.{view}
 use Rattle.ir_world.specs.Sources.{Source}
 use Rattle.ir_thread.specs.State.{ThreadState}
-use Rattle.ir_store.specs.Hashes.{empty_hash, after_numbers, IsFoundBy, KeepsFound, PassesOver, place_of, number_at, most_steps}
+use Rattle.ir_store.specs.Hashes.{empty_hash, after_numbers, IsFoundBy, KeepsFound, PassesOver, hash_place, hashed_number_at, most_steps}
 use Rattle.ir_store.specs.Nodes.{MomentsLookSame}
-use Rattle.ir_store.specs.Table.{Table, LooksLike, AreLooks, AreLike, AreOnce, HaveOneLook, StandsFor, mark_of, seen_hash, whole_hash}
-use Rattle.ir_store.proofs.Found.{each_element_once_after_push, each_element_found_after_push, nothing_found_if_all_passed_over}
+use Rattle.ir_store.specs.Table.{Table, LooksLike, AreLooks, AreLike, AreOnce, HaveOneLook, StandsForNode, mark_of_spot, seen_hash, whole_hash}
+use Rattle.ir_store.proofs.Found.{each_once_push, each_found_push, all_passed_none_found}
 
 module _ (basis : Basis) where
   over_together : (x y : ThreadState × Source) → AreLike basis x y → is_over x.0 ≡ is_over y.0
-  over_together x y like = over_together_if_frozen_bytes_equal basis x.0 y.0 [] [] like.bytes
+  over_together x y like = same_bytes_over_same basis x.0 y.0 [] [] like.bytes
 
   pub like_back : (x y : ThreadState × Source) → AreLike basis x y → AreLike basis y x
   like_back x y like = record { bytes = sym like.bytes; source = λ going. sym (like.source (sym (over_together x y like) ∙ going)) }
@@ -46,30 +46,30 @@ module _ (basis : Basis) where
       looks_like_if_like_kept items n y like.kept like.at (like_along like.kept x y (like_of_kept items n x like.kept like like.at) also)
 
   abbrev hash_by : Bool → ThreadState × Source → ℕ
-  hash_by over x = cond over (after_numbers empty_hash (frozen basis x.0 [])) (after_numbers (after_numbers empty_hash (frozen basis x.0 [])) (mark_of x.1))
+  hash_by over x = cond over (after_numbers empty_hash (frozen basis x.0 [])) (after_numbers (after_numbers empty_hash (frozen basis x.0 [])) (mark_of_spot x.1))
 
   hash_by_equal : (b : Bool) (x y : ThreadState × Source) → is_over y.0 ≡ b → AreLike basis x y → hash_by b x ≡ hash_by b y
   hash_by_equal true x y is like = ap (after_numbers empty_hash) like.bytes
-  hash_by_equal false x y is like = λ i. after_numbers (after_numbers empty_hash (like.bytes i)) (mark_of (like.source is i))
+  hash_by_equal false x y is like = λ i. after_numbers (after_numbers empty_hash (like.bytes i)) (mark_of_spot (like.source is i))
 
   pub seen_hash_equal_if_like : (x y : ThreadState × Source) → AreLike basis x y → seen_hash basis x ≡ seen_hash basis y
   seen_hash_equal_if_like x y like = ap (λ b. hash_by b x) (over_together x y like) ∙ hash_by_equal (is_over y.0) x y refl like
 
 -- one thread more, beside the number that stands for it
 module _ (seen seen' : List (ℕ × ℕ)) (t : Table) (x : ThreadState × Source) (k : ℕ) (is : HaveOneLook seen t) (keeps : KeepsFound seen seen')
-    (found : IsFoundBy seen' (seen_hash t.basis x) k) (one : StandsFor t x k) where
+    (found : IsFoundBy seen' (seen_hash t.basis x) k) (one : StandsForNode t x k) where
   old_less : {X : Type 0} (xs : List X) (n : ℕ) (z : X) → slice_get xs n ≡ Some z → n ≡ length xs → ⊥
   old_less xs n z e same = let l = slice_get_within xs n z e in omega (arith, l, same)
 
   -- both are old, or both are the new ones
   place_after : (n j : ℕ) (y : ThreadState × Source) → slice_get (t.items ++ x ∷ []) n ≡ Some y → slice_get (t.looks ++ k ∷ []) n ≡ Some j
       → ((slice_get t.items n ≡ Some y) × (slice_get t.looks n ≡ Some j)) ⊎ ((x ≡ y) × (k ≡ j))
-  place_after n j y at stands = elim (slice_get_after_push_cases t.items x n y at) [
-    | inl a ↦ elim (slice_get_after_push_cases t.looks k n j stands) [
+  place_after n j y at stands = elim (slice_get-push_cases t.items x n y at) [
+    | inl a ↦ elim (slice_get-push_cases t.looks k n j stands) [
       | inl b ↦ inl (a, b)
       | inr b ↦ absurd (old_less t.items n y a (b.0 ∙ is.each))
     ]
-    | inr a ↦ elim (slice_get_after_push_cases t.looks k n j stands) [
+    | inr a ↦ elim (slice_get-push_cases t.looks k n j stands) [
       | inl b ↦ absurd (old_less t.looks n j b (a.0 ∙ sym is.each))
       | inr b ↦ inr (a.1, b.1)
     ]
@@ -113,20 +113,20 @@ pub once_after_push : (whole whole' : List (ℕ × ℕ)) (t : Table) (x : Thread
     → IsFoundBy whole' (whole_hash t.basis x) (length t.items) → ((n : ℕ) → slice_get t.items n ≡ Some x → ⊥)
     → AreOnce whole' (record t { items = t.items ++ x ∷ []; looks = t.looks ++ k ∷ [] })
 once_after_push whole whole' t x k is keeps here new = record {
-  found = each_element_found_after_push (whole_hash t.basis) whole whole' t.items x keeps is.found here;
-  once = each_element_once_after_push t.items x is.once new;
+  found = each_found_push (whole_hash t.basis) whole whole' t.items x keeps is.found here;
+  once = each_once_push t.items x is.once new;
 }
 
 -- the walk from the hash of what is seen of a thread ends, and nothing that it met looks like the thread
-pub nothing_like_if_all_passed_over : (t : Table) (seen : List (ℕ × ℕ)) (x : ThreadState × Source) (hash steps : ℕ) → HaveOneLook seen t
+pub all_passed_none_like : (t : Table) (seen : List (ℕ × ℕ)) (x : ThreadState × Source) (hash steps : ℕ) → HaveOneLook seen t
     → AreLooks t.basis t.items t.looks → hash ≡ seen_hash t.basis x → PassesOver seen hash steps (λ m. LooksLike t.basis t.items m x)
-    → (number_at seen (place_of hash steps) ≡ None) ⊎ (most_steps ≤ steps)
+    → (hashed_number_at seen (hash_place hash steps) ≡ None) ⊎ (most_steps ≤ steps)
     → (n : ℕ) (y : ThreadState × Source) → slice_get t.items n ≡ Some y → AreLike t.basis y x → ⊥
-nothing_like_if_all_passed_over t seen x hash steps have looks is passed over n y at like =
+all_passed_none_like t seen x hash steps have looks is passed over n y at like =
     let less : n < length t.looks = (let a = slice_get_within t.items n y at in let b = have.each in omega (arith, a, b)) in
     let k = get_or t.looks n 0 in
     let stands = slice_get-get_or t.looks n 0 less in
-    nothing_found_if_all_passed_over seen hash steps (λ m. LooksLike t.basis t.items m x) passed over k
+    all_passed_none_found seen hash steps (λ m. LooksLike t.basis t.items m x) passed over k
     (subst (λ h. IsFoundBy seen h k) (sym (is ∙ sym (seen_hash_equal_if_like t.basis y x like))) (have.found n k y at stands))
     (looks_like_along t.basis t.items k y x (looks n k y stands at) like)
 
@@ -142,7 +142,7 @@ module _ (t : Table) (seen : List (ℕ × ℕ)) (x : ThreadState × Source) (m k
   pub look_is_like : LooksLike t.basis t.items k x
   look_is_like = looks_like_along t.basis t.items k like.kept x (looks m k like.kept stands like.at) kept_like
 
-  pub look_stands_for : StandsFor t x k
+  pub look_stands_for : StandsForNode t x k
   look_stands_for n j y at also alike =
       have.one n m j k y like.kept at like.at also stands (like_along t.basis y x like.kept alike (like_back t.basis like.kept x kept_like))
 

@@ -4,7 +4,7 @@ use Rattle.std.specs.Prelude.{slice_get}
 use Rattle.std.specs.Option.{option_map}
 use Rattle.std.proofs.lemmas.List.{map-set}
 use Rattle.std.proofs.lemmas.Option.{same_Some, slice_get-map, slice_get-get_or}
-use Rattle.ir_lemmas.proofs.CallerLemmas.{get_or_element_satisfies_all_by_recursion, length_of_map}
+use Rattle.ir_lemmas.proofs.CallerLemmas.{get_or_satisfies, length_of_map}
 use Rattle.ir_flat.specs.Flat.{idle, cell_of}
 use Rattle.ir_object.specs.Empty.{empty}
 use Rattle.ir_world.specs.Sources.{Source}
@@ -14,12 +14,12 @@ use Rattle.ir_store.specs.Nodes.{SourcedFlat, sourced_thread, with_turn, IsSourc
 use Rattle.ir_store.specs.Others.{HasOthersOf}
 use Rattle.ir_store.specs.Places.{no_node}
 use Rattle.ir_store.specs.Table.{no_source, idle_beside, beside_at}
-use Rattle.ir_store.proofs.Lists.{set_is_list_with_equal_others}
+use Rattle.ir_store.proofs.Lists.{set_equal_others}
 
 -- what is at a place of a list of what elements give
-pub element_of_map_is_function_of_element : {X Y : Type 0} (f : X → Y) (xs : List X) (i : ℕ) (x d : X) (y : Y) → i < length xs → x ≡ get_or xs i d
+pub map_element_is : {X Y : Type 0} (f : X → Y) (xs : List X) (i : ℕ) (x d : X) (y : Y) → i < length xs → x ≡ get_or xs i d
     → slice_get (map f xs) i ≡ Some y → f x ≡ y
-element_of_map_is_function_of_element f xs i x d y lt is at =
+map_element_is f xs i x d y lt is at =
     same_Some (f x) y (sym (slice_get-map f xs i ∙ ap (option_map f) (slice_get-get_or xs i d lt ∙ ap Some (sym is))) ∙ at)
 
 pub get_or_map : {X Y : Type 0} (f : X → Y) (xs : List X) (i : ℕ) (d : X) (e : Y) → i < length xs → get_or (map f xs) i e ≡ f (get_or xs i d)
@@ -36,9 +36,9 @@ beside_at_is_element items numbers t d lt = λ i. (
 )
 
 -- the state of a number
-pub slice_get_of_mapped_nodes_is_sourced_node : (shared : Shared) (nodes : List Node) (v : ℕ) → v < length (map (sourced_in shared) nodes)
+pub slice_get-map_sourced : (shared : Shared) (nodes : List Node) (v : ℕ) → v < length (map (sourced_in shared) nodes)
     → slice_get (map (sourced_in shared) nodes) v ≡ Some (sourced_in shared (get_or nodes v no_node))
-slice_get_of_mapped_nodes_is_sourced_node shared nodes v less =
+slice_get-map_sourced shared nodes v less =
     slice_get-map (sourced_in shared) nodes v
     ∙ ap (option_map (sourced_in shared)) (slice_get-get_or nodes v no_node (subst (λ k. v < k) (length_of_map (sourced_in shared) nodes) less))
 
@@ -50,10 +50,10 @@ module _ (shared : Shared) (nodes : List Node) (kept : AreKept shared nodes) (v 
   node_less = subst (λ k. v < k) (length_of_map (sourced_in shared) nodes) less
 
   pub node_is : IsNode shared node
-  node_is = subst (IsNode shared) (sym is) (get_or_element_satisfies_all_by_recursion (IsNode shared) nodes v no_node kept node_less)
+  node_is = subst (IsNode shared) (sym is) (get_or_satisfies (IsNode shared) nodes v no_node kept node_less)
 
   pub state_is : sourced_in shared node ≡ s
-  state_is = element_of_map_is_function_of_element (sourced_in shared) nodes v node no_node s node_less is at
+  state_is = map_element_is (sourced_in shared) nodes v node no_node s node_less is at
 
   pub node_threads : length node.threads ≡ length s.flat.threads
   node_threads = sym (length_of_map (λ n. (get_or shared.threads n idle_beside).0) node.threads) ∙ ap (λ (z : SourcedFlat). length z.flat.threads) state_is
@@ -87,9 +87,9 @@ module _ (shared : Shared) (nodes : List Node) (kept : AreKept shared nodes) (v 
 -- a state that has the others of s is s with its own thread t beside what answers it
 module _ (s u : SourcedFlat) (t : ℕ) (was : IsSourced s) (is : IsSourced u) (have : HasOthersOf s u t) (less : t < length u.flat.threads) where
   pub threads_set : (x : ThreadState) → x ≡ get_or u.flat.threads t x → set s.flat.threads t x ≡ u.flat.threads
-  threads_set x at = set_is_list_with_equal_others s.flat.threads u.flat.threads idle t x have.each less at
+  threads_set x at = set_equal_others s.flat.threads u.flat.threads idle t x have.each less at
       (λ v ne. ap (λ (z : ThreadState × Source). z.0) (have.others v ne))
 
   pub sources_set : (y : Source) → y ≡ get_or u.sources t y → set s.sources t y ≡ u.sources
-  sources_set y at = set_is_list_with_equal_others s.sources u.sources no_source t y (is.each ∙ have.each ∙ sym was.each)
+  sources_set y at = set_equal_others s.sources u.sources no_source t y (is.each ∙ have.each ∙ sym was.each)
       (subst (λ k. t < k) (sym is.each) less) at (λ v ne. ap (λ (z : ThreadState × Source). z.1) (have.others v ne))

@@ -16,12 +16,12 @@ after_numbers hash [] = hash
 after_numbers hash (number ∷ numbers) = after_numbers (after_number hash number) numbers
 
 -- the place so many steps after that of a hash
-abbrev pub place_of : ℕ → ℕ → ℕ
-place_of hash steps = (hash + steps) % 2 ^ 64
+abbrev pub hash_place : ℕ → ℕ → ℕ
+hash_place hash steps = (hash + steps) % 2 ^ 64
 
 -- the number at a place
-abbrev pub number_at : List (ℕ × ℕ) → ℕ → Option ℕ
-number_at places place = lookup (nat_eq place) places
+abbrev pub hashed_number_at : List (ℕ × ℕ) → ℕ → Option ℕ
+hashed_number_at places place = lookup (nat_eq place) places
 
 -- how many steps a place may be from that of the hash
 abbrev pub most_steps : ℕ
@@ -31,8 +31,8 @@ most_steps = 2 ^ 64 - 1
 pub record IsFoundBy (places : List (ℕ × ℕ)) (hash number : ℕ) : Type 0 where
   pub steps : ℕ
   pub few : steps < most_steps
-  pub at : number_at places (place_of hash steps) ≡ Some number
-  pub taken : (k : ℕ) → k < steps → number_at places (place_of hash k) ≢ None
+  pub at : hashed_number_at places (hash_place hash steps) ≡ Some number
+  pub taken : (k : ℕ) → k < steps → hashed_number_at places (hash_place hash k) ≢ None
 
 -- what is found by a hash stays found
 abbrev pub KeepsFound : List (ℕ × ℕ) → List (ℕ × ℕ) → Type 0
@@ -40,4 +40,4 @@ KeepsFound old new = (hash number : ℕ) → IsFoundBy old hash number → IsFou
 
 -- no number at the first so many places from that of a hash is one of these
 abbrev pub PassesOver : List (ℕ × ℕ) → ℕ → ℕ → (ℕ → Type 0) → Type 0
-PassesOver places hash steps P = (k n : ℕ) → k < steps → number_at places (place_of hash k) ≡ Some n → P n → ⊥
+PassesOver places hash steps P = (k n : ℕ) → k < steps → hashed_number_at places (hash_place hash k) ≡ Some n → P n → ⊥

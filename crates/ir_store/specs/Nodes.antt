@@ -118,12 +118,12 @@ abbrev pub looks_in : List ℕ → List ℕ → List ℕ
 looks_in looks numbers = map (λ n. slice_index_or looks n 0) numbers
 
 -- the numbers of the words that objects have
-abbrev pub words_in : List Spot → List ℕ
-words_in objects = map (λ s. s.words) objects
+abbrev pub node_words_in : List Spot → List ℕ
+node_words_in objects = map (λ s. s.words) objects
 
 -- the hash of what the threads see of a state
 abbrev pub node_hash : List ℕ → Node → ℕ
-node_hash looks node = after_numbers (after_numbers empty_hash (looks_in looks node.threads)) (words_in node.objects)
+node_hash looks node = after_numbers (after_numbers empty_hash (looks_in looks node.threads)) (node_words_in node.objects)
 
 -- each state is found by it
 abbrev pub AreNodesFound : List (ℕ × ℕ) → List ℕ → List Node → Type 0
@@ -132,4 +132,4 @@ AreNodesFound places looks nodes = (v : ℕ) (node : Node) → slice_get nodes v
 -- two states have the same numbers
 pub record AreSameNumbers (looks : List ℕ) (a b : Node) : Type 0 where
   pub threads : looks_in looks a.threads ≡ looks_in looks b.threads
-  pub objects : words_in a.objects ≡ words_in b.objects
+  pub objects : node_words_in a.objects ≡ node_words_in b.objects

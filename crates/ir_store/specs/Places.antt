@@ -4,7 +4,7 @@ use Rattle.ir_store.specs.declared.spot.Spot.{Spot}
 use Rattle.ir_store.specs.Nodes.{Node}
 
 -- where the numbers of a state are: its code, the places of the first of its threads and of its objects, and how many there are
-pub record Place : Type 0 where
+pub record StorePlace : Type 0 where
   pub code : List ℕ
   pub thread : ℕ
   pub threads : ℕ
@@ -16,7 +16,7 @@ abbrev pub part : {X : Type 0} → List X → ℕ → ℕ → List X
 part xs first count = take count (drop first xs)
 
 -- the state whose numbers are there
-abbrev pub node_at : List ℕ → List Spot → Place → Node
+abbrev pub node_at : List ℕ → List Spot → StorePlace → Node
 node_at threads objects place = record {
   code = place.code;
   threads = part threads place.thread place.threads;
@@ -24,7 +24,7 @@ node_at threads objects place = record {
 }
 
 -- the lists have all of them
-pub record IsPlaced (most many : ℕ) (place : Place) : Type 0 where
+pub record IsPlacedNode (most many : ℕ) (place : StorePlace) : Type 0 where
   pub threads : place.thread + place.threads ≤ most
   pub objects : place.object + place.objects ≤ many
 

@@ -80,18 +80,18 @@ pub record AreLike (basis : Basis) (x y : ThreadState × Source) : Type 0 where
   pub source : is_over y.0 ≡ false → x.1 ≡ y.1
 
 -- what is hashed of a source
-abbrev pub mark_of : Source → List ℕ
-mark_of source = source.ticks ∷ source.random.state ∷ length source.input ∷ []
+abbrev pub mark_of_spot : Source → List ℕ
+mark_of_spot source = source.ticks ∷ source.random.state ∷ length source.input ∷ []
 
 -- the hash of what is seen of a thread beside what answers it
 abbrev pub seen_hash : Basis → ThreadState × Source → ℕ
 seen_hash basis x =
     if is_over x.0 then after_numbers empty_hash (frozen basis x.0 [])
-    else after_numbers (after_numbers empty_hash (frozen basis x.0 [])) (mark_of x.1)
+    else after_numbers (after_numbers empty_hash (frozen basis x.0 [])) (mark_of_spot x.1)
 
 -- the hash of all of it
 abbrev pub whole_hash : Basis → ThreadState × Source → ℕ
-whole_hash basis x = after_numbers (after_numbers (seen_hash basis x) (x.0.number ∷ x.0.steps ∷ x.0.events ∷ [])) (mark_of x.1)
+whole_hash basis x = after_numbers (after_numbers (seen_hash basis x) (x.0.number ∷ x.0.steps ∷ x.0.events ∷ [])) (mark_of_spot x.1)
 
 -- each thread beside what answers it is found by the hash of all of it, and no two numbers have equal ones
 pub record AreOnce (whole : List (ℕ × ℕ)) (t : Table) : Type 0 where
@@ -107,5 +107,5 @@ pub record HaveOneLook (seen : List (ℕ × ℕ)) (t : Table) : Type 0 where
       → slice_get t.looks m ≡ Some j → slice_get t.looks n ≡ Some k → AreLike t.basis x y → j ≡ k
 
 -- the threads that look like this one have this number in common
-abbrev pub StandsFor : Table → ThreadState × Source → ℕ → Type 0
-StandsFor t x k = (n j : ℕ) (y : ThreadState × Source) → slice_get t.items n ≡ Some y → slice_get t.looks n ≡ Some j → AreLike t.basis y x → j ≡ k
+abbrev pub StandsForNode : Table → ThreadState × Source → ℕ → Type 0
+StandsForNode t x k = (n j : ℕ) (y : ThreadState × Source) → slice_get t.items n ≡ Some y → slice_get t.looks n ≡ Some j → AreLike t.basis y x → j ≡ k

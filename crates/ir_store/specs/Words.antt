@@ -3,8 +3,8 @@ use Rattle.std.specs.Prelude.{◌≡◌, ℕ, List, Some, slice_get}
 use Rattle.ir_store.specs.Hashes.{empty_hash, after_numbers, IsFoundBy}
 
 -- no two numbers have the same contents
-abbrev pub EachOnce : List (List ℕ) → Type 0
-EachOnce items = (m n : ℕ) (words : List ℕ) → slice_get items m ≡ Some words → slice_get items n ≡ Some words → m ≡ n
+abbrev pub EachWordOnce : List (List ℕ) → Type 0
+EachWordOnce items = (m n : ℕ) (words : List ℕ) → slice_get items m ≡ Some words → slice_get items n ≡ Some words → m ≡ n
 
 -- each number is found by the hash of its contents
 abbrev pub EachFound : List (ℕ × ℕ) → List (List ℕ) → Type 0

@@ -3,7 +3,7 @@
 ghost use Rattle.std.specs.Prelude.{◌≡◌, ◌≢◌, ℕ, ◌<◌, List, true, false, length};
 ghost use Rattle.std.specs.List.{slice_index_or};
 ghost use Rattle.ir_object.specs.Empty.{empty};
-ghost use Rattle.ir_store.specs.Nodes.{MomentsLookSame, cells_at, AreSameLooks, sourced_in, looks_in, words_in};
+ghost use Rattle.ir_store.specs.Nodes.{MomentsLookSame, cells_at, AreSameLooks, sourced_in, looks_in, node_words_in};
 ghost use Rattle.ir_store.specs.Hashes as hashes;
 ghost use Rattle.ir_store.specs.Nodes as nodes;
 ghost use Rattle.ir_store.specs.Table.{AreIn, beside_at};
@@ -15,7 +15,7 @@ use crate::table::Table;
 
 // The hash, after these objects too.
 fn after_spots(hash: u64, spots: &[Spot]) -> u64
-    ensures { result ≡ hashes.after_numbers hash (words_in spots.now) }
+    ensures { result ≡ hashes.after_numbers hash (node_words_in spots.now) }
 {
     let mut hash = hash;
     for spot in spots {
@@ -66,7 +66,7 @@ fn same_threads(table: &Table<'_>, first: &[u32], second: &[u32]) -> bool
 // Whether the objects have the same words.
 fn same_spots(first: &[Spot], second: &[Spot]) -> bool
     ensures same { result ≡ true → (words : List (List ℕ)) (o : ℕ) → (slice_index_or (cells_at words first.now) o empty).words ≡ (slice_index_or (cells_at words second.now) o empty).words }
-    ensures other { result ≡ false → words_in first.now ≢ words_in second.now }
+    ensures other { result ≡ false → node_words_in first.now ≢ node_words_in second.now }
 {
     if first.len() != second.len() {
         return false;
@@ -85,7 +85,7 @@ pub fn same_looks(table: &Table<'_>, first: &Node<'_>, threads: &[u32], objects:
     requires second { AreIn table.now.items threads.now }
     ensures same { result ≡ true → (words : List (List ℕ)) (code : List ℕ) → AreSameLooks table.now.basis.code (sourced_in (record { threads = table.now.items; words = words }) first.now)
         (sourced_in (record { threads = table.now.items; words = words }) (record { code = code; threads = threads.now; objects = objects.now })) }
-    ensures other { result ≡ false → looks_in table.now.looks first.now.threads ≡ looks_in table.now.looks threads.now → words_in first.now.objects ≢ words_in objects.now }
+    ensures other { result ≡ false → looks_in table.now.looks first.now.threads ≡ looks_in table.now.looks threads.now → node_words_in first.now.objects ≢ node_words_in objects.now }
 {
     same_threads(table, first.threads.as_slice(), threads)
         && same_spots(first.objects.as_slice(), objects)

@@ -1,7 +1,7 @@
 //! Numbers that are found by hashes. What a hash leads to is compared, and no number is lost where others have the same hash.
 
 ghost use Rattle.std.specs.Prelude.{◌≡◌, [], OnOk};
-ghost use Rattle.ir_store.specs.Hashes.{place_of, number_at, IsFoundBy, KeepsFound};
+ghost use Rattle.ir_store.specs.Hashes.{hash_place, hashed_number_at, IsFoundBy, KeepsFound};
 
 use std::alloc::{AllocError, Global};
 use std::collections::HashMap;
@@ -36,7 +36,7 @@ impl Index {
 
     /// The number at the place so many steps after that of a hash.
     pub fn at(&self, hash: u64, steps: u64) -> Option<usize>
-        ensures { result ≡ number_at self.now (place_of hash steps) }
+        ensures { result ≡ hashed_number_at self.now (hash_place hash steps) }
     {
         match self.places.get(&hash.wrapping_add(steps)) {
             Some(number) => Some(*number),

@@ -3,7 +3,7 @@
 ghost use Rattle.std.specs.Prelude.{◌≡◌, ◌<◌, ◌++◌, [], ◌∷◌, ℕ, List, length, map, OnOk, OnErr};
 ghost use Rattle.std.specs.List.{slice_index_or, AllByRecursion};
 ghost use Rattle.ir_store.specs.Nodes as nodes;
-ghost use Rattle.ir_store.specs.Places.{node_at, no_node, IsPlaced};
+ghost use Rattle.ir_store.specs.Places.{node_at, no_node, IsPlacedNode};
 
 use crate::node::Node;
 use crate::number::short;
@@ -27,7 +27,7 @@ impl<'a> Model for Kept<'a> {
 
     ghost view = { λ k. map (node_at k.threads.items k.objects.items) k.places.items };
 
-    ghost invariant = { λ k. AllByRecursion (IsPlaced (length k.threads.items) (length k.objects.items)) k.places.items };
+    ghost invariant = { λ k. AllByRecursion (IsPlacedNode (length k.threads.items) (length k.objects.items)) k.places.items };
 }
 
 impl<'a> Kept<'a> {

@@ -21,7 +21,7 @@ pub struct Place<'a> {
 }
 
 impl<'a> Model for Place<'a> {
-    ghost Value = { places.Place };
+    ghost Value = { places.StorePlace };
 
     ghost view = { λ p. record {
       code = p.code.now;

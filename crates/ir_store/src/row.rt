@@ -24,7 +24,7 @@ pub struct Row<'a> {
 }
 
 impl<'a> Model for Row<'a> {
-    ghost Value = { rows.Row };
+    ghost Value = { rows.StoreRow };
 
     ghost view = { λ r. record { frame = r.frame; packed = r.packed; source = r.source; look = r.look } };
 }

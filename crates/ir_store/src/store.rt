@@ -4,7 +4,8 @@ ghost use Rattle.std.specs.Prelude.{◌≡◌, ◌<◌, ◌++◌, [], ◌∷◌,
 ghost use Rattle.std.specs.List.{slice_index_or};
 ghost use Rattle.ir_flat.specs.Flat.{cell_of};
 ghost use Rattle.ir_freeze.specs.Frozen.{is_over};
-ghost use Rattle.ir_store.specs.Nodes.{SourcedFlat, sourced_thread, with_turn, IsSourced, cell_in, sourced_in, AreKept, AreSameLooks, AreSameNumbers, AreMoments, AreNodesFound, Grows, IsNode, IsWithin, Stored};
+ghost use Rattle.ir_store.specs.Nodes.{SourcedFlat, sourced_thread, with_turn, IsSourced, cell_in, sourced_in, AreKept, AreSameLooks};
+ghost use Rattle.ir_store.specs.Nodes.{AreSameNumbers, AreMoments, AreNodesFound, Grows, IsNode, IsWithin, Stored};
 ghost use Rattle.ir_store.specs.Others.{HasOthersOf};
 ghost use Rattle.ir_store.specs.Places.{no_node};
 ghost use Rattle.ir_store.specs.Table.{HaveForm, HaveTicks, HaveNoTicks, all_over, idle_beside, AreIn};
@@ -56,7 +57,10 @@ fn find_node(table: &Table<'_>, nodes: &Kept<'_>, index: &Index, node: &Node<'_>
     requires nodes { (v : ℕ) → v < length nodes.now → AreIn table.now.items (slice_index_or nodes.now v no_node).threads }
     requires found { AreNodesFound index.now table.now.looks nodes.now }
     ensures within { IfSome result (λ v. v < length nodes.now) }
-    ensures alike { IfSome result (λ v. (words : List (List ℕ)) → AreSameLooks table.now.basis.code (sourced_in (record { threads = table.now.items; words = words }) node.now) (sourced_in (record { threads = table.now.items; words = words }) (slice_index_or nodes.now v no_node))) }
+    ensures alike { IfSome result
+        (λ v. (words : List (List ℕ))
+        → AreSameLooks table.now.basis.code (sourced_in (record { threads = table.now.items; words = words }) node.now)
+        (sourced_in (record { threads = table.now.items; words = words }) (slice_index_or nodes.now v no_node))) }
     ensures none { result ≡ None → (v : ℕ) → v < length nodes.now → AreSameNumbers table.now.looks node.now (slice_index_or nodes.now v no_node) → ⊥ }
 {
     let hash = hash_of(table, node);
@@ -74,7 +78,9 @@ fn is_alike(table: &Table<'_>, nodes: &Kept<'_>, v: usize, node: &Node<'_>) -> b
     requires node { AreIn table.now.items node.now.threads }
     requires nodes { (v : ℕ) → v < length nodes.now → AreIn table.now.items (slice_index_or nodes.now v no_node).threads }
     ensures within { result ≡ true → v < length nodes.now }
-    ensures same { result ≡ true → (words : List (List ℕ)) → AreSameLooks table.now.basis.code (sourced_in (record { threads = table.now.items; words = words }) node.now) (sourced_in (record { threads = table.now.items; words = words }) (slice_index_or nodes.now v no_node)) }
+    ensures same { result ≡ true → (words : List (List ℕ))
+        → AreSameLooks table.now.basis.code (sourced_in (record { threads = table.now.items; words = words }) node.now)
+        (sourced_in (record { threads = table.now.items; words = words }) (slice_index_or nodes.now v no_node)) }
     ensures other { result ≡ false → v < length nodes.now → AreSameNumbers table.now.looks node.now (slice_index_or nodes.now v no_node) → ⊥ }
 {
     v < nodes.len() && same_looks(table, node, nodes.threads(v), nodes.objects(v))
@@ -241,7 +247,10 @@ impl<'a> Store<'a> {
         requires thread { thread < length self.now.shared.threads }
         requires spot { spot.words < length self.now.shared.words }
         ensures within { IfOk result (λ node. IsWithin self.now.shared node) }
-        ensures state { IfOk result (λ node. (s : SourcedFlat) → slice_get self.now.items v ≡ Some s → sourced_in self.now.shared node ≡ with_turn s t (slice_index_or self.now.shared.threads thread idle_beside) o (cell_in self.now.shared.words spot)) }
+        ensures state { IfOk result
+            (λ node. (s : SourcedFlat) → slice_get self.now.items v ≡ Some s
+            → sourced_in self.now.shared node
+            ≡ with_turn s t (slice_index_or self.now.shared.threads thread idle_beside) o (cell_in self.now.shared.words spot)) }
     {
         let number = short(thread)?;
         let mut threads = Vec::from_slice(self.alloc, self.nodes.threads(v))?;
@@ -332,7 +341,8 @@ impl<'a> Store<'a> {
         ensures within { IfSome result (λ v. v < length self.now.items) }
         ensures alike { IfSome result (λ v. (s : SourcedFlat) → slice_get self.now.items v ≡ Some s → AreSameLooks self.now.code (sourced_in self.now.shared node.now) s) }
         ensures sourced { (v : ℕ) (s : SourcedFlat) → slice_get self.now.items v ≡ Some s → IsSourced s }
-        ensures none { result ≡ None → (v : ℕ) (s : SourcedFlat) → slice_get self.now.items v ≡ Some s → AreMoments (sourced_in self.now.shared node.now) s → AreSameLooks self.now.code (sourced_in self.now.shared node.now) s → ⊥ }
+        ensures none { result ≡ None → (v : ℕ) (s : SourcedFlat) → slice_get self.now.items v ≡ Some s
+            → AreMoments (sourced_in self.now.shared node.now) s → AreSameLooks self.now.code (sourced_in self.now.shared node.now) s → ⊥ }
     {
         tells_apart();
         self.table.each();

@@ -9,7 +9,7 @@ ghost use Rattle.ir_store.specs.Nodes.{MomentsLookSame};
 ghost use Rattle.ir_store.specs.Hashes.{IsFoundBy, KeepsFound};
 ghost use Rattle.ir_store.specs.Hashes as hashes;
 ghost use Rattle.ir_store.specs.Rows.{packed_of};
-ghost use Rattle.ir_store.specs.Table.{HaveForm, idle_beside, threads_at, sources_at, all_over, AreIn, HaveTicks, HaveNoTicks, KeepsNumbers, LooksLike, AreLike, AreOnce, HaveOneLook, StandsFor};
+ghost use Rattle.ir_store.specs.Table.{HaveForm, idle_beside, threads_at, sources_at, all_over, AreIn, HaveTicks, HaveNoTicks, KeepsNumbers, LooksLike, AreLike, AreOnce, HaveOneLook, StandsForNode};
 ghost use Rattle.ir_store.specs.Table as table;
 ghost use Rattle.ir_world.specs.Sources.{Source};
 ghost use Rattle.ir_thread.specs.State.{ThreadState};
@@ -53,7 +53,7 @@ fn same_number(first: usize, second: usize) -> bool
 
 // The hash, after what answers a thread too.
 fn after_source(hash: u64, source: &Sources<'_>) -> u64
-    ensures { result ≡ hashes.after_numbers hash (table.mark_of source.now) }
+    ensures { result ≡ hashes.after_numbers hash (table.mark_of_spot source.now) }
 {
     let [ticks, random, rest] = source.mark();
     let hash = after_number(hash, ticks);
@@ -146,7 +146,7 @@ fn look_of(
     ensures keeps { KeepsFound seen.old seen.new }
     ensures found { IfOk result (λ k. IsFoundBy seen.new hash k) }
     ensures like { IfOk result (λ k. (k ≡ length rows.now.items) ⊎ LooksLike rows.now.basis rows.now.items k (thread.now, source.now)) }
-    ensures one { IfOk result (λ k. StandsFor rows.now (thread.now, source.now) k) }
+    ensures one { IfOk result (λ k. StandsForNode rows.now (thread.now, source.now) k) }
 {
     rows.each();
     if let Some(m) = look_for(rows, seen, hash, bytes, thread, source) {

@@ -4,7 +4,7 @@ ghost use Rattle.std.specs.Prelude.{◌≡◌, ◌<◌, ℕ, List, [], length, t
 ghost use Rattle.ir_image.specs.Guest.{most_object_words};
 ghost use Rattle.ir_store.specs.Hashes as hashes;
 ghost use Rattle.ir_store.specs.Table.{KeepsNumbers};
-ghost use Rattle.ir_store.specs.Words.{EachOnce, EachFound};
+ghost use Rattle.ir_store.specs.Words.{EachWordOnce, EachFound};
 
 use crate::hash::{after_words, empty_hash};
 use crate::index::{Index, MOST_STEPS};
@@ -25,7 +25,7 @@ impl Model for Words {
 
     ghost view = { λ w. w.items.items };
 
-    ghost invariant = { λ w. EachOnce w.items.items × EachFound w.index w.items.items };
+    ghost invariant = { λ w. EachWordOnce w.items.items × EachFound w.index w.items.items };
 }
 
 fn array_of(words: &[u32]) -> [u32; MOST_OBJECT_WORDS]
@@ -97,7 +97,7 @@ impl Words {
 
     /// No two numbers have the same contents.
     pub fn each_once(&self)
-        ensures { EachOnce self.now }
+        ensures { EachWordOnce self.now }
     {
         let _ = &self.items;
     }

@@ -15,60 +15,60 @@ use Rattle.ir_walk.proofs.Taken.{calls_in_one_step}
 
 -- ---- one step
 
-ask_without_call_is_private : (q : Ask) (r : Reply) → [] ≡ call_by q r → q ≡ ask.Private
-ask_without_call_is_private ask.Private r e = refl
-ask_without_call_is_private (ask.Env kind) r e = absurd (cc e)
-ask_without_call_is_private (ask.Enter o a) r e = absurd (cc e)
-ask_without_call_is_private (ask.Try o) r e = absurd (cc e)
-ask_without_call_is_private (ask.Leave o a) r e = absurd (cc e)
-ask_without_call_is_private (ask.Get o i) r e = absurd (cc e)
-ask_without_call_is_private (ask.Put o i w) r e = absurd (cc e)
-ask_without_call_is_private ask.Print r e = absurd (cc e)
-ask_without_call_is_private (ask.End z) r e = absurd (cc e)
-ask_without_call_is_private ask.Done r e = absurd (cc e)
+no_call_is_private : (q : Ask) (r : Reply) → [] ≡ call_by q r → q ≡ ask.Private
+no_call_is_private ask.Private r e = refl
+no_call_is_private (ask.Env kind) r e = absurd (cc e)
+no_call_is_private (ask.Enter o a) r e = absurd (cc e)
+no_call_is_private (ask.Try o) r e = absurd (cc e)
+no_call_is_private (ask.Leave o a) r e = absurd (cc e)
+no_call_is_private (ask.Get o i) r e = absurd (cc e)
+no_call_is_private (ask.Put o i w) r e = absurd (cc e)
+no_call_is_private ask.Print r e = absurd (cc e)
+no_call_is_private (ask.End z) r e = absurd (cc e)
+no_call_is_private ask.Done r e = absurd (cc e)
 
 -- what the first of some calls asks
 abbrev first_asked : Ask → List Exchange → Ask
 first_asked q [] = q
 first_asked q (c ∷ cs) = c.asked
 
-ask_of_single_call_is_what_call_asked : (q : Ask) (r : Reply) (c : Exchange) → c ∷ [] ≡ call_by q r → q ≡ c.asked
-ask_of_single_call_is_what_call_asked ask.Private r c e = absurd (cc e)
-ask_of_single_call_is_what_call_asked (ask.Env kind) r c e = sym (ap (first_asked ask.Private) e)
-ask_of_single_call_is_what_call_asked (ask.Enter o a) r c e = sym (ap (first_asked ask.Private) e)
-ask_of_single_call_is_what_call_asked (ask.Try o) r c e = sym (ap (first_asked ask.Private) e)
-ask_of_single_call_is_what_call_asked (ask.Leave o a) r c e = sym (ap (first_asked ask.Private) e)
-ask_of_single_call_is_what_call_asked (ask.Get o i) r c e = sym (ap (first_asked ask.Private) e)
-ask_of_single_call_is_what_call_asked (ask.Put o i w) r c e = sym (ap (first_asked ask.Private) e)
-ask_of_single_call_is_what_call_asked ask.Print r c e = sym (ap (first_asked ask.Private) e)
-ask_of_single_call_is_what_call_asked (ask.End z) r c e = sym (ap (first_asked ask.Private) e)
-ask_of_single_call_is_what_call_asked ask.Done r c e = sym (ap (first_asked ask.Private) e)
+single_call_is_asked : (q : Ask) (r : Reply) (c : Exchange) → c ∷ [] ≡ call_by q r → q ≡ c.asked
+single_call_is_asked ask.Private r c e = absurd (cc e)
+single_call_is_asked (ask.Env kind) r c e = sym (ap (first_asked ask.Private) e)
+single_call_is_asked (ask.Enter o a) r c e = sym (ap (first_asked ask.Private) e)
+single_call_is_asked (ask.Try o) r c e = sym (ap (first_asked ask.Private) e)
+single_call_is_asked (ask.Leave o a) r c e = sym (ap (first_asked ask.Private) e)
+single_call_is_asked (ask.Get o i) r c e = sym (ap (first_asked ask.Private) e)
+single_call_is_asked (ask.Put o i w) r c e = sym (ap (first_asked ask.Private) e)
+single_call_is_asked ask.Print r c e = sym (ap (first_asked ask.Private) e)
+single_call_is_asked (ask.End z) r c e = sym (ap (first_asked ask.Private) e)
+single_call_is_asked ask.Done r c e = sym (ap (first_asked ask.Private) e)
 
 -- ---- some steps
 
-parts_of_empty_append_are_empty : (xs ys : List Exchange) → [] ≡ xs ++ ys → ([] ≡ xs) × ([] ≡ ys)
-parts_of_empty_append_are_empty [] ys e = (refl, e)
-parts_of_empty_append_are_empty (x ∷ xs) ys e = absurd (cc e)
+empty_append_parts : (xs ys : List Exchange) → [] ≡ xs ++ ys → ([] ≡ xs) × ([] ≡ ys)
+empty_append_parts [] ys e = (refl, e)
+empty_append_parts (x ∷ xs) ys e = absurd (cc e)
 
-asks_private_if_no_calls : (code : List ℕ) (at : ℕ → thread.ThreadState) (k n : ℕ) → [] ≡ calls_in code at k n → (j : ℕ) → k ≤ j → j < k + n
+no_calls_asks_private : (code : List ℕ) (at : ℕ → thread.ThreadState) (k n : ℕ) → [] ≡ calls_in code at k n → (j : ℕ) → k ≤ j → j < k + n
     → ask_of code (at j) ≡ ask.Private
 unfolding calls_in
-asks_private_if_no_calls code at k zero e j from to = absurd (omega (arith, from, to))
-asks_private_if_no_calls code at k (suc n) e j from to = elim (cases_lt j (k + n)) [
-  | inl before ↦ asks_private_if_no_calls code at k n (parts_of_empty_append_are_empty (calls_in code at k n) (exchange_at code at (k + n)) e).0 j from before
+no_calls_asks_private code at k zero e j from to = absurd (omega (arith, from, to))
+no_calls_asks_private code at k (suc n) e j from to = elim (cases_lt j (k + n)) [
+  | inl before ↦ no_calls_asks_private code at k n (empty_append_parts (calls_in code at k n) (exchange_at code at (k + n)) e).0 j from before
   | inr past ↦
       let last : k + n ≡ j = omega (arith, past, to) in
       subst (λ i. ask_of code (at i) ≡ ask.Private) last
-      (ask_without_call_is_private (ask_of code (at (k + n))) (reply_between code (at (k + n)) (at (suc (k + n))))
-      (parts_of_empty_append_are_empty (calls_in code at k n) (exchange_at code at (k + n)) e).1)
+      (no_call_is_private (ask_of code (at (k + n))) (reply_between code (at (k + n)) (at (suc (k + n))))
+      (empty_append_parts (calls_in code at k n) (exchange_at code at (k + n)) e).1)
 ]
 
 -- steps of a thread with no call are private
-pub steps_without_call_are_private : (f : FittedTrace) (t k n : ℕ) → AreCalls f t k n [] → (j : ℕ) → k ≤ j → j < k + n → EachRun f (λ run. ask_at f run t j ≡ ask.Private)
-steps_without_call_are_private f t k n calls j from to run of = asks_private_if_no_calls f.guest.code (thread_at f run t) k n (calls.same run of) j from to
+pub no_call_steps_private : (f : FittedTrace) (t k n : ℕ) → AreCalls f t k n [] → (j : ℕ) → k ≤ j → j < k + n → EachRun f (λ run. ask_at f run t j ≡ ask.Private)
+no_call_steps_private f t k n calls j from to run of = no_calls_asks_private f.guest.code (thread_at f run t) k n (calls.same run of) j from to
 
 -- a step with a call asks so
-pub step_with_call_asks_what_call_asked : (f : FittedTrace) (t k n : ℕ) (c : Exchange) → AreCalls f t k n (c ∷ []) → n ≡ 1 → EachRun f (λ run. ask_at f run t k ≡ c.asked)
-step_with_call_asks_what_call_asked f t k n c calls one run of =
-    ask_of_single_call_is_what_call_asked (ask_at f run t k) (reply_between f.guest.code (thread_at f run t k) (thread_at f run t (suc k))) c
+pub call_step_asks_call : (f : FittedTrace) (t k n : ℕ) (c : Exchange) → AreCalls f t k n (c ∷ []) → n ≡ 1 → EachRun f (λ run. ask_at f run t k ≡ c.asked)
+call_step_asks_call f t k n c calls one run of =
+    single_call_is_asked (ask_at f run t k) (reply_between f.guest.code (thread_at f run t k) (thread_at f run t (suc k))) c
     (calls.same run of ∙ ap (calls_in f.guest.code (thread_at f run t) k) one ∙ calls_in_one_step f.guest.code (thread_at f run t) k)

@@ -21,17 +21,17 @@ each_element_after_push P xs ys x each last e i d l = subst (λ zs. P (slice_ind
 ])
 
 -- each of a list in another order
-pub each_element_of_permutation : {X : Type 0} (P : X → Type 0) (xs ys : List X) → IsPermutation xs ys → ((i : ℕ) (d : X) → i < length xs → P (slice_index_or xs i d))
+pub permuted_all_satisfy : {X : Type 0} (P : X → Type 0) (xs ys : List X) → IsPermutation xs ys → ((i : ℕ) (d : X) → i < length xs → P (slice_index_or xs i d))
     → (i : ℕ) (d : X) → i < length ys → P (slice_index_or ys i d)
-each_element_of_permutation {X} P xs ys same each i d l =
+permuted_all_satisfy {X} P xs ys same each i d l =
     let y : X = slice_index_or ys i d in
     let there = Contains-permutation ys xs y (IsPermutation-sym xs ys same) (i, l, get_or_default ys i y d l) in
     subst P there.2 (each there.0 y there.1)
 
 -- and one of it, by its number
-pub some_element_of_permutation : {X : Type 0} (number : X → ℕ) (any : X) (xs ys : List X) → IsPermutation xs ys → (n i : ℕ) → i < length xs
+pub permuted_element_exists : {X : Type 0} (number : X → ℕ) (any : X) (xs ys : List X) → IsPermutation xs ys → (n i : ℕ) → i < length xs
     → ((d : X) → number (slice_index_or xs i d) ≡ n) → (j : ℕ) × (j < length ys) × ((d : X) → number (slice_index_or ys j d) ≡ n)
-some_element_of_permutation {X} number any xs ys same n i l is =
+permuted_element_exists {X} number any xs ys same n i l is =
     let x : X = slice_index_or xs i any in
     let there = Contains-permutation xs ys x same (i, l, get_or_default xs i x any l) in (
       there.0,

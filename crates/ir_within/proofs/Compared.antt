@@ -1,8 +1,8 @@
 -- Outcomes that are compared one by one.
-use Rattle.std.proofs.Common.{◌≡◌, ℕ, ◌<◌, Bool, true, false, List, [], ◌∷◌, ◌++◌, Some, length, length-append, map, refl, sym, ap, ◌∙◌, subst, arith, inl, inr}
+use Rattle.std.proofs.Common.{◌≡◌, ℕ, ◌<◌, Bool, true, false, List, [], ◌∷◌, ◌++◌, Some, length, length-append, refl, sym, ap, ◌∙◌, subst, arith, inl, inr}
 use Rattle.std.specs.Prelude.{slice_get, Result, Ok, Err, IfOk}
 use Rattle.std.proofs.lemmas.Option.{same_Some, slice_get_within}
-use Rattle.ir_lemmas.proofs.CallerLemmas.{added_element_is_last, element_below_length_exists, slice_get_after_push_cases, slice_get_kept_by_append}
+use Rattle.ir_lemmas.proofs.CallerLemmas.{added_element_is_last, element_below_length, slice_get-push_cases, slice_get_append_kept}
 use Rattle.ir_explore.proofs.CallerLemmas.{end_state_is_seen}
 use Rattle.ir_explore.specs.Plan.{ExplorePlan, setup_of}
 use Rattle.ir_explore.specs.Texts.{Known, AreKnown}
@@ -21,15 +21,6 @@ use Rattle.ir_within.specs.Within.{AreJudged}
 
 pushed_at_end : {A : Type 0} (xs : List A) (x : A) (n : ℕ) → n ≡ length xs → slice_get (xs ++ x ∷ []) n ≡ Some x
 pushed_at_end xs x n e = ap (slice_get (xs ++ x ∷ [])) e ∙ added_element_is_last xs x
-
-pub map_after_push : {A B : Type 0} (f : A → B) (xs : List A) (x : A) → map f (xs ++ x ∷ []) ≡ map f xs ++ f x ∷ []
-map_after_push f [] x = refl
-map_after_push f (y ∷ xs) x = ap (λ z. f y ∷ z) (map_after_push f xs x)
-
--- what holds of a value, if there is one, by what else holds of it
-pub on_ok : {A E : Type 0} (P Q : A → Type 0) (r : Result A E) → ((x : A) → P x → Q x) → IfOk r P → IfOk r Q
-on_ok P Q (Ok x) f h = f x h
-on_ok P Q (Err e) f h = tt
 
 pub on_ok_of_both : {A E : Type 0} (P Q R : A → Type 0) (r : Result A E) → ((x : A) → P x → Q x → R x) → IfOk r P → IfOk r Q → IfOk r R
 on_ok_of_both P Q R (Ok x) f p q = f x p q
@@ -50,13 +41,13 @@ pub one_more_seen : (a : Aspects) (flats : List SourcedFlat) (xs : List Shown) (
     → AreSeen a flats (xs ++ x ∷ []) (all ++ c ∷ [])
 one_more_seen a flats xs all x s c seen at is_flat is = record {
   count = let p = length-append xs (x ∷ []) in let q = length-append all (c ∷ []) in let n = seen.count in omega (arith, p, q, n);
-  each = λ i y u there. elim (slice_get_after_push_cases xs x i y there.0) [
-    | inl old ↦ slice_get_kept_by_append all (c ∷ []) i (what_counts a (end_state u.flat)) (seen.each i y u (old, there.1))
+  each = λ i y u there. elim (slice_get-push_cases xs x i y there.0) [
+    | inl old ↦ slice_get_append_kept all (c ∷ []) i (what_counts a (end_state u.flat)) (seen.each i y u (old, there.1))
     | inr p ↦
         let state : s ≡ u = shown_once flats x y s u p.1 at there.1 in
         pushed_at_end all c i (p.0 ∙ sym seen.count) ∙ ap Some (is ∙ ap (λ (z : SourcedFlat). what_counts a (end_state z.flat)) state)
   ];
-  flat = λ i y u there. elim (slice_get_after_push_cases xs x i y there.0) [
+  flat = λ i y u there. elim (slice_get-push_cases xs x i y there.0) [
     | inl old ↦ seen.flat i y u (old, there.1)
     | inr p ↦ subst (λ (z : SourcedFlat). IsFlat z.flat) (shown_once flats x y s u p.1 at there.1) is_flat
   ];
@@ -79,15 +70,15 @@ pub one_more_compared : (a : Aspects) (flats : List SourcedFlat) (xs : List Show
     → AreCompared a flats (xs ++ x ∷ []) others (marks ++ mark ∷ [])
 one_more_compared a flats xs others marks x s c mark done at is_flat is some none = record {
   count = let p = length-append xs (x ∷ []) in let q = length-append marks (mark ∷ []) in let n = done.count in omega (arith, p, q, n);
-  among = λ i y u there marked. elim (slice_get_after_push_cases xs x i y there.0) [
+  among = λ i y u there marked. elim (slice_get-push_cases xs x i y there.0) [
     | inl old ↦ done.among i y u (old, there.1) (before i y false old marked)
     | inr p ↦ subst (HasSame others) (counts y u p.1 there.1) (some (last i false p.0 marked))
   ];
-  none = λ i y u there marked same. elim (slice_get_after_push_cases xs x i y there.0) [
+  none = λ i y u there marked same. elim (slice_get-push_cases xs x i y there.0) [
     | inl old ↦ done.none i y u (old, there.1) (before i y true old marked) same
     | inr p ↦ none (last i true p.0 marked) (subst (HasSame others) (sym (counts y u p.1 there.1)) same)
   ];
-  flat = λ i y u there. elim (slice_get_after_push_cases xs x i y there.0) [
+  flat = λ i y u there. elim (slice_get-push_cases xs x i y there.0) [
     | inl old ↦ done.flat i y u (old, there.1)
     | inr p ↦ subst (λ (z : SourcedFlat). IsFlat z.flat) (shown_once flats x y s u p.1 at there.1) is_flat
   ];
@@ -97,13 +88,13 @@ one_more_compared a flats xs others marks x s c mark done at is_flat is some non
     counts y u e there = is ∙ ap (λ (z : SourcedFlat). what_counts a (end_state z.flat)) (shown_once flats x y s u e at there)
 
     before : (i : ℕ) (y : Shown) (b : Bool) → slice_get xs i ≡ Some y → slice_get (marks ++ mark ∷ []) i ≡ Some b → slice_get marks i ≡ Some b
-    before i y b old marked = elim (slice_get_after_push_cases marks mark i b marked) [
+    before i y b old marked = elim (slice_get-push_cases marks mark i b marked) [
       | inl kept ↦ kept
       | inr q ↦ absurd (let less = slice_get_within xs i y old in let n = done.count in let e = q.0 in omega (arith, less, n, e))
     ]
 
     last : (i : ℕ) (b : Bool) → i ≡ length xs → slice_get (marks ++ mark ∷ []) i ≡ Some b → mark ≡ b
-    last i b end marked = elim (slice_get_after_push_cases marks mark i b marked) [
+    last i b end marked = elim (slice_get-push_cases marks mark i b marked) [
       | inl kept ↦ absurd (let less = slice_get_within marks i b kept in let n = done.count in omega (arith, less, n, end))
       | inr q ↦ q.1
     ]
@@ -125,8 +116,8 @@ judged_if_compared a guest other plan k m all outside are others_are others comp
       let found = compared.among i x s at marked in
       let less : found.0 < length m.outcomes =
       (let b = slice_get_within all found.0 (what_counts a (end_state s.flat)) found.1 in let n = others.count in omega (arith, b, n)) in
-      let shown = element_below_length_exists m.outcomes found.0 less in
-      let state = element_below_length_exists m.flats shown.0.node (others_are.explored.nodes found.0 shown.0 shown.1) in
+      let shown = element_below_length m.outcomes found.0 less in
+      let state = element_below_length m.flats shown.0.node (others_are.explored.nodes found.0 shown.0 shown.1) in
       let there : ShowsState m.flats m.outcomes found.0 shown.0 state.0 = (shown.1, state.1) in
       let same : what_counts a (end_state s.flat) ≡ what_counts a (end_state state.0.flat) =
       same_Some (what_counts a (end_state s.flat)) (what_counts a (end_state state.0.flat)) (sym found.1 ∙ others.each found.0 shown.0 state.0 there) in (

@@ -3,7 +3,7 @@ use Rattle.std.proofs.Common.{◌≡◌, ℕ, suc, ◌+◌, Bool, true, false, L
 use Rattle.std.specs.Prelude.{slice_get, flat_map}
 use Rattle.std.proofs.lemmas.Grind.{flat_map-append}
 use Rattle.std.proofs.lemmas.Option.{same_Some}
-use Rattle.ir_lemmas.proofs.CallerLemmas.{slice_get_after_push_cases}
+use Rattle.ir_lemmas.proofs.CallerLemmas.{slice_get-push_cases}
 use Rattle.ir_explore.specs.Texts.{Objects, Known, IsOutcomeText}
 use Rattle.ir_outcomes.specs.Explored.{ShowsState}
 use Rattle.ir_outcomes.specs.declared.shown.Shown.{Shown}
@@ -26,7 +26,7 @@ pub outside_texts_step : (o : Objects) (k : Known) (outside : List Bool) (many :
 outside_texts_step o k outside many text own x s t at mark is = record {
   texts = t.texts ++ own ∷ [];
   count = let a = length-append t.texts (own ∷ []) in let b = t.count in omega (arith, a, b);
-  each = λ i y g other there here marked. elim (slice_get_after_push_cases t.texts own i other here) [
+  each = λ i y g other there here marked. elim (slice_get-push_cases t.texts own i other here) [
     | inl old ↦ t.each i y g other there old marked
     | inr p ↦
         let place : i ≡ many = p.0 ∙ t.count in
@@ -36,7 +36,7 @@ outside_texts_step o k outside many text own x s t at mark is = record {
         (subst (IsOutcomeText o g.flat (suc many) y) p.1
         (subst (λ z. IsOutcomeText o g.flat (suc many) z own) shown (subst (λ (z : SourcedFlat). IsOutcomeText o z.flat (suc many) x own) state is)))
   ];
-  others = λ i other here marked. elim (slice_get_after_push_cases t.texts own i other here) [
+  others = λ i other here marked. elim (slice_get-push_cases t.texts own i other here) [
     | inl old ↦ t.others i other old marked
     | inr p ↦ absurd (cc (sym mark ∙ subst (λ z. slice_get outside z ≡ Some false) (p.0 ∙ t.count) marked))
   ];
@@ -50,11 +50,11 @@ pub inside_texts_step : (o : Objects) (k : Known) (outside : List Bool) (many : 
 inside_texts_step o k outside many text t mark = record {
   texts = t.texts ++ [] ∷ [];
   count = let a = length-append t.texts ([] ∷ []) in let b = t.count in omega (arith, a, b);
-  each = λ i y g other there here marked. elim (slice_get_after_push_cases t.texts [] i other here) [
+  each = λ i y g other there here marked. elim (slice_get-push_cases t.texts [] i other here) [
     | inl old ↦ t.each i y g other there old marked
     | inr p ↦ absurd (cc (sym mark ∙ subst (λ z. slice_get outside z ≡ Some true) (p.0 ∙ t.count) marked))
   ];
-  others = λ i other here marked. elim (slice_get_after_push_cases t.texts [] i other here) [
+  others = λ i other here marked. elim (slice_get-push_cases t.texts [] i other here) [
     | inl old ↦ t.others i other old marked
     | inr p ↦ sym p.1
   ];

@@ -6,7 +6,7 @@ use Rattle.ir_graph.specs.Outcomes.{RunOutcome, run_outcome}
 use Rattle.ir_image.specs.Guest.{Guest}
 use Rattle.ir_outcomes.specs.Explored.{IsOutcomeOf, ShowsState, AreExplored, AreAll}
 use Rattle.ir_outcomes.specs.declared.shown.Shown.{Shown}
-use Rattle.ir_search.proofs.CallerLemmas.{index_of_element_is_below_length}
+use Rattle.ir_search.proofs.CallerLemmas.{slice_get_some_below}
 use Rattle.ir_search.specs.declared.search.Ended.{Ended}
 use Rattle.ir_search.specs.declared.search.Ended.TheVariants.{Finished, Covered, Stopped}
 use Rattle.ir_store.specs.Nodes.{SourcedFlat}
@@ -78,7 +78,7 @@ compared_within a guest other plan text c x is =
     let listed = (c.are.all over.0 x).0 is in
     let count = c.judged.count in
     let less : listed.0 < length c.outside =
-    (let b = index_of_element_is_below_length c.known.outcomes listed.0 listed.1 listed.3.0 in omega (arith, b, count)) in
+    (let b = slice_get_some_below c.known.outcomes listed.0 listed.1 listed.3.0 in omega (arith, b, count)) in
     let among = c.judged.among listed.0 listed.1 listed.2 listed.3 (inside_if_none_outside c.outside listed.0 over.1 less) in
     subst (HasLike a guest other plan) listed.4
     (like_if_among a guest other plan c.other_known (run_outcome (tables listed.2.flat)) c.other_are.explored among)
@@ -96,7 +96,7 @@ compared_outside a guest other plan many text c =
     let marked = outside_mark c.outside (some_are_outside c.known.ended (outside_count c.outside) many c.found) in
     let count = c.judged.count in
     let less : marked.0 < length c.known.outcomes =
-    (let b = index_of_element_is_below_length c.outside marked.0 true marked.1 in omega (arith, b, count)) in
+    (let b = slice_get_some_below c.outside marked.0 true marked.1 in omega (arith, b, count)) in
     let shown = element_of c.known.outcomes marked.0 less in
     let state = element_of c.known.flats shown.0.node (c.are.explored.nodes marked.0 shown.0 shown.1) in (
       run_outcome (tables state.0.flat),

@@ -112,7 +112,9 @@ fn told_beside<W: Observer>(
     requires allowed { IsAllowed plan.now.explore.profile image.now }
     requires others { (guest : Guest) × AreKnown guest plan.now.explore (known_of other.now) }
     requires finished { other.now.ended ≡ Finished }
-    ensures { IfOk result (λ told. (guest : Guest) → AreKnown guest plan.now.explore (known_of other.now) → IsWithinAnswer (aspects_of plan.now.aspects) image.now guest plan.now.explore told.verdict told.text.items) }
+    ensures { IfOk result
+        (λ told. (guest : Guest) → AreKnown guest plan.now.explore (known_of other.now)
+        → IsWithinAnswer (aspects_of plan.now.aspects) image.now guest plan.now.explore told.verdict told.text.items) }
 {
     match explore_by_plan(alloc, image, &plan.explore, plan.observer) {
         Ok(found) => compared(alloc, image, &plan.explore, plan.aspects, &found, other),

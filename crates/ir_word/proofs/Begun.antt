@@ -1,5 +1,5 @@
 -- The words of the objects before the first step.
-use Rattle.std.proofs.Common.{◌≡◌, ◌+◌, ◌<◌, ℕ, pred, Bool, true, false, List, [], ◌∷◌, ◌++◌, cond, eqb, ltb, length, length-append, refl, sym, ap, ◌∙◌, subst, arith, inl, inr}
+use Rattle.std.proofs.Common.{◌≡◌, ◌+◌, ◌<◌, ℕ, List, [], ◌∷◌, ◌++◌, length, length-append, refl, sym, ap, ◌∙◌, subst, arith, inl, inr}
 use Rattle.std.specs.Prelude.{slice_index, slice_get, Option, Some, None}
 use Rattle.std.specs.List.{slice_index_or}
 use Rattle.std.proofs.lemmas.Bool.{cases_lt}
@@ -7,43 +7,32 @@ use Rattle.std.proofs.Math.ListN.{get_or-append}
 use Rattle.std.proofs.Math.Seq.{get_or-append_seam}
 use Rattle.ir_image.specs.Guest.{object_count, first_words}
 use Rattle.ir_runs.specs.Machine.{Object}
-use Rattle.ir_runs.specs.Run.{Step, join_if, end, Cut, part}
-use Rattle.ir_runs.specs.Bounds.{lower}
+use Rattle.ir_runs.specs.Run.{Step, end}
 use Rattle.ir_object.specs.Empty.{empty}
-use Rattle.ir_flat.proofs.CallerLemmas.{start_cell_has_first_words}
+use Rattle.ir_flat.proofs.CallerLemmas.{start_words_are_first}
 use Rattle.ir_fit.specs.Fit.{FittedTrace, HasRun}
 use Rattle.ir_cut.specs.Positions.{machine_of, start_of}
-use Rattle.ir_weave.specs.Standing.{Standing, StandsAt}
+use Rattle.ir_weave.specs.Standing.{Standing, StandsAtCut}
 use Rattle.ir_who.specs.declared.version.Version.{Version}
 use Rattle.ir_word.specs.Words.{IsWordOf, IsWorded, unread}
 use Rattle.ir_word.specs.declared.object_word.ObjectWord.{ObjectWord}
 use Rattle.ir_word.specs.declared.worded.Worded.{Worded}
 use Rattle.ir_word.proofs.Built.{some_version_injective}
-
-conditional_predecessor_of_zero_is_zero : (b : Bool) (n : ℕ) → n ≡ 0 → cond b (pred n) n ≡ 0
-conditional_predecessor_of_zero_is_zero true n e = ap pred e
-conditional_predecessor_of_zero_is_zero false n e = e
-
--- no step is in the cut with no step
-part_below_zero_cut_is_empty : (run : List Step) (p : Cut) → ((t : ℕ) → p t ≡ 0) → part run p ≡ []
-part_below_zero_cut_is_empty [] p none = refl
-part_below_zero_cut_is_empty (e ∷ run) p none =
-    ap (λ b. join_if (ltb 0 b) e (part run (lower p e.0))) (none e.0)
-    ∙ part_below_zero_cut_is_empty run (lower p e.0) (λ u. conditional_predecessor_of_zero_is_zero (eqb u e.0) (p u) (none u))
+use Rattle.ir_runs.proofs.CallerLemmas.{zero_cut_part_is_empty}
 
 -- the words of an object of the state before the first step
-pub object_has_first_words_at_start : (f : FittedTrace) (s : Standing) → HasRun f → StandsAt f (λ t. 0) s → (o i : ℕ) → o < object_count f.guest
+pub start_has_first_words : (f : FittedTrace) (s : Standing) → HasRun f → StandsAtCut f (λ t. 0) s → (o i : ℕ) → o < object_count f.guest
     → slice_index (slice_index_or s.objects o empty).words i ≡ slice_index (first_words f.guest o) i
-object_has_first_words_at_start f s h stands o i l =
+start_has_first_words f s h stands o i l =
     ap (λ (b : Object). b.words i) ((stands.at.each h.run h.whole).objects o)
-    ∙ ap (λ (steps : List Step). ((end (machine_of f) (start_of f) steps).objects o).words i) (part_below_zero_cut_is_empty h.run (λ t. 0) (λ t. refl))
-    ∙ ap (λ (words : List ℕ). slice_index words i) (start_cell_has_first_words f.guest 0 (object_count f.guest) o l)
+    ∙ ap (λ (steps : List Step). ((end (machine_of f) (start_of f) steps).objects o).words i) (zero_cut_part_is_empty h.run (λ t. 0) (λ t. refl))
+    ∙ ap (λ (words : List ℕ). slice_index words i) (start_words_are_first f.guest 0 (object_count f.guest) o l)
     ∙ (let same : 0 + o ≡ o = omega arith in ap (λ j. slice_index (first_words f.guest j) i) same)
 
 -- the first version has the first word
-pub first_version_has_first_word : (f : FittedTrace) (w : ObjectWord) (x : Version) (d : Worded) (word : ℕ) → d ≡ record { made_by = x.made_by; word = word; step = None }
+pub first_version_worded : (f : FittedTrace) (w : ObjectWord) (x : Version) (d : Worded) (word : ℕ) → d ≡ record { made_by = x.made_by; word = word; step = None }
     → word ≡ slice_index (first_words f.guest w.object) w.index → x.made_by ≡ None → IsWorded f w x d
-first_version_has_first_word f w x d word is first made = record {
+first_version_worded f w x d word is first made = record {
   made = ap (λ (z : Worded). z.made_by) is;
   word = subst (λ (m : Option _). IsWordOf f w m d.word d.step) (sym made)
       (ap (λ (z : Worded). z.word) is ∙ first, ap (λ (z : Worded). z.step) is);
@@ -55,8 +44,8 @@ pub record AreFirstWorded (rows : List Version) (n word : ℕ) (ds : List Worded
   pub each : (j : ℕ) (x : Version) → j < n → slice_get rows j ≡ Some x
       → slice_index_or ds j unread ≡ record { made_by = x.made_by; word = word; step = None }
 
-pub are_first_worded_of_no_version : (rows : List Version) (word : ℕ) (ds : List Worded) → ds ≡ [] → AreFirstWorded rows 0 word ds
-are_first_worded_of_no_version rows word ds e = record {
+pub no_versions_first_worded : (rows : List Version) (word : ℕ) (ds : List Worded) → ds ≡ [] → AreFirstWorded rows 0 word ds
+no_versions_first_worded rows word ds e = record {
   size = ap (λ (xs : List Worded). length xs) e;
   each = λ j x l. absurd (omega (arith, l));
 }

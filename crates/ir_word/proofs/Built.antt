@@ -10,9 +10,9 @@ use Rattle.std.proofs.Math.Seq.{get_or-append_seam}
 use Rattle.ir_fit.specs.Fit.{FittedTrace}
 use Rattle.ir_past.specs.declared.place.Place.{Place}
 use Rattle.ir_who.specs.declared.version.Version.{Version}
-use Rattle.ir_walk.proofs.CallerLemmas.{each_element_after_push, each_element_of_permutation, some_element_of_permutation}
+use Rattle.ir_walk.proofs.CallerLemmas.{each_element_after_push, permuted_all_satisfy, permuted_element_exists}
 use Rattle.ir_word.specs.Words.{IsPutIn}
-use Rattle.ir_word.specs.Track.{IsHold, IsHoldOf, IsTrack, IsFound, IsAdded, IsBuilt, AreBuilt, IsSorted, AreSorted}
+use Rattle.ir_word.specs.Track.{IsHold, IsHoldOf, IsWordTrack, IsTrackFound, IsAdded, IsBuiltTrack, AreTracksBuilt, IsTrackSorted, AreTracksSorted}
 use Rattle.ir_word.specs.declared.hold.Hold.{Hold}
 use Rattle.ir_word.specs.declared.object_word.ObjectWord.{ObjectWord}
 use Rattle.ir_word.specs.declared.track.Track.{Track}
@@ -23,7 +23,7 @@ some_version_injective x y e = cc e
 
 -- no version of all
 pub built_of_no_version : (f : FittedTrace) (rows : List Version) (w : ObjectWord) (t : ℕ) (track : Track) → track.next ≡ 0 → track.put ≡ None → track.holds.items ≡ []
-    → IsBuilt f rows w 0 t track
+    → IsBuiltTrack f rows w 0 t track
 built_of_no_version f rows w t track next put holds = record {
   next = next;
   put = put;
@@ -33,9 +33,9 @@ built_of_no_version f rows w t track next put holds = record {
 }
 
 -- one version more, which thread t didn't make
-pub built_after_version_of_other : (f : FittedTrace) (rows : List Version) (w : ObjectWord) (n t : ℕ) (track : Track) (x : Version) → IsBuilt f rows w n t track
-    → slice_get rows n ≡ Some x → ((p : Place) → x.made_by ≡ Some p → p.thread ≡ t → ⊥) → IsBuilt f rows w (n + 1) t track
-built_after_version_of_other f rows w n t track x is there none = record {
+pub version_of_other_built : (f : FittedTrace) (rows : List Version) (w : ObjectWord) (n t : ℕ) (track : Track) (x : Version) → IsBuiltTrack f rows w n t track
+    → slice_get rows n ≡ Some x → ((p : Place) → x.made_by ≡ Some p → p.thread ≡ t → ⊥) → IsBuiltTrack f rows w (n + 1) t track
+version_of_other_built f rows w n t track x is there none = record {
   next = is.next;
   put = is.put;
   holds = is.holds;
@@ -50,8 +50,8 @@ built_after_version_of_other f rows w n t track x is there none = record {
 
 -- or which it made by this hold
 pub built_after_own_version : (f : FittedTrace) (rows : List Version) (w : ObjectWord) (n t : ℕ) (track new : Track) (x : Version) (p : Place) (h : Hold)
-    → IsBuilt f rows w n t track → slice_get rows n ≡ Some x → x.made_by ≡ Some p → p.thread ≡ t → h.row ≡ n → IsHold f w.object p h
-    → IsAdded track h new → IsBuilt f rows w (n + 1) t new
+    → IsBuiltTrack f rows w n t track → slice_get rows n ≡ Some x → x.made_by ≡ Some p → p.thread ≡ t → h.row ≡ n → IsHold f w.object p h
+    → IsAdded track h new → IsBuiltTrack f rows w (n + 1) t new
 built_after_own_version f rows w n t track new x p h is there made own row hold added = record {
   next = added.next ∙ is.next;
   put = added.put ∙ is.put;
@@ -85,14 +85,14 @@ built_after_own_version f rows w n t track new x p h is there made own row hold 
 }
 
 -- each thread, where one of them is another
-pub all_built_after_track_set : (f : FittedTrace) (rows : List Version) (w : ObjectWord) (n u : ℕ) (ts : List Track) (new : Track) (x : Version) (p : Place) → u < length ts
-    → AreBuilt f rows w n ts → slice_get rows n ≡ Some x → x.made_by ≡ Some p → p.thread ≡ u → IsBuilt f rows w (n + 1) u new
-    → AreBuilt f rows w (n + 1) (set ts u new)
-all_built_after_track_set f rows w n u ts new x p l are there made own is t d lt = elim (cases_eq t u) [
-  | inl same ↦ subst (λ j. IsBuilt f rows w (n + 1) j (slice_index_or (set ts u new) j d)) (sym same)
-      (subst (IsBuilt f rows w (n + 1) u) (sym (get_or-set_same ts u new d l)) is)
-  | inr ne ↦ subst (IsBuilt f rows w (n + 1) t) (sym (get_or-set_other ts u t new d ne))
-      (built_after_version_of_other f rows w n t (slice_index_or ts t d) x (are t d (let m = length-set ts u new in omega (arith, lt, m))) there
+pub all_built_track_set : (f : FittedTrace) (rows : List Version) (w : ObjectWord) (n u : ℕ) (ts : List Track) (new : Track) (x : Version) (p : Place) → u < length ts
+    → AreTracksBuilt f rows w n ts → slice_get rows n ≡ Some x → x.made_by ≡ Some p → p.thread ≡ u → IsBuiltTrack f rows w (n + 1) u new
+    → AreTracksBuilt f rows w (n + 1) (set ts u new)
+all_built_track_set f rows w n u ts new x p l are there made own is t d lt = elim (cases_eq t u) [
+  | inl same ↦ subst (λ j. IsBuiltTrack f rows w (n + 1) j (slice_index_or (set ts u new) j d)) (sym same)
+      (subst (IsBuiltTrack f rows w (n + 1) u) (sym (get_or-set_same ts u new d l)) is)
+  | inr ne ↦ subst (IsBuiltTrack f rows w (n + 1) t) (sym (get_or-set_other ts u t new d ne))
+      (version_of_other_built f rows w n t (slice_index_or ts t d) x (are t d (let m = length-set ts u new in omega (arith, lt, m))) there
       (λ q by e. ne (sym e ∙ ap (λ (z : Place). z.thread) (same_place q p (sym by ∙ made)) ∙ own)))
 ]
   where
@@ -100,31 +100,31 @@ all_built_after_track_set f rows w n u ts new x p l are there made own is t d lt
     same_place a b e = cc e
 
 -- none of them made it
-pub all_built_after_unmade_version : (f : FittedTrace) (rows : List Version) (w : ObjectWord) (n : ℕ) (ts : List Track) (x : Version) → AreBuilt f rows w n ts
-    → slice_get rows n ≡ Some x → ((p : Place) → x.made_by ≡ Some p → ⊥) → AreBuilt f rows w (n + 1) ts
-all_built_after_unmade_version f rows w n ts x are there none t d l =
-    built_after_version_of_other f rows w n t (slice_index_or ts t d) x (are t d l) there (λ p made own. none p made)
+pub all_built_unmade : (f : FittedTrace) (rows : List Version) (w : ObjectWord) (n : ℕ) (ts : List Track) (x : Version) → AreTracksBuilt f rows w n ts
+    → slice_get rows n ≡ Some x → ((p : Place) → x.made_by ≡ Some p → ⊥) → AreTracksBuilt f rows w (n + 1) ts
+all_built_unmade f rows w n ts x are there none t d l =
+    version_of_other_built f rows w n t (slice_index_or ts t d) x (are t d l) there (λ p made own. none p made)
 
 -- ---- before the first step
 
 -- the holds of a thread in another order
-pub built_after_sorting : (f : FittedTrace) (rows : List Version) (w : ObjectWord) (n t : ℕ) (old new : Track) → IsBuilt f rows w n t old → IsSorted old new
-    → IsBuilt f rows w n t new
+pub built_after_sorting : (f : FittedTrace) (rows : List Version) (w : ObjectWord) (n t : ℕ) (old new : Track) → IsBuiltTrack f rows w n t old → IsTrackSorted old new
+    → IsBuiltTrack f rows w n t new
 built_after_sorting f rows w n t old new is sorted = record {
   next = sorted.next ∙ is.next;
   put = sorted.put ∙ is.put;
-  holds = each_element_of_permutation (IsHoldOf f rows w t) old.holds.items new.holds.items sorted.same is.holds;
-  from = each_element_of_permutation (λ (z : Hold). new.from ≤ z.entry + 1) old.holds.items new.holds.items sorted.same
+  holds = permuted_all_satisfy (IsHoldOf f rows w t) old.holds.items new.holds.items sorted.same is.holds;
+  from = permuted_all_satisfy (λ (z : Hold). new.from ≤ z.entry + 1) old.holds.items new.holds.items sorted.same
       (λ i d l. let a = is.from i d l in let b = sorted.from in omega (arith, a, b));
   covered = λ r x p l there made own.
       let o = is.covered r x p l there made own in
       let none : Hold = record { row = 0; entry = 0; leave = 0 } in
-      let q = some_element_of_permutation (λ (h : Hold). h.row) none old.holds.items new.holds.items sorted.same r o.0 o.2 o.3 in
+      let q = permuted_element_exists (λ (h : Hold). h.row) none old.holds.items new.holds.items sorted.same r o.0 o.2 o.3 in
       (q.0, (let a = sorted.next in let b = is.next in omega (arith, a, b)), q.1, q.2);
 }
 
-pub track_at_start_if_built : (f : FittedTrace) (rows : List Version) (w : ObjectWord) (t k : ℕ) (track : Track) → IsBuilt f rows w (length rows) t track
-    → IsNonDecreasingBy (λ (h : Hold). h.leave) track.holds.items → k ≤ 0 → IsTrack f rows w t k track
+pub track_at_start_if_built : (f : FittedTrace) (rows : List Version) (w : ObjectWord) (t k : ℕ) (track : Track) → IsBuiltTrack f rows w (length rows) t track
+    → IsNonDecreasingBy (λ (h : Hold). h.leave) track.holds.items → k ≤ 0 → IsWordTrack f rows w t k track
 track_at_start_if_built f rows w t k track is sorted first = record {
   sorted = sorted;
   holds = is.holds;
@@ -133,29 +133,29 @@ track_at_start_if_built f rows w t k track is sorted first = record {
   put = λ some. subst (IsPutIn f w t track.from k) (sym is.put) (λ j past before. absurd (omega (arith, before, first)));
 }
 
-pub versions_are_found_at_start_if_built : (f : FittedTrace) (rows : List Version) (w : ObjectWord) (words : List Worded) (t : ℕ) (track : Track)
-    → IsBuilt f rows w (length rows) t track → IsFound f rows w words t track
-versions_are_found_at_start_if_built f rows w words t track is r x p there made own = inl (is.covered r x p (slice_get_within rows r x there) there made own)
+pub built_versions_are_found : (f : FittedTrace) (rows : List Version) (w : ObjectWord) (words : List Worded) (t : ℕ) (track : Track)
+    → IsBuiltTrack f rows w (length rows) t track → IsTrackFound f rows w words t track
+built_versions_are_found f rows w words t track is r x p there made own = inl (is.covered r x p (slice_get_within rows r x there) there made own)
 
 -- ---- each thread without holds
 
-pub all_built_of_no_track : (f : FittedTrace) (rows : List Version) (w : ObjectWord) (ts : List Track) → ts ≡ [] → AreBuilt f rows w 0 ts
+pub all_built_of_no_track : (f : FittedTrace) (rows : List Version) (w : ObjectWord) (ts : List Track) → ts ≡ [] → AreTracksBuilt f rows w 0 ts
 all_built_of_no_track f rows w ts none t d l = absurd (let n = ap (λ (xs : List Track). length xs) none in omega (arith, l, n))
 
-pub all_built_after_track_added : (f : FittedTrace) (rows : List Version) (w : ObjectWord) (ts new : List Track) (track : Track) → AreBuilt f rows w 0 ts → new ≡ ts ++ track ∷ []
-    → track.next ≡ 0 → track.put ≡ None → track.holds.items ≡ [] → AreBuilt f rows w 0 new
-all_built_after_track_added f rows w ts new track are e next put holds t d l = subst (λ (xs : List Track). IsBuilt f rows w 0 t (slice_index_or xs t d)) (sym e) (elim (cases_lt t (length ts)) [
-  | inl before ↦ subst (IsBuilt f rows w 0 t) (sym (get_or-append ts (track ∷ []) d t before)) (are t d before)
+pub all_built_track_added : (f : FittedTrace) (rows : List Version) (w : ObjectWord) (ts new : List Track) (track : Track) → AreTracksBuilt f rows w 0 ts → new ≡ ts ++ track ∷ []
+    → track.next ≡ 0 → track.put ≡ None → track.holds.items ≡ [] → AreTracksBuilt f rows w 0 new
+all_built_track_added f rows w ts new track are e next put holds t d l = subst (λ (xs : List Track). IsBuiltTrack f rows w 0 t (slice_index_or xs t d)) (sym e) (elim (cases_lt t (length ts)) [
+  | inl before ↦ subst (IsBuiltTrack f rows w 0 t) (sym (get_or-append ts (track ∷ []) d t before)) (are t d before)
   | inr past ↦
       let size : length new ≡ length ts + 1 = ap (λ (xs : List Track). length xs) e ∙ length-append ts (track ∷ []) in
       let at : t ≡ length ts = omega (arith, past, l, size) in
-      subst (λ j. IsBuilt f rows w 0 t (slice_index_or (ts ++ track ∷ []) j d)) (sym at)
-      (subst (IsBuilt f rows w 0 t) (sym (get_or-append_seam ts track [] d)) (built_of_no_version f rows w t track next put holds))
+      subst (λ j. IsBuiltTrack f rows w 0 t (slice_index_or (ts ++ track ∷ []) j d)) (sym at)
+      (subst (IsBuiltTrack f rows w 0 t) (sym (get_or-append_seam ts track [] d)) (built_of_no_version f rows w t track next put holds))
 ])
 
 -- in order
-pub all_built_after_sorting : (f : FittedTrace) (rows : List Version) (w : ObjectWord) (n : ℕ) (old new : List Track) → AreBuilt f rows w n old → AreSorted old new
-    → length new ≡ length old → AreBuilt f rows w n new
+pub all_built_after_sorting : (f : FittedTrace) (rows : List Version) (w : ObjectWord) (n : ℕ) (old new : List Track) → AreTracksBuilt f rows w n old → AreTracksSorted old new
+    → length new ≡ length old → AreTracksBuilt f rows w n new
 all_built_after_sorting f rows w n old new are sorted size t d l =
     let lt : t < length old = omega (arith, l, size) in
     built_after_sorting f rows w n t (slice_index_or old t d) (slice_index_or new t d) (are t d lt) (sorted t d lt)

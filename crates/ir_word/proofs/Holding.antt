@@ -8,22 +8,22 @@ use Rattle.ir_trace.specs.Recorded.{Recorded}
 use Rattle.ir_fit.specs.Fit.{FittedTrace, HasRun}
 use Rattle.ir_past.specs.Past.{IsWriteAt, IsMadeBy}
 use Rattle.ir_past.specs.declared.place.Place.{Place}
-use Rattle.ir_events.specs.Events.{entry_of}
-use Rattle.ir_opened.specs.Positions.{IsInside, LeavesFrom, EntryLeaves, LeavesAfter, IsLeaveOf}
-use Rattle.ir_opened.proofs.CallerLemmas.{entering_event_has_leave, recorded_event_is_inside, leave_is_past_event, leave_is_within_thread}
+use Rattle.ir_events.specs.Events.{event_entry}
+use Rattle.ir_opened.specs.Positions.{LeavesFrom, EntryLeaves, LeavesAfter, IsLeaveOf}
+use Rattle.ir_opened.proofs.CallerLemmas.{entering_event_has_leave, recorded_is_inside, leave_is_past_event, leave_is_within_thread}
 use Rattle.ir_who.specs.Versions.{AreVersions}
 use Rattle.ir_who.specs.declared.version.Version.{Version}
 use Rattle.ir_word.specs.Track.{IsHold}
 
 -- the positions of a write entry and of its leave
-pub write_and_leave_are_hold : (f : FittedTrace) → HasRun f → (p : Place) (row entry last o v l : ℕ) → IsWriteAt f.recorded p.thread p.event o v l
-    → IsLeaveOf f p.thread p.event last → entry ≡ entry_of f p.thread p.event
+pub write_and_leave_hold : (f : FittedTrace) → HasRun f → (p : Place) (row entry last o v l : ℕ) → IsWriteAt f.recorded p.thread p.event o v l
+    → IsLeaveOf f p.thread p.event last → entry ≡ event_entry f p.thread p.event
     → IsHold f o p (record { row = row; entry = entry; leave = last })
-write_and_leave_are_hold f h p row entry last o v l is leave same =
+write_and_leave_hold f h p row entry last o v l is leave same =
     let e : Event = Write o v l in
-    let there = recorded_event_is_inside f h p.thread p.event e is in
-    let leaves : LeavesFrom f p.thread (entry_of f p.thread p.event + 1) o Writing v last =
-    subst (λ (x : Option Event). EntryLeaves f p.thread (entry_of f p.thread p.event + 1) x last) is leave.leaves in
+    let there = recorded_is_inside f h p.thread p.event e is in
+    let leaves : LeavesFrom f p.thread (event_entry f p.thread p.event + 1) o Writing v last =
+    subst (λ (x : Option Event). EntryLeaves f p.thread (event_entry f p.thread p.event + 1) x last) is leave.leaves in
     record {
       inside = there;
       entry = same;
@@ -44,10 +44,3 @@ pub version_maker_is_write : (r : Recorded) (o : ℕ) (rows : List Version) → 
     → x.made_by ≡ Some p → (v l : ℕ) × IsWriteAt r p.thread p.event o v l
 version_maker_is_write r o rows all k x p there made =
     let is : IsMadeBy r o k (Some p) = subst (IsMadeBy r o k) made (all.each k x there).made in (is.0, is.1, is.3)
-
--- by a thread that there is
-pub version_maker_is_inside : (f : FittedTrace) → HasRun f → (o : ℕ) (rows : List Version) → AreVersions f.recorded o rows → (k : ℕ) (x : Version) (p : Place)
-    → slice_get rows k ≡ Some x → x.made_by ≡ Some p → IsInside f p.thread p.event
-version_maker_is_inside f h o rows all k x p there made =
-    let write = version_maker_is_write f.recorded o rows all k x p there made in
-    recorded_event_is_inside f h p.thread p.event (Write o write.0 write.1) write.2

@@ -10,47 +10,47 @@ use Rattle.ir_cut.specs.Positions.{EachRun}
 use Rattle.ir_weave.specs.Ahead.{ask_at}
 use Rattle.ir_walk.specs.Calls.{AreCalls}
 use Rattle.ir_walk.specs.declared.exchange.Exchange.{Exchange}
-use Rattle.ir_walk.proofs.CallerLemmas.{steps_without_call_are_private, step_with_call_asks_what_call_asked}
+use Rattle.ir_walk.proofs.CallerLemmas.{no_call_steps_private, call_step_asks_call}
 use Rattle.ir_word.specs.Words.{puts_word, PutsAt, IsLastPut, IsPutIn}
 use Rattle.ir_word.specs.declared.object_word.ObjectWord.{ObjectWord}
 
 -- ---- whether a call puts the word
 
 -- one that does
-ask_is_put_of_word_if_puts_is_true : (w : ObjectWord) (q : Ask) → puts_word w q ≡ true → (value : ℕ) × (q ≡ ask.Put w.object w.index value)
-ask_is_put_of_word_if_puts_is_true w ask.Private e = absurd (cc e)
-ask_is_put_of_word_if_puts_is_true w (ask.Env kind) e = absurd (cc e)
-ask_is_put_of_word_if_puts_is_true w (ask.Enter o a) e = absurd (cc e)
-ask_is_put_of_word_if_puts_is_true w (ask.Try o) e = absurd (cc e)
-ask_is_put_of_word_if_puts_is_true w (ask.Leave o a) e = absurd (cc e)
-ask_is_put_of_word_if_puts_is_true w (ask.Get o i) e = absurd (cc e)
-ask_is_put_of_word_if_puts_is_true w (ask.Put o i value) e =
+puts_word_is_put : (w : ObjectWord) (q : Ask) → puts_word w q ≡ true → (value : ℕ) × (q ≡ ask.Put w.object w.index value)
+puts_word_is_put w ask.Private e = absurd (cc e)
+puts_word_is_put w (ask.Env kind) e = absurd (cc e)
+puts_word_is_put w (ask.Enter o a) e = absurd (cc e)
+puts_word_is_put w (ask.Try o) e = absurd (cc e)
+puts_word_is_put w (ask.Leave o a) e = absurd (cc e)
+puts_word_is_put w (ask.Get o i) e = absurd (cc e)
+puts_word_is_put w (ask.Put o i value) e =
     let same = conjuncts_are_true (o == w.object) (i == w.index) e in
     (value, λ k. ask.Put (eqb-true o w.object same.0 k) (eqb-true i w.index same.1 k) value)
-ask_is_put_of_word_if_puts_is_true w ask.Print e = absurd (cc e)
-ask_is_put_of_word_if_puts_is_true w (ask.End z) e = absurd (cc e)
-ask_is_put_of_word_if_puts_is_true w ask.Done e = absurd (cc e)
+puts_word_is_put w ask.Print e = absurd (cc e)
+puts_word_is_put w (ask.End z) e = absurd (cc e)
+puts_word_is_put w ask.Done e = absurd (cc e)
 
-puts_is_true_for_put_of_word : (w : ObjectWord) (value : ℕ) → puts_word w (ask.Put w.object w.index value) ≡ true
-puts_is_true_for_put_of_word w value = ap (λ (z : Bool × Bool). z.0 && z.1) (λ i. (eq-eqb w.object w.object refl i, eq-eqb w.index w.index refl i))
+put_puts_word : (w : ObjectWord) (value : ℕ) → puts_word w (ask.Put w.object w.index value) ≡ true
+put_puts_word w value = ap (λ (z : Bool × Bool). z.0 && z.1) (λ i. (eq-eqb w.object w.object refl i, eq-eqb w.index w.index refl i))
 
 -- a step that puts the word asks to in the run that there is
-puts_is_true_if_step_puts_word : (f : FittedTrace) (w : ObjectWord) (t k : ℕ) (q : Ask) → HasRun f → EachRun f (λ run. ask_at f run t k ≡ q) → PutsAt f w t k
+step_puts_word : (f : FittedTrace) (w : ObjectWord) (t k : ℕ) (q : Ask) → HasRun f → EachRun f (λ run. ask_at f run t k ≡ q) → PutsAt f w t k
     → puts_word w q ≡ true
-puts_is_true_if_step_puts_word f w t k q h asks at =
+step_puts_word f w t k q h asks at =
     let here = at h.run h.whole in
-    sym (ap (puts_word w) (sym here.1 ∙ asks h.run h.whole)) ∙ puts_is_true_for_put_of_word w here.0
+    sym (ap (puts_word w) (sym here.1 ∙ asks h.run h.whole)) ∙ put_puts_word w here.0
 
 -- ---- further on
 
 -- no step more puts the word
-pub put_in_more_steps_without_put : (f : FittedTrace) (w : ObjectWord) (t from k to : ℕ) (put : Option ℕ) → k ≤ to
+pub put_in_more_steps : (f : FittedTrace) (w : ObjectWord) (t from k to : ℕ) (put : Option ℕ) → k ≤ to
     → ((j : ℕ) → k ≤ j → j < to → PutsAt f w t j → ⊥) → IsPutIn f w t from k put → IsPutIn f w t from to put
-put_in_more_steps_without_put f w t from k to None up none is = λ j past before at. elim (cases_lt j k) [
+put_in_more_steps f w t from k to None up none is = λ j past before at. elim (cases_lt j k) [
   | inl less ↦ is j past less at
   | inr more ↦ none j more before at
 ]
-put_in_more_steps_without_put f w t from k to (Some s) up none is = record {
+put_in_more_steps f w t from k to (Some s) up none is = record {
   past = is.past;
   before = let l = is.before in omega (arith, l, up);
   puts = is.puts;
@@ -61,32 +61,32 @@ put_in_more_steps_without_put f w t from k to (Some s) up none is = record {
 }
 
 -- there is none before the steps that are looked at
-pub put_in_empty_range_holds_for_other_empty_range : (f : FittedTrace) (w : ObjectWord) (t from k to : ℕ) (put : Option ℕ) → k ≤ from → to ≤ from → IsPutIn f w t from k put
+pub put_in_empty_range : (f : FittedTrace) (w : ObjectWord) (t from k to : ℕ) (put : Option ℕ) → k ≤ from → to ≤ from → IsPutIn f w t from k put
     → IsPutIn f w t from to put
-put_in_empty_range_holds_for_other_empty_range f w t from k to None before within is = λ j past l. absurd (omega (arith, past, l, within))
-put_in_empty_range_holds_for_other_empty_range f w t from k to (Some s) before within is = absurd (let p = is.past in let l = is.before in omega (arith, before, p, l))
+put_in_empty_range f w t from k to None before within is = λ j past l. absurd (omega (arith, past, l, within))
+put_in_empty_range f w t from k to (Some s) before within is = absurd (let p = is.past in let l = is.before in omega (arith, before, p, l))
 
 -- n steps more, with a call or with none
-pub put_in_after_steps_with_one_call_at_most : (f : FittedTrace) (w : ObjectWord) (t from k n : ℕ) (put new : Option ℕ) (call : Option Exchange) → HasRun f
+pub put_in_after_one_call : (f : FittedTrace) (w : ObjectWord) (t from k n : ℕ) (put new : Option ℕ) (call : Option Exchange) → HasRun f
     → AreCalls f t k n (option_to_list call) → ((c : Exchange) → call ≡ Some c → n ≡ 1)
     → ((c : Exchange) → call ≡ Some c → puts_word w c.asked ≡ true → new ≡ Some k)
     → (((c : Exchange) → call ≡ Some c → puts_word w c.asked ≡ false) → new ≡ put)
     → from ≤ k → IsPutIn f w t from k put → IsPutIn f w t from (k + n) new
-put_in_after_steps_with_one_call_at_most f w t from k n put new None h calls one some none within is =
+put_in_after_one_call f w t from k n put new None h calls one some none within is =
     subst (IsPutIn f w t from (k + n)) (sym (none (λ c e. absurd (cc e))))
-    (put_in_more_steps_without_put f w t from k (k + n) put (omega arith)
-    (λ j past before at. cc (puts_is_true_if_step_puts_word f w t j ask.Private h (steps_without_call_are_private f t k n calls j past before) at)) is)
-put_in_after_steps_with_one_call_at_most f w t from k n put new (Some c) h calls one some none within is = by (puts_word w c.asked) refl
+    (put_in_more_steps f w t from k (k + n) put (omega arith)
+    (λ j past before at. cc (step_puts_word f w t j ask.Private h (no_call_steps_private f t k n calls j past before) at)) is)
+put_in_after_one_call f w t from k n put new (Some c) h calls one some none within is = by (puts_word w c.asked) refl
   where
     n1 : n ≡ 1
     n1 = one c refl
 
     asks : EachRun f (λ run. ask_at f run t k ≡ c.asked)
-    asks = step_with_call_asks_what_call_asked f t k n c calls n1
+    asks = call_step_asks_call f t k n c calls n1
 
     by : (b : Bool) → puts_word w c.asked ≡ b → IsPutIn f w t from (k + n) new
     by true e =
-        let q = ask_is_put_of_word_if_puts_is_true w c.asked e in
+        let q = puts_word_is_put w c.asked e in
         subst (IsPutIn f w t from (k + n)) (sym (some c refl e)) (record {
           past = within;
           before = omega (arith, n1);
@@ -95,8 +95,8 @@ put_in_after_steps_with_one_call_at_most f w t from k n put new (Some c) h calls
         })
     by false e =
         subst (IsPutIn f w t from (k + n)) (sym (none (λ d same. subst (λ (z : Exchange). puts_word w z.asked ≡ false) (same_call c d same) e)))
-        (put_in_more_steps_without_put f w t from k (k + n) put (omega arith) (λ j past before at. true_is_not_false (puts_word w c.asked)
-        (puts_is_true_if_step_puts_word f w t j c.asked h (subst (λ i. EachRun f (λ run. ask_at f run t i ≡ c.asked)) (same_step j past before) asks) at) e) is)
+        (put_in_more_steps f w t from k (k + n) put (omega arith) (λ j past before at. true_is_not_false (puts_word w c.asked)
+        (step_puts_word f w t j c.asked h (subst (λ i. EachRun f (λ run. ask_at f run t i ≡ c.asked)) (same_step j past before) asks) at) e) is)
       where
         same_call : (c d : Exchange) → Some c ≡ Some d → c ≡ d
         same_call c d same = cc same

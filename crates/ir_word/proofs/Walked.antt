@@ -16,19 +16,19 @@ use Rattle.ir_who.specs.declared.version.Version.{Version}
 use Rattle.ir_walk.specs.Calls.{AreCalls}
 use Rattle.ir_walk.specs.declared.exchange.Exchange.{Exchange}
 use Rattle.ir_word.specs.Words.{puts_word, IsPutIn, IsWorded, unread}
-use Rattle.ir_word.specs.Track.{IsHoldOf, IsTrack, IsFound, IsPending, IsLooked, IsBeforeStop, AddsWords, AreTracked}
+use Rattle.ir_word.specs.Track.{IsHoldOf, IsWordTrack, IsTrackFound, IsTrackPending, IsLooked, IsBeforeStop, AddsWords, AreTracked}
 use Rattle.ir_word.specs.declared.hold.Hold.{Hold}
 use Rattle.ir_word.specs.declared.object_word.ObjectWord.{ObjectWord}
 use Rattle.ir_word.specs.declared.track.Track.{Track}
 use Rattle.ir_word.specs.declared.worded.Worded.{Worded}
-use Rattle.ir_word.proofs.Puts.{put_in_empty_range_holds_for_other_empty_range, put_in_after_steps_with_one_call_at_most}
-use Rattle.ir_word.proofs.Noted.{worded_version_stays_worded, version_pending_or_worded_stays_so_if_words_added}
+use Rattle.ir_word.proofs.Puts.{put_in_empty_range, put_in_after_one_call}
+use Rattle.ir_word.proofs.Noted.{worded_stays_worded, pending_or_worded_stays}
 
 -- ---- how far it goes
 
-before_stop_of_next_hold : (track : Track) (old k : ℕ) (h : Hold) → IsNonDecreasingBy (λ (z : Hold). z.leave) track.holds.items → track.next < length track.holds.items
+before_next_hold_stop : (track : Track) (old k : ℕ) (h : Hold) → IsNonDecreasingBy (λ (z : Hold). z.leave) track.holds.items → track.next < length track.holds.items
     → h ≡ slice_index_or track.holds.items track.next h → k ≤ h.leave → (old < track.from → k ≤ track.from) → IsBeforeStop old k track
-before_stop_of_next_hold track old k h sorted l here leave from = record {
+before_next_hold_stop track old k h sorted l here leave from = record {
   pending = λ i d past li.
       let up = sorted track.next i d past li in
       let same = ap (λ (z : Hold). z.leave) (here ∙ get_or_default track.holds.items track.next h d l) in
@@ -37,41 +37,41 @@ before_stop_of_next_hold track old k h sorted l here leave from = record {
 }
 
 -- the next stop, by the hold that is read out of a list of them
-pub before_stop_of_looked_up_hold : (track : Track) (hs : List Hold) (old k : ℕ) (h : Hold) → hs ≡ track.holds.items
+pub before_found_hold_stop : (track : Track) (hs : List Hold) (old k : ℕ) (h : Hold) → hs ≡ track.holds.items
     → IsNonDecreasingBy (λ (z : Hold). z.leave) track.holds.items → track.next < length hs → h ≡ slice_index_or hs track.next h → k ≤ h.leave
     → (old < track.from → k ≤ track.from) → IsBeforeStop old k track
-before_stop_of_looked_up_hold track hs old k h same sorted l here leave from =
-    before_stop_of_next_hold track old k h sorted (subst (λ (xs : List Hold). track.next < length xs) same l)
+before_found_hold_stop track hs old k h same sorted l here leave from =
+    before_next_hold_stop track old k h sorted (subst (λ (xs : List Hold). track.next < length xs) same l)
     (here ∙ ap (λ (xs : List Hold). slice_index_or xs track.next h) same) leave from
 
 -- ---- one thread goes on
 
 -- the last step that put the word, after steps that are looked at or not
-pub put_after_looked_at_steps : (f : FittedTrace) (rows : List Version) (w : ObjectWord) (t k n stop : ℕ) (old new : Track) (keeps : Bool) (call : Option Exchange) → HasRun f
-    → IsTrack f rows w t k old → IsBeforeStop k stop old → k + n ≤ stop → old.next < length old.holds.items
+pub put_after_looked_at : (f : FittedTrace) (rows : List Version) (w : ObjectWord) (t k n stop : ℕ) (old new : Track) (keeps : Bool) (call : Option Exchange) → HasRun f
+    → IsWordTrack f rows w t k old → IsBeforeStop k stop old → k + n ≤ stop → old.next < length old.holds.items
     → (keeps ≡ true → IsLooked k old) → (keeps ≡ false → IsLooked k old → ⊥) → (keeps ≡ true → AreCalls f t k n (option_to_list call))
     → (keeps ≡ false → call ≡ None) → ((c : Exchange) → call ≡ Some c → n ≡ 1)
     → ((c : Exchange) → call ≡ Some c → puts_word w c.asked ≡ true → new.put ≡ Some k)
     → (((c : Exchange) → call ≡ Some c → puts_word w c.asked ≡ false) → new.put ≡ old.put) → IsPutIn f w t old.from (k + n) new.put
-put_after_looked_at_steps f rows w t k n stop old new true call h is stops within some seen unseen calls kept one put none =
-    put_in_after_steps_with_one_call_at_most f w t old.from k n old.put new.put call h (calls refl) one put none (seen refl).1 (is.put some)
-put_after_looked_at_steps f rows w t k n stop old new false call h is stops within some seen unseen calls kept one put none =
+put_after_looked_at f rows w t k n stop old new true call h is stops within some seen unseen calls kept one put none =
+    put_in_after_one_call f w t old.from k n old.put new.put call h (calls refl) one put none (seen refl).1 (is.put some)
+put_after_looked_at f rows w t k n stop old new false call h is stops within some seen unseen calls kept one put none =
     let early : k < old.from = elim (cases_lt k old.from) [
       | inl less ↦ less
       | inr past ↦ absurd (unseen refl (some, past))
     ] in
     subst (IsPutIn f w t old.from (k + n)) (sym (none (λ c e. absurd (none_some c (sym (kept refl) ∙ e)))))
-    (put_in_empty_range_holds_for_other_empty_range f w t old.from k (k + n) old.put (omega (arith, early))
+    (put_in_empty_range f w t old.from k (k + n) old.put (omega (arith, early))
     (let a = stops.from some early in omega (arith, a, within)) (is.put some))
   where
     none_some : (c : Exchange) → None ≡ Some c → ⊥
     none_some c e = cc e
 
 -- at most to the next stop
-pub track_stays_track_up_to_next_stop : (f : FittedTrace) (rows : List Version) (w : ObjectWord) (t from k stop : ℕ) (old new : Track) → IsTrack f rows w t from old
+pub track_stays_to_next_stop : (f : FittedTrace) (rows : List Version) (w : ObjectWord) (t from k stop : ℕ) (old new : Track) → IsWordTrack f rows w t from old
     → IsBeforeStop from stop old → k ≤ stop → new.holds ≡ old.holds → new.next ≡ old.next → new.from ≡ old.from
-    → (old.next < length old.holds.items → IsPutIn f w t old.from k new.put) → IsTrack f rows w t k new
-track_stays_track_up_to_next_stop f rows w t from k stop old new is stops within holds next same put = record {
+    → (old.next < length old.holds.items → IsPutIn f w t old.from k new.put) → IsWordTrack f rows w t k new
+track_stays_to_next_stop f rows w t from k stop old new is stops within holds next same put = record {
   sorted = subst (λ v. IsNonDecreasingBy (λ (h : Hold). h.leave) v.items) (sym holds) is.sorted;
   holds = subst (λ v. (i : ℕ) (d : Hold) → i < length v.items → IsHoldOf f rows w t (slice_index_or v.items i d)) (sym holds) is.holds;
   from = subst (λ v. (i : ℕ) (d : Hold) → i < length v.items → new.from ≤ (slice_index_or v.items i d).entry + 1) (sym holds)
@@ -82,7 +82,7 @@ track_stays_track_up_to_next_stop f rows w t from k stop old new is stops within
       (put (let n = ap (λ v. length v.items) holds in omega (arith, some, n, next)));
 }
 
-pub pending_if_holds_kept : (old new : Track) → new.holds ≡ old.holds → new.next ≡ old.next → (r : ℕ) → IsPending old r → IsPending new r
+pub pending_if_holds_kept : (old new : Track) → new.holds ≡ old.holds → new.next ≡ old.next → (r : ℕ) → IsTrackPending old r → IsTrackPending new r
 pending_if_holds_kept old new holds next r p = (
   p.0,
   (let a = p.1 in omega (arith, a, next)),
@@ -92,36 +92,36 @@ pending_if_holds_kept old new holds next r p = (
 
 -- ---- all threads, one of which has gone on
 
-pub tracked_after_thread_goes_on : (f : FittedTrace) (rows : List Version) (w : ObjectWord) (t : ℕ) (old new : Standing) (ts : List Track) (track : Track) (a b : List Worded)
+pub tracked_after_going_on : (f : FittedTrace) (rows : List Version) (w : ObjectWord) (t : ℕ) (old new : Standing) (ts : List Track) (track : Track) (a b : List Worded)
     → AreTracked f rows w old ts a → IsFurther f t old new → t < length ts → AddsWords f rows w a b
-    → IsTrack f rows w t (positions (flat_in f new) t) track
-    → ((d : Track) (r : ℕ) (x : Version) → slice_get rows r ≡ Some x → IsPending (slice_index_or ts t d) r
-    → IsPending track r ⊎ IsWorded f w x (slice_index_or b r unread)) → AreTracked f rows w new (set ts t track) b
-tracked_after_thread_goes_on f rows w t old new ts track a b are further l adds is more = record {
+    → IsWordTrack f rows w t (positions (flat_in f new) t) track
+    → ((d : Track) (r : ℕ) (x : Version) → slice_get rows r ≡ Some x → IsTrackPending (slice_index_or ts t d) r
+    → IsTrackPending track r ⊎ IsWorded f w x (slice_index_or b r unread)) → AreTracked f rows w new (set ts t track) b
+tracked_after_going_on f rows w t old new ts track a b are further l adds is more = record {
   each = λ u d lu. elim (cases_eq u t) [
-    | inl same ↦ subst (λ j. IsTrack f rows w j (positions (flat_in f new) j) (slice_index_or (set ts t track) j d)
-        × IsFound f rows w b j (slice_index_or (set ts t track) j d)) (sym same)
-        (subst (λ z. IsTrack f rows w t (positions (flat_in f new) t) z × IsFound f rows w b t z) (sym (get_or-set_same ts t track d l)) (
+    | inl same ↦ subst (λ j. IsWordTrack f rows w j (positions (flat_in f new) j) (slice_index_or (set ts t track) j d)
+        × IsTrackFound f rows w b j (slice_index_or (set ts t track) j d)) (sym same)
+        (subst (λ z. IsWordTrack f rows w t (positions (flat_in f new) t) z × IsTrackFound f rows w b t z) (sym (get_or-set_same ts t track d l)) (
           is,
-          λ r x p there made own. version_pending_or_worded_stays_so_if_words_added f rows w (slice_index_or ts t d) track a b r x adds there (more d r x there)
+          λ r x p there made own. pending_or_worded_stays f rows w (slice_index_or ts t d) track a b r x adds there (more d r x there)
               ((are.each t d l).1 r x p there made own),
         ))
     | inr ne ↦
         let before = are.each u d (let n = length-set ts t track in omega (arith, n, lu)) in
-        subst (λ z. IsTrack f rows w u (positions (flat_in f new) u) z × IsFound f rows w b u z) (sym (get_or-set_other ts t u track d ne)) (
-          subst (λ k. IsTrack f rows w u k (slice_index_or ts u d)) (sym (further.others u ne)) before.0,
-          λ r x p there made own. version_pending_or_worded_stays_so_if_words_added f rows w (slice_index_or ts u d) (slice_index_or ts u d) a b r x adds there (λ z. inl z)
+        subst (λ z. IsWordTrack f rows w u (positions (flat_in f new) u) z × IsTrackFound f rows w b u z) (sym (get_or-set_other ts t u track d ne)) (
+          subst (λ k. IsWordTrack f rows w u k (slice_index_or ts u d)) (sym (further.others u ne)) before.0,
+          λ r x p there made own. pending_or_worded_stays f rows w (slice_index_or ts u d) (slice_index_or ts u d) a b r x adds there (λ z. inl z)
               (before.1 r x p there made own),
         )
   ];
-  first = λ r x there made. worded_version_stays_worded f rows w a b r x adds there (are.first r x there made);
+  first = λ r x there made. worded_stays_worded f rows w a b r x adds there (are.first r x there made);
 }
 
 -- ---- at the ends of the threads
 
 -- no hold comes
-pub no_hold_pending_at_end : (f : FittedTrace) (rows : List Version) (w : ObjectWord) (t k : ℕ) (track : Track) (r : ℕ) → IsTrack f rows w t k track
-    → (recorded_thread f.recorded t).steps ≤ k → IsPending track r → ⊥
+pub no_hold_pending_at_end : (f : FittedTrace) (rows : List Version) (w : ObjectWord) (t k : ℕ) (track : Track) (r : ℕ) → IsWordTrack f rows w t k track
+    → (recorded_thread f.recorded t).steps ≤ k → IsTrackPending track r → ⊥
 no_hold_pending_at_end f rows w t k track r is all p =
     let any : Hold = record { row = 0; entry = 0; leave = 0 } in
     let o = is.holds p.0 any p.2 in
@@ -134,8 +134,8 @@ place_is_none_or_some : (m : Option Place) → (m ≡ None) ⊎ ((p : Place) × 
 place_is_none_or_some None = inl refl
 place_is_none_or_some (Some p) = inr (p, refl)
 
-slice_index_or_is_what_slice_get_finds : (words : List Worded) (r : ℕ) (d : Worded) → slice_get words r ≡ Some d → slice_index_or words r unread ≡ d
-slice_index_or_is_what_slice_get_finds words r d there = cc (sym (slice_get-get_or words r unread (slice_get_within words r d there)) ∙ there)
+slice_index_or_is_found : (words : List Worded) (r : ℕ) (d : Worded) → slice_get words r ≡ Some d → slice_index_or words r unread ≡ d
+slice_index_or_is_found words r d there = cc (sym (slice_get-get_or words r unread (slice_get_within words r d there)) ∙ there)
 
 -- an element of a list that has some
 track_at : (ts : List Track) (t : ℕ) → t < length ts → Track
@@ -143,12 +143,12 @@ track_at [] t l = absurd (omega (arith, l))
 track_at (x ∷ ts) t l = x
 
 -- so each version is found
-pub all_versions_worded_at_end : (f : FittedTrace) (rows : List Version) (w : ObjectWord) (s : Standing) (ts : List Track) (words : List Worded) → AreTracked f rows w s ts words
+pub all_versions_worded : (f : FittedTrace) (rows : List Version) (w : ObjectWord) (s : Standing) (ts : List Track) (words : List Worded) → AreTracked f rows w s ts words
     → length words ≡ length rows → ((r : ℕ) (x : Version) (p : Place) → slice_get rows r ≡ Some x → x.made_by ≡ Some p → p.thread < length ts)
     → ((t : ℕ) → t < length ts → (recorded_thread f.recorded t).steps ≤ positions (flat_in f s) t) → ArePaired (IsWorded f w) rows words
-all_versions_worded_at_end f rows w s ts words are size within all = record {
+all_versions_worded f rows w s ts words are size within all = record {
   size = size;
-  each = λ r x d there here. subst (IsWorded f w x) (slice_index_or_is_what_slice_get_finds words r d here) (elim (place_is_none_or_some x.made_by) [
+  each = λ r x d there here. subst (IsWorded f w x) (slice_index_or_is_found words r d here) (elim (place_is_none_or_some x.made_by) [
     | inl first ↦ are.first r x there first
     | inr made ↦
         let t : ℕ = made.0.thread in

@@ -12,7 +12,7 @@ use Rattle.ir_fit.specs.Fit.{FittedTrace}
 use Rattle.ir_cut.specs.Positions.{EachRun, machine_of, start_of}
 use Rattle.ir_weave.specs.Standing.{Standing, flat_in, positions}
 use Rattle.ir_past.specs.declared.place.Place.{Place}
-use Rattle.ir_events.specs.Events.{entry_of}
+use Rattle.ir_events.specs.Events.{event_entry}
 use Rattle.ir_opened.specs.Positions.{IsInside, IsLeaveOf}
 use Rattle.ir_who.specs.Versions.{AreVersions}
 use Rattle.ir_who.specs.declared.version.Version.{Version}
@@ -24,7 +24,7 @@ use Rattle.ir_word.specs.declared.track.Track.{Track}
 use Rattle.ir_word.specs.declared.worded.Worded.{Worded}
 
 -- the rows are the versions of the object, and the run is this one
-pub record IsGuide (f : FittedTrace) (rows : List Version) (w : ObjectWord) (ends : List ℕ) (code : Marked) : Type 0 where
+pub record IsTrackGuide (f : FittedTrace) (rows : List Version) (w : ObjectWord) (ends : List ℕ) (code : Marked) : Type 0 where
   pub versions : AreVersions f.recorded w.object rows
   pub object : w.object < object_count f.guest
   pub route : IsRoute f ends code
@@ -32,7 +32,7 @@ pub record IsGuide (f : FittedTrace) (rows : List Version) (w : ObjectWord) (end
 -- the positions of the write entry of object o at this place, and of its leave
 pub record IsHold (f : FittedTrace) (o : ℕ) (p : Place) (h : Hold) : Type 0 where
   pub inside : IsInside f p.thread p.event
-  pub entry : h.entry ≡ entry_of f p.thread p.event
+  pub entry : h.entry ≡ event_entry f p.thread p.event
   pub leave : IsLeaveOf f p.thread p.event h.leave
   pub version : ℕ
   pub emits : EachRun f (λ run. Emits (machine_of f) (start_of f) run p.thread h.leave (LeftAt o Writing version))
@@ -49,11 +49,11 @@ pub record IsHoldOf (f : FittedTrace) (rows : List Version) (w : ObjectWord) (t 
   pub hold : IsHold f w.object place h
 
 -- version r is made by one of the holds that come
-abbrev pub IsPending : Track → ℕ → Type 0
-IsPending track r = (i : ℕ) × (track.next ≤ i) × (i < length track.holds.items) × ((d : Hold) → (slice_index_or track.holds.items i d).row ≡ r)
+abbrev pub IsTrackPending : Track → ℕ → Type 0
+IsTrackPending track r = (i : ℕ) × (track.next ≤ i) × (i < length track.holds.items) × ((d : Hold) → (slice_index_or track.holds.items i d).row ≡ r)
 
 -- the holds of thread t, which is at position k, and the last step that put the word where one comes
-pub record IsTrack (f : FittedTrace) (rows : List Version) (w : ObjectWord) (t k : ℕ) (track : Track) : Type 0 where
+pub record IsWordTrack (f : FittedTrace) (rows : List Version) (w : ObjectWord) (t k : ℕ) (track : Track) : Type 0 where
   pub sorted : IsNonDecreasingBy (λ (h : Hold). h.leave) track.holds.items
   pub holds : (i : ℕ) (d : Hold) → i < length track.holds.items → IsHoldOf f rows w t (slice_index_or track.holds.items i d)
   pub from : (i : ℕ) (d : Hold) → i < length track.holds.items → track.from ≤ (slice_index_or track.holds.items i d).entry + 1
@@ -61,13 +61,13 @@ pub record IsTrack (f : FittedTrace) (rows : List Version) (w : ObjectWord) (t k
   pub put : track.next < length track.holds.items → IsPutIn f w t track.from k track.put
 
 -- of each version that thread t makes by none of these holds the word is found
-abbrev pub IsFound : FittedTrace → List Version → ObjectWord → List Worded → ℕ → Track → Type 0
-IsFound f rows w words t track = (r : ℕ) (x : Version) (p : Place) → slice_get rows r ≡ Some x → x.made_by ≡ Some p → p.thread ≡ t
-    → IsPending track r ⊎ IsWorded f w x (slice_index_or words r unread)
+abbrev pub IsTrackFound : FittedTrace → List Version → ObjectWord → List Worded → ℕ → Track → Type 0
+IsTrackFound f rows w words t track = (r : ℕ) (x : Version) (p : Place) → slice_get rows r ≡ Some x → x.made_by ≡ Some p → p.thread ≡ t
+    → IsTrackPending track r ⊎ IsWorded f w x (slice_index_or words r unread)
 
 -- no hold that comes has its leave at k or below
-abbrev pub NoneDue : ℕ → Track → Type 0
-NoneDue k track = (i : ℕ) (d : Hold) → track.next ≤ i → i < length track.holds.items → k < (slice_index_or track.holds.items i d).leave
+abbrev pub NoTrackDue : ℕ → Track → Type 0
+NoTrackDue k track = (i : ℕ) (d : Hold) → track.next ≤ i → i < length track.holds.items → k < (slice_index_or track.holds.items i d).leave
 
 -- the steps from position k on are looked at
 abbrev pub IsLooked : ℕ → Track → Type 0
@@ -87,7 +87,7 @@ pub record AddsWords (f : FittedTrace) (rows : List Version) (w : ObjectWord) (o
 -- the holds of each thread, and what is found of the other versions
 pub record AreTracked (f : FittedTrace) (rows : List Version) (w : ObjectWord) (s : Standing) (tracks : List Track) (words : List Worded) : Type 0 where
   pub each : (t : ℕ) (d : Track) → t < length tracks
-      → IsTrack f rows w t (positions (flat_in f s) t) (slice_index_or tracks t d) × IsFound f rows w words t (slice_index_or tracks t d)
+      → IsWordTrack f rows w t (positions (flat_in f s) t) (slice_index_or tracks t d) × IsTrackFound f rows w words t (slice_index_or tracks t d)
   pub first : (r : ℕ) (x : Version) → slice_get rows r ≡ Some x → x.made_by ≡ None → IsWorded f w x (slice_index_or words r unread)
 
 -- a hold more
@@ -99,19 +99,19 @@ pub record IsAdded (old : Track) (h : Hold) (new : Track) : Type 0 where
   pub entry : new.from ≤ h.entry + 1
 
 -- the holds of thread t before the first step, of those that made the first n versions
-pub record IsBuilt (f : FittedTrace) (rows : List Version) (w : ObjectWord) (n t : ℕ) (track : Track) : Type 0 where
+pub record IsBuiltTrack (f : FittedTrace) (rows : List Version) (w : ObjectWord) (n t : ℕ) (track : Track) : Type 0 where
   pub next : track.next ≡ 0
   pub put : track.put ≡ None
   pub holds : (i : ℕ) (d : Hold) → i < length track.holds.items → IsHoldOf f rows w t (slice_index_or track.holds.items i d)
   pub from : (i : ℕ) (d : Hold) → i < length track.holds.items → track.from ≤ (slice_index_or track.holds.items i d).entry + 1
-  pub covered : (r : ℕ) (x : Version) (p : Place) → r < n → slice_get rows r ≡ Some x → x.made_by ≡ Some p → p.thread ≡ t → IsPending track r
+  pub covered : (r : ℕ) (x : Version) (p : Place) → r < n → slice_get rows r ≡ Some x → x.made_by ≡ Some p → p.thread ≡ t → IsTrackPending track r
 
 -- so of each thread
-abbrev pub AreBuilt : FittedTrace → List Version → ObjectWord → ℕ → List Track → Type 0
-AreBuilt f rows w n tracks = (t : ℕ) (d : Track) → t < length tracks → IsBuilt f rows w n t (slice_index_or tracks t d)
+abbrev pub AreTracksBuilt : FittedTrace → List Version → ObjectWord → ℕ → List Track → Type 0
+AreTracksBuilt f rows w n tracks = (t : ℕ) (d : Track) → t < length tracks → IsBuiltTrack f rows w n t (slice_index_or tracks t d)
 
 -- the holds that were, in the order of their leaves
-pub record IsSorted (old new : Track) : Type 0 where
+pub record IsTrackSorted (old new : Track) : Type 0 where
   pub next : new.next ≡ old.next
   pub put : new.put ≡ old.put
   pub from : new.from ≡ old.from
@@ -119,5 +119,5 @@ pub record IsSorted (old new : Track) : Type 0 where
   pub sorted : IsNonDecreasingBy (λ (h : Hold). h.leave) new.holds.items
 
 -- so of each thread
-abbrev pub AreSorted : List Track → List Track → Type 0
-AreSorted old new = (t : ℕ) (d : Track) → t < length old → IsSorted (slice_index_or old t d) (slice_index_or new t d)
+abbrev pub AreTracksSorted : List Track → List Track → Type 0
+AreTracksSorted old new = (t : ℕ) (d : Track) → t < length old → IsTrackSorted (slice_index_or old t d) (slice_index_or new t d)

@@ -7,7 +7,7 @@ use Rattle.ir_fit.specs.Fit.{FittedTrace}
 use Rattle.ir_cut.specs.Positions.{EachRun}
 use Rattle.ir_weave.specs.Ahead.{ask_at}
 use Rattle.ir_past.specs.declared.place.Place.{Place}
-use Rattle.ir_events.specs.Events.{entry_of}
+use Rattle.ir_events.specs.Events.{event_entry}
 use Rattle.ir_opened.specs.Positions.{IsLeaveOf}
 use Rattle.ir_who.specs.declared.version.Version.{Version}
 use Rattle.ir_walk.specs.Words.{AreWordsAt}
@@ -42,7 +42,7 @@ pub record IsWordLeft (f : FittedTrace) (w : ObjectWord) (p : Place) (value : �
   pub words : List ℕ
   pub there : AreWordsAt f p.thread last w.object words
   pub word : value ≡ slice_index words w.index
-  pub step : IsPutIn f w p.thread (entry_of f p.thread p.event + 1) last put
+  pub step : IsPutIn f w p.thread (event_entry f p.thread p.event + 1) last put
 
 -- so of what made a version; the first version has the image's word, which no step put
 abbrev pub IsWordOf : FittedTrace → ObjectWord → Option Place → ℕ → Option ℕ → Type 0

@@ -4,7 +4,7 @@ ghost use Rattle.std.specs.Prelude.{◌≡◌, ◌≢◌, ◌⊎◌, ◌+◌, �
 ghost use Rattle.std.specs.List.{slice_index_or};
 ghost use Rattle.ir_fit.specs.Fit.{FittedTrace};
 ghost use Rattle.ir_weave.specs.Standing.{flat_in, positions};
-ghost use Rattle.ir_events.specs.Walk.{IsOnWay};
+ghost use Rattle.ir_events.specs.Walk.{IsOnWalk};
 ghost use Rattle.ir_past.specs.declared.place.Place.{Place};
 ghost use Rattle.ir_who.specs.declared.version.Version.{Version};
 ghost use Rattle.ir_walk.specs.Calls.{AreCalls};
@@ -12,7 +12,7 @@ ghost use Rattle.ir_walk.specs.declared.exchange.Exchange.{Exchange};
 ghost use Rattle.ir_word.specs.declared.hold.Hold.{Hold};
 ghost use Rattle.ir_word.specs.declared.object_word.ObjectWord as word;
 ghost use Rattle.ir_word.specs.Words.{puts_word, IsPutIn, IsWorded, unread};
-ghost use Rattle.ir_word.specs.Track.{IsGuide, IsHoldOf, IsTrack, IsPending, NoneDue, AddsWords};
+ghost use Rattle.ir_word.specs.Track.{IsTrackGuide, IsHoldOf, IsWordTrack, IsTrackPending, NoTrackDue, AddsWords};
 
 use crate::guide::Guide;
 use crate::hold::Hold;
@@ -45,10 +45,10 @@ fn put_past(put: Option<u64>, entry: u64) -> Option<u64>
 
 // Notes the word of the version that a hold makes, where the next step of its thread leaves the object.
 fn note(guide: Guide<'_, '_>, state: &State, hold: Hold, put: Option<u64>, words: &mut [Worded])
-    requires guide { IsGuide guide.route.fitted.now guide.rows.now guide.word guide.route.ends.now guide.route.code.now }
+    requires guide { IsTrackGuide guide.route.fitted.now guide.rows.now guide.word guide.route.ends.now guide.route.code.now }
     requires size { length words.old ≡ length guide.rows.now }
     requires row { hold.row < length guide.rows.now }
-    ensures words { (t from : ℕ) → IsOnWay guide.entry.route.fitted.now guide.entry.route.ends.now state.now
+    ensures words { (t from : ℕ) → IsOnWalk guide.entry.route.fitted.now guide.entry.route.ends.now state.now
         → IsHoldOf guide.entry.route.fitted.now guide.entry.rows.now guide.entry.word t hold → hold.leave ≡ positions (flat_in guide.entry.route.fitted.now state.now) t
         → from ≤ hold.entry + 1 → IsPutIn guide.entry.route.fitted.now guide.entry.word t from hold.leave put
         → AddsWords guide.entry.route.fitted.now guide.entry.rows.now guide.entry.word words.old words.new
@@ -81,15 +81,16 @@ pub fn note_due(
     track: &mut Track,
     words: &mut [Worded],
 )
-    requires guide { IsGuide guide.route.fitted.now guide.rows.now guide.word guide.route.ends.now guide.route.code.now }
-    requires way { IsOnWay guide.route.fitted.now guide.route.ends.now state.now }
+    requires guide { IsTrackGuide guide.route.fitted.now guide.rows.now guide.word guide.route.ends.now guide.route.code.now }
+    requires way { IsOnWalk guide.route.fitted.now guide.route.ends.now state.now }
     requires thread { t < length guide.route.fitted.now.guest.entries }
-    requires track { IsTrack guide.route.fitted.now guide.rows.now guide.word t (positions (flat_in guide.route.fitted.now state.now) t) track.old }
+    requires track { IsWordTrack guide.route.fitted.now guide.rows.now guide.word t (positions (flat_in guide.route.fitted.now state.now) t) track.old }
     requires size { length words.old ≡ length guide.rows.now }
-    ensures track { IsTrack guide.entry.route.fitted.now guide.entry.rows.now guide.entry.word t (positions (flat_in guide.entry.route.fitted.now state.now) t) track.new }
-    ensures due { NoneDue (positions (flat_in guide.entry.route.fitted.now state.now) t) track.new }
+    ensures track { IsWordTrack guide.entry.route.fitted.now guide.entry.rows.now guide.entry.word t (positions (flat_in guide.entry.route.fitted.now state.now) t) track.new }
+    ensures due { NoTrackDue (positions (flat_in guide.entry.route.fitted.now state.now) t) track.new }
     ensures adds { AddsWords guide.entry.route.fitted.now guide.entry.rows.now guide.entry.word words.old words.new }
-    ensures found { (r : ℕ) (x : Version) → slice_get guide.entry.rows.now r ≡ Some x → IsPending track.old r → IsPending track.new r ⊎ IsWorded guide.entry.route.fitted.now guide.entry.word x (slice_index_or words.new r unread) }
+    ensures found { (r : ℕ) (x : Version) → slice_get guide.entry.rows.now r ≡ Some x → IsTrackPending track.old r
+        → IsTrackPending track.new r ⊎ IsWorded guide.entry.route.fitted.now guide.entry.word x (slice_index_or words.new r unread) }
 {
     let k = thread_of(state, t).steps();
     'due: while let Some(hold) = due(track, k) {

@@ -27,7 +27,10 @@ fn show_fitted<O: Sink>(
     out: &mut O,
 ) -> Result<ExitStatus, WordErr>
     requires { O.broken out.old ≡ false }
-    ensures ok { IfOk result (λ answered. (i t : List ℕ) → IsFit i t fitted.now → Answered (IsFitAnswerOf (IsWordAnswer asked.now) i t) answered (writer_of (O.written out.old) (O.written out.new) (O.broken out.new))) }
+    ensures ok { IfOk result
+        (λ answered. (i t : List ℕ) → IsFit i t fitted.now
+        → Answered (IsFitAnswerOf (IsWordAnswer asked.now) i t) answered
+        (writer_of (O.written out.old) (O.written out.new) (O.broken out.new))) }
     ensures fails { IfErr result (λ e. (i t : List ℕ) → IsFit i t fitted.now → IsWordUnanswered asked.now i t e (writer_of (O.written out.old) (O.written out.new) (O.broken out.new))) }
 {
     let text = answer(alloc, fitted, asked)?;

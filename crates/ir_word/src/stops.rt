@@ -3,7 +3,7 @@
 ghost use Rattle.std.specs.Prelude.{◌≡◌, ◌≤◌, true, false};
 ghost use Rattle.std.specs.List.Sorted.{IsNonDecreasingBy};
 ghost use Rattle.ir_word.specs.declared.hold.Hold.{Hold};
-ghost use Rattle.ir_word.specs.Track.{NoneDue, IsLooked, IsBeforeStop};
+ghost use Rattle.ir_word.specs.Track.{NoTrackDue, IsLooked, IsBeforeStop};
 
 use crate::track::Track;
 
@@ -18,7 +18,7 @@ pub fn is_looked(track: &Track, k: u64) -> bool
 // The next position past k at which a hold is looked at, or the thread's end.
 pub fn next_stop(track: &Track, k: u64, end: u64) -> u64
     requires sorted { IsNonDecreasingBy (λ (h : Hold). h.leave) track.now.holds.items }
-    requires due { NoneDue k track.now }
+    requires due { NoTrackDue k track.now }
     requires within { k ≤ end }
     ensures stop { IsBeforeStop k result track.now }
     ensures within { result ≤ end }

@@ -4,7 +4,7 @@ ghost use Rattle.std.specs.Prelude.{◌≡◌, ◌+◌, ◌<◌, ◌≤◌, ◌+
 ghost use Rattle.std.specs.List.Sorted.{IsNonDecreasingBy};
 ghost use Rattle.ir_word.specs.declared.hold.Hold.{Hold};
 ghost use Rattle.ir_word.specs.declared.track.Track.{Track};
-ghost use Rattle.ir_word.specs.Track.{IsGuide, IsAdded, AreBuilt, IsSorted, AreSorted};
+ghost use Rattle.ir_word.specs.Track.{IsTrackGuide, IsAdded, AreTracksBuilt, IsTrackSorted, AreTracksSorted};
 
 use crate::guide::Guide;
 use crate::hold::Hold;
@@ -38,7 +38,7 @@ fn add_hold(track: &mut Track, hold: Hold) -> Result<(), AllocError>
 
 // Brings its holds into the order of their leaves.
 fn sort(track: &mut Track) -> Result<(), AllocError>
-    ensures { OnOk result (IsSorted track.old track.new) }
+    ensures { OnOk result (IsTrackSorted track.old track.new) }
 {
     track.holds.sort_by_key(|hold| hold.leave)?;
     Ok(())
@@ -46,12 +46,12 @@ fn sort(track: &mut Track) -> Result<(), AllocError>
 
 // Adds the hold that made a version to those of its thread.
 fn add_row(guide: Guide<'_, '_>, tracks: &mut [Track], row: usize) -> Result<(), AllocError>
-    requires guide { IsGuide guide.route.fitted.now guide.rows.now guide.word guide.route.ends.now guide.route.code.now }
+    requires guide { IsTrackGuide guide.route.fitted.now guide.rows.now guide.word guide.route.ends.now guide.route.code.now }
     requires size { length tracks.old ≡ length guide.route.fitted.now.guest.entries }
     requires row { row < length guide.rows.now }
-    requires built { AreBuilt guide.route.fitted.now guide.rows.now guide.word row tracks.old }
+    requires built { AreTracksBuilt guide.route.fitted.now guide.rows.now guide.word row tracks.old }
     ensures size { length tracks.new ≡ length tracks.old }
-    ensures built { OnOk result (AreBuilt guide.entry.route.fitted.now guide.entry.rows.now guide.entry.word (row + 1) tracks.new) }
+    ensures built { OnOk result (AreTracksBuilt guide.entry.route.fitted.now guide.entry.rows.now guide.entry.word (row + 1) tracks.new) }
 {
     let Some(place) = guide.rows[row].made_by else {
         return Ok(());
@@ -65,7 +65,7 @@ fn add_row(guide: Guide<'_, '_>, tracks: &mut [Track], row: usize) -> Result<(),
 // Each thread without holds.
 fn empty_tracks(guide: Guide<'_, '_>) -> Result<Vec<Track>, AllocError>
     ensures size { IfOk result (λ v. length v.items ≡ length guide.entry.route.fitted.now.guest.entries) }
-    ensures built { IfOk result (λ v. AreBuilt guide.entry.route.fitted.now guide.entry.rows.now guide.entry.word 0 v.items) }
+    ensures built { IfOk result (λ v. AreTracksBuilt guide.entry.route.fitted.now guide.entry.rows.now guide.entry.word 0 v.items) }
 {
     let threads = guide.route.fitted.image().entries().len();
     let mut tracks = Vec::with_capacity(guide.route.alloc, threads)?;
@@ -78,7 +78,7 @@ fn empty_tracks(guide: Guide<'_, '_>) -> Result<Vec<Track>, AllocError>
 // Sorts the holds of each thread.
 fn sort_all(tracks: &mut [Track]) -> Result<(), AllocError>
     ensures size { length tracks.new ≡ length tracks.old }
-    ensures sorted { OnOk result (AreSorted tracks.old tracks.new) }
+    ensures sorted { OnOk result (AreTracksSorted tracks.old tracks.new) }
 {
     for t in 0..tracks.len() {
         sort(&mut tracks[t])?;
@@ -88,9 +88,9 @@ fn sort_all(tracks: &mut [Track]) -> Result<(), AllocError>
 
 /// The holds of each thread, in the order of their leaves.
 pub fn tracks(guide: Guide<'_, '_>) -> Result<Vec<Track>, AllocError>
-    requires guide { IsGuide guide.route.fitted.now guide.rows.now guide.word guide.route.ends.now guide.route.code.now }
+    requires guide { IsTrackGuide guide.route.fitted.now guide.rows.now guide.word guide.route.ends.now guide.route.code.now }
     ensures size { IfOk result (λ v. length v.items ≡ length guide.entry.route.fitted.now.guest.entries) }
-    ensures built { IfOk result (λ v. AreBuilt guide.entry.route.fitted.now guide.entry.rows.now guide.entry.word (length guide.entry.rows.now) v.items) }
+    ensures built { IfOk result (λ v. AreTracksBuilt guide.entry.route.fitted.now guide.entry.rows.now guide.entry.word (length guide.entry.rows.now) v.items) }
     ensures sorted { IfOk result (λ v. (t : ℕ) (d : Track) → t < length v.items → IsNonDecreasingBy (λ (h : Hold). h.leave) (slice_index_or v.items t d).holds.items) }
 {
     let mut tracks = empty_tracks(guide)?;

@@ -3,11 +3,11 @@
 ghost use Rattle.std.specs.Prelude.{◌≡◌, ◌⊎◌, ◌<◌, ◌≤◌, ℕ, true, false, length, slice_get, Some};
 ghost use Rattle.std.specs.List.{slice_index_or};
 ghost use Rattle.ir_weave.specs.Standing.{flat_in, positions};
-ghost use Rattle.ir_weave.specs.Stepping.{Rests};
-ghost use Rattle.ir_events.specs.Walk.{IsOnWay, IsFurther};
+ghost use Rattle.ir_weave.specs.Stepping.{RestsAtTarget};
+ghost use Rattle.ir_events.specs.Walk.{IsOnWalk, IsFurther};
 ghost use Rattle.ir_who.specs.declared.version.Version.{Version};
 ghost use Rattle.ir_word.specs.Words.{IsWorded, unread};
-ghost use Rattle.ir_word.specs.Track.{IsGuide, IsTrack, IsPending, AddsWords};
+ghost use Rattle.ir_word.specs.Track.{IsTrackGuide, IsWordTrack, IsTrackPending, AddsWords};
 
 use crate::guide::Guide;
 use crate::noting::{note_due, note_put};
@@ -25,18 +25,19 @@ fn stretch(
     track: &mut Track,
     words: &mut [Worded],
 ) -> (State, bool)
-    requires guide { IsGuide guide.route.fitted.now guide.rows.now guide.word guide.route.ends.now guide.route.code.now }
-    requires way { IsOnWay guide.route.fitted.now guide.route.ends.now state }
+    requires guide { IsTrackGuide guide.route.fitted.now guide.rows.now guide.word guide.route.ends.now guide.route.code.now }
+    requires way { IsOnWalk guide.route.fitted.now guide.route.ends.now state }
     requires thread { t < length guide.route.fitted.now.guest.entries }
-    requires track { IsTrack guide.route.fitted.now guide.rows.now guide.word t (positions (flat_in guide.route.fitted.now state) t) track.old }
+    requires track { IsWordTrack guide.route.fitted.now guide.rows.now guide.word t (positions (flat_in guide.route.fitted.now state) t) track.old }
     requires size { length words.old ≡ length guide.rows.now }
-    ensures way { IsOnWay guide.entry.route.fitted.now guide.entry.route.ends.now result.0 }
+    ensures way { IsOnWalk guide.entry.route.fitted.now guide.entry.route.ends.now result.0 }
     ensures further { IsFurther guide.entry.route.fitted.now t state result.0 }
-    ensures track { IsTrack guide.entry.route.fitted.now guide.entry.rows.now guide.entry.word t (positions (flat_in guide.entry.route.fitted.now result.0) t) track.new }
+    ensures track { IsWordTrack guide.entry.route.fitted.now guide.entry.rows.now guide.entry.word t (positions (flat_in guide.entry.route.fitted.now result.0) t) track.new }
     ensures adds { AddsWords guide.entry.route.fitted.now guide.entry.rows.now guide.entry.word words.old words.new }
-    ensures found { (r : ℕ) (x : Version) → slice_get guide.entry.rows.now r ≡ Some x → IsPending track.old r → IsPending track.new r ⊎ IsWorded guide.entry.route.fitted.now guide.entry.word x (slice_index_or words.new r unread) }
+    ensures found { (r : ℕ) (x : Version) → slice_get guide.entry.rows.now r ≡ Some x → IsTrackPending track.old r
+        → IsTrackPending track.new r ⊎ IsWorded guide.entry.route.fitted.now guide.entry.word x (slice_index_or words.new r unread) }
     ensures moved { result.1 ≡ true → positions (flat_in guide.entry.route.fitted.now state) t < positions (flat_in guide.entry.route.fitted.now result.0) t }
-    ensures rests { result.1 ≡ false → Rests guide.entry.route.fitted.now guide.entry.route.ends.now (flat_in guide.entry.route.fitted.now result.0) t }
+    ensures rests { result.1 ≡ false → RestsAtTarget guide.entry.route.fitted.now guide.entry.route.ends.now (flat_in guide.entry.route.fitted.now result.0) t }
 {
     note_due(guide, &state, t, track, words);
     let from = thread_of(&state, t).steps();
@@ -55,17 +56,18 @@ pub fn visit_thread(
     track: &mut Track,
     words: &mut [Worded],
 ) -> State
-    requires guide { IsGuide guide.route.fitted.now guide.rows.now guide.word guide.route.ends.now guide.route.code.now }
-    requires way { IsOnWay guide.route.fitted.now guide.route.ends.now state }
+    requires guide { IsTrackGuide guide.route.fitted.now guide.rows.now guide.word guide.route.ends.now guide.route.code.now }
+    requires way { IsOnWalk guide.route.fitted.now guide.route.ends.now state }
     requires thread { t < length guide.route.fitted.now.guest.entries }
-    requires track { IsTrack guide.route.fitted.now guide.rows.now guide.word t (positions (flat_in guide.route.fitted.now state) t) track.old }
+    requires track { IsWordTrack guide.route.fitted.now guide.rows.now guide.word t (positions (flat_in guide.route.fitted.now state) t) track.old }
     requires size { length words.old ≡ length guide.rows.now }
-    ensures way { IsOnWay guide.entry.route.fitted.now guide.entry.route.ends.now result }
+    ensures way { IsOnWalk guide.entry.route.fitted.now guide.entry.route.ends.now result }
     ensures further { IsFurther guide.entry.route.fitted.now t state result }
-    ensures track { IsTrack guide.entry.route.fitted.now guide.entry.rows.now guide.entry.word t (positions (flat_in guide.entry.route.fitted.now result) t) track.new }
+    ensures track { IsWordTrack guide.entry.route.fitted.now guide.entry.rows.now guide.entry.word t (positions (flat_in guide.entry.route.fitted.now result) t) track.new }
     ensures adds { AddsWords guide.entry.route.fitted.now guide.entry.rows.now guide.entry.word words.old words.new }
-    ensures found { (r : ℕ) (x : Version) → slice_get guide.entry.rows.now r ≡ Some x → IsPending track.old r → IsPending track.new r ⊎ IsWorded guide.entry.route.fitted.now guide.entry.word x (slice_index_or words.new r unread) }
-    ensures rests { Rests guide.entry.route.fitted.now guide.entry.route.ends.now (flat_in guide.entry.route.fitted.now result) t }
+    ensures found { (r : ℕ) (x : Version) → slice_get guide.entry.rows.now r ≡ Some x → IsTrackPending track.old r
+        → IsTrackPending track.new r ⊎ IsWorded guide.entry.route.fitted.now guide.entry.word x (slice_index_or words.new r unread) }
+    ensures rests { RestsAtTarget guide.entry.route.fitted.now guide.entry.route.ends.now (flat_in guide.entry.route.fitted.now result) t }
 {
     let mut state = state;
     'stretches: loop {

@@ -4,11 +4,11 @@ ghost use Rattle.std.specs.Prelude.{◌≡◌, ◌<◌, ◌≤◌, ℕ, length, 
 ghost use Rattle.ir_image.specs.Guest.{object_count};
 ghost use Rattle.ir_trace.specs.Recorded.{recorded_thread};
 ghost use Rattle.ir_weave.specs.Standing.{flat_in, positions};
-ghost use Rattle.ir_events.specs.Walk.{IsOnWay, IsPass};
+ghost use Rattle.ir_events.specs.Walk.{IsOnWalk, IsWalkPass};
 ghost use Rattle.ir_opened.specs.Paired.{ArePaired};
 ghost use Rattle.ir_who.specs.Versions.{AreVersions};
 ghost use Rattle.ir_word.specs.Words.{IsWorded};
-ghost use Rattle.ir_word.specs.Track.{IsGuide, AreTracked};
+ghost use Rattle.ir_word.specs.Track.{IsTrackGuide, AreTracked};
 
 use crate::guide::Guide;
 use crate::object_word::ObjectWord;
@@ -26,12 +26,12 @@ use std::alloc::{AllocError, Global};
 
 // Takes each thread in turn as far as it can go by itself.
 fn pass(guide: Guide<'_, '_>, state: State, tracks: &mut [Track], words: &mut [Worded]) -> State
-    requires guide { IsGuide guide.route.fitted.now guide.rows.now guide.word guide.route.ends.now guide.route.code.now }
-    requires way { IsOnWay guide.route.fitted.now guide.route.ends.now state }
+    requires guide { IsTrackGuide guide.route.fitted.now guide.rows.now guide.word guide.route.ends.now guide.route.code.now }
+    requires way { IsOnWalk guide.route.fitted.now guide.route.ends.now state }
     requires tracks { length tracks.old ≡ length guide.route.fitted.now.guest.entries }
     requires size { length words.old ≡ length guide.rows.now }
     requires tracked { AreTracked guide.route.fitted.now guide.rows.now guide.word state tracks.old words.old }
-    ensures passed { IsPass guide.entry.route.fitted.now guide.entry.route.ends.now (length tracks.old) state result }
+    ensures passed { IsWalkPass guide.entry.route.fitted.now guide.entry.route.ends.now (length tracks.old) state result }
     ensures tracks { length tracks.new ≡ length tracks.old }
     ensures size { length words.new ≡ length words.old }
     ensures tracked { AreTracked guide.entry.route.fitted.now guide.entry.rows.now guide.entry.word result tracks.new words.new }
@@ -45,8 +45,8 @@ fn pass(guide: Guide<'_, '_>, state: State, tracks: &mut [Track], words: &mut [W
 
 // Takes all threads to their ends.
 fn walk(guide: Guide<'_, '_>, state: State, tracks: &mut [Track], words: &mut [Worded])
-    requires guide { IsGuide guide.route.fitted.now guide.rows.now guide.word guide.route.ends.now guide.route.code.now }
-    requires way { IsOnWay guide.route.fitted.now guide.route.ends.now state }
+    requires guide { IsTrackGuide guide.route.fitted.now guide.rows.now guide.word guide.route.ends.now guide.route.code.now }
+    requires way { IsOnWalk guide.route.fitted.now guide.route.ends.now state }
     requires tracks { length tracks.old ≡ length guide.route.fitted.now.guest.entries }
     requires size { length words.old ≡ length guide.rows.now }
     requires tracked { AreTracked guide.route.fitted.now guide.rows.now guide.word state tracks.old words.old }

@@ -1,7 +1,7 @@
 use Rattle.std.proofs.Common.{◌∙◌, sym, arith}
 use Rattle.ir_live.specs.Table.{kept_registers}
 use Rattle.ir_freeze.proofs.Kept.{kept_registers_count, kept_register_at}
-use Rattle.ir_freeze.proofs.Written.{written_and_remaining_words_step_by_word, written_words_are_whole_after_last}
+use Rattle.ir_freeze.proofs.Written.{words_word_step, written_words_whole}
 use Rattle.ir_freeze.proofs.freezing.put_registers.Goals as goal
 
 pub loop-n-preserved : goal.loop-n-preserved
@@ -9,7 +9,7 @@ loop-n-preserved c =
     let words = kept_registers c.args.live.now c.args.mach.now in
     let count = kept_registers_count c.args.live.now c.args.mach.now in
     let less = c.loop-n-test.true in
-    written_and_remaining_words_step_by_word words c.loop-n.out.items c.put_word-in-loop-n.new.out.items _ c.loop-n.n c.kept.result
+    words_word_step words c.loop-n.out.items c.put_word-in-loop-n.new.out.items _ c.loop-n.n c.kept.result
     (omega (arith, count, less)) (c.kept.ensures ∙ sym (kept_register_at c.args.live.now c.args.mach.now c.loop-n.n less))
     c.in_ok-put_word-2.ensures c.loop-n.invariant
 
@@ -17,5 +17,5 @@ pub returns : goal.returns
 returns c =
     let count = kept_registers_count c.args.live.now c.args.mach.now in
     let past = c.loop-n-test.false in
-    written_words_are_whole_after_last (kept_registers c.args.live.now c.args.mach.now) c.loop-n.out.items _ c.loop-n.n
+    written_words_whole (kept_registers c.args.live.now c.args.mach.now) c.loop-n.out.items _ c.loop-n.n
     (omega (arith, count, past)) c.loop-n.invariant

@@ -1,11 +1,11 @@
 use Rattle.std.proofs.Common.{◌≡◌, length}
-use Rattle.ir_live.specs.Marks.{AreLive, unmarked}
+use Rattle.ir_live.specs.Marks.{AreMarksLive, unmarked}
 use Rattle.ir_live.proofs.sweep.mark_live.Given as goal
 
 abbrev pub invariant-sweeps : goal.invariant-sweeps
 invariant-sweeps l = record {
   size : length l.marks ≡ length l.fn.marks;
-  live : AreLive l.code l.marks;
+  live : AreMarksLive l.code l.marks;
 }
 
 abbrev pub decreases-sweeps : goal.decreases-sweeps

@@ -1,12 +1,12 @@
 use Rattle.std.proofs.Common.{◌<◌, ◌∙◌, ap, sym, length, get_or, arith}
 use Rattle.ir_store.specs.declared.spot.Spot.{Spot}
 use Rattle.ir_store.proofs.Stored.{get_or_map}
-use Rattle.ir_store.proofs.Looks.{object_words_equal_if_numbers_equal}
+use Rattle.ir_store.proofs.Looks.{same_numbers_same_words}
 use Rattle.ir_store.proofs.compare.same_spots.Goals as goal
 
 pub returns-clause-same : goal.returns-clause-same
 returns-clause-same c = λ _ words o.
-    object_words_equal_if_numbers_equal words c.args.first.now c.args.second.now c.if-first-second.false
+    same_numbers_same_words words c.args.first.now c.args.second.now c.if-first-second.false
     (λ p lt. c.loop-o.invariant p (let a = c.loop-o-test.false in let b = c.loop-o.auto.o-end in omega (arith, lt, a, b))) o
 
 pub returns-then-first-o-clause-other : goal.returns-then-first-o-clause-other

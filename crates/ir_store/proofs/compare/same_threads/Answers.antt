@@ -1,7 +1,7 @@
 use Rattle.std.proofs.Common.{◌≡◌, ◌<◌, ◌∙◌, ap, inl, inr, get_or, length, sym, subst, arith}
 use Rattle.std.proofs.lemmas.Bool.{cases_lt}
 use Rattle.std.proofs.lemmas.Option.{slice_get-get_or}
-use Rattle.ir_lemmas.proofs.CallerLemmas.{get_or_element_satisfies_all_by_recursion}
+use Rattle.ir_lemmas.proofs.CallerLemmas.{get_or_satisfies}
 use Rattle.ir_store.specs.Nodes.{MomentsLookSame}
 use Rattle.ir_store.specs.Table.{idle_beside, beside_at}
 use Rattle.ir_store.proofs.Stored.{beside_at_is_element, get_or_map}
@@ -21,8 +21,8 @@ loop-t-preserved c = λ u less.
     let n = get_or second t 0 in
     let here : MomentsLookSame code (get_or items m idle_beside) (get_or items n idle_beside) =
     c.same_look.ensures.same c.if-not-same_look.false (get_or items m idle_beside) (get_or items n idle_beside)
-    (slice_get-get_or items m idle_beside (get_or_element_satisfies_all_by_recursion (λ k. k < length items) first t 0 c.requires.first lt))
-    (slice_get-get_or items n idle_beside (get_or_element_satisfies_all_by_recursion (λ k. k < length items) second t 0 c.requires.second lt')) in
+    (slice_get-get_or items m idle_beside (get_or_satisfies (λ k. k < length items) first t 0 c.requires.first lt))
+    (slice_get-get_or items n idle_beside (get_or_satisfies (λ k. k < length items) second t 0 c.requires.second lt')) in
     let there : MomentsLookSame code (beside_at items first t) (beside_at items second t) =
     subst (λ z. MomentsLookSame code z (beside_at items second t)) (sym (beside_at_is_element items first t 0 lt))
     (subst (MomentsLookSame code (get_or items m idle_beside)) (sym (beside_at_is_element items second t 0 lt')) here) in

@@ -1,13 +1,13 @@
 use Rattle.std.proofs.Common.{◌∙◌, sym, arith, inl, inr}
-use Rattle.ir_store.proofs.Alike.{nothing_like_if_all_passed_over}
+use Rattle.ir_store.proofs.Alike.{all_passed_none_like}
 use Rattle.ir_store.proofs.table.look_for.Goals as goal
 
 pub returns-in_err-m-clause-none : goal.returns-in_err-m-clause-none
 returns-in_err-m-clause-none c = λ _ n x at like.
-    nothing_like_if_all_passed_over c.args.rows.now c.args.seen.now (c.args.thread.now, c.args.source.now) c.args.hash c.loop-steps.steps c.requires.look c.each.ensures.looks
+    all_passed_none_like c.args.rows.now c.args.seen.now (c.args.thread.now, c.args.source.now) c.args.hash c.loop-steps.steps c.requires.look c.each.ensures.looks
     c.requires.hash c.loop-steps.invariant (inl (sym c.at.ensures ∙ c.in_err-m.was)) n x at like
 
 pub returns-clause-none : goal.returns-clause-none
 returns-clause-none c = λ _ n x at like.
-    nothing_like_if_all_passed_over c.args.rows.now c.args.seen.now (c.args.thread.now, c.args.source.now) c.args.hash c.loop-steps.steps c.requires.look c.each.ensures.looks
+    all_passed_none_like c.args.rows.now c.args.seen.now (c.args.thread.now, c.args.source.now) c.args.hash c.loop-steps.steps c.requires.look c.each.ensures.looks
     c.requires.hash c.loop-steps.invariant (inr (let a = c.loop-steps-test.false in omega (arith, a))) n x at like

@@ -1,5 +1,5 @@
 use Rattle.ir_events.proofs.CallerLemmas.{ends_are_consistent_cut}
-use Rattle.ir_walk.proofs.Taken.{standing_calls_nothing_over_private_steps}
+use Rattle.ir_walk.proofs.Taken.{private_calls_nothing}
 use Rattle.ir_walk.proofs.stepping.go_privately.Goals as goal
 
 pub advance_unmarked-requires-clause-target : goal.advance_unmarked-requires-clause-target
@@ -9,6 +9,6 @@ advance_unmarked-requires-clause-target c = (
 )
 
 pub returns-clause-calls : goal.returns-clause-calls
-returns-clause-calls c = standing_calls_nothing_over_private_steps c.args.route.fitted.now c.args.route.code.now.words c.args.state c.advance_unmarked.result.0 c.args.t
+returns-clause-calls c = private_calls_nothing c.args.route.fitted.now c.args.route.code.now.words c.args.state c.advance_unmarked.result.0 c.args.t
     c.advance_unmarked.result.1 c.requires.route.words c.requires.way.stands c.advance_unmarked.ensures.stands c.advance_unmarked.ensures.gone
     c.advance_unmarked.ensures.unmarked.steps

@@ -1,7 +1,7 @@
 use Rattle.std.proofs.Common.{◌≡◌, ◌∙◌, ap, arith}
 use Rattle.ir_image.specs.Guest.{Guest}
 use Rattle.ir_events.proofs.CallerLemmas.{ends_are_consistent_cut}
-use Rattle.ir_walk.proofs.Taken.{no_calls_taken_in_no_step, calls_taken_in_one_step}
+use Rattle.ir_walk.proofs.Taken.{no_step_no_calls, calls_taken_in_one_step}
 use Rattle.ir_walk.proofs.stepping.take_one.Goals as goal
 
 pub advance_alone-state-requires-clause-target : goal.advance_alone-state-requires-clause-target
@@ -11,7 +11,7 @@ advance_alone-state-requires-clause-target c = (
 )
 
 pub returns-then-steps-eq0-clause-calls : goal.returns-then-steps-eq0-clause-calls
-returns-then-steps-eq0-clause-calls c = no_calls_taken_in_no_step c.args.route.fitted.now c.args.t _ c.advance_alone-state.result.1 c.if-steps-eq0.true
+returns-then-steps-eq0-clause-calls c = no_step_no_calls c.args.route.fitted.now c.args.t _ c.advance_alone-state.result.1 c.if-steps-eq0.true
 
 pub returns-clause-calls : goal.returns-clause-calls
 returns-clause-calls c =

@@ -7,7 +7,8 @@ use Rattle.ir_within.specs.Aspects.{what_counts}
 use Rattle.ir_within.specs.Judging.{AreSeen}
 use Rattle.ir_within.specs.Plans.{aspects_of}
 use Rattle.ir_within.specs.Seen.{value_of}
-use Rattle.ir_within.proofs.Compared.{map_after_push, one_more_seen}
+use Rattle.ir_within.proofs.Compared.{one_more_seen}
+use Rattle.ir_lemmas.proofs.CallerLemmas.{map_of_append_item}
 use Rattle.ir_within.proofs.judging.all_seen.Goals as goal
 
 pub state_of-requires : goal.state_of-requires
@@ -30,5 +31,5 @@ loop-shown-preserved c =
     let is : value_of own ≡ what_counts a (end_state s.flat) =
     subst (λ (z : SourcedFlat). value_of own ≡ what_counts a (end_state z.flat)) c.state.view_is c.in_ok-own.ensures in
     subst (λ z. AreSeen a flats z (map value_of c.push.new.self.items)) (ap (λ y. take i xs ++ y ∷ []) c.shown-item.is ∙ sym (take_more xs i x c.loop-shown-test.true))
-    (subst (AreSeen a flats (take i xs ++ x ∷ [])) (sym (ap (map value_of) c.in_ok-push.ensures.items ∙ map_after_push value_of all own))
+    (subst (AreSeen a flats (take i xs ++ x ∷ [])) (sym (ap (map value_of) c.in_ok-push.ensures.items ∙ map_of_append_item value_of all own))
     (one_more_seen a flats (take i xs) (map value_of all) x s (value_of own) c.loop-shown.invariant c.in_ok-state.ensures.value c.in_ok-state.ensures.flat is))

@@ -1,11 +1,12 @@
 use Rattle.std.proofs.Common.{◌++◌, ◌∙◌, Ok, Err, ap, inl}
 use Rattle.std.specs.Prelude.{codes}
 use Rattle.ir_explore.specs.Texts.{known_of}
-use Rattle.ir_within.proofs.Compared.{on_ok, on_ok_of_both}
+use Rattle.ir_within.proofs.Compared.{on_ok_of_both}
+use Rattle.ir_lemmas.proofs.CallerLemmas.{if_ok_of_implied}
 use Rattle.ir_within.proofs.run.told_of.Goals as goal
 
 pub returns-then-is_finished : goal.returns-then-is_finished
-returns-then-is_finished g c = on_ok _ _ c.told_beside.result (λ told f. f c.args.other.now c.in-Ok.ensures.known) c.told_beside.ensures
+returns-then-is_finished g c = if_ok_of_implied _ _ c.told_beside.result (λ told f. f c.args.other.now c.in-Ok.ensures.known) c.told_beside.ensures
 
 pub returns-in_ok-line-in-Ok : goal.returns-in_ok-line-in-Ok
 returns-in_ok-line-in-Ok g c =

@@ -7,7 +7,7 @@ use Rattle.ir_weave.specs.Standing.{flat_in, positions}
 use Rattle.ir_word.specs.Words.{IsPutIn, IsWorded, unread}
 use Rattle.ir_word.specs.Track.{IsHoldOf}
 use Rattle.ir_word.specs.declared.hold.Hold.{Hold}
-use Rattle.ir_word.proofs.Noted.{adds_words_transitive, worded_version_stays_worded, track_after_next_hold, pending_row_stays_pending_or_is_of_hold_passed, none_due_if_next_leaves_elsewhere}
+use Rattle.ir_word.proofs.Noted.{adds_words_transitive, worded_stays_worded, track_after_next_hold, pending_or_hold_passed, leaves_elsewhere_none_due}
 use Rattle.ir_word.proofs.noting.note_due.Goals as goal
 
 pub note-requires-clause-row : goal.note-requires-clause-row
@@ -42,8 +42,8 @@ due-preserved c =
       track = track_after_next_hold f rows w t k old _ inv.track next.0 refl;
       adds = adds_words_transitive f rows w c.args.words.now c.due.words words inv.adds noted.0;
       found = λ r x there was. elim (inv.found r x there was) [
-        | inr found ↦ inr (worded_version_stays_worded f rows w c.due.words words r x noted.0 there found)
-        | inl pending ↦ elim (pending_row_stays_pending_or_is_of_hold_passed old _ h refl next.2 r pending) [
+        | inr found ↦ inr (worded_stays_worded f rows w c.due.words words r x noted.0 there found)
+        | inl pending ↦ elim (pending_or_hold_passed old _ h refl next.2 r pending) [
           | inl still ↦ inl still
           | inr same ↦ inr (subst (λ j. IsWorded f w x (slice_index_or words j unread)) same
               (noted.1 x (subst (λ j. slice_get rows j ≡ Some x) (sym same) there)))
@@ -56,5 +56,5 @@ returns-clause-due c =
     let f = c.args.guide.route.fitted.now in
     let k : ℕ = positions (flat_in f c.args.state.now) c.args.t in
     let here : c.steps-k.result ≡ k = c.steps-k.ensures.value ∙ ap (λ (x : thread.ThreadState). x.steps) c.thread_of.ensures in
-    none_due_if_next_leaves_elsewhere f c.args.guide.rows.now c.args.guide.word c.args.t k c.due.track c.due.invariant.track
+    leaves_elsewhere_none_due f c.args.guide.rows.now c.args.guide.word c.args.t k c.due.track c.due.invariant.track
     (λ l d e. c.in_default.ensures.later l d (e ∙ sym here))

@@ -3,11 +3,11 @@ use Rattle.std.specs.List.{slice_index_or}
 use Rattle.std.proofs.lemmas.Option.{slice_get_within, slice_get-get_or}
 use Rattle.ir_who.specs.declared.version.Version.{Version}
 use Rattle.ir_word.specs.Words.{unread}
-use Rattle.ir_word.proofs.Begun.{object_has_first_words_at_start, first_version_has_first_word, are_first_worded_of_no_version, are_first_worded_step}
+use Rattle.ir_word.proofs.Begun.{start_has_first_words, first_version_worded, no_versions_first_worded, are_first_worded_step}
 use Rattle.ir_word.proofs.start.first_words.Goals as goal
 
 pub loop-row-init : goal.loop-row-init
-loop-row-init c = are_first_worded_of_no_version c.args.guide.rows.now c.word_at-word.result c.new-words.result.items c.new-words.ensures.items
+loop-row-init c = no_versions_first_worded c.args.guide.rows.now c.word_at-word.result c.new-words.result.items c.new-words.ensures.items
 
 pub loop-row-preserved : goal.loop-row-preserved
 loop-row-preserved c =
@@ -29,5 +29,5 @@ returns-clause-first c r x there made =
     let f = c.args.guide.route.fitted.now in
     let w = c.args.guide.word in
     let l : r < c.loop-row.row-index = (let a = slice_get_within c.args.guide.rows.now r x there in let b = c.loop-row-test.false in omega (arith, a, b)) in
-    first_version_has_first_word f w x (slice_index_or c.loop-row.words.items r unread) c.word_at-word.result (c.loop-row.invariant.each r x l there)
-    (c.word_at-word.ensures ∙ object_has_first_words_at_start f c.args.state.now c.requires.guide.route.last.run c.requires.start w.object w.index c.requires.guide.object) made
+    first_version_worded f w x (slice_index_or c.loop-row.words.items r unread) c.word_at-word.result (c.loop-row.invariant.each r x l there)
+    (c.word_at-word.ensures ∙ start_has_first_words f c.args.state.now c.requires.guide.route.last.run c.requires.start w.object w.index c.requires.guide.object) made

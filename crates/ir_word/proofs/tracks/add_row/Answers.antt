@@ -4,8 +4,9 @@ use Rattle.std.proofs.lemmas.Result.{on_ok_weaker}
 use Rattle.std.proofs.lemmas.Option.{slice_get-get_or}
 use Rattle.ir_opened.specs.Positions.{IsInside}
 use Rattle.ir_who.specs.declared.version.Version.{Version}
-use Rattle.ir_word.proofs.Built.{built_after_own_version, all_built_after_track_set}
-use Rattle.ir_word.proofs.Holding.{version_maker_is_write, version_maker_is_inside, write_entry_is_left}
+use Rattle.ir_word.proofs.Built.{built_after_own_version, all_built_track_set}
+use Rattle.ir_word.proofs.Holding.{version_maker_is_write, write_entry_is_left}
+use Rattle.ir_who.proofs.CallerLemmas.{version_maker_is_inside}
 use Rattle.ir_word.proofs.tracks.add_row.Goals as goal
 
 abbrev no_version : Version
@@ -45,7 +46,7 @@ returns-in-Some-hold_of-clause-built c =
     let hold = c.in-Some-hold_of.ensures.hold w.object write.0 write.1 write.2 in
     let l : place.thread < length c.args.tracks.now = (let a = inside.thread in let b = c.requires.size in omega (arith, a, b)) in
     let old = c.index-tracks-place.result in
-    on_ok_weaker c.add_hold.result (λ added. all_built_after_track_set f rows w c.args.row place.thread c.args.tracks.now c.add_hold.new.track x place l c.requires.built there
+    on_ok_weaker c.add_hold.result (λ added. all_built_track_set f rows w c.args.row place.thread c.args.tracks.now c.add_hold.new.track x place l c.requires.built there
     c.in-Some.is refl (built_after_own_version f rows w c.args.row place.thread _ c.add_hold.new.track x place h (c.requires.built place.thread old l) there c.in-Some.is refl
     c.in-Some-hold_of.ensures.row hold added)) c.add_hold.ensures
 

@@ -1,6 +1,6 @@
 use Rattle.std.proofs.Common.{◌+◌, ◌∙◌, ap, length, length-append, [], ◌∷◌, arith}
 use Rattle.ir_image.specs.Guest.{Guest}
-use Rattle.ir_word.proofs.Built.{all_built_of_no_track, all_built_after_track_added}
+use Rattle.ir_word.proofs.Built.{all_built_of_no_track, all_built_track_added}
 use Rattle.ir_word.proofs.tracks.empty_tracks.Goals as goal
 
 pub loop-init : goal.loop-init
@@ -13,7 +13,7 @@ pub loop-preserved : goal.loop-preserved
 loop-preserved c = record {
   size = ap length c.in_ok-push.ensures.items ∙ length-append c.loop.tracks.items (c.empty_track.result ∷ [])
       ∙ ap (λ n. n + 1) c.loop.invariant.size;
-  built = all_built_after_track_added c.args.guide.route.fitted.now c.args.guide.rows.now c.args.guide.word c.loop.tracks.items c.push.new.self.items c.empty_track.result
+  built = all_built_track_added c.args.guide.route.fitted.now c.args.guide.rows.now c.args.guide.word c.loop.tracks.items c.push.new.self.items c.empty_track.result
       c.loop.invariant.built c.in_ok-push.ensures.items c.empty_track.ensures.next c.empty_track.ensures.put c.empty_track.ensures.holds;
 }
 

@@ -2,9 +2,9 @@ use Rattle.std.proofs.Common.{◌<◌, ◌≤◌, ◌∙◌, ℕ, length, sym, s
 use Rattle.std.specs.List.{slice_index_or}
 use Rattle.ir_flat.specs.Flat.{idle}
 use Rattle.ir_cut.specs.Positions.{cut_of}
-use Rattle.ir_events.proofs.CallerLemmas.{steps_left_fall_in_pass_unless_at_ends}
-use Rattle.ir_word.proofs.Holding.{version_maker_is_inside}
-use Rattle.ir_word.proofs.Walked.{all_versions_worded_at_end}
+use Rattle.ir_events.proofs.CallerLemmas.{pass_lowers_steps_left}
+use Rattle.ir_word.proofs.Walked.{all_versions_worded}
+use Rattle.ir_who.proofs.CallerLemmas.{version_maker_is_inside}
 use Rattle.ir_word.proofs.walk.walk.Goals as goal
 
 pub passes-smaller : goal.passes-smaller
@@ -13,7 +13,7 @@ passes-smaller c =
     let ends = c.args.guide.route.ends.now in
     let below = subst (λ xs. (t : ℕ) × (t < length xs) × ((slice_index_or xs t idle).steps < cut_of ends t)) c.threads.ensures
     (c.are_done.ensures.below c.passes-test.true) in
-    steps_left_fall_in_pass_unless_at_ends f ends (length c.passes.tracks) c.passes.state c.pass-state.result c.requires.guide.route.last c.pass-state.ensures.passed
+    pass_lowers_steps_left f ends (length c.passes.tracks) c.passes.state c.pass-state.result c.requires.guide.route.last c.pass-state.ensures.passed
     (c.requires.guide.route.last.size ∙ sym c.passes.invariant.tracks) below.0 below.2
 
 pub returns : goal.returns
@@ -25,7 +25,7 @@ returns c =
     let inv = c.passes.invariant in
     let done = subst (λ xs. (t : ℕ) → t < length xs → cut_of ends t ≤ (slice_index_or xs t idle).steps) c.threads.ensures
     (c.are_done.ensures.done c.passes-test.false) in
-    all_versions_worded_at_end f rows c.args.guide.word s c.passes.tracks c.passes.words inv.tracked inv.size
+    all_versions_worded f rows c.args.guide.word s c.passes.tracks c.passes.words inv.tracked inv.size
     (λ r x p there made. let a = (version_maker_is_inside f c.requires.guide.route.last.run c.args.guide.word.object rows c.requires.guide.versions r x p there made).thread in
     let b = inv.tracks in omega (arith, a, b))
     (λ t l. let size = inv.tracks in let b = inv.way.stands.at.threads in

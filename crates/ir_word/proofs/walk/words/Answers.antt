@@ -7,7 +7,7 @@ use Rattle.ir_word.specs.Words.{IsWorded}
 use Rattle.ir_word.specs.Track.{AreTracked}
 use Rattle.ir_word.specs.declared.track.Track.{Track}
 use Rattle.ir_word.specs.declared.worded.Worded.{Worded}
-use Rattle.ir_word.proofs.Built.{track_at_start_if_built, versions_are_found_at_start_if_built}
+use Rattle.ir_word.proofs.Built.{track_at_start_if_built, built_versions_are_found}
 use Rattle.ir_word.proofs.walk.words.Goals as goal
 
 pub walk-requires-clause-tracked : goal.walk-requires-clause-tracked
@@ -21,7 +21,7 @@ walk-requires-clause-tracked c =
     (record {
       each = λ t d l. let is = c.in_ok-tracks.ensures.built t d l in (
         track_at_start_if_built f rows w t (positions (flat_in f s) t) _ is (c.in_ok-tracks.ensures.sorted t d l) (c.in_ok-state.ensures.below (λ u. 0) t),
-        versions_are_found_at_start_if_built f rows w c.in_ok-words.words.items t _ is,
+        built_versions_are_found f rows w c.in_ok-words.words.items t _ is,
       );
       first = c.in_ok-words.ensures.first;
     })

@@ -1,13 +1,13 @@
 use Rattle.std.proofs.Common.{◌++◌, [], ◌∷◌, ap, sym, ◌∙◌, append-nil, map}
-use Rattle.ir_lemmas.proofs.CallerLemmas.{on_ok_of_implied, on_err_if_proposition_holds}
-use Rattle.ir_store.specs.Places.{Place, node_at}
+use Rattle.ir_lemmas.proofs.CallerLemmas.{on_ok_of_implied, on_err_holds}
+use Rattle.ir_store.specs.Places.{StorePlace, node_at}
 use Rattle.ir_store.proofs.Lists.{on_err_weaker}
 use Rattle.ir_store.proofs.Placed.{nodes_after_growth, nodes_after_push, placed_after_push}
 use Rattle.ir_store.proofs.kept.Kept.push.Goals as goal
 
 pub returns-in_err-extend_from_slice-2-clause-err : goal.returns-in_err-extend_from_slice-2-clause-err
 returns-in_err-extend_from_slice-2-clause-err c =
-    on_err_if_proposition_holds _
+    on_err_holds _
     (nodes_after_growth c.self.inside.threads.items c.extend_from_slice.new.self.items c.self.inside.objects.items c.extend_from_slice-2.new.self.items
     (c.as_slice.result.now, c.in_ok-extend_from_slice.ensures.items)
     ([], c.in_err-extend_from_slice-2.ensures.items ∙ sym (append-nil c.self.inside.objects.items)) c.self.inside.places.items c.self.invariant
@@ -15,7 +15,7 @@ returns-in_err-extend_from_slice-2-clause-err c =
 
 pub invariant_of-self-2 : goal.invariant_of-self-2
 invariant_of-self-2 c =
-    let place : Place = record {
+    let place : StorePlace = record {
       code = c.node.inside.code.now;
       thread = c.in_ok-short.field-0;
       threads = c.in_ok-short-2.field-0;
@@ -34,7 +34,7 @@ invariant_of-self-2 c =
 
 pub returns-clause-ok : goal.returns-clause-ok
 returns-clause-ok c =
-    let place : Place = record {
+    let place : StorePlace = record {
       code = c.node.inside.code.now;
       thread = c.in_ok-short.field-0;
       threads = c.in_ok-short-2.field-0;

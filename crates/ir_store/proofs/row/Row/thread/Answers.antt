@@ -5,4 +5,4 @@ use Rattle.ir_store.proofs.row.Row.thread.Goals as goal
 
 pub returns : goal.returns
 returns c =
-    subst (λ (r : rows.Row). IfOk c.thread.result (λ thread. thread ≡ rows.thread_in c.args.start.now r)) c.self.view_is c.thread.ensures
+    subst (λ (r : rows.StoreRow). IfOk c.thread.result (λ thread. thread ≡ rows.thread_in c.args.start.now r)) c.self.view_is c.thread.ensures

@@ -1,13 +1,13 @@
 use Rattle.std.proofs.Common.{◌≡◌, ap, ◌∙◌, sym, subst, arith, length, map, List, Some}
 use Rattle.std.specs.Prelude.{slice_get}
 use Rattle.std.proofs.lemmas.Option.{same_Some, slice_get-get_or, slice_get_within}
-use Rattle.ir_lemmas.proofs.CallerLemmas.{slice_get_element_satisfies_all_by_recursion, length_of_map}
+use Rattle.ir_lemmas.proofs.CallerLemmas.{slice_get_satisfies, length_of_map}
 use Rattle.ir_world.specs.Sources.{Source}
 use Rattle.ir_thread.specs.Frames.{frame_of}
 use Rattle.ir_thread.specs.State.{ThreadState}
-use Rattle.ir_store.specs.Rows.{Row, packed_of, thread_in, beside_in, HasOwnBytes}
+use Rattle.ir_store.specs.Rows.{StoreRow, packed_of, thread_in, beside_in, HasOwnBytes}
 use Rattle.ir_store.specs.Table as table
-use Rattle.ir_store.proofs.Packs.{thread_in_row_with_its_bytes}
+use Rattle.ir_store.proofs.Packs.{thread_in_own_row}
 use Rattle.ir_store.proofs.Rowed.{element_of_row_found}
 use Rattle.ir_store.proofs.rows.Rows.has.Goals as goal
 
@@ -23,7 +23,7 @@ returns-in-Some-clause-same c = λ is.
     let bytes : row.packed ≡ packed_of basis c.args.thread.now =
     c.has.ensures.packed is ∙ c.requires ∙ ap (λ (z : table.Table). packed_of z.basis c.args.thread.now) (sym c.self.view_is) in
     let thread : thread_in start row ≡ c.args.thread.now =
-    thread_in_row_with_its_bytes c.comes_back.ensures basis c.is_whole.ensures c.args.thread.now c.bounded.ensures row (sym (c.has.ensures.frame is)) bytes in
+    thread_in_own_row c.comes_back.ensures basis c.is_whole.ensures c.args.thread.now c.bounded.ensures row (sym (c.has.ensures.frame is)) bytes in
     subst (λ (z : table.Table). slice_get z.items c.args.n ≡ Some (c.args.thread.now, c.args.source.now)) c.self.view_is
     (element_of_row_found (beside_in start) rows row c.args.n stands ∙ (λ i. Some (thread i, c.has.ensures.source is i)))
 
@@ -40,7 +40,7 @@ returns-in-Some-clause-other c = λ isnt at.
     let there : slice_get (map (beside_in start) rows) c.args.n ≡ Some x =
     subst (λ (z : table.Table). slice_get z.items c.args.n ≡ Some x) (sym c.self.view_is) at in
     let kept : beside_in start row ≡ x = same_Some (beside_in start row) x (sym (element_of_row_found (beside_in start) rows row c.args.n stands) ∙ there) in
-    let own = slice_get_element_satisfies_all_by_recursion (HasOwnBytes basis) rows c.args.n row c.self.invariant.2 stands in
+    let own = slice_get_satisfies (HasOwnBytes basis) rows c.args.n row c.self.invariant.2 stands in
     c.has.ensures.other isnt (ap (λ (z : ThreadState × Source). frame_of z.0) (sym kept))
     (own ∙ ap (λ (z : ThreadState × Source). packed_of basis z.0) kept
     ∙ ap (λ (z : table.Table). packed_of z.basis c.args.thread.now) c.self.view_is ∙ sym c.requires)
@@ -53,5 +53,5 @@ returns-in-None-clause-other c = λ _ at.
     let x : ThreadState × Source = (c.args.thread.now, c.args.source.now) in
     let there : slice_get (map (beside_in start) rows) c.args.n ≡ Some x =
     subst (λ (z : table.Table). slice_get z.items c.args.n ≡ Some x) (sym c.self.view_is) at in
-    absurd (let a = c.in-None.ensures.lookup.3 in let e = ap (λ (l : List Row). length l) c.deref.ensures.value in let b = slice_get_within (map (beside_in start) rows) c.args.n x there in
+    absurd (let a = c.in-None.ensures.lookup.3 in let e = ap (λ (l : List StoreRow). length l) c.deref.ensures.value in let b = slice_get_within (map (beside_in start) rows) c.args.n x there in
     let m = length_of_map (beside_in start) rows in omega (arith, a, b, e, m))

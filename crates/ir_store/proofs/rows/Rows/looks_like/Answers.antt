@@ -1,11 +1,11 @@
 use Rattle.std.proofs.Common.{◌≡◌, ◌∙◌, [], sym, ap, subst, arith, length, map, List, Some}
 use Rattle.std.specs.Prelude.{slice_get}
 use Rattle.std.proofs.lemmas.Option.{same_Some, slice_get-get_or, slice_get_within}
-use Rattle.ir_lemmas.proofs.CallerLemmas.{slice_get_element_satisfies_all_by_recursion, length_of_map}
+use Rattle.ir_lemmas.proofs.CallerLemmas.{slice_get_satisfies, length_of_map}
 use Rattle.ir_freeze.specs.Frozen.{frozen}
 use Rattle.ir_world.specs.Sources.{Source}
 use Rattle.ir_thread.specs.State.{ThreadState}
-use Rattle.ir_store.specs.Rows.{Row, beside_in, HasOwnBytes}
+use Rattle.ir_store.specs.Rows.{StoreRow, beside_in, HasOwnBytes}
 use Rattle.ir_store.specs.Table.{LooksLike}
 use Rattle.ir_store.specs.Table as table
 use Rattle.ir_store.proofs.Packs.{seen_in_row_is_frozen}
@@ -21,7 +21,7 @@ returns-in-Some-clause-like c = λ is.
     let stands : slice_get rows c.args.n ≡ Some row =
     subst (λ l. slice_get l c.args.n ≡ Some row) c.deref.ensures.value
     (slice_get-get_or c.deref.result.now c.args.n row c.in-Some.ensures.lookup.3.0 ∙ ap Some (sym c.in-Some.ensures.lookup.1)) in
-    let own = slice_get_element_satisfies_all_by_recursion (HasOwnBytes basis) rows c.args.n row c.self.invariant.2 stands in
+    let own = slice_get_satisfies (HasOwnBytes basis) rows c.args.n row c.self.invariant.2 stands in
     subst (λ (z : table.Table). LooksLike z.basis z.items c.args.n x) c.self.view_is (record {
       kept = beside_in basis.memory row;
       at = element_of_row_found (beside_in basis.memory) rows row c.args.n stands;
@@ -40,7 +40,7 @@ returns-in-Some-clause-other c = λ isnt like.
     let stands : slice_get rows c.args.n ≡ Some row =
     subst (λ l. slice_get l c.args.n ≡ Some row) c.deref.ensures.value
     (slice_get-get_or c.deref.result.now c.args.n row c.in-Some.ensures.lookup.3.0 ∙ ap Some (sym c.in-Some.ensures.lookup.1)) in
-    let own = slice_get_element_satisfies_all_by_recursion (HasOwnBytes basis) rows c.args.n row c.self.invariant.2 stands in
+    let own = slice_get_satisfies (HasOwnBytes basis) rows c.args.n row c.self.invariant.2 stands in
     let alike : LooksLike basis (map (beside_in start) rows) c.args.n x =
     subst (λ (z : table.Table). LooksLike z.basis z.items c.args.n x) (sym c.self.view_is) like in
     let kept : beside_in start row ≡ alike.kept =
@@ -58,5 +58,6 @@ returns-in-None-clause-other c = λ _ like.
     let x : ThreadState × Source = (c.args.thread.now, c.args.source.now) in
     let alike : LooksLike basis (map (beside_in start) rows) c.args.n x =
     subst (λ (z : table.Table). LooksLike z.basis z.items c.args.n x) (sym c.self.view_is) like in
-    absurd (let a = c.in-None.ensures.lookup.3 in let e = ap (λ (l : List Row). length l) c.deref.ensures.value in let b = slice_get_within (map (beside_in start) rows) c.args.n alike.kept alike.at in
+    absurd (let a = c.in-None.ensures.lookup.3 in let e = ap (λ (l : List StoreRow). length l) c.deref.ensures.value
+    in let b = slice_get_within (map (beside_in start) rows) c.args.n alike.kept alike.at in
     let m = length_of_map (beside_in start) rows in omega (arith, a, b, e, m))

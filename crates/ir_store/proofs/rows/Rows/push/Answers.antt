@@ -4,12 +4,12 @@ use Rattle.std.proofs.lemmas.Result.{on_ok_weaker, on_err_weaker}
 use Rattle.ir_freeze.specs.Twins.{KeepsBounds}
 use Rattle.ir_world.specs.Sources.{Source}
 use Rattle.ir_thread.specs.State.{ThreadState}
-use Rattle.ir_store.specs.Rows.{Row, packed_of, thread_in, beside_in, look_of, HasOwnBytes}
+use Rattle.ir_store.specs.Rows.{StoreRow, packed_of, thread_in, beside_in, look_of, HasOwnBytes}
 use Rattle.ir_store.specs.Table.{LooksLike}
 use Rattle.ir_store.specs.Table as table
-use Rattle.ir_store.proofs.Lists.{all_by_recursion_if_unchanged_or_pushed}
-use Rattle.ir_store.proofs.Packs.{thread_in_row_with_its_bytes}
-use Rattle.ir_store.proofs.Rowed.{all_by_recursion_of_map_if_rows_unchanged_or_pushed, are_looks_kept_if_rows_unchanged_or_pushed}
+use Rattle.ir_store.proofs.Lists.{all_same_or_pushed}
+use Rattle.ir_store.proofs.Packs.{thread_in_own_row}
+use Rattle.ir_store.proofs.Rowed.{all_mapped_or_pushed, looks_same_or_pushed}
 use Rattle.ir_store.proofs.rows.Rows.push.Goals as goal
 
 pub invariant_of-self : goal.invariant_of-self
@@ -23,7 +23,7 @@ invariant_of-self c =
     let bytes : row.packed ≡ packed_of basis c.args.thread.now =
     c.in_ok-row.ensures.packed ∙ c.requires.packed ∙ ap (λ (z : table.Table). packed_of z.basis c.args.thread.now) (sym c.self.view_is) in
     let thread : thread_in start row ≡ c.args.thread.now =
-    thread_in_row_with_its_bytes c.comes_back.ensures basis c.is_whole.ensures c.args.thread.now c.bounded.ensures row c.in_ok-row.ensures.frame bytes in
+    thread_in_own_row c.comes_back.ensures basis c.is_whole.ensures c.args.thread.now c.bounded.ensures row c.in_ok-row.ensures.frame bytes in
     let made : beside_in start row ≡ (c.args.thread.now, c.args.source.now) = λ i. (thread i, c.in_ok-row.ensures.source i) in
     let look : look_of row ≡ c.args.look = c.in_ok-row.ensures.look in
     let is : (look_of row ≡ length (map (beside_in start) rows)) ⊎ LooksLike basis (map (beside_in start) rows) (look_of row) (beside_in start row) =
@@ -31,12 +31,12 @@ invariant_of-self c =
     (subst (λ k. (k ≡ length (map (beside_in start) rows)) ⊎ LooksLike basis (map (beside_in start) rows) k (c.args.thread.now, c.args.source.now)) (sym look)
     (subst (λ (z : table.Table). (c.args.look ≡ length z.items) ⊎ LooksLike z.basis z.items c.args.look (c.args.thread.now, c.args.source.now))
     (sym c.self.view_is) c.requires.look)) in (
-      all_by_recursion_of_map_if_rows_unchanged_or_pushed (beside_in start) (λ (x : ThreadState × Source). x.0.form ≡ form) rows new row c.self.invariant.0
+      all_mapped_or_pushed (beside_in start) (λ (x : ThreadState × Source). x.0.form ≡ form) rows new row c.self.invariant.0
           (ap (λ (s : ThreadState). s.form) thread ∙ c.requires.form ∙ ap (λ (z : table.Table). z.form) (sym c.self.view_is)) c.put.ensures.either,
-      all_by_recursion_of_map_if_rows_unchanged_or_pushed (beside_in start) (λ (x : ThreadState × Source). KeepsBounds x.0) rows new row c.self.invariant.1
+      all_mapped_or_pushed (beside_in start) (λ (x : ThreadState × Source). KeepsBounds x.0) rows new row c.self.invariant.1
           (subst KeepsBounds (sym thread) c.bounded.ensures) c.put.ensures.either,
-      all_by_recursion_if_unchanged_or_pushed (HasOwnBytes basis) rows new row c.self.invariant.2 (bytes ∙ ap (packed_of basis) (sym thread)) c.put.ensures.either,
-      are_looks_kept_if_rows_unchanged_or_pushed (beside_in start) look_of basis rows new row c.self.invariant.3 is c.put.ensures.either,
+      all_same_or_pushed (HasOwnBytes basis) rows new row c.self.invariant.2 (bytes ∙ ap (packed_of basis) (sym thread)) c.put.ensures.either,
+      looks_same_or_pushed (beside_in start) look_of basis rows new row c.self.invariant.3 is c.put.ensures.either,
     )
 
 pub returns-clause-ok : goal.returns-clause-ok
@@ -49,7 +49,7 @@ returns-clause-ok c =
     let bytes : row.packed ≡ packed_of basis c.args.thread.now =
     c.in_ok-row.ensures.packed ∙ c.requires.packed ∙ ap (λ (z : table.Table). packed_of z.basis c.args.thread.now) (sym c.self.view_is) in
     let thread : thread_in start row ≡ c.args.thread.now =
-    thread_in_row_with_its_bytes c.comes_back.ensures basis c.is_whole.ensures c.args.thread.now c.bounded.ensures row c.in_ok-row.ensures.frame bytes in
+    thread_in_own_row c.comes_back.ensures basis c.is_whole.ensures c.args.thread.now c.bounded.ensures row c.in_ok-row.ensures.frame bytes in
     let made : beside_in start row ≡ (c.args.thread.now, c.args.source.now) = λ i. (thread i, c.in_ok-row.ensures.source i) in
     on_ok_weaker c.put.result
     (λ e. (λ i. record {
@@ -68,7 +68,7 @@ returns-clause-ok c =
 pub returns-clause-err : goal.returns-clause-err
 returns-clause-err c =
     on_err_weaker c.put.result
-    (λ e. ap (λ (l : List Row). record {
+    (λ e. ap (λ (l : List StoreRow). record {
       items = map (beside_in c.self.inside.basis.memory) l;
       form = c.self.inside.form;
       basis = c.self.inside.basis;

@@ -6,7 +6,7 @@ use Rattle.ir_store.specs.Places.{no_node}
 use Rattle.ir_store.specs.Table.{threads_at, sources_at}
 use Rattle.ir_store.proofs.Numbered.{nodes_found_kept}
 use Rattle.ir_store.proofs.Shared.{nodes_grown, states_grown}
-use Rattle.ir_store.proofs.Stored.{slice_get_of_mapped_nodes_is_sourced_node, node_is, threads_set, sources_set}
+use Rattle.ir_store.proofs.Stored.{slice_get-map_sourced, node_is, threads_set, sources_set}
 use Rattle.ir_store.proofs.store.Store.by_number_of.Goals as goal
 
 pub invariant_of-self : goal.invariant_of-self
@@ -65,7 +65,7 @@ returns-clause-state c =
     let s : SourcedFlat = sourced_in shared node in
     let u : SourcedFlat = record { flat = c.state.inside.flat; sources = c.state.inside.sources.items } in
     let less = subst (λ (z : Stored). c.args.v < length z.items) (sym c.self.view_is) c.requires.node in
-    let here = slice_get_of_mapped_nodes_is_sourced_node shared nodes c.args.v less in
+    let here = slice_get-map_sourced shared nodes c.args.v less in
     let there = subst (λ (z : Stored). slice_get z.items c.args.v ≡ Some s) c.self.view_is here in
     let have : HasOthersOf s u c.args.t = subst (λ z. HasOthersOf s z c.args.t) (sym c.state.view_is) (c.requires.others s there) in
     let was : IsSourced s = (node_is shared nodes c.self.invariant.0 c.args.v node less refl s here).sourced in

@@ -1,8 +1,8 @@
 use Rattle.std.proofs.Common.{sym, subst}
-use Rattle.ir_lemmas.proofs.CallerLemmas.{all_by_recursion_after_push}
+use Rattle.ir_lemmas.proofs.CallerLemmas.{all_of_push}
 use Rattle.ir_store.specs.Hashes.{IsFoundBy}
 use Rattle.ir_store.specs.Nodes.{Shared, Stored, IsNode, AreKept, AreNodesFound, node_hash}
-use Rattle.ir_store.proofs.Found.{each_element_found_after_push}
+use Rattle.ir_store.proofs.Found.{each_found_push}
 use Rattle.ir_store.proofs.store.Store.push.Goals as goal
 
 pub invariant_of-self-in_err-push : goal.invariant_of-self-in_err-push
@@ -20,6 +20,6 @@ invariant_of-self-2 c =
     subst (IsFoundBy c.note.new.self (node_hash looks c.args.node)) c.len.ensures
     (subst (λ h. IsFoundBy c.note.new.self h c.len.result) c.hash_of-hash.ensures c.in_ok-note.ensures.found) in
     subst (λ nodes. AreKept shared nodes × AreNodesFound c.note.new.self looks nodes) (sym c.in_ok-push.ensures.ok) (
-      all_by_recursion_after_push (IsNode shared) c.self.inside.nodes c.args.node c.self.invariant.0 is,
-      each_element_found_after_push (node_hash looks) c.self.inside.index c.note.new.self c.self.inside.nodes c.args.node c.note.ensures.keeps c.self.invariant.1 here,
+      all_of_push (IsNode shared) c.self.inside.nodes c.args.node c.self.invariant.0 is,
+      each_found_push (node_hash looks) c.self.inside.index c.note.new.self c.self.inside.nodes c.args.node c.note.ensures.keeps c.self.invariant.1 here,
     )

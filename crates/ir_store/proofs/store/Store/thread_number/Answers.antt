@@ -1,10 +1,10 @@
 use Rattle.std.proofs.Common.{◌≡◌, ◌<◌, length, get_or, refl, sym, ap, ◌∙◌, subst, arith, Some}
 use Rattle.std.specs.Prelude.{slice_get}
-use Rattle.ir_lemmas.proofs.CallerLemmas.{get_or_element_satisfies_all_by_recursion, length_of_map}
+use Rattle.ir_lemmas.proofs.CallerLemmas.{get_or_satisfies, length_of_map}
 use Rattle.ir_store.specs.Nodes.{SourcedFlat, sourced_thread, IsSourced, Shared, Node, Stored, sourced_in}
 use Rattle.ir_store.specs.Places.{no_node}
 use Rattle.ir_store.specs.Table.{idle_beside}
-use Rattle.ir_store.proofs.Stored.{slice_get_of_mapped_nodes_is_sourced_node, node_is, state_is, thread_is}
+use Rattle.ir_store.proofs.Stored.{slice_get-map_sourced, node_is, state_is, thread_is}
 use Rattle.ir_store.proofs.store.Store.thread_number.Goals as goal
 
 pub thread-requires-clause-thread : goal.thread-requires-clause-thread
@@ -14,7 +14,7 @@ thread-requires-clause-thread c =
     let node : Node = get_or nodes c.args.v no_node in
     let less = subst (λ (z : Stored). c.args.v < length z.items) (sym c.self.view_is) c.requires.node in
     let there = subst (λ (z : Stored). slice_get z.items c.args.v ≡ Some (sourced_in shared node)) c.self.view_is
-    (slice_get_of_mapped_nodes_is_sourced_node shared nodes c.args.v less) in
+    (slice_get-map_sourced shared nodes c.args.v less) in
     let few = c.requires.thread (sourced_in shared node) there in
     let many = length_of_map (λ n. (get_or shared.threads n idle_beside).0) node.threads in
     omega (arith, few, many)
@@ -25,7 +25,7 @@ returns-clause-within c =
     let nodes = c.self.inside.nodes in
     let node : Node = get_or nodes c.args.v no_node in
     let less = subst (λ (z : Stored). c.args.v < length z.items) (sym c.self.view_is) c.requires.node in
-    let here = slice_get_of_mapped_nodes_is_sourced_node shared nodes c.args.v less in
+    let here = slice_get-map_sourced shared nodes c.args.v less in
     let there = subst (λ (z : Stored). slice_get z.items c.args.v ≡ Some (sourced_in shared node)) c.self.view_is here in
     let few = c.requires.thread (sourced_in shared node) there in
     let many = length_of_map (λ n. (get_or shared.threads n idle_beside).0) node.threads in
@@ -33,7 +33,7 @@ returns-clause-within c =
     let one = c.thread.ensures in
     let in_here : c.thread.result < length shared.threads =
     subst (λ n. n < length shared.threads) (sym one)
-    (get_or_element_satisfies_all_by_recursion (λ n. n < length shared.threads) node.threads c.args.t 0 is.within.threads (omega (arith, few, many))) in
+    (get_or_satisfies (λ n. n < length shared.threads) node.threads c.args.t 0 is.within.threads (omega (arith, few, many))) in
     subst (λ (z : Stored). c.thread.result < length z.shared.threads) c.self.view_is in_here
 
 pub returns-clause-thread : goal.returns-clause-thread

@@ -4,7 +4,7 @@ use Rattle.ir_lemmas.proofs.CallerLemmas.{length_of_map}
 use Rattle.ir_store.specs.Nodes.{with_turn, Shared, Node, Stored, cell_in, sourced_in}
 use Rattle.ir_store.specs.Places.{no_node}
 use Rattle.ir_store.specs.Table.{idle_beside}
-use Rattle.ir_store.proofs.Stored.{slice_get_of_mapped_nodes_is_sourced_node, both_is}
+use Rattle.ir_store.proofs.Stored.{slice_get-map_sourced, both_is}
 use Rattle.ir_store.proofs.store.Store.with_both.Goals as goal
 
 pub index_mut-requires : goal.index_mut-requires
@@ -13,7 +13,7 @@ index_mut-requires c =
     let node : Node = get_or c.self.inside.nodes c.args.v no_node in
     let less = subst (λ (z : Stored). c.args.v < length z.items) (sym c.self.view_is) c.requires.node in
     let there = subst (λ (z : Stored). slice_get z.items c.args.v ≡ Some (sourced_in shared node)) c.self.view_is
-    (slice_get_of_mapped_nodes_is_sourced_node shared c.self.inside.nodes c.args.v less) in
+    (slice_get-map_sourced shared c.self.inside.nodes c.args.v less) in
     let few = (c.requires.own (sourced_in shared node) there).0 in
     let many = length_of_map (λ n. (get_or shared.threads n idle_beside).0) node.threads in
     let e = ap length (c.in_ok-threads.ensures.items ∙ c.threads.ensures) in
@@ -26,7 +26,7 @@ index_mut-requires-2 c =
     let node : Node = get_or c.self.inside.nodes c.args.v no_node in
     let less = subst (λ (z : Stored). c.args.v < length z.items) (sym c.self.view_is) c.requires.node in
     let there = subst (λ (z : Stored). slice_get z.items c.args.v ≡ Some (sourced_in shared node)) c.self.view_is
-    (slice_get_of_mapped_nodes_is_sourced_node shared c.self.inside.nodes c.args.v less) in
+    (slice_get-map_sourced shared c.self.inside.nodes c.args.v less) in
     let few = (c.requires.own (sourced_in shared node) there).1 in
     let many = length_of_map (cell_in shared.words) node.objects in
     let e = ap length (c.in_ok-objects.ensures.items ∙ c.objects.ensures) in

@@ -4,7 +4,7 @@ use Rattle.ir_world.specs.Sources.{Source}
 use Rattle.ir_thread.specs.State.{ThreadState}
 use Rattle.ir_store.specs.Nodes.{MomentsLookSame}
 use Rattle.ir_store.specs.Table as table
-use Rattle.ir_store.proofs.Looks.{look_same_if_look_numbers_equal}
+use Rattle.ir_store.proofs.Looks.{same_numbers_look_same}
 use Rattle.ir_store.proofs.table.Table.same_look.Goals as goal
 
 pub returns-clause-same : goal.returns-clause-same
@@ -13,5 +13,5 @@ returns-clause-same c = λ is.
     let same : c.look-2.result ≡ c.look.result = sym (c.same_number.ensures.same is) in
     subst (λ (z : table.Table). (x y : ThreadState × Source) → slice_get z.items c.args.m ≡ Some x → slice_get z.items c.args.n ≡ Some y → MomentsLookSame z.basis.code x y)
     c.self.view_is
-    (look_same_if_look_numbers_equal c.tells_apart.ensures t.basis t.items t.looks c.each.ensures.basis c.each.ensures.bounded c.each.ensures.looks c.args.m c.args.n
+    (same_numbers_look_same c.tells_apart.ensures t.basis t.items t.looks c.each.ensures.basis c.each.ensures.bounded c.each.ensures.looks c.args.m c.args.n
     c.look.result c.look.ensures (c.look-2.ensures ∙ ap Some same))
