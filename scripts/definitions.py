@@ -60,7 +60,7 @@ CLAIMS = [
     Claim("Exploring", "`ir explore` lists outcomes, and says how its search ended.", {"ir_explore/src/run.rt": ["explore_run"]}, [
         ("ir_world", "Sources", "`given`: what answers CLOCK, RANDOM and INPUT"),
         ("ir_graph", "Setup", "`Setup`, `IsCountedOf`: which complete runs count"),
-        ("ir_seen", "Seen", "`IsCounted`"),
+        ("ir_likeness", "Seen", "`IsCounted`"),
         ("ir_graph", "Outcomes", "`RunOutcome`, `run_outcome`"),
         ("ir_outcomes", "Explored", "`IsOutcomeOf`, `AreExplored`, `AreAll`, `AreHangs`"),
         ("ir_outcomes", "Shown", "`IsShown`: what LIST leads to"),
@@ -118,7 +118,7 @@ CLAIMS = [
         "ir_stale_run/src/run.rt": ["rests_run"],
         "ir_who/src/run.rt": ["who_run"],
         "ir_who/src/fit_run.rt": ["who_fit_run"],
-        "ir_word/src/run.rt": ["word_fit_run"],
+        "ir_who_word/src/run.rt": ["word_fit_run"],
         "ir_why/src/run.rt": ["why_run"],
         "ir_why/src/fit_run.rt": ["why_fit_run"],
         "ir_why/src/laws.rt": ["needs_left_before", "waits_before"],

@@ -5,7 +5,7 @@ use Rattle.ir_runs.specs.Machine.{Label, Quiet, Answer, EnteredAt, FailedTry, Le
 use Rattle.ir_record.specs.Worlds.{answers_in}
 use Rattle.ir_world.specs.Sources.{Source, source, given, Gave, IsAnsweredFrom, origin_of, seed_of}
 use Rattle.ir_search_laws.specs.Sources.{Gives}
-use Rattle.ir_store.specs.Table.{no_source}
+use Rattle.ir_state_store.specs.Table.{no_source}
 use Rattle.ir_graph.specs.Setup.{Setup, first_source}
 
 -- a source that answers the calls of a log, in turn, gave the log's answers

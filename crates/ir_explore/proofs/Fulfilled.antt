@@ -10,7 +10,7 @@ use Rattle.ir_schedule.specs.declared.condition.Condition as declared
 use Rattle.ir_search.proofs.CallerLemmas.{slice_get_some_below}
 use Rattle.ir_flat.proofs.CallerLemmas.{length_of_start_threads, length_of_start_cells}
 use Rattle.ir_flat.specs.Flat.{Flat, IsFlat, idle, thread_of, cell_of, tables}
-use Rattle.ir_store.specs.Nodes.{SourcedFlat}
+use Rattle.ir_state_store.specs.Nodes.{SourcedFlat}
 use Rattle.ir_graph.specs.Outcomes.{run_outcome}
 use Rattle.ir_graph.specs.Reached.{IsReached}
 use Rattle.ir_graph.specs.Setup.{Setup}

@@ -23,7 +23,7 @@ use Rattle.ir_runs.proofs.CallerLemmas.{later_threads_stay_done}
 use Rattle.ir_runs.specs.Machine.{target, act_of, Admits}
 use Rattle.ir_runs.specs.Run.{State, Step, IsRun, after, log}
 use Rattle.ir_runs.specs.Bounds.{IsIdle}
-use Rattle.ir_store.specs.Nodes.{SourcedFlat}
+use Rattle.ir_state_store.specs.Nodes.{SourcedFlat}
 use Rattle.ir_thread.specs.State.{most_budget, thread_machine}
 use Rattle.ir_thread.specs.State as thread
 use Rattle.ir_trace.specs.Recorded.{Recorded}

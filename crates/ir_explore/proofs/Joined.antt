@@ -6,7 +6,7 @@ use Rattle.std.proofs.lemmas.Grind.{flat_map-append}
 use Rattle.std.proofs.lemmas.Option.{same_Some, slice_get-get_or}
 use Rattle.ir_search.specs.Following.{Stay}
 use Rattle.ir_search.proofs.CallerLemmas.{slice_get-push_cases, slice_get_some_below}
-use Rattle.ir_store.specs.Nodes.{SourcedFlat}
+use Rattle.ir_state_store.specs.Nodes.{SourcedFlat}
 use Rattle.ir_outcomes.specs.Explored.{ShowsState}
 use Rattle.ir_outcomes.specs.declared.shown.Shown.{Shown}
 use Rattle.ir_explore.specs.Texts.{Objects, IsOutcomeText, AreTexts}

@@ -29,12 +29,12 @@ use Rattle.ir_runs.specs.declared.env_kind.EnvKind.TheVariants.{Clock, Random, I
 use Rattle.ir_runs.proofs.CallerLemmas.{idle_stays_idle, thread_after_other, trail_cons_other}
 use Rattle.ir_world.specs.Sources.{Source, source, given, Gave, untimed, from_sources, IsAnsweredFrom, origin_of, seed_of}
 use Rattle.ir_search_laws.specs.Sources.{Gives}
-use Rattle.ir_store.specs.Table.{no_source}
+use Rattle.ir_state_store.specs.Table.{no_source}
 use Rattle.ir_thread.specs.State.{ThreadState, thread_machine}
 use Rattle.ir_thread.specs.declared.profile.Profile.{Profile}
 use Rattle.ir_trace.specs.Recorded.{Recorded, recorded_thread, trace_of}
 use Rattle.ir_graph.specs.Times.{HasTime, HasTimedRun}
-use Rattle.ir_seen.specs.Seen.{IsSpoilt}
+use Rattle.ir_likeness.specs.Seen.{IsSpoilt}
 use Rattle.ir_search_laws.specs.Views.{IsUnspoilt}
 use Rattle.ir_explore.specs.Recorded.{IsUntimed, AreUntimed, AreUncut, IsOfOutcome, IsUncutRecording, RecordingsHaveOutcomes}
 use Rattle.ir_explore.specs.Recorded.{RecordingsAreListed, RecordingsAreUntimed, UntimedRecordingsAreListed, RecordingsNeverFulfil}

@@ -16,8 +16,8 @@ use Rattle.ir_runs.specs.Run.{State, Step, IsRun, asked, act, after, end, label,
 use Rattle.ir_runs.specs.declared.access.Access.TheVariants.{Reading, Writing}
 use Rattle.ir_runs.specs.declared.env_kind.EnvKind.TheVariants.{Clock, Random, Input}
 use Rattle.ir_runs.proofs.CallerLemmas.{upd_at_own_place, thread_after_other}
-use Rattle.ir_seen.specs.Seen.{IsLive, IsSpoilt}
-use Rattle.ir_seen.proofs.CallerLemmas.{live_or_next_spoils, start_state_is_unspoilt}
+use Rattle.ir_likeness.specs.Seen.{IsLive, IsSpoilt}
+use Rattle.ir_likeness.proofs.CallerLemmas.{live_or_next_spoils, start_state_is_unspoilt}
 use Rattle.ir_world.specs.Sources.{Source, given, Gave, untimed, from_sources}
 use Rattle.ir_search_laws.specs.Counting.{IsAnswered, RunCounts}
 use Rattle.ir_search_laws.specs.Sources.{sourced, by_source, plain_source, left_of_source, answer_of}

@@ -3,7 +3,7 @@
 ghost use Rattle.std.specs.Prelude.{◌≡◌, ◌⊎◌, ◌++◌, ℕ, List, false, true, ◌<◌, ◌≤◌, None, Some, length, slice_get, IfErr, OnOk};
 ghost use Rattle.std.specs.Io.KnownBytes.{Appends};
 ghost use Rattle.ir_files.specs.Writers.{writer_of};
-ghost use Rattle.ir_store.specs.Nodes.{SourcedFlat};
+ghost use Rattle.ir_state_store.specs.Nodes.{SourcedFlat};
 ghost use Rattle.ir_outcomes.specs.Exploring.{IsExploring};
 ghost use Rattle.ir_stream.specs.Answers.{AppendsPrefix};
 ghost use Rattle.ir_thread.specs.State.{IsAllowed};

@@ -8,10 +8,10 @@ use Rattle.ir_object.specs.Empty.{empty}
 use Rattle.ir_flat.specs.Flat.{IsFlat, thread_of, cell_of, idle}
 use Rattle.ir_world.specs.Sources.{given}
 use Rattle.ir_search_laws.specs.Looks.{Looks}
-use Rattle.ir_seen.specs.Seen.{view, Same}
-use Rattle.ir_seen.proofs.CallerLemmas.{look_same}
-use Rattle.ir_store.specs.Nodes.{SourcedFlat, source_of, AreSameLooks}
-use Rattle.ir_store.specs.Table.{no_source}
+use Rattle.ir_likeness.specs.Seen.{view, Same}
+use Rattle.ir_likeness.proofs.CallerLemmas.{look_same}
+use Rattle.ir_state_store.specs.Nodes.{SourcedFlat, source_of, AreSameLooks}
+use Rattle.ir_state_store.specs.Table.{no_source}
 use Rattle.ir_graph.specs.Nodes.{LookAlike, seen_of}
 use Rattle.ir_graph.specs.Plain.{LooksAlike}
 

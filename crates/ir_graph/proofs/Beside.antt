@@ -11,8 +11,8 @@ use Rattle.ir_thread.specs.State.{ask_of, shared_ask}
 use Rattle.ir_world.specs.Sources.{Source, given}
 use Rattle.ir_flat.specs.Alone.{WentAlone}
 use Rattle.ir_flat.specs.Flat.{Flat, tables, machine, thread_of}
-use Rattle.ir_store.specs.Nodes.{source_of}
-use Rattle.ir_store.specs.Table.{no_source}
+use Rattle.ir_state_store.specs.Nodes.{source_of}
+use Rattle.ir_state_store.specs.Table.{no_source}
 use Rattle.ir_graph.specs.Plain.{sourced_flat, IsFair, GoesPlain, OthersStay}
 use Rattle.ir_graph.specs.Turn.{GoesAlone}
 use Rattle.ir_graph.specs.Stops.{IsNotFollowed, IsSpent, StopsFollowing}

@@ -10,10 +10,10 @@ use Rattle.ir_flat.specs.Flat.{thread_of, cell_of}
 use Rattle.ir_object.specs.Empty.{empty}
 use Rattle.ir_flat.proofs.CallerLemmas.{may_step_iff_can_ask}
 use Rattle.ir_lemmas.proofs.CallerLemmas.{get_or_satisfies, length_of_map}
-use Rattle.ir_freeze.specs.Frozen.{is_over}
-use Rattle.ir_store.specs.declared.spot.Spot.{Spot}
-use Rattle.ir_store.specs.Nodes.{Shared, Node, SourcedFlat, IsNode, IsSourced, IsWithin, HaveWords, AreSameLooks, cell_in, cells_at, sourced_in, with_turn}
-use Rattle.ir_store.specs.Table.{idle_beside, HaveNoTicks}
+use Rattle.ir_thread_bytes.specs.Frozen.{is_over}
+use Rattle.ir_state_store.specs.declared.spot.Spot.{Spot}
+use Rattle.ir_state_store.specs.Nodes.{Shared, Node, SourcedFlat, IsNode, IsSourced, IsWithin, HaveWords, AreSameLooks, cell_in, cells_at, sourced_in, with_turn}
+use Rattle.ir_state_store.specs.Table.{idle_beside, HaveNoTicks}
 use Rattle.ir_graph.specs.declared.known.Turn.{Turn}
 use Rattle.ir_graph.specs.Setup.{Setup}
 use Rattle.ir_graph.specs.Ahead.{IsTurnOf}

@@ -7,7 +7,7 @@ use Rattle.ir_search.specs.Following.{IsNodeOpen}
 use Rattle.ir_search.proofs.CallerLemmas.{slice_get-push_cases, slice_get_append_kept}
 use Rattle.ir_runs.specs.Run.{IsDone}
 use Rattle.ir_flat.specs.Flat.{machine, tables}
-use Rattle.ir_store.specs.Nodes.{SourcedFlat}
+use Rattle.ir_state_store.specs.Nodes.{SourcedFlat}
 
 slice_get_of_pushed : (xs : List Bool) (x : Bool) → slice_get (xs ++ x ∷ []) (length xs) ≡ Some x
 slice_get_of_pushed [] x = refl

@@ -10,7 +10,7 @@ use Rattle.ir_flat.proofs.CallerLemmas.{length_of_start_threads}
 use Rattle.ir_graph.specs.Setup.{Setup, setup_start, first_sources}
 use Rattle.ir_thread.specs.declared.profile.Profile.{Profile}
 use Rattle.ir_flat.specs.Flat.{Flat, idle, start_threads}
-use Rattle.ir_store.specs.Table.{HaveForm}
+use Rattle.ir_state_store.specs.Table.{HaveForm}
 use Rattle.ir_graph.specs.Plain.{LooksAlike}
 
 all_of_elements : {X : Type 0} (P : X → Type 0) (xs : List X) (d : X) → ((n : ℕ) → n < length xs → P (get_or xs n d)) → AllByRecursion P xs

@@ -8,9 +8,9 @@ use Rattle.ir_runs.specs.Run.{Step, Can}
 use Rattle.ir_search_laws.specs.Nodes.{LeadsToNode}
 use Rattle.ir_thread.specs.State.{ask_of}
 use Rattle.ir_flat.specs.Flat.{tables, machine, thread_of}
-use Rattle.ir_store.specs.Nodes.{SourcedFlat}
-use Rattle.ir_store.specs.Others.{HasOthersOf}
-use Rattle.ir_store.specs.Table.{HaveNoTicks}
+use Rattle.ir_state_store.specs.Nodes.{SourcedFlat}
+use Rattle.ir_state_store.specs.Others.{HasOthersOf}
+use Rattle.ir_state_store.specs.Table.{HaveNoTicks}
 use Rattle.ir_graph.specs.Nodes.{Alike, seen_by, answered_by, seen_of, LookAlike, AllRest, AreNodes, NodesStay, LeadsFrom, IsStepBy, HasStepBy}
 use Rattle.ir_graph.specs.Plain.{GoesPlain, LooksAlike, MayGo, OthersStay, Rests, result_by}
 use Rattle.ir_graph.specs.Times.{AlikeTickless, LeadsTickless}

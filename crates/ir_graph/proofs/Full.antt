@@ -11,11 +11,11 @@ use Rattle.ir_search_laws.specs.Views.{IsView, viewed, IsLiveRun, beside}
 use Rattle.ir_search_laws.proofs.CallerLemmas.{ahead_run_counts, counts_append, goes_ahead_append, plain_end, sourced_view_is_view, viewed_end, viewed_entering, viewed_counts}
 use Rattle.ir_thread.specs.State.{ThreadState, thread_machine}
 use Rattle.ir_world.specs.Sources.{Source, given}
-use Rattle.ir_seen.specs.Seen.{view, seen_machine, IsLive}
-use Rattle.ir_seen.proofs.CallerLemmas.{seen_machine_is_view}
+use Rattle.ir_likeness.specs.Seen.{view, seen_machine, IsLive}
+use Rattle.ir_likeness.proofs.CallerLemmas.{seen_machine_is_view}
 use Rattle.ir_flat.specs.Flat.{tables, machine}
-use Rattle.ir_store.specs.Nodes.{SourcedFlat}
-use Rattle.ir_store.specs.Table.{no_source}
+use Rattle.ir_state_store.specs.Nodes.{SourcedFlat}
+use Rattle.ir_state_store.specs.Table.{no_source}
 use Rattle.ir_graph.specs.Nodes.{seen_by, answered_by}
 use Rattle.ir_graph.specs.Plain.{full_by, sources_by, full_of, AreLive, IsAnsweredRun, IsPlainRun}
 

@@ -6,9 +6,9 @@ use Rattle.std.specs.List.{AllByRecursion}
 use Rattle.std.proofs.lemmas.Bool.{and_parts, eqb-true, not-false}
 use Rattle.std.proofs.lemmas.List.{take_more, take_all, map_push, drop_more, drop_all}
 use Rattle.ir_object.specs.Cell.{Cell}
-use Rattle.ir_store.specs.declared.spot.Spot.{Spot}
-use Rattle.ir_store.specs.Nodes.{Shared, SourcedFlat, Grows, HaveWords, cell_in, cells_at}
-use Rattle.ir_store.proofs.CallerLemmas.{all_by_recursion_weaker, all_of_push}
+use Rattle.ir_state_store.specs.declared.spot.Spot.{Spot}
+use Rattle.ir_state_store.specs.Nodes.{Shared, SourcedFlat, Grows, HaveWords, cell_in, cells_at}
+use Rattle.ir_state_store.proofs.CallerLemmas.{all_by_recursion_weaker, all_of_push}
 use Rattle.ir_graph.specs.Hand.{AllPairs, EachOnce, IsAtSpot, IsHand, with_items}
 use Rattle.ir_graph.proofs.Hand.{numbers_once_after_push, length-hand, hand_at_spots, pairs_after_push}
 use Rattle.ir_graph.proofs.KnownTurns.{cells_grown, have_words_grown}

@@ -17,10 +17,10 @@ use Rattle.ir_thread.specs.declared.ask.Ask.TheVariants as ask
 use Rattle.ir_thread.specs.declared.profile.Profile.{Profile}
 use Rattle.ir_thread.specs.declared.profile.Profile.TheVariants.{One, Two}
 use Rattle.ir_thread.proofs.CallerLemmas.{ask_of_permitted}
-use Rattle.ir_seen.specs.Seen.{seen_start}
-use Rattle.ir_seen.proofs.CallerLemmas.{start_view_any_budget}
+use Rattle.ir_likeness.specs.Seen.{seen_start}
+use Rattle.ir_likeness.proofs.CallerLemmas.{start_view_any_budget}
 use Rattle.ir_flat.specs.Flat.{idle, start_threads, thread_of}
-use Rattle.ir_store.specs.Nodes.{SourcedFlat}
+use Rattle.ir_state_store.specs.Nodes.{SourcedFlat}
 use Rattle.ir_graph.specs.Setup.{Setup, setup_start, first_source}
 use Rattle.ir_graph.specs.Graph.{IsGraph}
 use Rattle.ir_graph.specs.Nodes.{seen_by, answered_by, Alike, seen_of, AllRest, AreNodes, NodesStay, LeadsFrom}

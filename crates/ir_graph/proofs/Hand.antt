@@ -5,9 +5,9 @@ use Rattle.std.proofs.lemmas.List.{set-set, set_comm, set-get_or, get_or-set_sam
 use Rattle.ir_lemmas.proofs.CallerLemmas.{length_of_map, all_of_push, all_of_set}
 use Rattle.ir_flat.specs.Flat.{idle}
 use Rattle.ir_object.specs.Empty.{empty}
-use Rattle.ir_store.specs.declared.spot.Spot.{Spot}
-use Rattle.ir_store.specs.Nodes.{SourcedFlat, sourced_thread, cells_at, HaveWords}
-use Rattle.ir_store.specs.Table.{no_source}
+use Rattle.ir_state_store.specs.declared.spot.Spot.{Spot}
+use Rattle.ir_state_store.specs.Nodes.{SourcedFlat, sourced_thread, cells_at, HaveWords}
+use Rattle.ir_state_store.specs.Table.{no_source}
 use Rattle.ir_object.specs.Cell.{Cell}
 use Rattle.ir_graph.specs.Hand.{with_items, with_hand, IsHandOf, IsNoneOf, EachOnce, AllPairs, IsAtSpot}
 

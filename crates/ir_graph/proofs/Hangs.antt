@@ -24,10 +24,10 @@ use Rattle.ir_search_laws.proofs.CallerLemmas.{sourced_is_lawful, sourced_live}
 use Rattle.ir_thread.specs.State.{most_budget, thread_machine}
 use Rattle.ir_thread.specs.State as thread
 use Rattle.ir_world.specs.Sources.{Source, given}
-use Rattle.ir_seen.specs.Seen.{view, seen_machine, IsLive, IsSpoilt, seen_start, Same}
-use Rattle.ir_seen.proofs.CallerLemmas.{seen_machine_is_lawful, seen_machine_is_view, live_or_next_spoils, look_same, start_view_any_budget, guest_invariant_start, start_state_is_unspoilt}
+use Rattle.ir_likeness.specs.Seen.{view, seen_machine, IsLive, IsSpoilt, seen_start, Same}
+use Rattle.ir_likeness.proofs.CallerLemmas.{seen_machine_is_lawful, seen_machine_is_view, live_or_next_spoils, look_same, start_view_any_budget, guest_invariant_start, start_state_is_unspoilt}
 use Rattle.ir_flat.specs.Flat.{tables, start_flat}
-use Rattle.ir_store.specs.Nodes.{SourcedFlat}
+use Rattle.ir_state_store.specs.Nodes.{SourcedFlat}
 use Rattle.ir_graph.specs.Setup.{Setup, setup_start, first_source, IsCountedOf}
 use Rattle.ir_graph.specs.Graph.{IsGraph}
 use Rattle.ir_graph.specs.Hangs.{IsCounting, CanEndFrom, CanEnd, IsHangOf, AreMarked, AllStand, AreWays}

@@ -9,10 +9,10 @@ use Rattle.ir_object.specs.Cell.{Cell}
 use Rattle.ir_world.specs.Sources.{Source}
 use Rattle.ir_thread.specs.State.{ThreadState, ask_of}
 use Rattle.ir_object.specs.Empty.{empty}
-use Rattle.ir_store.specs.declared.spot.Spot.{Spot}
-use Rattle.ir_store.specs.Table.{idle_beside, KeepsNumbers}
-use Rattle.ir_store.specs.Nodes.{Shared, SourcedFlat, cell_in, cells_at, HaveWords, Grows}
-use Rattle.ir_store.proofs.CallerLemmas.{all_by_recursion_weaker, slice_get_satisfies, all_of_push, kept_element_is_equal, below_length_kept}
+use Rattle.ir_state_store.specs.declared.spot.Spot.{Spot}
+use Rattle.ir_state_store.specs.Table.{idle_beside, KeepsNumbers}
+use Rattle.ir_state_store.specs.Nodes.{Shared, SourcedFlat, cell_in, cells_at, HaveWords, Grows}
+use Rattle.ir_state_store.proofs.CallerLemmas.{all_by_recursion_weaker, slice_get_satisfies, all_of_push, kept_element_is_equal, below_length_kept}
 use Rattle.ir_graph.specs.declared.known.Turn.{Turn}
 use Rattle.ir_graph.specs.Ahead.{IsTurn, IsTurnOf, AreTurns}
 use Rattle.ir_graph.specs.Hand.{AllPairs, EachOnce, IsAtSpot}

@@ -14,10 +14,10 @@ use Rattle.ir_thread.specs.State.{ThreadState, ask_of, shared_ask}
 use Rattle.ir_thread.specs.declared.ask.Ask.{Ask}
 use Rattle.ir_thread.specs.declared.ask.Ask.TheVariants as ask
 use Rattle.ir_world.specs.Sources.{Source, given}
-use Rattle.ir_seen.proofs.CallerLemmas.{seen_machine_is_view}
+use Rattle.ir_likeness.proofs.CallerLemmas.{seen_machine_is_view}
 use Rattle.ir_flat.specs.Flat.{Flat, tables, machine, thread_of, idle}
-use Rattle.ir_store.specs.Nodes.{SourcedFlat, source_of}
-use Rattle.ir_store.specs.Table.{HaveNoTicks}
+use Rattle.ir_state_store.specs.Nodes.{SourcedFlat, source_of}
+use Rattle.ir_state_store.specs.Table.{HaveNoTicks}
 use Rattle.ir_graph.specs.Nodes.{seen_by, answered_by, Alike, seen_of, LookAlike, AllRest, IsStepBy, HasStepBy}
 use Rattle.ir_graph.specs.Times.{AlikeTickless}
 use Rattle.ir_graph.specs.Plain.{full_of, GoesPlain, MayGo, Rests, result_by}

@@ -20,10 +20,10 @@ use Rattle.ir_search_laws.specs.Outcomes.{IsFinished, Covers}
 use Rattle.ir_search_laws.specs.Sources.{plain_source}
 use Rattle.ir_thread.specs.State.{ThreadState, thread_machine}
 use Rattle.ir_world.specs.Sources.{Source, given}
-use Rattle.ir_seen.specs.Seen.{seen_start}
-use Rattle.ir_seen.proofs.CallerLemmas.{seen_machine_is_view, guest_all, guest_outcome_of_done}
+use Rattle.ir_likeness.specs.Seen.{seen_start}
+use Rattle.ir_likeness.proofs.CallerLemmas.{seen_machine_is_view, guest_all, guest_outcome_of_done}
 use Rattle.ir_flat.specs.Flat.{machine, tables, thread_of}
-use Rattle.ir_store.specs.Nodes.{SourcedFlat}
+use Rattle.ir_state_store.specs.Nodes.{SourcedFlat}
 use Rattle.ir_graph.specs.Setup.{Setup, setup_start, first_source}
 use Rattle.ir_graph.specs.Graph.{IsGraph}
 use Rattle.ir_graph.specs.Nodes.{seen_by, answered_by, Alike, seen_of, HasStepBy, IsStepBy}

@@ -24,8 +24,8 @@ use Rattle.ir_flat.proofs.CallerLemmas.{next_is_flat, tables_of_next, may_step_i
 use Rattle.ir_thread.proofs.CallerLemmas.{ask_of_permitted}
 use Rattle.ir_runs.specs.declared.access.Access.{Access}
 use Rattle.ir_runs.specs.declared.access.Access.TheVariants.{Writing}
-use Rattle.ir_store.specs.Nodes.{SourcedFlat, source_of, sourced_thread, with_turn, IsSourced}
-use Rattle.ir_store.specs.Table.{no_source}
+use Rattle.ir_state_store.specs.Nodes.{SourcedFlat, source_of, sourced_thread, with_turn, IsSourced}
+use Rattle.ir_state_store.specs.Table.{no_source}
 use Rattle.ir_graph.specs.Hand.{with_hand, EachOnce, IsHandOf}
 use Rattle.ir_graph.specs.Lone.{IsAbout, IsGiven, answer_from, cell_after, lone_thread, lone_cell, GoesAmong, MayBegin, MustWait, TakesTurn, AreAmong, AreBeside, MayTake}
 use Rattle.ir_graph.specs.Plain.{full_by, full_of, IsFair, GoesPlain, MayGo, OthersStay, Rests, result_by, result_of_plain}

@@ -3,10 +3,10 @@ use Rattle.std.proofs.Common.{◌≡◌, ℕ, inr, ap, subst}
 use Rattle.ir_runs.specs.Machine.{Done}
 use Rattle.ir_runs.specs.Run.{IsDone}
 use Rattle.ir_flat.specs.Flat.{Flat, machine, tables, thread_of}
-use Rattle.ir_seen.specs.Seen.{Same, view}
-use Rattle.ir_seen.proofs.CallerLemmas.{look_same, seen_machine_is_view}
+use Rattle.ir_likeness.specs.Seen.{Same, view}
+use Rattle.ir_likeness.proofs.CallerLemmas.{look_same, seen_machine_is_view}
 use Rattle.ir_world.specs.Sources.{given}
-use Rattle.ir_store.specs.Nodes.{SourcedFlat, source_of}
+use Rattle.ir_state_store.specs.Nodes.{SourcedFlat, source_of}
 use Rattle.ir_thread.specs.State.{ask_of, shared_ask}
 use Rattle.ir_graph.specs.Nodes.{LookAlike}
 use Rattle.ir_graph.specs.Outcomes.{run_outcome}

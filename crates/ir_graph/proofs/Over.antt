@@ -11,10 +11,10 @@ use Rattle.ir_thread.specs.declared.ask.Ask.TheVariants as ask
 use Rattle.ir_thread.specs.declared.end.End.{End}
 use Rattle.ir_thread.proofs.CallerLemmas.{ask_of_permitted}
 use Rattle.ir_flat.specs.Flat.{Flat, machine, tables, thread_of, idle}
-use Rattle.ir_freeze.specs.Frozen.{is_over}
-use Rattle.ir_store.specs.Table.{all_over}
+use Rattle.ir_thread_bytes.specs.Frozen.{is_over}
+use Rattle.ir_state_store.specs.Table.{all_over}
 use Rattle.ir_graph.proofs.Leads.{past_threads_ask_done}
-use Rattle.ir_seen.proofs.CallerLemmas.{shared_done_ask_done}
+use Rattle.ir_likeness.proofs.CallerLemmas.{shared_done_ask_done}
 
 -- a thread that is over asks for nothing
 pub over_asks_done : (code : List ℕ) (s : ThreadState) → is_over s ≡ true → ask_of code s ≡ ask.Done

@@ -16,12 +16,12 @@ use Rattle.ir_thread.specs.declared.ask.Reply.{Reply}
 use Rattle.ir_thread.specs.declared.ask.Reply.TheVariants.{Go, Value}
 use Rattle.ir_runs.specs.declared.access.Access.TheVariants.{Writing}
 use Rattle.ir_world.specs.Sources.{Source, given}
-use Rattle.ir_freeze.specs.Twins.{AreTwins}
-use Rattle.ir_seen.specs.Seen.{IsLive}
-use Rattle.ir_seen.proofs.CallerLemmas.{view_asks_same_or_spent}
+use Rattle.ir_thread_bytes.specs.Twins.{AreTwins}
+use Rattle.ir_likeness.specs.Seen.{IsLive}
+use Rattle.ir_likeness.proofs.CallerLemmas.{view_asks_same_or_spent}
 use Rattle.ir_flat.specs.Alone.{WentAlone}
 use Rattle.ir_flat.specs.Flat.{Flat, tables, machine, thread_of}
-use Rattle.ir_store.specs.Nodes.{SourcedFlat, source_of}
+use Rattle.ir_state_store.specs.Nodes.{SourcedFlat, source_of}
 use Rattle.ir_graph.specs.Plain.{full_by, full_of, sourced_flat, IsAnsweredRun, IsPlainRun, GoesPlain, OthersStay, LooksAlike, Rests, IsFair}
 use Rattle.ir_graph.proofs.Full.{sourced_step_beside, sourced_step_same_sources, source_set_is_upd, tables_of_full_end, plain_run_append}
 

@@ -7,10 +7,10 @@ use Rattle.ir_search_laws.specs.Sources.{plain_source}
 use Rattle.ir_search_laws.proofs.CallerLemmas.{sourced_counts, stays_unspoilt_live}
 use Rattle.ir_thread.specs.State.{ThreadState, ask_of, most_budget, thread_machine}
 use Rattle.ir_world.specs.Sources.{Source, given}
-use Rattle.ir_seen.specs.Seen.{IsLive, IsSpoilt}
-use Rattle.ir_seen.proofs.CallerLemmas.{live_or_next_spoils, start_state_is_unspoilt}
+use Rattle.ir_likeness.specs.Seen.{IsLive, IsSpoilt}
+use Rattle.ir_likeness.proofs.CallerLemmas.{live_or_next_spoils, start_state_is_unspoilt}
 use Rattle.ir_flat.specs.Flat.{tables, thread_of}
-use Rattle.ir_store.specs.Nodes.{SourcedFlat}
+use Rattle.ir_state_store.specs.Nodes.{SourcedFlat}
 use Rattle.ir_graph.specs.Setup.{Setup, setup_start, IsCountedOf}
 use Rattle.ir_graph.specs.Plain.{full_by, full_of, IsAnsweredRun, GoesPlain, Rests}
 use Rattle.ir_graph.specs.Reached.{beginning, IsReached, AllReached}

@@ -7,7 +7,7 @@ use Rattle.ir_search.specs.declared.origin.Refusal.{Refusal}
 use Rattle.ir_search.specs.Levels.{AreAsked, AreGoneOver, Covered}
 use Rattle.ir_search.specs.Searching.{HasGone}
 use Rattle.ir_search.proofs.CallerLemmas.{covered_below_gone_over}
-use Rattle.ir_store.specs.Nodes.{SourcedFlat}
+use Rattle.ir_state_store.specs.Nodes.{SourcedFlat}
 use Rattle.ir_graph.specs.Setup.{Setup}
 use Rattle.ir_graph.specs.Graph.{IsGraph}
 use Rattle.ir_graph.specs.Hangs.{AllStand, AreWays, AreMarked}

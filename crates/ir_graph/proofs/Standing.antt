@@ -16,10 +16,10 @@ use Rattle.ir_search_laws.specs.Outcomes.{switches}
 use Rattle.ir_search_laws.proofs.CallerLemmas.{switches_arrive_open, none_ahead_if_at_rest, seen_good, sourced_is_lawful}
 use Rattle.ir_thread.specs.State.{ThreadState, thread_machine}
 use Rattle.ir_world.specs.Sources.{Source, given}
-use Rattle.ir_seen.specs.Seen.{view, seen_machine, seen_start, IsLive, IsSpoilt}
-use Rattle.ir_seen.proofs.CallerLemmas.{seen_machine_is_lawful, seen_machine_is_view, live_or_next_spoils, guest_invariant_start}
+use Rattle.ir_likeness.specs.Seen.{view, seen_machine, seen_start, IsLive, IsSpoilt}
+use Rattle.ir_likeness.proofs.CallerLemmas.{seen_machine_is_lawful, seen_machine_is_view, live_or_next_spoils, guest_invariant_start}
 use Rattle.ir_flat.specs.Flat.{tables, start_flat}
-use Rattle.ir_store.specs.Nodes.{SourcedFlat}
+use Rattle.ir_state_store.specs.Nodes.{SourcedFlat}
 use Rattle.ir_graph.specs.Graph.{IsGraph}
 use Rattle.ir_graph.specs.Nodes.{seen_by, answered_by, seen_of, Alike}
 use Rattle.ir_graph.specs.Searched.{AreSearched}

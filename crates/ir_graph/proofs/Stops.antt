@@ -4,7 +4,7 @@ use Rattle.ir_search.specs.declared.stop.Stop.{Stop}
 use Rattle.ir_search.specs.declared.stop.Stop.TheVariants.{Nodes, Private, Log, World, Memory}
 use Rattle.ir_thread.specs.State.{ask_of}
 use Rattle.ir_flat.specs.Flat.{thread_of}
-use Rattle.ir_store.specs.Nodes.{SourcedFlat, source_of}
+use Rattle.ir_state_store.specs.Nodes.{SourcedFlat, source_of}
 use Rattle.ir_graph.specs.Setup.{Setup, setup_start}
 use Rattle.ir_graph.specs.Plain.{GoesPlain, Rests}
 use Rattle.ir_graph.specs.Reached.{IsReached}

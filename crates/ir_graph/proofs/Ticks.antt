@@ -11,7 +11,7 @@ use Rattle.ir_runs.proofs.CallerLemmas.{upd_at_own_place, upd_at_other_place}
 use Rattle.ir_search_laws.specs.Sources.{left_of_source, sourced}
 use Rattle.ir_search_laws.specs.Views.{beside}
 use Rattle.ir_world.specs.Sources.{Source, source, given, seed_of}
-use Rattle.ir_store.specs.Table.{no_source}
+use Rattle.ir_state_store.specs.Table.{no_source}
 use Rattle.ir_graph.specs.Setup.{Setup, first_source, first_sources}
 use Rattle.ir_graph.specs.Times.{HasTime}
 use Rattle.ir_graph.proofs.Forms.{each_has_first_source}

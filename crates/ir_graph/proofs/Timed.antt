@@ -7,10 +7,10 @@ use Rattle.ir_search.specs.Following.{BothWays}
 use Rattle.ir_search_laws.specs.Outcomes.{Begins}
 use Rattle.ir_search_laws.specs.Views.{beside}
 use Rattle.ir_thread.specs.State.{most_budget}
-use Rattle.ir_seen.specs.Seen.{seen_start}
-use Rattle.ir_seen.proofs.CallerLemmas.{start_view_any_budget}
-use Rattle.ir_store.specs.Nodes.{SourcedFlat}
-use Rattle.ir_store.specs.Table.{HaveTicks, HaveNoTicks}
+use Rattle.ir_likeness.specs.Seen.{seen_start}
+use Rattle.ir_likeness.proofs.CallerLemmas.{start_view_any_budget}
+use Rattle.ir_state_store.specs.Nodes.{SourcedFlat}
+use Rattle.ir_state_store.specs.Table.{HaveTicks, HaveNoTicks}
 use Rattle.ir_graph.specs.Graph.{IsGraph}
 use Rattle.ir_graph.specs.Nodes.{seen_by, answered_by, seen_of, NodesStay}
 use Rattle.ir_graph.specs.Notes.{noted_by}

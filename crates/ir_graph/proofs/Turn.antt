@@ -16,7 +16,7 @@ use Rattle.ir_thread.specs.State.{ask_of, shared_ask}
 use Rattle.ir_world.specs.Sources.{Source, given}
 use Rattle.ir_flat.specs.Alone.{WentAlone}
 use Rattle.ir_flat.specs.Flat.{Flat, tables, machine, thread_of}
-use Rattle.ir_store.specs.Nodes.{SourcedFlat, source_of}
+use Rattle.ir_state_store.specs.Nodes.{SourcedFlat, source_of}
 use Rattle.ir_graph.specs.Plain.{full_by, sources_by, full_of, sourced_flat, IsAnsweredRun, IsPlainRun, IsFair, MayGo, Rests, LooksAlike, result_by}
 use Rattle.ir_graph.specs.Turn.{EachTries, GoesAlone, ways_taken}
 use Rattle.ir_graph.proofs.Full.{answered_run_append, plain_run_is_answered}

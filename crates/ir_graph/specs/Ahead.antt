@@ -3,8 +3,8 @@ use Rattle.std.specs.Prelude.{◌≡◌, ℕ, ◌<◌, Bool, true, false, List, 
 use Rattle.std.specs.List.{slice_index_or, AllByRecursion}
 use Rattle.ir_thread.specs.State.{ask_of}
 use Rattle.ir_object.specs.Empty.{empty}
-use Rattle.ir_store.specs.Nodes.{Shared, SourcedFlat, cells_at, HaveWords, sourced_thread}
-use Rattle.ir_store.specs.Table.{idle_beside}
+use Rattle.ir_state_store.specs.Nodes.{Shared, SourcedFlat, cells_at, HaveWords, sourced_thread}
+use Rattle.ir_state_store.specs.Table.{idle_beside}
 use Rattle.ir_graph.specs.Hand.{AllPairs, EachOnce, IsAtSpot}
 use Rattle.ir_graph.specs.Lone.{MustWait, TakesTurn}
 use Rattle.ir_graph.specs.Plain.{MayGo}

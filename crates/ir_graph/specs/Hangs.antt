@@ -11,8 +11,8 @@ use Rattle.ir_search_laws.specs.Views.{IsUnspoilt}
 use Rattle.ir_thread.specs.State.{thread_machine}
 use Rattle.ir_world.specs.Sources.{given}
 use Rattle.ir_flat.specs.Flat.{machine, tables, start_flat}
-use Rattle.ir_seen.specs.Seen.{IsSpoilt, seen_start}
-use Rattle.ir_store.specs.Nodes.{SourcedFlat}
+use Rattle.ir_likeness.specs.Seen.{IsSpoilt, seen_start}
+use Rattle.ir_state_store.specs.Nodes.{SourcedFlat}
 use Rattle.ir_graph.specs.Setup.{Setup, first_source}
 use Rattle.ir_graph.specs.Nodes.{seen_by, answered_by, seen_of}
 

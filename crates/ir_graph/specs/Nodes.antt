@@ -11,8 +11,8 @@ use Rattle.ir_search_laws.specs.Views.{viewed, beside}
 use Rattle.ir_thread.specs.State.{ThreadState, ask_of}
 use Rattle.ir_world.specs.Sources.{Source, given}
 use Rattle.ir_flat.specs.Flat.{Flat, tables, thread_of}
-use Rattle.ir_seen.specs.Seen.{view, seen_machine, Same}
-use Rattle.ir_store.specs.Nodes.{SourcedFlat, source_of}
+use Rattle.ir_likeness.specs.Seen.{view, seen_machine, Same}
+use Rattle.ir_state_store.specs.Nodes.{SourcedFlat, source_of}
 use Rattle.ir_graph.specs.Plain.{Rests, LooksAlike}
 
 -- the threads that run this code, as a search sees them, each with its source beside it

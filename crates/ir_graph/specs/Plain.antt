@@ -10,10 +10,10 @@ use Rattle.ir_thread.specs.declared.ask.Ask.{Ask}
 use Rattle.ir_thread.specs.declared.ask.Ask.TheVariants as ask
 use Rattle.ir_thread.specs.declared.end.End.TheVariants as ending
 use Rattle.ir_world.specs.Sources.{Source, given}
-use Rattle.ir_freeze.specs.Twins.{AreTwins}
-use Rattle.ir_seen.specs.Seen.{IsLive}
+use Rattle.ir_thread_bytes.specs.Twins.{AreTwins}
+use Rattle.ir_likeness.specs.Seen.{IsLive}
 use Rattle.ir_flat.specs.Flat.{Flat, tables, thread_of}
-use Rattle.ir_store.specs.Nodes.{SourcedFlat, source_of}
+use Rattle.ir_state_store.specs.Nodes.{SourcedFlat, source_of}
 
 -- the threads that run this code, each with its source beside it
 abbrev pub full_by : List ℕ → Machine (ThreadState × Source)

@@ -3,7 +3,7 @@ use Rattle.std.specs.Prelude.{◌≡◌, ℕ, List, Some, slice_get}
 use Rattle.ir_runs.specs.Run.{State, Step, end}
 use Rattle.ir_thread.specs.State.{ThreadState}
 use Rattle.ir_world.specs.Sources.{Source}
-use Rattle.ir_store.specs.Nodes.{SourcedFlat}
+use Rattle.ir_state_store.specs.Nodes.{SourcedFlat}
 use Rattle.ir_graph.specs.Setup.{Setup, setup_start}
 use Rattle.ir_graph.specs.Plain.{full_by, full_of, IsAnsweredRun, LooksAlike}
 

@@ -4,7 +4,7 @@ use Rattle.ir_search.specs.declared.origin.Origin.{Origin}
 use Rattle.ir_search.specs.Levels.{rows}
 use Rattle.ir_search.specs.Origins.{AreReached, AreOriginsRising}
 use Rattle.ir_search.specs.Searching.{HasGone, IsBetween}
-use Rattle.ir_store.specs.Nodes.{SourcedFlat}
+use Rattle.ir_state_store.specs.Nodes.{SourcedFlat}
 use Rattle.ir_graph.specs.Setup.{Setup}
 use Rattle.ir_graph.specs.Ahead.{AreTurns}
 use Rattle.ir_graph.specs.Graph.{IsGraph}

@@ -4,7 +4,7 @@ use Rattle.ir_runs.specs.Machine.{Machine, Try}
 use Rattle.ir_runs.specs.Run.{State, Step, asked, act, after, end}
 use Rattle.ir_search_laws.specs.Counting.{is_own}
 use Rattle.ir_search_laws.specs.Orders.{IsStepAlone, is_refusal}
-use Rattle.ir_store.specs.Nodes.{SourcedFlat}
+use Rattle.ir_state_store.specs.Nodes.{SourcedFlat}
 use Rattle.ir_graph.specs.Plain.{full_by, full_of, IsAnsweredRun, result_by}
 
 -- each try of the run is refused, or enters

@@ -10,7 +10,7 @@ ghost use Rattle.ir_thread.specs.State.{ask_of, after_ask, shared_ask};
 use ir_image::Code;
 use ir_object::Object;
 use ir_runs::Access;
-use ir_store::SourcedThread;
+use ir_state_store::SourcedThread;
 use ir_thread::{Ask, End, Reply, Thread};
 use ir_world::Sources;
 

@@ -6,11 +6,11 @@ ghost use Rattle.ir_flat.specs.Flat.{machine, tables};
 ghost use Rattle.ir_graph.specs.Hangs.{AreWays};
 ghost use Rattle.ir_graph.specs.Notes.{noted_by};
 ghost use Rattle.ir_runs.specs.Run.{IsDone};
-ghost use Rattle.ir_store.specs.Nodes.{SourcedFlat};
+ghost use Rattle.ir_state_store.specs.Nodes.{SourcedFlat};
 
 use crate::graph::Graph;
 use ir_search::mark_ways;
-use ir_store::Store;
+use ir_state_store::Store;
 use std::alloc::{AllocError, Global};
 
 // Which of these states have all threads done.

@@ -9,8 +9,8 @@ ghost use Rattle.ir_graph.specs.Reached.{IsReached, AllReached};
 ghost use Rattle.ir_graph.specs.Stops.{MayStop};
 ghost use Rattle.ir_graph.specs.Setup.{Setup};
 ghost use Rattle.ir_graph.specs.Times.{HasTimedRun, LeadsTickless};
-ghost use Rattle.ir_store.specs.Nodes.{Grows, IsNode, SourcedFlat, sourced_in};
-ghost use Rattle.ir_store.specs.Table.{HaveTicks, HaveNoTicks};
+ghost use Rattle.ir_state_store.specs.Nodes.{Grows, IsNode, SourcedFlat, sourced_in};
+ghost use Rattle.ir_state_store.specs.Table.{HaveTicks, HaveNoTicks};
 
 use crate::ahead::Ahead;
 use crate::hands::put_spots;
@@ -20,7 +20,7 @@ use crate::turns::{tries, turn_of};
 use crate::way::{Way, way_result};
 use ir_image::Code;
 use ir_search::Stop;
-use ir_store::{Node, Store};
+use ir_state_store::{Node, Store};
 
 /// How far a search may go.
 #[derive(Clone, Copy, Debug, PartialEq, Eq)]

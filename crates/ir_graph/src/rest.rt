@@ -13,7 +13,7 @@ ghost use Rattle.ir_thread.specs.State.{ask_of, shared_ask};
 
 use ir_flat::Flat;
 use ir_search::Stop;
-use ir_store::SourcedFlat;
+use ir_state_store::SourcedFlat;
 use ir_thread::{Ask, End};
 use ir_world::Sources;
 

@@ -5,8 +5,8 @@ ghost use Rattle.std.specs.List.{slice_index_or};
 ghost use Rattle.ir_graph.specs.Ahead.{AreTurns, IsAheadFrom, IsTurnOf};
 ghost use Rattle.ir_graph.specs.Plain.{MayGo};
 ghost use Rattle.ir_graph.specs.declared.known.Turn.{Turn};
-ghost use Rattle.ir_store.specs.Nodes.{Grows, SourcedFlat};
-ghost use Rattle.ir_store.specs.Table.{idle_beside};
+ghost use Rattle.ir_state_store.specs.Nodes.{Grows, SourcedFlat};
+ghost use Rattle.ir_state_store.specs.Table.{idle_beside};
 ghost use Rattle.ir_thread.specs.State.{ask_of};
 
 use crate::ahead::{Ahead, key_after, thread_key};
@@ -15,7 +15,7 @@ use crate::known::Turn;
 use crate::lone::{turn_among, waits};
 use crate::way::Way;
 use ir_image::Code;
-use ir_store::{Spot, Store};
+use ir_state_store::{Spot, Store};
 use ir_thread::Ask;
 use std::alloc::{AllocError, Global};
 

@@ -4,7 +4,7 @@ use Rattle.ir_runs.specs.Run.{Step, after, end}
 use Rattle.ir_runs.proofs.CallerLemmas.{end_append}
 use Rattle.ir_search_laws.specs.Outcomes.{switches}
 use Rattle.ir_search_laws.specs.Orders.{IsStepAlone}
-use Rattle.ir_store.specs.Nodes.{SourcedFlat}
+use Rattle.ir_state_store.specs.Nodes.{SourcedFlat}
 use Rattle.ir_graph.specs.Plain.{full_by, full_of, IsAnsweredRun}
 use Rattle.ir_graph.specs.Reached.{beginning}
 use Rattle.ir_graph.specs.Setup.{Setup, setup_start}

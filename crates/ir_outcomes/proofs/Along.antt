@@ -8,7 +8,7 @@ use Rattle.ir_search.specs.Following.{BothWays}
 use Rattle.ir_search.specs.Origins.{AreReached, AreWaysOf, BeginsAt}
 use Rattle.ir_search.proofs.CallerLemmas.{same_number_same_ways}
 use Rattle.ir_lemmas.proofs.CallerLemmas.{element_below_length}
-use Rattle.ir_store.specs.Nodes.{SourcedFlat}
+use Rattle.ir_state_store.specs.Nodes.{SourcedFlat}
 use Rattle.ir_graph.specs.Graph.{IsGraph}
 use Rattle.ir_graph.specs.Nodes.{AllRest}
 use Rattle.ir_graph.specs.Plain.{GoesPlain}

@@ -13,7 +13,7 @@ use Rattle.ir_search_laws.proofs.CallerLemmas.{none_ahead_if_at_rest}
 use Rattle.ir_thread.specs.State.{ask_of, most_budget}
 use Rattle.ir_flat.specs.Flat.{tables, machine, thread_of}
 use Rattle.ir_flat.proofs.CallerLemmas.{length_of_start_threads}
-use Rattle.ir_store.specs.Nodes.{SourcedFlat}
+use Rattle.ir_state_store.specs.Nodes.{SourcedFlat}
 use Rattle.ir_graph.specs.Graph.{IsGraph}
 use Rattle.ir_graph.specs.Nodes.{seen_by, answered_by, seen_of, Alike, AllRest, IsStepBy, HasStepBy}
 use Rattle.ir_graph.specs.Plain.{full_by, full_of, sources_by, GoesPlain, OthersStay, MayGo, Rests, result_by}

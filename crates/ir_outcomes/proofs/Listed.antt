@@ -10,7 +10,7 @@ use Rattle.ir_runs.specs.Run.{Step}
 use Rattle.ir_record.specs.Recording.{turns_of_items}
 use Rattle.ir_thread.specs.State.{most_budget}
 use Rattle.ir_flat.specs.Flat.{Flat, tables}
-use Rattle.ir_store.specs.Nodes.{SourcedFlat}
+use Rattle.ir_state_store.specs.Nodes.{SourcedFlat}
 use Rattle.ir_graph.specs.Listing.{HasOutcome, AreOutcomes}
 use Rattle.ir_graph.specs.Outcomes.{run_outcome, AllListed}
 use Rattle.ir_graph.specs.Searched.{AreSearched}

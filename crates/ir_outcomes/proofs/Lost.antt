@@ -14,7 +14,7 @@ use Rattle.ir_record.specs.Refusing.{Turn}
 use Rattle.ir_runs.specs.Run.{Step}
 use Rattle.ir_world.specs.Sources.{given}
 use Rattle.ir_thread.specs.State.{most_budget, thread_machine}
-use Rattle.ir_store.specs.Nodes.{SourcedFlat}
+use Rattle.ir_state_store.specs.Nodes.{SourcedFlat}
 use Rattle.ir_graph.specs.Hangs.{CanEndFrom, IsHangOf, AreMarked, AllStand}
 use Rattle.ir_graph.specs.Nodes.{LookAlike}
 use Rattle.ir_graph.specs.Plain.{LooksAlike}

@@ -14,10 +14,10 @@ use Rattle.ir_search_laws.specs.Views.{beside}
 use Rattle.ir_search_laws.proofs.CallerLemmas.{ComesToRest, ahead_from_alike, rest_ends_equal, invariant_after_counting, seen_good, sourced_is_lawful}
 use Rattle.ir_thread.specs.State.{ThreadState, ask_of, shared_ask, most_budget, thread_machine}
 use Rattle.ir_world.specs.Sources.{Source, given}
-use Rattle.ir_seen.specs.Seen.{view, seen_machine, seen_start, IsLive, IsSpoilt}
-use Rattle.ir_seen.proofs.CallerLemmas.{seen_machine_is_lawful, seen_machine_is_view, live_or_next_spoils, guest_invariant_start, start_view_any_budget}
+use Rattle.ir_likeness.specs.Seen.{view, seen_machine, seen_start, IsLive, IsSpoilt}
+use Rattle.ir_likeness.proofs.CallerLemmas.{seen_machine_is_lawful, seen_machine_is_view, live_or_next_spoils, guest_invariant_start, start_view_any_budget}
 use Rattle.ir_flat.specs.Flat.{tables, machine, thread_of, start_flat}
-use Rattle.ir_store.specs.Nodes.{SourcedFlat}
+use Rattle.ir_state_store.specs.Nodes.{SourcedFlat}
 use Rattle.ir_graph.specs.Graph.{IsGraph}
 use Rattle.ir_graph.specs.Nodes.{seen_by, answered_by, Alike, seen_of, LookAlike, AllRest, IsStepBy, HasStepBy}
 use Rattle.ir_graph.specs.Outcomes.{run_outcome}

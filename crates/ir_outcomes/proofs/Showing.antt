@@ -11,7 +11,7 @@ use Rattle.ir_search_laws.specs.Sources.{plain_source}
 use Rattle.ir_search_laws.proofs.CallerLemmas.{plain_end, sourced_entering}
 use Rattle.ir_thread.specs.State.{most_budget, thread_machine}
 use Rattle.ir_flat.specs.Flat.{machine, start_flat, tables}
-use Rattle.ir_store.specs.Nodes.{SourcedFlat}
+use Rattle.ir_state_store.specs.Nodes.{SourcedFlat}
 use Rattle.ir_graph.specs.Outcomes.{run_outcome}
 use Rattle.ir_graph.specs.Plain.{full_by}
 use Rattle.ir_graph.specs.Reached.{beginning}

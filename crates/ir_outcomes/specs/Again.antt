@@ -5,7 +5,7 @@ use Rattle.ir_search.specs.declared.origin.Refusal.{Refusal}
 use Rattle.ir_search.specs.Origins.{AreWaysOf}
 use Rattle.ir_record.specs.Refusing.{Turn, InTurns}
 use Rattle.ir_runs.specs.Run.{Step, end}
-use Rattle.ir_store.specs.Nodes.{SourcedFlat}
+use Rattle.ir_state_store.specs.Nodes.{SourcedFlat}
 use Rattle.ir_graph.specs.Plain.{full_by, full_of, IsAnsweredRun, LooksAlike}
 use Rattle.ir_graph.specs.Reached.{beginning}
 use Rattle.ir_graph.specs.Setup.{Setup, setup_start}

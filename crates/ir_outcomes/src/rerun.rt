@@ -12,7 +12,7 @@ ghost use Rattle.ir_graph.specs.Setup.{Setup, setup_start};
 ghost use Rattle.ir_graph.specs.Stops.{MayStop, StopsFollowing};
 ghost use Rattle.ir_graph.specs.Turn.{GoesAlone};
 ghost use Rattle.ir_record.specs.Recording.{turns_of_items};
-ghost use Rattle.ir_store.specs.Nodes.{SourcedFlat};
+ghost use Rattle.ir_state_store.specs.Nodes.{SourcedFlat};
 ghost use Rattle.ir_thread.specs.State.{IsAllowed, ask_of};
 ghost use Rattle.ir_outcomes.specs.Again.{IsAgain, IsAgainBy, ways_by};
 ghost use Rattle.ir_outcomes.specs.Along.{AlongPath, ArrivesBy, FailsBy, HaveWays, MayFail, StandsAt};
@@ -24,7 +24,7 @@ use crate::rerun_error::RerunError;
 use ir_graph::{States, run_to_rest, same_state, way_result};
 use ir_record::Item;
 use ir_search::{Origin, Refusal, Stop};
-use ir_store::SourcedFlat;
+use ir_state_store::SourcedFlat;
 use std::alloc::Global;
 
 // So many steps of a thread from where it rests, each up to where it rests again: all are refused tries, or all enter.

@@ -16,7 +16,7 @@ use Rattle.ir_stale_run.specs.declared.found.Found.TheVariants.{Unknown}
 use Rattle.ir_stale_run.specs.declared.span.Span.{Span}
 use Rattle.ir_stale_run.specs.declared.kept.Open.{Open}
 use Rattle.ir_stale_run.specs.declared.watch.Watch.{Watch}
-use Rattle.ir_walk.proofs.CallerLemmas.{each_element_after_push, permuted_all_satisfy, permuted_element_exists}
+use Rattle.ir_event_walk.proofs.CallerLemmas.{each_element_after_push, permuted_all_satisfy, permuted_element_exists}
 
 some_row_injective : (x y : StaleWrite) → Some x ≡ Some y → x ≡ y
 some_row_injective x y e = cc e

@@ -9,10 +9,10 @@ use Rattle.ir_thread.specs.declared.ask.Ask.{Ask}
 use Rattle.ir_thread.specs.declared.ask.Ask.TheVariants as ask
 use Rattle.ir_thread.specs.declared.ask.Reply.{Reply}
 use Rattle.ir_thread.specs.declared.ask.Reply.TheVariants.{Value}
-use Rattle.ir_walk.specs.Calls.{AllSuit}
+use Rattle.ir_event_walk.specs.Calls.{AllSuit}
 use Rattle.ir_stale_run.proofs.Same.{reply_suits_same_call}
 use Rattle.ir_stale_run.specs.WhatIf.{hold_after, answer, answer_by, same_call, difference, is_other_value, is_writing_hold, is_private, call_or_later, what_if}
-use Rattle.ir_walk.specs.declared.exchange.Exchange.{Exchange}
+use Rattle.ir_event_walk.specs.declared.exchange.Exchange.{Exchange}
 use Rattle.ir_stale_run.specs.declared.hold.Hold.{Hold}
 use Rattle.ir_stale_run.specs.declared.hold.Hold.TheVariants.{Reading, Between, Writing}
 use Rattle.ir_stale_run.specs.declared.reason.Reason.{Reason}

@@ -9,7 +9,7 @@ use Rattle.ir_past.specs.Past.{IsRow}
 use Rattle.ir_past.specs.declared.stale_write.StaleWrite.{StaleWrite}
 use Rattle.ir_events.specs.Events.{event_entry}
 use Rattle.ir_events.proofs.CallerLemmas.{events_are_logged}
-use Rattle.ir_walk.proofs.CallerLemmas.{object_held_after_entry}
+use Rattle.ir_event_walk.proofs.CallerLemmas.{object_held_after_entry}
 use Rattle.ir_stale_run.specs.Rests.{behind_read, behind_write}
 use Rattle.ir_stale_run.proofs.Leaving.{row_entries_are_placed}
 

@@ -3,7 +3,7 @@ use Rattle.std.proofs.Common.{◌≡◌, ◌<◌, ◌≤◌, ◌+◌, ◌-◌, �
 use Rattle.std.specs.Prelude.{◌&&◌, ◌||◌, Option, Some, None}
 use Rattle.std.proofs.lemmas.List.{at_drop_more, at_drop_all}
 use Rattle.ir_stale_run.specs.WhatIf.{hold_after, is_reading, is_get, gets, is_writing_hold, is_put_call, puts, least_below, found_or}
-use Rattle.ir_walk.specs.declared.exchange.Exchange.{Exchange}
+use Rattle.ir_event_walk.specs.declared.exchange.Exchange.{Exchange}
 use Rattle.ir_stale_run.specs.declared.hold.Hold.{Hold}
 
 or_true_left : (b c whole : Bool) → whole ≡ (b || c) → b ≡ true → true ≡ whole

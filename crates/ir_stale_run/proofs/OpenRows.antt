@@ -8,7 +8,7 @@ use Rattle.std.proofs.lemmas.Bool.{cases_lt, cases_eq}
 use Rattle.std.proofs.Math.ListN.{get_or-append}
 use Rattle.std.proofs.Math.Seq.{get_or-append_seam}
 use Rattle.ir_fit.specs.Fit.{FittedTrace}
-use Rattle.ir_walk.proofs.CallerLemmas.{each_element_after_push}
+use Rattle.ir_event_walk.proofs.CallerLemmas.{each_element_after_push}
 use Rattle.ir_past.specs.declared.stale_write.StaleWrite.{StaleWrite}
 use Rattle.ir_stale_run.specs.Watch.{IsFoundAs, IsWithout, IsSpanOf, IsOpenAt, IsWatchedWrite, IsWatch, NoneDue, AddsRests}
 use Rattle.ir_stale_run.specs.declared.found.Found.{Found}

@@ -11,12 +11,12 @@ use Rattle.ir_cut.specs.Positions.{thread_at}
 use Rattle.ir_weave.specs.Standing.{Standing, StandsAtCut, flat_in, positions}
 use Rattle.ir_past.specs.declared.stale_write.StaleWrite.{StaleWrite}
 use Rattle.ir_opened.proofs.CallerLemmas.{leave_is_past_event}
-use Rattle.ir_walk.specs.Calls.{calls_in, AllSuit, AreCalls}
-use Rattle.ir_walk.specs.Words.{AreWordsAt}
+use Rattle.ir_event_walk.specs.Calls.{calls_in, AllSuit, AreCalls}
+use Rattle.ir_event_walk.specs.Words.{AreWordsAt}
 use Rattle.ir_stale_run.specs.WhatIf.{rest_of, rest_by, what_if, puts, changed_word, unknown_by, found_of}
 use Rattle.ir_stale_run.specs.Rests.{behind_read, behind_write, IsRestOf}
 use Rattle.ir_stale_run.specs.Watch.{IsFoundAs, IsCopyOf, IsSpan, IsSpanOf, IsOpenAt, IsCallMore}
-use Rattle.ir_walk.specs.declared.exchange.Exchange.{Exchange}
+use Rattle.ir_event_walk.specs.declared.exchange.Exchange.{Exchange}
 use Rattle.ir_stale_run.specs.declared.rest.Rest.{Rest}
 use Rattle.ir_stale_run.specs.declared.found.Found.{Found}
 use Rattle.ir_stale_run.specs.declared.found.Found.TheVariants.{Unknown, Known}
@@ -24,7 +24,7 @@ use Rattle.ir_stale_run.specs.declared.hold.Hold.TheVariants.{Reading}
 use Rattle.ir_thread.specs.State.{ThreadState}
 use Rattle.ir_stale_run.specs.declared.span.Span.{Span}
 use Rattle.ir_stale_run.specs.declared.kept.Open.{Open}
-use Rattle.ir_walk.proofs.CallerLemmas.{calls_in_split, all_suit_append, held_words_at_standing}
+use Rattle.ir_event_walk.proofs.CallerLemmas.{calls_in_split, all_suit_append, held_words_at_standing}
 use Rattle.ir_stale_run.proofs.Entered.{none_held_behind_read, none_held_behind_write}
 
 -- ---- behind its read entry

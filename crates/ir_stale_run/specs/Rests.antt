@@ -6,8 +6,8 @@ use Rattle.ir_cut.specs.Positions.{EachRun, thread_at}
 use Rattle.ir_past.specs.declared.stale_write.StaleWrite.{StaleWrite}
 use Rattle.ir_events.specs.Events.{event_entry}
 use Rattle.ir_opened.specs.Positions.{LeavesAfter, IsLeaveOf}
-use Rattle.ir_walk.specs.Words.{AreWordsAt}
-use Rattle.ir_walk.specs.Calls.{calls_in}
+use Rattle.ir_event_walk.specs.Words.{AreWordsAt}
+use Rattle.ir_event_walk.specs.Calls.{calls_in}
 use Rattle.ir_stale_run.specs.WhatIf.{rest_of, more_steps}
 use Rattle.ir_stale_run.specs.declared.rest.Rest.{Rest}
 

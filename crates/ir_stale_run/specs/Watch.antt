@@ -10,12 +10,12 @@ use Rattle.ir_cut.specs.Positions.{EachRun, thread_at}
 use Rattle.ir_weave.specs.Standing.{Standing, flat_in, positions}
 use Rattle.ir_past.specs.Past.{IsRow, AreStaleWrites}
 use Rattle.ir_past.specs.declared.stale_write.StaleWrite.{StaleWrite}
-use Rattle.ir_walk.specs.Route.{IsRoute}
-use Rattle.ir_walk.specs.Words.{AreWordsAt}
-use Rattle.ir_walk.specs.Calls.{calls_in, AllSuit}
+use Rattle.ir_event_walk.specs.Route.{IsRoute}
+use Rattle.ir_event_walk.specs.Words.{AreWordsAt}
+use Rattle.ir_event_walk.specs.Calls.{calls_in, AllSuit}
 use Rattle.ir_opened.specs.Positions.{LeavesAfter, IsLeaveOf}
 use Rattle.ir_stale_run.specs.Rests.{behind_read, behind_write, IsRestOf}
-use Rattle.ir_walk.specs.declared.exchange.Exchange.{Exchange}
+use Rattle.ir_event_walk.specs.declared.exchange.Exchange.{Exchange}
 use Rattle.ir_stale_run.specs.declared.found.Found.{Found}
 use Rattle.ir_stale_run.specs.declared.found.Found.TheVariants.{Unknown, Known}
 use Rattle.ir_stale_run.specs.declared.span.Span.{Span}

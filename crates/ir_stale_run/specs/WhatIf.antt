@@ -10,7 +10,7 @@ use Rattle.ir_thread.specs.declared.ask.Ask.TheVariants as ask
 use Rattle.ir_thread.specs.declared.ask.Reply.{Reply}
 use Rattle.ir_thread.specs.declared.ask.Reply.TheVariants.{Go, Value}
 use Rattle.ir_fit.specs.Placed.{same_access}
-use Rattle.ir_walk.specs.declared.exchange.Exchange.{Exchange}
+use Rattle.ir_event_walk.specs.declared.exchange.Exchange.{Exchange}
 use Rattle.ir_stale_run.specs.declared.hold.Hold.{Hold}
 use Rattle.ir_stale_run.specs.declared.hold.Hold.TheVariants.{Reading, Between, Writing}
 use Rattle.ir_stale_run.specs.declared.reason.Reason.{Reason}

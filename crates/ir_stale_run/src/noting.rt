@@ -3,14 +3,14 @@
 ghost use Rattle.std.specs.Prelude.{◌≡◌, ◌-◌, ◌<◌, ◌≤◌, ℕ, length, slice_index_or, option_to_list, OnOk};
 ghost use Rattle.ir_weave.specs.Standing.{flat_in, positions};
 ghost use Rattle.ir_events.specs.Walk.{IsOnWalk};
-ghost use Rattle.ir_walk.specs.Calls.{AreCalls};
+ghost use Rattle.ir_event_walk.specs.Calls.{AreCalls};
 ghost use Rattle.ir_stale_run.specs.Watch.{IsGuide, IsOpenAt, IsCallMore};
 ghost use Rattle.ir_stale_run.specs.declared.kept.Open.{Open};
 
 use crate::guide::Guide;
 use crate::kept::Open;
+use ir_event_walk::{Exchange, thread_of, words_of};
 use ir_replay::State;
-use ir_walk::{Exchange, thread_of, words_of};
 use std::alloc::AllocError;
 
 // Adds a call to an open row, if there was one.

@@ -10,9 +10,9 @@ use crate::guide::Guide;
 use crate::kept::{Kept, Open};
 use crate::span::Span;
 use crate::watch::Watch;
+use ir_event_walk::{thread_of, words_of};
 use ir_replay::State;
 use ir_thread::Thread;
-use ir_walk::{thread_of, words_of};
 use std::alloc::{AllocError, Global};
 
 // A copy of a thread, if threads are copied.

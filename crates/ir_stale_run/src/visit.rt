@@ -15,8 +15,8 @@ use crate::noting::note;
 use crate::opening::open_due;
 use crate::stops::next_stop;
 use crate::watch::Watch;
+use ir_event_walk::{take_steps, thread_of};
 use ir_replay::State;
-use ir_walk::{take_steps, thread_of};
 use std::alloc::AllocError;
 
 // Takes thread t on by itself, by at most one call where a row is open. Whether it took a step.

@@ -16,11 +16,11 @@ use crate::rest::Rest;
 use crate::visit::visit_thread;
 use crate::watch::Watch;
 use crate::watches::watches;
+use ir_event_walk::{Route, thread_of, unmarked};
 use ir_events::{are_done, ends_of};
 use ir_fit::Fitted;
 use ir_past::StaleWrite;
 use ir_replay::State;
-use ir_walk::{Route, thread_of, unmarked};
 use std::alloc::{AllocError, Global};
 
 // Takes each thread in turn as far as it can go by itself.

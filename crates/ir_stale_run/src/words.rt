@@ -6,9 +6,9 @@ ghost use Rattle.ir_stale_run.specs.declared.hold.Hold.TheVariants.{Reading};
 
 use crate::hold::Hold;
 use crate::holding::hold_after;
+use ir_event_walk::{Exchange, word_of};
 use ir_image::MOST_OBJECT_WORDS;
 use ir_thread::Ask;
-use ir_walk::{Exchange, word_of};
 
 // Whether a call gets this word of the object, in the read's hold.
 fn gets_now(object: u8, index: u8, hold: Hold, asked: Ask) -> bool

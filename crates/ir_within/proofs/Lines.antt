@@ -7,7 +7,7 @@ use Rattle.ir_lemmas.proofs.CallerLemmas.{slice_get-push_cases}
 use Rattle.ir_explore.specs.Texts.{Objects, Known, IsOutcomeText}
 use Rattle.ir_outcomes.specs.Explored.{ShowsState}
 use Rattle.ir_outcomes.specs.declared.shown.Shown.{Shown}
-use Rattle.ir_store.specs.Nodes.{SourcedFlat}
+use Rattle.ir_state_store.specs.Nodes.{SourcedFlat}
 use Rattle.ir_within.specs.Within.{AreOutsideTexts}
 
 pub no_outside_texts : (o : Objects) (k : Known) (outside : List Bool) → AreOutsideTexts o k outside 0 []

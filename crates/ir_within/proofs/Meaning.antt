@@ -9,7 +9,7 @@ use Rattle.ir_outcomes.specs.declared.shown.Shown.{Shown}
 use Rattle.ir_search.proofs.CallerLemmas.{slice_get_some_below}
 use Rattle.ir_search.specs.declared.search.Ended.{Ended}
 use Rattle.ir_search.specs.declared.search.Ended.TheVariants.{Finished, Covered, Stopped}
-use Rattle.ir_store.specs.Nodes.{SourcedFlat}
+use Rattle.ir_state_store.specs.Nodes.{SourcedFlat}
 use Rattle.ir_thread.specs.State.{most_budget}
 use Rattle.ir_explore.specs.Plan.{ExplorePlan, setup_of}
 use Rattle.ir_explore.specs.Texts.{Known}

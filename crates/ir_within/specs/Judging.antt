@@ -4,7 +4,7 @@ use Rattle.ir_flat.specs.Flat.{IsFlat}
 use Rattle.ir_outcomes.specs.Explored.{ShowsState}
 use Rattle.ir_outcomes.specs.declared.shown.Shown.{Shown}
 use Rattle.ir_schedule.specs.Conditions.{EndState, end_state}
-use Rattle.ir_store.specs.Nodes.{SourcedFlat}
+use Rattle.ir_state_store.specs.Nodes.{SourcedFlat}
 use Rattle.ir_within.specs.Aspects.{Aspects, what_counts}
 
 -- what counts of each listed outcome

@@ -10,7 +10,7 @@ use Rattle.ir_outcomes.specs.declared.shown.Shown.{Shown}
 use Rattle.ir_search.specs.declared.search.Ended.{Ended}
 use Rattle.ir_search.specs.declared.search.Ended.TheVariants.{Finished, Covered, Stopped}
 use Rattle.ir_search.specs.declared.stop.Stop.{Stop}
-use Rattle.ir_store.specs.Nodes.{SourcedFlat}
+use Rattle.ir_state_store.specs.Nodes.{SourcedFlat}
 use Rattle.ir_explore.specs.Plan.{ExplorePlan}
 use Rattle.ir_explore.specs.Texts.{Known, AreKnown, IsStopReason, IsOutcomeText, Objects, objects_of, end_line}
 use Rattle.ir_within.specs.Aspects.{Aspects, seen}

@@ -9,7 +9,7 @@ ghost use Rattle.ir_explore.specs.Plan.{ExplorePlan};
 ghost use Rattle.ir_outcomes.specs.Explored.{ShowsState};
 ghost use Rattle.ir_outcomes.specs.declared.shown.Shown.{Shown};
 ghost use Rattle.ir_schedule.specs.Conditions.{end_state};
-ghost use Rattle.ir_store.specs.Nodes.{SourcedFlat};
+ghost use Rattle.ir_state_store.specs.Nodes.{SourcedFlat};
 ghost use Rattle.ir_within.specs.Plans.{aspects_of};
 ghost use Rattle.ir_within.specs.Aspects.{what_counts};
 ghost use Rattle.ir_within.specs.Judging.{AreSeen, HasSame, AreCompared};
@@ -20,7 +20,7 @@ use crate::aspects::Aspects;
 use crate::seen::{Seen, seen_of};
 use ir_explore::state_of;
 use ir_outcomes::{Explored, Shown};
-use ir_store::Store;
+use ir_state_store::Store;
 use std::alloc::{AllocError, Global};
 
 // What counts of each of these outcomes.

@@ -4,7 +4,7 @@ ghost use Rattle.std.specs.Prelude.{◌≡◌, ◌<◌, ◌++◌, ℕ, Some, Ok,
 ghost use Rattle.std.specs.String.{string_bytes};
 ghost use Rattle.ir_explore.specs.Texts.{objects_in, known_of};
 ghost use Rattle.ir_outcomes.specs.declared.shown.Shown.{Shown};
-ghost use Rattle.ir_store.specs.Nodes.{SourcedFlat};
+ghost use Rattle.ir_state_store.specs.Nodes.{SourcedFlat};
 ghost use Rattle.ir_within.specs.Within.{AreOutsideTexts, outside_count, searched_line};
 
 use ir_explore::{Ending, Started, end_line, outcome_text, state_of};

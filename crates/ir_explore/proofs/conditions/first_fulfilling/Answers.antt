@@ -3,7 +3,7 @@ use Rattle.std.specs.Prelude.{slice_get}
 use Rattle.std.proofs.lemmas.Option.{slice_get-get_or}
 use Rattle.std.specs.List.{list_all}
 use Rattle.ir_schedule.specs.Conditions.{as_condition, fulfils, end_state}
-use Rattle.ir_store.specs.Nodes.{SourcedFlat}
+use Rattle.ir_state_store.specs.Nodes.{SourcedFlat}
 use Rattle.ir_explore.specs.Conditions.{NoneBefore}
 use Rattle.ir_explore.proofs.Fulfilled.{none_before_step, declared_as_outcome}
 use Rattle.ir_explore.proofs.conditions.first_fulfilling.Goals as goal

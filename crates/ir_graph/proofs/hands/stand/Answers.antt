@@ -1,6 +1,6 @@
 use Rattle.std.proofs.Common.{◌<◌, length, get_or, subst, arith}
 use Rattle.ir_graph.specs.Hand.{IsAtSpot}
-use Rattle.ir_store.specs.declared.spot.Spot.{Spot}
+use Rattle.ir_state_store.specs.declared.spot.Spot.{Spot}
 use Rattle.ir_graph.proofs.Gathered.{pairs_with_both_taken, equal_spots_same}
 use Rattle.ir_graph.proofs.hands.stand.Goals as goal
 

@@ -2,8 +2,8 @@ use Rattle.std.proofs.Common.{◌≡◌, ℕ, ap, ◌∙◌, sym, subst, arith, 
 use Rattle.std.specs.List.{slice_index_or}
 use Rattle.ir_object.specs.Empty.{empty}
 use Rattle.ir_flat.specs.Flat.{thread_of}
-use Rattle.ir_seen.specs.Seen.{Same, view}
-use Rattle.ir_store.specs.Nodes.{SourcedFlat, source_of}
+use Rattle.ir_likeness.specs.Seen.{Same, view}
+use Rattle.ir_state_store.specs.Nodes.{SourcedFlat, source_of}
 use Rattle.ir_graph.proofs.Alike.{look_alike_by_parts}
 use Rattle.ir_graph.proofs.likeness.same_state.Goals as goal
 

@@ -4,9 +4,9 @@ use Rattle.std.specs.List.{AllByRecursion}
 use Rattle.std.specs.Vec as vec
 use Rattle.std.proofs.lemmas.List.{get_or_read, with_items_is}
 use Rattle.ir_lemmas.proofs.CallerLemmas.{element_below_length, if_ok_of_implied}
-use Rattle.ir_store.specs.declared.spot.Spot.{Spot}
-use Rattle.ir_store.specs.Nodes.{IsWithin, Node, SourcedFlat, sourced_in}
-use Rattle.ir_store.specs.Table.{HaveNoTicks}
+use Rattle.ir_state_store.specs.declared.spot.Spot.{Spot}
+use Rattle.ir_state_store.specs.Nodes.{IsWithin, Node, SourcedFlat, sourced_in}
+use Rattle.ir_state_store.specs.Table.{HaveNoTicks}
 use Rattle.ir_graph.specs.Hand.{with_items}
 use Rattle.ir_graph.specs.Nodes.{LookAlike, AllRest, LeadsFrom}
 use Rattle.ir_graph.specs.Plain.{LooksAlike}

@@ -2,10 +2,10 @@ use Rattle.std.proofs.Common.{◌≡◌, ◌<◌, Some, inl, inr, sym, ap, ◌�
 use Rattle.std.specs.Prelude.{slice_get}
 use Rattle.ir_runs.specs.Run.{Can}
 use Rattle.ir_flat.specs.Flat.{machine, tables}
-use Rattle.ir_store.specs.Nodes.{SourcedFlat}
-use Rattle.ir_store.specs.Others.{HasOthersOf}
+use Rattle.ir_state_store.specs.Nodes.{SourcedFlat}
+use Rattle.ir_state_store.specs.Others.{HasOthersOf}
 use Rattle.std.proofs.lemmas.Option.{same_Some}
-use Rattle.ir_store.specs.Table.{HaveForm, HaveTicks, HaveNoTicks}
+use Rattle.ir_state_store.specs.Table.{HaveForm, HaveTicks, HaveNoTicks}
 use Rattle.ir_graph.specs.Times.{LeadsTickless}
 use Rattle.ir_graph.proofs.Times.{ticks_have_timed_run}
 use Rattle.ir_graph.specs.Nodes.{LookAlike, AllRest, NodesStay}

@@ -1,7 +1,7 @@
 use Rattle.std.proofs.Common.{◌≡◌, Some, sym, subst, [], ◌∷◌}
 use Rattle.std.specs.Prelude.{slice_get}
 use Rattle.ir_search.proofs.CallerLemmas.{slice_get_append_kept}
-use Rattle.ir_store.specs.Nodes.{AreSameLooks, sourced_in}
+use Rattle.ir_state_store.specs.Nodes.{AreSameLooks, sourced_in}
 use Rattle.ir_graph.specs.Nodes.{AreNodes}
 use Rattle.ir_graph.specs.Reached.{AllReached}
 use Rattle.ir_graph.proofs.Alike.{look_alike_is_same}

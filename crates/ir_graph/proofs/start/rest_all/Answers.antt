@@ -2,7 +2,7 @@ use Rattle.std.proofs.Common.{refl, inl, inr, sym, ◌∙◌, subst, arith}
 use Rattle.std.proofs.lemmas.Bool.{cases_eq}
 use Rattle.ir_thread.specs.State.{ask_of}
 use Rattle.ir_flat.specs.Flat.{IsFlat, thread_of}
-use Rattle.ir_store.specs.Nodes.{SourcedFlat}
+use Rattle.ir_state_store.specs.Nodes.{SourcedFlat}
 use Rattle.ir_graph.specs.Plain.{Rests}
 use Rattle.ir_graph.proofs.Plain.{goes_plain_reflexive, goes_plain_transitive}
 use Rattle.ir_graph.proofs.Stops.{stop_after_plain_steps}

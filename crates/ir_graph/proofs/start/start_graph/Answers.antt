@@ -7,8 +7,8 @@ use Rattle.ir_graph.specs.Plain.{GoesPlain}
 use Rattle.ir_graph.specs.Setup.{setup_start}
 use Rattle.ir_graph.proofs.Grown.{free_to_try_unnoted, past_threads_no_lead, start_is_graph}
 use Rattle.ir_image.specs.Guest.{Guest}
-use Rattle.ir_store.specs.Nodes.{SourcedFlat, sourced_in}
-use Rattle.ir_store.specs.Table.{HaveForm, HaveTicks, HaveNoTicks}
+use Rattle.ir_state_store.specs.Nodes.{SourcedFlat, sourced_in}
+use Rattle.ir_state_store.specs.Table.{HaveForm, HaveTicks, HaveNoTicks}
 use Rattle.ir_graph.specs.Times.{KnowsTimes}
 use Rattle.ir_graph.proofs.Timed.{start_knows_times}
 use Rattle.ir_graph.proofs.Forms.{like_moment_form, start_threads_have_form, start_has_all_sources}

@@ -1,5 +1,5 @@
 use Rattle.std.proofs.Common.{ap, ◌∙◌, subst, get_or}
-use Rattle.ir_store.specs.Table.{idle_beside}
+use Rattle.ir_state_store.specs.Table.{idle_beside}
 use Rattle.ir_graph.specs.Hand.{AllPairs, IsAtSpot}
 use Rattle.ir_graph.proofs.KnownTurns.{bools_equal}
 use Rattle.ir_graph.proofs.turns.known_turn.Goals as goal

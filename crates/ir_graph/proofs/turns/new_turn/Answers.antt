@@ -6,9 +6,9 @@ use Rattle.ir_object.specs.Cell.{Cell}
 use Rattle.ir_object.specs.Empty.{empty}
 use Rattle.ir_world.specs.Sources.{Source}
 use Rattle.ir_thread.specs.State.{ThreadState, ask_of}
-use Rattle.ir_store.specs.Nodes.{HaveWords, cells_at}
-use Rattle.ir_store.specs.Table.{idle_beside}
-use Rattle.ir_store.proofs.CallerLemmas.{kept_element_is_equal}
+use Rattle.ir_state_store.specs.Nodes.{HaveWords, cells_at}
+use Rattle.ir_state_store.specs.Table.{idle_beside}
+use Rattle.ir_state_store.proofs.CallerLemmas.{kept_element_is_equal}
 use Rattle.ir_graph.specs.declared.known.Turn.{Turn}
 use Rattle.ir_graph.specs.Ahead.{IsTurnOf}
 use Rattle.ir_graph.specs.Hand.{IsHandOf}

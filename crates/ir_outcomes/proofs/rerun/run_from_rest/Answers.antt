@@ -1,6 +1,6 @@
 use Rattle.std.proofs.Common.{◌≡◌, [], sym, ◌∙◌, subst, length}
 use Rattle.ir_record.specs.Recording.{turns_of_items}
-use Rattle.ir_store.specs.Nodes.{SourcedFlat}
+use Rattle.ir_state_store.specs.Nodes.{SourcedFlat}
 use Rattle.ir_search.specs.Origins.{AreReached}
 use Rattle.ir_graph.specs.Notes.{noted_by}
 use Rattle.ir_graph.specs.Plain.{GoesPlain}

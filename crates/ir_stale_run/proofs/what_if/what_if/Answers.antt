@@ -1,7 +1,7 @@
 use Rattle.std.proofs.Common.{refl, sym, ◌∙◌, ◌<◌, arith}
 use Rattle.ir_thread.specs.declared.ask.Ask.TheVariants as ask
 use Rattle.ir_thread.specs.declared.ask.Reply.TheVariants.{Go}
-use Rattle.ir_walk.specs.declared.exchange.Exchange.{Exchange}
+use Rattle.ir_event_walk.specs.declared.exchange.Exchange.{Exchange}
 use Rattle.ir_stale_run.proofs.Differs.{what_if_spent_fuel, what_if_differs_at_call, what_if_goes_on, what_if_none_left, no_difference_suits, remaining_calls_suit}
 use Rattle.ir_stale_run.proofs.what_if.what_if.Goals as goal
 

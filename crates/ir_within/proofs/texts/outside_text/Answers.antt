@@ -3,7 +3,7 @@ use Rattle.std.specs.Prelude.{slice_get}
 use Rattle.std.proofs.lemmas.Option.{slice_get-get_or}
 use Rattle.ir_explore.specs.Texts.{IsOutcomeText, known_of, objects_in}
 use Rattle.ir_outcomes.specs.declared.shown.Shown.{Shown}
-use Rattle.ir_store.specs.Nodes.{SourcedFlat}
+use Rattle.ir_state_store.specs.Nodes.{SourcedFlat}
 use Rattle.ir_within.specs.Within.{AreOutsideTexts}
 use Rattle.ir_within.proofs.Lines.{outside_texts_step, inside_texts_step}
 use Rattle.ir_within.proofs.texts.outside_text.Goals as goal

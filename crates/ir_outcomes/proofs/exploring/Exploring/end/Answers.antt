@@ -4,7 +4,7 @@ use Rattle.std.specs.List.{slice_index_or}
 use Rattle.std.proofs.lemmas.Option.{slice_get-get_or}
 use Rattle.ir_search.specs.Origins.{first_origin, BeginsAt}
 use Rattle.ir_search.proofs.CallerLemmas.{slice_get_some_below}
-use Rattle.ir_store.specs.Nodes.{SourcedFlat}
+use Rattle.ir_state_store.specs.Nodes.{SourcedFlat}
 use Rattle.ir_graph.specs.Setup.{setup_start}
 use Rattle.ir_graph.specs.Standing.{NeedsSwitches}
 use Rattle.ir_graph.proofs.CallerLemmas.{needs_level_switches}

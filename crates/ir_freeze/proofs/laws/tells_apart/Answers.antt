@@ -1,5 +1,0 @@
-use Rattle.ir_freeze.proofs.Alike.{same_bytes_iff_looks}
-use Rattle.ir_freeze.proofs.laws.tells_apart.Goals as goal
-
-pub returns : goal.returns
-returns c = same_bytes_iff_looks
