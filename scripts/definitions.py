@@ -67,7 +67,7 @@ CLAIMS = [
         ("ir_graph", "Hangs", "`IsCounting`, `CanEnd`, `IsHangOf`"),
         ("ir_graph", "Times", "`HasTimedRun`: where `clock counted` is said"),
         ("ir_explore", "Texts", "`AreKnown`, `IsAnswerAbout`: what is printed of it"),
-    ], (2510, 720)),
+    ], (2512, 720)),
     Claim("Recordings of an explored guest", "What the lists of `ir explore` say of recordings, by real threads too.", {
         "ir_explore/src/laws.rt": ["recordings_have_outcomes", "recordings_are_listed", "recordings_are_untimed", "untimed_recordings_are_listed",
                                        "recordings_never_fulfil", "hangs_never_complete"],
@@ -112,7 +112,7 @@ CLAIMS = [
         ("ir_gdb", "Replies", "`RepliesTo`: the reply to each request"),
         ("ir_gdb", "Connection", "`RepliesToItems`: the bytes of packets and acknowledgements"),
         ("ir_gdb", "Laws", "the laws"),
-    ], (2387, 1250)),
+    ], (2389, 1250)),
     Claim("Insight", "The lines of `ir stale`, `who`, `why`, `diff`, `view`, `events` and `list`.", {
         "ir_past/src/run.rt": ["stale_run"],
         "ir_stale_run/src/run.rt": ["rests_run"],
@@ -136,7 +136,7 @@ CLAIMS = [
         ("ir_why", "Needed", "`AreNeeds`: what an event needs"),
         ("ir_why", "Waits", "`AreWaits`: the chain of a run"),
         ("ir_why", "FitAnswers", "`IsReasonIn`"),
-        ("ir_diff", "Common", "`AreCommon`, `IsReady`"),
+        ("ir_diff", "Common", "`AreCommon`, `IsThreadReady`"),
         ("ir_picture", "Places", "`AreBoxesPlaced`: where boxes stand"),
         ("ir_holds", "Held", "`IsHeld`: where boxes of holds stand"),
         ("ir_run_picture", "Laws", "`IsMoment`, `GoesRight`: what left to right means"),
@@ -209,7 +209,7 @@ These definitions also name:
 MANUAL = {("ir_isa", "Fields"), ("ir_isa", "Code"), ("ir_mach", "Core"), ("ir_mach", "Execution"), ("ir_disasm", "Printed")}
 
 # The most lines of the headline's files, and of its definitions beside those that restate the manual.
-MOST_LINES = 3123
+MOST_LINES = 3131
 MOST_DEFINITION_LINES = 1500
 
 # What a law says all of: who believes the law needn't read the definition. The file of the law and its name.

@@ -586,7 +586,8 @@ main.addEventListener('pointermove', e => {
   const b = hit(e), tip = el('tip');
   if (b !== hover) { hover = b; draw(); }
   tip.style.display = b ? 'block' : 'none'; if (!b) return;
-  tip.textContent = `thread ${b.t} event ${b.i}: ${nameOf(b)}` + (isShared(b) ? called('objects', b.o, ', ') : '') + called('events', `${b.t}.${b.i}`, ', ') + (run.steps && b.s0 >= 0 ? `\\ngoto ${b.t} ${b.s0}` : '');
+  const names = (isShared(b) ? called('objects', b.o, ', ') : '') + called('events', `${b.t}.${b.i}`, ', ');
+  tip.textContent = `thread ${b.t} event ${b.i}: ${nameOf(b)}` + names + (run.steps && b.s0 >= 0 ? `\\ngoto ${b.t} ${b.s0}` : '');
   tip.style.left = Math.min(e.clientX + 14, innerWidth - 240) + 'px'; tip.style.top = e.clientY + 16 + 'px';
 });
 main.addEventListener('pointerup', e => { const d = drag; drag = null; main.classList.remove('drag'); if (d && !d.far) choose(hit(e)); });
